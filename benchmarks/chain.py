@@ -1,9 +1,11 @@
 #!/usr/bin/env python3
-"""Writes a long chain: chain.py [--touches | --untouched] SEGMENTS >CHAIN; or one segment of it as a trace: chain.py --trace >TRACE
+"""Writes a long chain: chain.py [--touches | --untouched | --crowd] SEGMENTS >CHAIN; or one segment as a trace: chain.py --trace >TRACE
 
 A segment has as many events as there may be. In one 16,384 maps, 32,768 reads, and as many unmaps as maps are each answered; it is a right
 trace too. With --touches 30,000 updates of 256 pages have 35,536 touches beside them: half of these are of a page whose update is open, and
-are answered as it was before; --untouched leaves them out. Each segment begins and ends with no page, so that all are alike.
+are answered as it was before; --untouched leaves them out. With --crowd 43,690 updates of one page are never answered, and as many touches
+of it, made after them, are each answered as it was before one of them that is drawn. Each segment begins and ends with no page, so that
+all are alike.
 """
 import random
 import struct
@@ -14,6 +16,8 @@ from recording import ALL, ALLOWED, DONE, FAULT, MAP, REMOVED, UNMAP, call, dump
 
 PAGES, READS, THREADS, TABLES = 16384, 32768, 64, 4096
 TOUCHED, UPDATES, TOUCHES = 256, 30000, 35536
+CROWD = 43690                           # updates, and touches
+MOST_THREADS = 65535                    # of a segment
 TOUCH, USER = 5, 1                      # a kind of call; the mode of an access
 NO_PAGE = 4                             # the error code of a user's read of no page
 
@@ -76,14 +80,27 @@ def touched(touches):
     return made
 
 
+def crowd():
+    """Each map is to another physical address, so that one moment alone has what a touch is answered; an unmap follows each. A thread whose
+    update is never answered makes no other call."""
+    made = Touched(0)
+    for number in range(CROWD):
+        made.events.append(call(0, THREADS + number, *((UNMAP, 0) if number % 2 else (MAP, 0, 0, ALL, number << 12))))
+        made.log.append(number)
+    for _ in range(CROWD):
+        made.pages = {0: (0, made.draw.randrange(0, CROWD, 2) << 12, ALL)}
+        made.touch(0)
+    return made
+
+
 def segment(made):
-    counts = struct.pack(">HBBHHIII", 1, 4, 1, THREADS, TABLES, len(made.log), len(made.events), 0)
+    counts = struct.pack(">HBBHHIII", 1, 4, 1, MOST_THREADS, TABLES, len(made.log), len(made.events), 0)
     places = struct.pack(f">{len(made.log)}I", *made.log)
     return b"".join([b"NRVS", counts, places, *made.events, dump(len(made.log), frames({}))])
 
 
 def main(words):
-    makers = {"": run, "--touches": lambda: touched(TOUCHES), "--untouched": lambda: touched(0)}
+    makers = {"": run, "--touches": lambda: touched(TOUCHES), "--untouched": lambda: touched(0), "--crowd": crowd}
     how = "".join(words[:-1])
     if words == ["--trace"]:
         run().write(sys.stdout.buffer)

@@ -115,6 +115,27 @@ const FORESEES_A_MAP: Part = Bytes(&[
     0, 0, 0, 0, 0, 0, 0, 0, 0, 0, 0, 0, 0, 0, 0, 0, // no dump
 ]);
 
+/// Nobody answers a map of the page to 0x1000, its unmap, another map to 0x2000 and its unmap; and a read through a TLB.
+const OPEN_UPDATES: Part = Bytes(&[
+    0x4e, 0x52, 0x56, 0x53, 0, 1, 4, 1, 0xff, 0xff, 0xff, 0xff, 0, 0, 0, 4, 0, 0, 0, 6, 0, 0, 0, 0, // counts
+    0, 0, 0, 0, 0, 0, 0, 1, 0, 0, 0, 2, 0, 0, 0, 3, // places
+    0, 0, 0, 0, 0, 0, 7, 0, 0, 0, 0, 0, 0, 0x40, 0, 0, 0, 0, 0, 0, 0, 0, 0x10, 0, // call
+    0, 0, 0, 1, 1, 0, 0, 0, 0, 0, 0, 0, 0, 0x40, 0, 0, 0, 0, 0, 0, 0, 0, 0, 0, // call
+    0, 0, 0, 2, 0, 0, 7, 0, 0, 0, 0, 0, 0, 0x40, 0, 0, 0, 0, 0, 0, 0, 0, 0x20, 0, // call
+    0, 0, 0, 3, 1, 0, 0, 0, 0, 0, 0, 0, 0, 0x40, 0, 0, 0, 0, 0, 0, 0, 0, 0, 0, // call
+    0, 0, 0, 4, 5, 0, 0, 0, 0, 0, 0, 0, 0, 0x40, 1, 0x23, 0, 0, 0, 0, 0, 0, 0, 0, // call
+]);
+
+const FINDS_THE_SECOND: Part = Bytes(&[
+    1, 8, 0, 0, 0, 0, 0, 4, 0, 0, 0, 0, 0, 0, 0, 0, 0, 0, 0, 0, 0, 0, 0x21, 0x23, // reply
+    0, 0, 0, 0, 0, 0, 0, 0, 0, 0, 0, 0, 0, 0, 0, 0, // no dump
+]);
+
+const FINDS_A_THIRD: Part = Bytes(&[
+    1, 8, 0, 0, 0, 0, 0, 4, 0, 0, 0, 0, 0, 0, 0, 0, 0, 0, 0, 0, 0, 0, 0x31, 0x23, // reply
+    0, 0, 0, 0, 0, 0, 0, 0, 0, 0, 0, 0, 0, 0, 0, 0, // no dump
+]);
+
 const TRUNCATED: SegmentFault = SegmentFault::Within(Fault::Format(Format::Truncated));
 
 const BAD_MAGIC: SegmentFault = SegmentFault::Within(Fault::Format(Format::BadMagic));
@@ -124,7 +145,7 @@ const BAD_VERSION: SegmentFault = SegmentFault::Within(Fault::Format(Format::Bad
 const BAD_CHAIN: SegmentFault = SegmentFault::Within(Fault::Format(Format::BadChain));
 
 /// Each chain.
-pub static CASES: [Case; 15] = [
+pub static CASES: [Case; 17] = [
     Case {
         name: "two segments",
         parts: &[MAPS, Frames(TABLES), UNMAPS, Frames(ROOT)],
@@ -208,6 +229,18 @@ pub static CASES: [Case; 15] = [
         parts: &[FORESEES_A_MAP],
         orders: &[],
         fault: Some(SegmentFault::Stale(0)),
+    },
+    Case {
+        name: "a touch of a page between open updates",
+        parts: &[OPEN_UPDATES, FINDS_THE_SECOND],
+        orders: &[&[0, 1, 2, 3]],
+        fault: None,
+    },
+    Case {
+        name: "a touch of a page that there never was",
+        parts: &[OPEN_UPDATES, FINDS_A_THIRD],
+        orders: &[],
+        fault: Some(SegmentFault::Stale(4)),
     },
     Case {
         name: "version 2",

@@ -51,6 +51,15 @@ same_look (Some p) (Some q) h = by_case (page_or_not p q) where
   by_case (inl e) = ap Some e
   by_case (inr n) = absurd (h (λ e. n (same_Some p q e)))
 
+pub look_or_not : (a b : Option Page) → (a ≡ b) ⊎ (a ≢ b)
+look_or_not None None = inl refl
+look_or_not None (Some q) = inr (λ e. cc)
+look_or_not (Some p) None = inr (λ e. cc)
+look_or_not (Some p) (Some q) = by_case (page_or_not p q) where
+  by_case : (p ≡ q) ⊎ (p ≢ q) → (Some p ≡ Some q) ⊎ (Some p ≢ Some q)
+  by_case (inl e) = inl (ap Some e)
+  by_case (inr n) = inr (λ e. n (same_Some p q e))
+
 -- ---- looks of a quiet page
 
 module _ (start : Space) (trace : Recording) (touch : Touch) (quiet : IsOfQuietPage start trace touch) where

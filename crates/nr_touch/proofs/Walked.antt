@@ -1,5 +1,5 @@
 -- The walk of a touch through the states of its address that are allowed.
-use Rattle.std.proofs.Common.{◌≡◌, ℕ, zero, suc, ◌+◌, ◌-◌, ◌<◌, ◌≤◌, ◌^◌, ◌↔◌, inl, inr, Bool, true, false, List, get_or, length, take, slice_get, Option, Some, None, IsTrue}
+use Rattle.std.proofs.Common.{◌≡◌, ℕ, zero, suc, ◌+◌, ◌-◌, ◌<◌, ◌≤◌, ◌^◌, ◌⊎◌, ◌↔◌, inl, inr, Bool, true, false, List, get_or, length, take, slice_get, Option, Some, None, IsSomeAnd, IsTrue}
 use Rattle.std.proofs.Common.{sym, ap, ◌∙◌, subst, arith}
 use Rattle.std.proofs.Math.Seq.{take-length}
 use Rattle.std.specs.List.Sorted.{IsPermutation}
@@ -8,7 +8,7 @@ use Rattle.std.proofs.lemmas.Option.{same_Some, slice_get_within, slice_get-get_
 use Rattle.std.proofs.lemmas.Bool.{cases_lt, false≢true}
 use Rattle.nr_touch.specs.Stale.{AreRightBelow, FindsStale}
 use Rattle.vs_types.specs.Space.{Space, page_at}
-use Rattle.vs_types.specs.Step.{allow}
+use Rattle.vs_types.specs.Step.{allow, allow_in_page}
 use Rattle.vs_types.specs.declared.limits.TheConstants.{LOG_PLACES}
 use Rattle.nr_trace.specs.Recording.{Recording}
 use Rattle.nr_trace.specs.Calls.{Answers}
@@ -16,10 +16,11 @@ use Rattle.nr_trace.specs.Orders.{space_from}
 use Rattle.nr_touch.specs.Touches.{page_after, ChangesLook, IsAllowedPrefix, IsAnsweredAt, IsRightTouch}
 use Rattle.nr_touch.specs.inside.Changes.{AreChanges, IsPlaced}
 use Rattle.nr_touch.specs.inside.Columns.{Covers, IsPast, IsAhead, IsNext, IsNumbered}
+use Rattle.nr_touch.specs.inside.Sights.{IsAnsweredBetween}
 use Rattle.nr_touch.specs.inside.Walk.{shown}
 use Rattle.nr_touch.specs.declared.change.PlacedChange.{PlacedChange}
 use Rattle.nr_touch.specs.declared.touch.Touch.{Touch}
-use Rattle.nr_touch.proofs.QuietPages.{same_look}
+use Rattle.nr_touch.proofs.QuietPages.{look_or_not, same_look}
 
 -- so many places are not past the next change
 abbrev pub UpToNext : ℕ → Option PlacedChange → Type 0
@@ -115,6 +116,51 @@ module _ (start : Space) (trace : Recording) (changes : List PlacedChange) (are 
       → IsAnsweredAt start trace touch m → ⊥
   not_from touch n m next end is whole low high up never answered =
       never (space_from start trace (take m trace.log)) (shown_from touch.address n m next end is whole low high up) answered
+
+  -- ---- from moment to moment
+
+  more_between : (touch : Touch) (n last : ℕ) → IsAnsweredAt start trace touch last ⊎ IsAnsweredBetween changes (Covers touch.address) touch (n + 1) last
+      → IsAnsweredAt start trace touch last ⊎ IsAnsweredBetween changes (Covers touch.address) touch n last
+  more_between touch n last (inl at) = inl at
+  more_between touch n last (inr (c, has, covered, low, high, answered)) = inr (c, has, covered, omega (arith, low), high, answered)
+
+  -- an answer of a moment is one of the last moment too, or of one that a change before it ended
+  pub answered_later : (touch : Touch) (last k n : ℕ) → n + k ≡ last → last ≤ length trace.log → IsAnsweredAt start trace touch n
+      → IsAnsweredAt start trace touch last ⊎ IsAnsweredBetween changes (Covers touch.address) touch n last
+  answered_later touch last zero n e within answered = inl (subst (IsAnsweredAt start trace touch) (let it : n ≡ last = omega (arith, e) in it) answered)
+  answered_later touch last (suc k) n e within answered =
+      elim (look_or_not (page_after start trace touch.address n) (page_after start trace touch.address (n + 1))) [
+        | inl same ↦ more_between touch n last (answered_later touch last k (n + 1) (omega (arith, e)) within
+            (answered ∙ ap (allow_in_page touch.address touch.mode touch.access) same))
+        | inr looks ↦
+            let (c, has, at, covered) = are.all n touch.address (omega (arith, e, within)) looks in
+            let was = (are.each c has).0.was touch.address covered in
+            inr (
+              c,
+              has,
+              covered,
+              omega (arith, at),
+              omega (arith, at, e),
+              answered ∙ ap (allow_in_page touch.address touch.mode touch.access) (ap (page_after start trace touch.address) (sym at) ∙ was),
+            )
+      ]
+
+  pub answered_before : (touch : Touch) (first last : ℕ) → IsAnsweredBetween changes (Covers touch.address) touch first last
+      → (n : ℕ) × (first ≤ n) × (n ≤ last) × IsAnsweredAt start trace touch n
+  answered_before touch first last (c, has, covered, low, high, answered) = (
+    c.place,
+    low,
+    omega (arith, high),
+    answered ∙ ap (allow_in_page touch.address touch.mode touch.access) (sym ((are.each c has).0.was touch.address covered)),
+  )
+
+-- no change lies before the place
+pub up_to_last : (next : Option PlacedChange) (n last : ℕ) → (IsSomeAnd next (λ c. c.place < last) → ⊥) → n ≤ last → UpToNext n next
+up_to_last None n last none l = tt
+up_to_last (Some next) n last none l = elim (cases_lt next.place last) [
+  | inl before ↦ absurd (none before)
+  | inr past ↦ omega (arith, past, l)
+]
 
 -- the next change is from the place on
 pub next_up : (changes : List PlacedChange) (P : PlacedChange → Type 0) (n : ℕ) (next : Option PlacedChange) → IsNext changes P n next → UpToNext n next

@@ -2,4 +2,5 @@
 pub mod Bounds
 pub mod Changes
 pub mod Columns
+pub mod Sights
 pub mod Walk

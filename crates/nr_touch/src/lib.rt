@@ -5,12 +5,14 @@
 //! was at some moment that no flush had ended before it began.
 #![tactic(auto)]
 
+mod between;
 mod bounds;
 mod change;
 mod history;
 pub mod laws;
 mod replay;
 mod search;
+mod sights;
 mod stale;
 mod touch;
 

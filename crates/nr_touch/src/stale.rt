@@ -1,6 +1,6 @@
 //! The search for the first touch that is stale.
 
-ghost use Rattle.std.specs.Prelude.{◌≡◌, ◌↔◌, ◌<◌, ◌^◌, false, length, IfOk, IfSome, IsTrue};
+ghost use Rattle.std.specs.Prelude.{◌≡◌, ◌↔◌, ◌<◌, false, length, IfOk, IfSome, IsSomeAnd, IsTrue};
 ghost use Rattle.vs_types.specs.Space.{Space, page_at};
 ghost use Rattle.vs_types.specs.Step.{look, allow};
 ghost use Rattle.nr_trace.specs.Laws.{HasCleanLog};
@@ -12,6 +12,7 @@ ghost use Rattle.nr_touch.specs.inside.Changes.{AreChanges};
 ghost use Rattle.nr_touch.specs.inside.Columns.{AreColumns, Covers, IsNumbered};
 ghost use Rattle.nr_touch.specs.inside.Walk.{shown};
 
+use crate::between::is_answered_between;
 use crate::change::PlacedChange;
 use crate::history::History;
 use crate::replay::replay;
@@ -48,8 +49,19 @@ fn answers(seen: Answer, touch: &Touch) -> bool
     is_same(touch.answer, seen.accessed(touch.mode, touch.access))
 }
 
-/// Whether the touch is answered as its address was after some entries that are allowed: a search or two in the changes of each
-/// page that may have the address, and as many again for each change of it that is open beside the touch.
+/// Whether the change lies before the place.
+fn lies_before(change: Option<PlacedChange>, place: u32) -> bool
+    ensures { IsTrue result ↔ IsSomeAnd change (λ c. c.place < place) }
+{
+    match change {
+        Some(change) => change.place < place,
+        None => false,
+    }
+}
+
+/// Whether the touch is answered as its address was after some entries that are allowed: as few as may be, as many, or some number
+/// between. At most twelve searches by halving in the changes of the three pages that may have the address; and where neither end
+/// is right and a change lies between, at most 24 in how pages looked before changes.
 fn is_right(history: &History, space: &PlainSpace, places: u32, touch: &Touch) -> bool
     requires { AreColumns history.now }
     ensures { (start : Space) (trace : Recording) → AreChanges start trace history.now.changes.items
@@ -57,18 +69,22 @@ fn is_right(history: &History, space: &PlainSpace, places: u32, touch: &Touch) -
         → IsTrue result ↔ IsRightTouch start trace touch.now }
 {
     let last = history.last_allowed(touch.address, touch.answered, places);
-    let mut entries = history.first_allowed(touch.address, touch.made);
-    while entries <= last {
-        let next = history.next(touch.address, entries);
-        if answers(look_until(next, space, touch.address), touch) {
-            return true;
-        }
-        entries = match next {
-            Some(change) => change.place + 1,
-            None => return false,
-        };
+    let first = history.first_allowed(touch.address, touch.made);
+    if last < first {
+        return false;
     }
-    false
+    let next = history.next(touch.address, first);
+    if answers(look_until(next, space, touch.address), touch) {
+        return true;
+    }
+    if !lies_before(next, last) {
+        return false;
+    }
+    let later = history.next(touch.address, last);
+    if answers(look_until(later, space, touch.address), touch) {
+        return true;
+    }
+    is_answered_between(history, touch, first, last)
 }
 
 /// The index of the first touch that isn't answered as its address was at a moment that is still allowed: after the first entries
@@ -76,7 +92,7 @@ fn is_right(history: &History, space: &PlainSpace, places: u32, touch: &Touch) -
 /// and none that changes it and was made after the touch was answered. `None` where each touch is right.
 ///
 /// The touches lie in the trace, whose log is clean; its space begins with this start. Allocates a table of four bytes for each
-/// event, and 76 bytes for each update that changes the space, with 56 more while it sorts.
+/// event, and 124 bytes for each update that changes the space.
 ///
 /// # Errors
 ///
