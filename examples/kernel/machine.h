@@ -101,6 +101,14 @@ static inline uint64_t read_cr4(void)
 	return word;
 }
 
+static inline uint64_t read_cr3(void)
+{
+	uint64_t word;
+
+	__asm__ volatile("mov %%cr3, %0" : "=r"(word));
+	return word;
+}
+
 static inline void write_cr3(uint64_t word)
 {
 	__asm__ volatile("mov %0, %%cr3" : : "r"(word) : "memory");

@@ -16,10 +16,12 @@ struct start_info {
 	uint64_t modules_at, command_line;
 };
 
-/* The command line: four numbers, of which the first has one digit. */
+/* The command line: four numbers, of which the first has one digit; the last says whether what is recorded is sent. */
 struct settings {
 	uint64_t levels, seed, rounds, sends_trace;
 };
+
+enum { ROUNDS_OF_SEGMENT = 50 };
 
 uint64_t random_state;
 
@@ -64,6 +66,7 @@ static void map_own(uint64_t from, uint64_t to, unsigned size, unsigned rights)
 
 static void build(unsigned levels)
 {
+	space_leave_boot_pages();
 	space_begin(levels);
 	map_own((uint64_t)text_begin, (uint64_t)text_end, NRVS_4K, NRVS_EXEC);
 	map_own((uint64_t)text_end, (uint64_t)stubs_end, NRVS_4K, NRVS_EXEC | NRVS_USER);
@@ -75,12 +78,16 @@ static void build(unsigned levels)
 	rounds_map_first_pages();
 }
 
-/* What the library's answers depend on (docs/FORMATS.md): NX and WP on; PG, PAE and LA57 are since boot.S. */
-static void enter(void)
+/* What answers depend on (docs/FORMATS.md): NX and WP on; PG, PAE and LA57 are since boot.S. */
+static void set_processor(void)
 {
 	write_msr(MSR_EFER, read_msr(MSR_EFER) | EFER_NXE);
 	if (!is_planted(PLANT_WP))
 		write_cr0(read_cr0() | CR0_WP);
+}
+
+static void enter(void)
+{
 	write_cr3((space_root() + is_planted(PLANT_ROOT)) * 4096);
 }
 
@@ -123,9 +130,12 @@ _Noreturn void kernel(const struct start_info *info)
 	*spare_text = word_of(random_word());
 	*spare_constant = word_of(random_word());
 	*spare_data = word_of(random_word());
+	set_processor();
+	machine_start_clock();
+	record_begin((unsigned)settings.levels, read_cr3() / 4096, SPACE_TABLES, settings.sends_trace != 0);
+	try_boot_pages();
 	build((unsigned)settings.levels);
 	enter();
-	machine_start_clock();
 	say("%u levels, root at %x, %u pages, seed %u\n", settings.levels, space_root() * 4096, (uint64_t)space_count(), settings.seed);
 	rounds_try_first_pages();
 	say("first pages: %u tried, %u differ\n", tries_made, tries_differ);
@@ -133,9 +143,10 @@ _Noreturn void kernel(const struct start_info *info)
 		rounds_do();
 		if (round % 10 == 0)
 			say("round %u: %u tried, %u differ\n", round, tries_made, tries_differ);
+		if (round % ROUNDS_OF_SEGMENT == 0)
+			record_cut();
 	}
-	if (settings.sends_trace)
-		space_send_trace();
+	record_end(space_root());
 	tell_end();
 	machine_leave(tries_differ == 0 ? LEAVE_PASSED : LEAVE_DIFFERS);
 }

@@ -12,8 +12,8 @@ static struct nrvs_table table;
 
 #define LENT &table, frames, SPACE_TABLES, marks, SPACE_TABLES
 
-static struct page pages[SPACE_PAGES];
-static unsigned count;
+static struct page pages[SPACE_PAGES], gone[SPACE_GONE];
+static unsigned count, gone_count;
 
 static void must(uint32_t status)
 {
@@ -37,7 +37,6 @@ static struct answer answer_of(struct nrvs_reply reply)
 void space_begin(unsigned levels)
 {
 	must(nrvs_table_new(LENT, levels, (uint64_t)frames / 4096));
-	record_begin(levels, SPACE_TABLES);
 	count = 0;
 }
 
@@ -90,13 +89,14 @@ unsigned space_unmap(uint64_t base)
 	struct nrvs_reply reply;
 
 	must(nrvs_table_unmap(LENT, base, &reply));
-	record_answer(RECORD_UNMAP, call, answer_of(reply));
 	if (reply.code == NRVS_REMOVED) {
 		struct page *page = find(base);
 
 		flush(base, page->size);
+		gone[gone_count++ % SPACE_GONE] = *page;
 		*page = pages[--count];
 	}
+	record_answer(RECORD_UNMAP, call, answer_of(reply));
 	return reply.code;
 }
 
@@ -106,11 +106,11 @@ unsigned space_protect(uint64_t base, unsigned rights)
 	struct nrvs_reply reply;
 
 	must(nrvs_table_protect(LENT, base, rights, &reply));
-	record_answer(RECORD_PROTECT, call, answer_of(reply));
 	if (reply.code == NRVS_CHANGED) {
 		find(base)->rights = rights;
 		flush(base, find(base)->size);
 	}
+	record_answer(RECORD_PROTECT, call, answer_of(reply));
 	return reply.code;
 }
 
@@ -158,9 +158,23 @@ const struct page *space_page(unsigned k)
 	return &pages[k];
 }
 
+const struct page *space_gone(unsigned k)
+{
+	return &gone[k];
+}
+
 unsigned space_count(void)
 {
 	return count;
+}
+
+void space_leave_boot_pages(void)
+{
+	for (uint64_t base = 0; base < BOOT_END; base += bytes_of(NRVS_2M)) {
+		const uint32_t call = record_call(RECORD_UNMAP, 0, 0, base, 0);
+
+		record_answer(RECORD_UNMAP, call, (struct answer){ NRVS_REMOVED, NRVS_2M, NRVS_WRITE | NRVS_USER | NRVS_EXEC, base });
+	}
 }
 
 void space_count_flags(uint64_t *accessed, uint64_t *dirty)
@@ -182,9 +196,4 @@ uint64_t space_tables(void)
 
 	must(nrvs_table_tables(LENT, &tables));
 	return tables;
-}
-
-void space_send_trace(void)
-{
-	record_send(table.root, table.base, SPACE_TABLES, &frames[0].word);
 }

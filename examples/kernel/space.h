@@ -12,8 +12,13 @@ struct page {
 	int is_own;            /* the kernel itself needs it: it is left as it is */
 };
 
-enum { SPACE_TABLES = 72, SPACE_PAGES = 256 };
+enum { SPACE_TABLES = 72, SPACE_PAGES = 256, SPACE_GONE = 16 };
 
+/* The boot tables have pages of 2 MiB up to here, each at its own address and with all rights. */
+#define BOOT_END (UINT64_C(5) << 30)
+
+/* Records that the boot pages are gone. The processor walks the boot tables until CR3 is loaded: nothing is tried meanwhile. */
+void space_leave_boot_pages(void);
 /* An empty address space, for the processor to walk. */
 void space_begin(unsigned levels);
 uint64_t space_root(void);
@@ -32,6 +37,8 @@ int space_access(uint64_t address, unsigned mode, unsigned access, struct answer
 const struct page *space_page_at(uint64_t address);
 const struct page *space_page(unsigned k);
 unsigned space_count(void);
+/* One of the pages that were unmapped last; k is below SPACE_GONE. Where there weren't so many it is a page at 0. */
+const struct page *space_gone(unsigned k);
 
 static inline uint64_t bytes_of(unsigned size)
 {
@@ -42,7 +49,5 @@ static inline uint64_t bytes_of(unsigned size)
 void space_count_flags(uint64_t *accessed, uint64_t *dirty);
 /* How many tables there are. */
 uint64_t space_tables(void);
-/* Sends the trace of all calls. */
-void space_send_trace(void);
 
 #endif

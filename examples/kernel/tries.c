@@ -5,6 +5,7 @@
 #include "random.h"
 #include "say.h"
 #include "space.h"
+#include "spots.h"
 
 uint64_t tries_made, tries_differ;
 
@@ -57,11 +58,43 @@ static int is_told(const struct page *page, struct try try, struct answer asked,
 	       resolve.size == page->size && resolve.rights == page->rights;
 }
 
-static void make(struct try try, uint64_t word)
+/* Whether the access that was made may have got to this place of a page: it read or ran the word there, or stored this one. */
+static int has_got_to(const struct page *page, struct try try, uint64_t stored)
+{
+	const uint64_t physical = page->physical + (try.address - page->base);
+
+	if (try.address - page->base >= bytes_of(page->size) || (!page->is_own && !is_in_spot(physical)))
+		return 0;
+	if (try.access == NRVS_STORE)
+		return *memory_at(physical) == stored;
+	return outcome.word == (try.access == NRVS_FETCH ? number_in(*memory_at(physical)) : *memory_at(physical));
+}
+
+/* What the processor made of an access, as far as it shows: it got to this page, if any, or to another; one that is unmapped, too. */
+static struct answer seen(const struct page *first, struct try try, uint64_t stored)
+{
+	if (outcome.vector == PAGE_FAULT)
+		return (struct answer){ NRVS_FAULT, 0, 0, outcome.code };
+	if (first && has_got_to(first, try, stored))
+		return (struct answer){ NRVS_ALLOWED, 0, 0, first->physical + (try.address - first->base) };
+	for (unsigned k = 0; k < space_count() + SPACE_GONE; k++) {
+		const struct page *page = k < space_count() ? space_page(k) : space_gone(k - space_count());
+
+		if (has_got_to(page, try, stored))
+			return (struct answer){ NRVS_ALLOWED, 0, 0, page->physical + (try.address - page->base) };
+	}
+	return (struct answer){ NRVS_ALLOWED, 0, 0, 0 };
+}
+
+/* The access itself, which goes through the processor's TLB; so it is recorded as a touch, where a chain has such a one. */
+static void make(const struct page *page, struct try try, uint64_t word)
 {
 	static const char *const stubs[] = { stub_of_read, stub_of_store, stub_of_fetch };
+	const uint32_t call = record_call(RECORD_TOUCH, try.access, try.mode, try.address, 0);
 
 	attempt(stubs[try.access], try.address, word, try.mode);
+	if (call != RECORD_NO_CALL)
+		record_answer(RECORD_TOUCH, call, seen(page, try, word));
 }
 
 /* Whether the processor faulted with this code at the address. */
@@ -100,7 +133,7 @@ static void tell(struct try try, struct answer asked, int is_same)
 /* An address that isn't canonical: the library refuses it, and the processor faults in another way. */
 static void try_not_canonical(struct try try)
 {
-	make(try, 0);
+	make(0, try, 0);
 	if (outcome.vector != GENERAL_PROTECTION || outcome.code != 0)
 		tell(try, (struct answer){ NRVS_DONE, 0, 0, 0 }, 1);
 }
@@ -127,13 +160,36 @@ void try_access(struct try try)
 			*memory = word;
 		there = *memory;
 	}
-	make(try, other);
+	make(page, try, other);
 	is_done = asked.code == NRVS_FAULT ? has_faulted(try, asked.number) : has_made(try, there);
 	if (memory)
 		is_done &= *memory == (asked.code == NRVS_ALLOWED && try.access == NRVS_STORE ? other : there);
 	is_done &= (outcome.cs & 3) == (try.mode == NRVS_USER_MODE ? 3 : 0);
 	if (!is_same || !is_done)
 		tell(try, asked, is_same);
+}
+
+/* While the processor walks the boot tables: below their end each address leads to itself. */
+void try_boot_pages(void)
+{
+	for (unsigned k = 0; k <= SPOTS; k++) {
+		const uint64_t address = k < SPOTS ? spots[k] + random_word() % SPOT_BYTES / 8 * 8 : BOOT_END + random_word() % BOOT_END / 8 * 8;
+		const struct page itself = { .base = spots[k % SPOTS], .physical = spots[k % SPOTS], .size = NRVS_2M, .rights = 7 };
+		const struct page *page = k < SPOTS ? &itself : 0;
+
+		for (unsigned k = 0; k < 6; k++) {
+			const struct try try = { address, k % 2, k / 2 };
+			const struct answer asked = asked_for(page, try);
+			const uint64_t word = word_of(random_word());
+
+			tries_made++;
+			if (page)
+				*memory_at(address) = word;
+			make(page, try, word);
+			if (page ? !has_made(try, word) : !has_faulted(try, asked.number))
+				tell(try, asked, 1);
+		}
+	}
 }
 
 void try_all(uint64_t address)

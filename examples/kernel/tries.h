@@ -14,6 +14,9 @@ extern uint64_t tries_made, tries_differ;
 /* Tries one access. Where a page covers the address, its memory there is the kernel's own or of a spot (spots.h). */
 void try_access(struct try try);
 
+/* Tries accesses while the processor walks the boot tables. */
+void try_boot_pages(void);
+
 /* Tries all accesses of an address: both modes, and reads, stores and fetches. */
 void try_all(uint64_t address);
 

@@ -1,7 +1,8 @@
 /*
  * Bugs that page tables of real systems have had, each behind one name; docs/RECORDING.md says what the auditor says of
  * each. A run has at most one of them. Those that begin at once are in the random requests too; the others only begin with
- * the closing requests, since what they leave behind would be met in different ways by different schedules.
+ * the closing requests, since what they leave behind would be met in different ways by different schedules. The last three
+ * are of chains: two are there only across a cut, and one is seen by touches alone.
  */
 #ifndef BUGS_H
 #define BUGS_H
@@ -20,18 +21,24 @@ enum bug {
 	UNALIGNED_LARGE_PAGE, /* a large page's entry has address bits below its size */
 	LEAKED_TABLE,         /* an emptied table is unlinked, and not freed */
 	LEAF_RIGHTS,          /* tables get the rights of their first page, and a resolve looks at the last entry alone */
+	CACHED_OVER_CUT,      /* at a cut each cached translation is taken as one of now */
+	EARLY_START,          /* a start is copied while a thread still changes the tables */
+	LATE_FLUSH,           /* an update is answered before the TLBs are flushed */
 	BUGS
 };
 
 extern enum bug chosen_bug;
-extern int closing; /* the closing requests have begun */
+extern unsigned bug_from; /* the segment with which it begins */
+extern unsigned segment;  /* the one that is recorded, counted from 0 */
+extern int closing;       /* the closing requests have begun */
 
 /* Is the bug there now? One that begins at once is there at one of `period` chances, by the caller's count of them. */
 static inline int bug(enum bug name, unsigned period, unsigned count)
 {
 	const unsigned only_closing = 1u << FREED_TABLE | 1u << SHARED_TABLE;
 
-	return chosen_bug == name && (closing || (!(only_closing >> name & 1) && count % period == period - 1));
+	return chosen_bug == name && segment >= bug_from &&
+	       (closing || (!(only_closing >> name & 1) && count % period == period - 1));
 }
 
 #endif

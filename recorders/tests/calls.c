@@ -3,6 +3,13 @@
  * same with the Rust recorder. tests/recorders compares what they print and what they write.
  *
  *     begin LEVELS REPLICAS THREADS TABLES EVENTS PLACES FRAMES
+ *     chain LEVELS REPLICAS THREADS TABLES EVENTS PLACES FRAMES     begins a chain
+ *     spare LEVELS REPLICAS THREADS TABLES EVENTS PLACES FRAMES     begins another one, of other memory
+ *     start ROOT
+ *     next                          the next segment, in the memory of the spare one; the two change places
+ *     restart                       the next segment, in the same memory
+ *     swap                          the two change places: what comes next is said of the spare one
+ *     events                        how many there are; as a call's number is printed
  *     call REPLICA THREAD KIND SIZE RIGHTS ADDRESS PHYS
  *     place PLACE CALL
  *     reply CALL AT CODE SIZE RIGHTS VALUE
@@ -10,7 +17,8 @@
  *     broken FRAME                  the memory fails at this frame
  *     dump REPLICA APPLIED ROOT
  *     dump_frame REPLICA FRAME
- *     finish LIMIT                  writes the trace; the writer fails where it would pass that many bytes
+ *     finish LIMIT                  writes the trace, or the segment behind the ones written; the writer fails where it would pass
+ *                                   that many bytes
  */
 #include "../nrvs_trace.h"
 
@@ -88,12 +96,18 @@ static int write_some(void *context, const uint8_t *bytes, uint32_t length)
 	return fwrite(bytes, 1, length, writer->file) != length;
 }
 
-static nrvs_trace trace;
-static struct guarded events, places, frames;
+/* Two, so that one can be written while the other is recorded. */
+static struct recorder {
+	nrvs_trace trace;
+	struct guarded events, places, frames;
+	int is_begun;
+} recorders[2];
+static unsigned current;
 
-static nrvs_status begin(const uint64_t *n)
+static nrvs_status begin(struct recorder *it, const uint64_t *n, int is_chain)
 {
 	nrvs_config config;
+	nrvs_status status;
 
 	config.levels = (uint8_t)n[0];
 	config.replicas = (uint8_t)n[1];
@@ -102,43 +116,73 @@ static nrvs_status begin(const uint64_t *n)
 	config.event_room = (uint32_t)n[4];
 	config.log_room = (uint32_t)n[5];
 	config.frame_room = (uint32_t)n[6];
-	config.events = (uint64_t (*)[3])make_guarded(&events, 24 * (size_t)n[4]);
-	config.log = (nrvs_atomic *)make_guarded(&places, sizeof(nrvs_atomic) * (size_t)n[5]);
-	config.frames = (nrvs_frame *)make_guarded(&frames, sizeof(nrvs_frame) * (size_t)n[6]);
-	return nrvs_begin(&trace, &config);
+	config.events = (uint64_t (*)[3])make_guarded(&it->events, 24 * (size_t)n[4]);
+	config.log = (nrvs_atomic *)make_guarded(&it->places, sizeof(nrvs_atomic) * (size_t)n[5]);
+	config.frames = (nrvs_frame *)make_guarded(&it->frames, sizeof(nrvs_frame) * (size_t)n[6]);
+	status = is_chain ? nrvs_begin_chain(&it->trace, &config) : nrvs_begin(&it->trace, &config);
+	it->is_begun |= status == NRVS_OK;
+	return status;
+}
+
+static nrvs_status finish(nrvs_trace *trace, uint64_t limit, const char *path)
+{
+	struct writer writer = { fopen(path, trace->is_segment ? "ab" : "wb"), limit };
+	nrvs_status status;
+
+	if (!writer.file)
+		exit(2);
+	status = nrvs_finish(trace, write_some, &writer);
+	fclose(writer.file);
+	return status;
+}
+
+static nrvs_status next(struct recorder *from, struct recorder *to)
+{
+	nrvs_status status = to->is_begun ? nrvs_next(&from->trace, &to->trace) : NRVS_BAD_CHAIN;
+
+	if (status == NRVS_OK)
+		current = (unsigned)(to - recorders);
+	return status;
 }
 
 static nrvs_status run(const char *word, const uint64_t *n, const char *path, uint32_t *call)
 {
-	if (!strcmp(word, "begin"))
-		return begin(n);
+	struct recorder *it = &recorders[current], *spare = &recorders[1 - current];
+	nrvs_trace *trace = &it->trace;
+
+	if (!strcmp(word, "begin") || !strcmp(word, "chain"))
+		return begin(it, n, *word == 'c');
+	if (!strcmp(word, "spare"))
+		return begin(spare, n, 1);
+	if (!strcmp(word, "start"))
+		return nrvs_start(trace, n[0], lend, NULL);
+	if (!strcmp(word, "next"))
+		return next(it, spare);
+	if (!strcmp(word, "restart"))
+		return next(it, it);
 	if (!strcmp(word, "call")) {
 		nrvs_request request = { (uint8_t)n[2], (uint8_t)n[3], (uint8_t)n[4], n[5], n[6] };
 
-		return nrvs_call(&trace, (unsigned)n[0], (unsigned)n[1], request, call);
+		return nrvs_call(trace, (unsigned)n[0], (unsigned)n[1], request, call);
 	}
 	if (!strcmp(word, "place"))
-		return nrvs_place(&trace, (uint32_t)n[0], (uint32_t)n[1]);
+		return nrvs_place(trace, (uint32_t)n[0], (uint32_t)n[1]);
 	if (!strcmp(word, "reply")) {
 		nrvs_answer answer = { (uint8_t)n[2], (uint8_t)n[3], (uint8_t)n[4], n[5] };
 
-		return nrvs_reply(&trace, (uint32_t)n[0], (uint32_t)n[1], answer);
+		return nrvs_reply(trace, (uint32_t)n[0], (uint32_t)n[1], answer);
 	}
 	if (!strcmp(word, "dump"))
-		return nrvs_dump(&trace, (unsigned)n[0], (uint32_t)n[1], n[2], lend, NULL);
+		return nrvs_dump(trace, (unsigned)n[0], (uint32_t)n[1], n[2], lend, NULL);
 	if (!strcmp(word, "dump_frame"))
-		return nrvs_dump_frame(&trace, (unsigned)n[0], n[1], lend, NULL);
-	if (!strcmp(word, "finish")) {
-		struct writer writer = { fopen(path, "wb"), n[0] };
-		nrvs_status status;
-
-		if (!writer.file)
-			exit(2);
-		status = nrvs_finish(&trace, write_some, &writer);
-		fclose(writer.file);
-		return status;
-	}
-	if (!strcmp(word, "word"))
+		return nrvs_dump_frame(trace, (unsigned)n[0], n[1], lend, NULL);
+	if (!strcmp(word, "finish"))
+		return finish(trace, n[0], path);
+	if (!strcmp(word, "swap"))
+		current = 1 - current;
+	else if (!strcmp(word, "events"))
+		*call = nrvs_events(trace);
+	else if (!strcmp(word, "word"))
 		memory[make_frame(n[0])].words[n[1] % 512] = n[2];
 	else if (!strcmp(word, "broken"))
 		memory[make_frame(n[0])].broken = 1;
@@ -167,8 +211,9 @@ int main(int count, char **arguments)
 			printf("%s: %s %" PRIu32 "\n", word, nrvs_status_text(status), call);
 		else
 			printf("%s: %s\n", word, nrvs_status_text(status));
-		if (!is_whole(&events) || !is_whole(&places) || !is_whole(&frames))
-			printf("written past a buffer\n");
+		for (unsigned r = 0; r < 2; r++)
+			if (!is_whole(&recorders[r].events) || !is_whole(&recorders[r].places) || !is_whole(&recorders[r].frames))
+				printf("written past a buffer\n");
 	}
 	return 0;
 }

@@ -36,11 +36,15 @@ fn text(refusal: Refusal) -> &'static str {
         Refusal::BadFrame => "bad frame number",
         Refusal::FrameFailed => "frame failed",
         Refusal::FramesFull => "frames full",
-        Refusal::TooManyFrames => "more than 4096 frames",
+        Refusal::TooManyFrames => "too many frames",
         Refusal::NotDumped => "replica not dumped",
         Refusal::NotWritten => "event not written",
         Refusal::GapInLog => "gap in the log",
         Refusal::WriteFailed => "write failed",
+        Refusal::BadStart => "no start here",
+        Refusal::CallOpen => "call open",
+        Refusal::BadChain => "no segment of this chain",
+        Refusal::NotFinished => "segment not finished",
     }
 }
 
@@ -74,6 +78,7 @@ fn request(n: &[u64]) -> Result<Request, Refusal> {
         2 => Ok(Request::Protect { address, rights }),
         3 => Ok(Request::Resolve { address }),
         4 => Ok(Request::Access { address, mode: mode(n[4])?, access: access(n[3])? }),
+        5 => Ok(Request::Touch { address, mode: mode(n[4])?, access: access(n[3])? }),
         _ => Err(Refusal::BadEvent),
     }
 }
@@ -95,8 +100,10 @@ fn answer(n: &[u64]) -> Result<Answer, Refusal> {
     }
 }
 
-fn finish(trace: &Trace, path: &str, limit: u64) -> Result<(), Refusal> {
-    let mut file = std::fs::File::create(path).expect("a file to write to");
+/// A trace is written into the file, and a segment behind those that are there.
+fn finish(trace: &Trace, is_chain: bool, path: &str, limit: u64) -> Result<(), Refusal> {
+    let mut options = std::fs::OpenOptions::new();
+    let mut file = options.create(true).write(true).append(is_chain).truncate(!is_chain).open(path).expect("a file to write to");
     let mut left = limit;
     trace.finish(|bytes| {
         left = left.checked_sub(bytes.len() as u64).ok_or(Failed)?;
@@ -104,19 +111,58 @@ fn finish(trace: &Trace, path: &str, limit: u64) -> Result<(), Refusal> {
     })
 }
 
-fn step(trace: &mut Trace, word: &str, n: &[u64], machine: &mut Machine, path: &str) -> Result<Option<u32>, Refusal> {
-    match word {
-        "call" => return trace.call(n[0] as u8, n[1] as u16, request(n)?).map(Some),
-        "place" => trace.place(n[0] as u32, n[1] as u32)?,
-        "reply" => trace.reply(n[0] as u32, n[1] as u32, answer(n)?)?,
-        "dump" => trace.dump(n[0] as u8, n[1] as u32, n[2], machine)?,
-        "dump_frame" => trace.dump_frame(n[0] as u8, n[1], machine)?,
-        "finish" => finish(trace, path, n[0])?,
-        "word" => machine.frames.entry(n[0]).or_insert([0; 512])[n[1] as usize % 512] = n[2],
-        "broken" => machine.broken.push(n[0]),
-        _ => panic!("an unknown line"),
+/// What is recorded, and another recorder, so that one can be written while the other is recorded.
+#[derive(Default)]
+struct Recorders {
+    trace: Option<Trace<'static>>,
+    spare: Option<Trace<'static>>,
+    is_chain: bool,
+    machine: Machine,
+}
+
+impl Recorders {
+    fn step(&mut self, word: &str, n: &[u64], path: &str) -> Result<Option<u32>, Refusal> {
+        match word {
+            "begin" | "chain" => {
+                self.trace = Some(begin(n, word == "chain")?);
+                self.is_chain = word == "chain";
+                return Ok(None);
+            }
+            "spare" => {
+                self.spare = Some(begin(n, true)?);
+                return Ok(None);
+            }
+            "swap" => {
+                core::mem::swap(&mut self.trace, &mut self.spare);
+                return Ok(None);
+            }
+            "word" => {
+                self.machine.frames.entry(n[0]).or_insert([0; 512])[n[1] as usize % 512] = n[2];
+                return Ok(None);
+            }
+            "broken" => {
+                self.machine.broken.push(n[0]);
+                return Ok(None);
+            }
+            _ => {}
+        }
+        let machine = &mut self.machine;
+        let trace = self.trace.as_mut().expect("a trace that is begun");
+        match word {
+            "call" => return trace.call(n[0] as u8, n[1] as u16, request(n)?).map(Some),
+            "events" => return Ok(Some(trace.events())),
+            "place" => trace.place(n[0] as u32, n[1] as u32)?,
+            "reply" => trace.reply(n[0] as u32, n[1] as u32, answer(n)?)?,
+            "start" => trace.start(n[0], machine)?,
+            "next" => trace.next(self.spare.as_mut().ok_or(Refusal::BadChain)?)?,
+            "restart" => trace.restart()?,
+            "dump" => trace.dump(n[0] as u8, n[1] as u32, n[2], machine)?,
+            "dump_frame" => trace.dump_frame(n[0] as u8, n[1], machine)?,
+            "finish" => finish(trace, self.is_chain, path, n[0])?,
+            _ => panic!("an unknown line"),
+        }
+        Ok(None)
     }
-    Ok(None)
 }
 
 fn say(word: &str, result: Result<Option<u32>, Refusal>) {
@@ -135,32 +181,24 @@ fn number(word: &str) -> u64 {
     .expect("a number")
 }
 
-/// Buffers of the trace that a `begin` line asks for, leaked: this is a test.
-fn begin(n: &[u64]) -> Result<Trace<'static>, Refusal> {
+/// Buffers of the trace that a line asks for, leaked: this is a test.
+fn begin(n: &[u64], is_chain: bool) -> Result<Trace<'static>, Refusal> {
     let config = Config { levels: n[0] as u8, replicas: n[1] as u8, threads: n[2] as u16, tables: n[3] as u16 };
     let events: Vec<Event> = (0..n[4]).map(|_| Event::new()).collect();
     let log: Vec<AtomicU32> = (0..n[5]).map(|_| AtomicU32::new(7)).collect();
     let frames: Vec<Frame> = (0..n[6]).map(|_| Frame::new()).collect();
-    Trace::begin(config, events.leak(), log.leak(), frames.leak())
+    let begin = if is_chain { Trace::begin_chain } else { Trace::begin };
+    begin(config, events.leak(), log.leak(), frames.leak())
 }
 
 fn main() {
     let path = std::env::args().nth(1).expect("a path to write the trace to");
-    let mut machine = Machine::default();
-    let mut trace = None;
+    let mut recorders = Recorders::default();
     for line in std::io::stdin().lines().map(|line| line.expect("a line")) {
         let mut words = line.split_whitespace();
         let Some(word) = words.next() else { continue };
         let mut n: Vec<u64> = words.map(number).collect();
         n.resize(8, 0);
-        let result = match (word, &mut trace) {
-            ("begin", _) => begin(&n).map(|begun| {
-                trace = Some(begun);
-                None
-            }),
-            (_, Some(trace)) => step(trace, word, &n, &mut machine, &path),
-            (_, None) => panic!("no trace is begun"),
-        };
-        say(word, result);
+        say(word, recorders.step(word, &n, &path));
     }
 }

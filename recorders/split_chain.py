@@ -1,0 +1,95 @@
+#!/usr/bin/env python3
+"""Splits a chain into parts that can be judged apart: each but the first begins with a segment that has a start.
+
+    split_chain.py FOLDER [LEAST] <CHAIN
+
+A part is the file FOLDER/part.K, where K is the number of its first segment, of seven digits at least; it has LEAST segments (1) or more.
+Beside it is part.K.next, the first segment of the part behind it; behind the last part there is none, and that file is empty. FOLDER is
+made. Bytes that are no whole segment go to the last part, of whose end the auditor then says so. It isn't verified, and nothing depends
+on it: examples/judge_in_parts compares the ends of the parts.
+"""
+import os
+import struct
+import sys
+
+HEAD = struct.Struct(">4sHBBHHIII")         # magic, version, levels, replicas, threads, tables, places, events, frames of the start
+DUMP_HEAD = struct.Struct(">IIQ")           # applied, frames, root
+FRAME_BYTES = 8 + 4096
+BLOCK = 1 << 20
+
+
+class Splitter:
+    """The bytes of a chain, read once from left to right, and the files that they go to."""
+
+    def __init__(self, source, folder):
+        self.source, self.folder = source, folder
+        self.part = self.next = None
+        self.parts = self.begun = 0
+
+    def begin(self, number):
+        """The next segment begins a part; it is the one behind the part before, too."""
+        if self.part:
+            self.part.close()
+        before, path = self.next, os.path.join(self.folder, f"part.{number:07}")
+        self.part, self.next = open(path, "wb"), open(path + ".next", "wb")
+        self.parts, self.begun = self.parts + 1, number
+        return before
+
+    def copy(self, length, outs):
+        """Copies so many bytes; fewer where the chain ends."""
+        while length > 0:
+            data = self.source.read(min(length, BLOCK))
+            if not data:
+                return
+            for out in outs:
+                out.write(data)
+            length -= len(data)
+
+    def copy_segment(self, head, outs):
+        """Copies the rest of the segment that begins with this head."""
+        _, _, _, replicas, _, _, places, events, frames = HEAD.unpack(head)
+        self.copy((8 + frames * FRAME_BYTES if frames else 0) + 4 * places + 24 * events, outs)
+        for _ in range(replicas):
+            dump = self.source.read(DUMP_HEAD.size)
+            for out in outs:
+                out.write(dump)
+            if len(dump) == DUMP_HEAD.size:
+                self.copy(DUMP_HEAD.unpack(dump)[1] * FRAME_BYTES, outs)
+
+    def split(self, least):
+        """Writes the parts."""
+        number = 0
+        while head := self.source.read(HEAD.size):
+            is_segment = len(head) == HEAD.size and head[:4] == b"NRVS"
+            has_start = is_segment and HEAD.unpack(head)[-1] > 0
+            before = None
+            if self.parts == 0 or (has_start and number - self.begun >= least):
+                before = self.begin(number)
+            outs = [self.part, before] if before else [self.part]
+            for out in outs:
+                out.write(head)
+            if is_segment:
+                self.copy_segment(head, outs)
+            else:
+                self.copy(sys.maxsize, outs)
+            if before:
+                before.close()
+            number += 1
+        if self.part:
+            self.part.close()
+            self.next.close()
+
+
+def main(words):
+    if not 1 <= len(words) <= 2 or (len(words) == 2 and not words[1].isdigit()):
+        sys.stderr.write(__doc__)
+        return 2
+    os.makedirs(words[0], exist_ok=True)
+    splitter = Splitter(sys.stdin.buffer, words[0])
+    splitter.split(int(words[1]) if len(words) == 2 else 1)
+    print(f"parts: {splitter.parts}")
+    return 0
+
+
+if __name__ == "__main__":
+    sys.exit(main(sys.argv[1:]))
