@@ -4,6 +4,7 @@ docs/DEFINITIONS.md alone, to compare with. Nothing here is proved, and nothing 
 
     model_evidence.py <TRACE            what `nrvs explain` prints, with its status
     model_evidence.py --json <TRACE     what `nrvs explain --json` prints, with its status
+    model_evidence.py --all [--json] <TRACE     what `nrvs explain --all` prints, in lines or as JSON, with its status
     model_evidence.py resolve A [R] <TRACE      what `nrvs resolve --steps --address A --replica R` prints, with its status
 """
 import json
@@ -96,13 +97,19 @@ def known_by(trace, reply):
     return reply.at + model.is_update(trace, reply.call)
 
 
+def apply(trace, space, number):
+    """What a number in the log does to a space: where it is no update's, nothing."""
+    if model.is_update(trace, number):
+        space.apply(trace.events[number])
+
+
 def look(trace, address, places):
     """How an address looks after so many places of the log, and the last that changed it."""
     space, changed = model.Space(trace.levels, trace.tables), None
     asked = Call(0, 0, model.RESOLVE, 0, 0, address, 0)
     looks = space.look(asked)
     for place in range(places):
-        space.apply(trace.events[trace.log[place]])
+        apply(trace, space, trace.log[place])
         if space.look(asked) != looks:
             looks, changed = space.look(asked), {"place": place, "call": event_fact(trace, trace.log[place])}
     return looks, changed
@@ -199,10 +206,17 @@ def of_prefix_past_log(trace, r):
     return {"replica": r, "applied": trace.dumps[r].applied, "places": len(trace.log)}
 
 
+def replies_on_more(trace, r):
+    """The replies to calls made at a replica by which more entries are known than its dump has applied."""
+    for i, reply in replies_of(trace).items():
+        call = trace.events[reply.call] if reply.call < len(trace.events) else None
+        if isinstance(call, Call) and call.replica == r and known_by(trace, reply) > trace.dumps[r].applied:
+            yield i, reply
+
+
 def of_prefix_short(trace, r):
     applied = trace.dumps[r].applied
-    index, reply = next((i, reply) for i, reply in replies_of(trace).items()
-                        if trace.events[reply.call].replica == r and known_by(trace, reply) > applied)
+    index, reply = next(replies_on_more(trace, r))
     return {"replica": r, "applied": applied, "known": known_by(trace, reply), "reply": event_fact(trace, index),
             "call": event_fact(trace, reply.call)}
 
@@ -459,6 +473,58 @@ def explained(data):
     return text, {"verdict": text.strip(), "sentence": said, "evidence": {"fault": fault, **shown}}, [said, *lines]
 
 
+def own_fault(trace, r):
+    """The first fault of a replica's dump, as the auditor prints it, or none."""
+    dump, space = trace.dumps[r], model.Space(trace.levels, trace.tables)
+    if dump.applied > len(trace.log):
+        return str(model.Fault("PrefixPastLog", r))
+    if any(replies_on_more(trace, r)):
+        return str(model.Fault("PrefixShort", r))
+    for number in trace.log[:dump.applied]:
+        apply(trace, space, number)
+    try:
+        model.check_dump(trace, r, space)
+    except model.Fault as fault:
+        return str(fault)
+    return None
+
+
+def said_of_dump(trace, r, header):
+    """What `--all` says of a replica's dump; and the lines of that."""
+    text = own_fault(trace, r)
+    if text is None:
+        return {"fault": None, "replica": r}, [f"dump {r}: no fault"]
+    _, _, fault, *numbers = text.split()
+    shown = OF_FAULT[fault](trace, *(int(number, 0) for number in numbers))
+    said = sentence_of(fault, shown, header)
+    told = {"replica": r, "fault": text[3:], "sentence": said, "evidence": {"fault": fault, **shown}}
+    return told, [f"dump {r}: {text[3:]}", said, *lines_of(fault, shown)]
+
+
+def other_dumps(data):
+    """What `--all` says of each dump but the one that the first fault is of."""
+    words = model.verdict(data)[0].split()
+    if words[0] == "yes" or words[2] == "Format":
+        return []
+    own = int(words[3]) if int(words[1]) >= 11 else None
+    trace = model.read(data)
+    return [said_of_dump(trace, r, data[:20]) for r in range(trace.replicas) if r != own]
+
+
+def explain_all(data):
+    """What `nrvs explain --all` prints, and its status."""
+    text, status = explain(data)
+    return text + "".join(line + "\n" for _, lines in other_dumps(data) for line in lines), status
+
+
+def explain_all_json(data):
+    """What `nrvs explain --all --json` prints, and its status."""
+    text, whole, _ = explained(data)
+    dumps = [told for told, _ in other_dumps(data)]
+    whole = {**whole, "dumps": dumps} if dumps else whole
+    return json.dumps(whole, separators=(",", ":"), sort_keys=True) + "\n", int(text.startswith("no"))
+
+
 def explain(data):
     """What `nrvs explain` prints, and its status."""
     text, _, lines = explained(data)
@@ -486,7 +552,7 @@ def main(words, data):
         text, error, status = resolve_in_steps(data, words[1], *map(int, words[2:]))
         sys.stderr.write(error)
     else:
-        text, status = (explain_json if words == ["--json"] else explain)(data)
+        text, status = {(): explain, ("--json",): explain_json, ("--all",): explain_all, ("--all", "--json"): explain_all_json}[tuple(words)](data)
     sys.stdout.write(text)
     return status
 

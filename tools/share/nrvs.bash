@@ -6,16 +6,17 @@ _nrvs() {
     --replica | --replicas | --tables | --turns | --address) return ;;
   esac
   if [ "$COMP_CWORD" -eq 1 ]; then
-    COMPREPLY=($(compgen -W 'audit explain resolve simulate run help --help --version' -- "$word"))
+    COMPREPLY=($(compgen -W 'audit explain resolve pages simulate run help --help --version' -- "$word"))
     return
   fi
   case ${COMP_WORDS[1]} in
     audit) options='--chain --quiet' ;;
-    explain) options='--json' ;;
+    explain) options='--json --all' ;;
     resolve) options='--address --replica --steps' ;;
+    pages) options='--replica --ranges' ;;
     simulate) options='--levels --replicas --tables --trace' ;;
     run) options='--levels --replicas --tables --turns --trace' ;;
-    help) COMPREPLY=($(compgen -W 'audit explain resolve simulate run' -- "$word")); return ;;
+    help) COMPREPLY=($(compgen -W 'audit explain resolve pages simulate run' -- "$word")); return ;;
   esac
   # a word that begins no option is a file's name, which bash completes itself
   case $word in

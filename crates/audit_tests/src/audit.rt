@@ -4,10 +4,13 @@ use nr_audit::{Verdict, audit};
 use nr_trace::{Fault, Format};
 use std::alloc::{AllocError, Global};
 use std::process::Abort;
-use std::test::Fail;
 
 /// The bytes of a trace of 3 threads.
-pub(crate) fn trace_of(alloc: Global, case: &Case) -> Result<Vec<u8>, AllocError> {
+pub(crate) fn trace_of(rt: &impl Abort, alloc: Global, case: &Case) -> Vec<u8> {
+    spelled(alloc, case).expect(rt, "memory")
+}
+
+fn spelled(alloc: Global, case: &Case) -> Result<Vec<u8>, AllocError> {
     let [version, levels, tables] = case.config;
     let replicas = case.dumps.len().min(255) as u8;
     let places = case.log.len().min(255) as u8;
@@ -33,43 +36,41 @@ pub(crate) fn trace_of(alloc: Global, case: &Case) -> Result<Vec<u8>, AllocError
 }
 
 /// Audits each trace, and holds the verdict against what is expected.
-fn run(rt: &impl Abort, alloc: Global, cases: &[Case]) -> Result<(), Fail> {
+fn run(rt: &impl Abort, alloc: Global, cases: &[Case]) {
     for case in cases {
-        let bytes = trace_of(alloc, case)?;
-        let verdict = audit(alloc, &bytes)?;
+        let bytes = trace_of(rt, alloc, case);
+        let verdict = audit(alloc, &bytes).expect(rt, "memory");
         let told = match &verdict {
             Verdict::Yes(order) => Ok(order.calls()),
             Verdict::No(fault) => Err(*fault),
         };
         assert_eq!(rt; told, case.verdict, "{}", case.name);
     }
-    Ok(())
 }
 
 #[test]
-fn orders(rt: HostRuntime) -> Result<(), Fail> {
-    run(&rt, rt.alloc(), &ORDERS)
+fn orders(rt: HostRuntime) {
+    run(&rt, rt.alloc(), &ORDERS);
 }
 
 #[test]
-fn formats(rt: HostRuntime) -> Result<(), Fail> {
-    run(&rt, rt.alloc(), &FORMATS)
+fn formats(rt: HostRuntime) {
+    run(&rt, rt.alloc(), &FORMATS);
 }
 
 #[test]
-fn faults_of_calls(rt: HostRuntime) -> Result<(), Fail> {
-    run(&rt, rt.alloc(), &CALLS)
+fn faults_of_calls(rt: HostRuntime) {
+    run(&rt, rt.alloc(), &CALLS);
 }
 
 #[test]
-fn dumps(rt: HostRuntime) -> Result<(), Fail> {
-    run(&rt, rt.alloc(), &DUMPS)
+fn dumps(rt: HostRuntime) {
+    run(&rt, rt.alloc(), &DUMPS);
 }
 
 #[test]
-fn no_bytes(rt: HostRuntime) -> Result<(), Fail> {
-    let verdict = audit(rt.alloc(), &[])?;
+fn no_bytes(rt: HostRuntime) {
+    let verdict = audit(rt.alloc(), &[]).expect(&rt, "memory");
     let truncated = Fault::Format(Format::Truncated);
     assert!(rt; matches!(verdict, Verdict::No(fault) if fault == truncated));
-    Ok(())
 }

@@ -1,6 +1,7 @@
 //! The bytes of traces.
 
 use std::alloc::{AllocError, Global};
+use std::process::Abort;
 
 /// The counts of a trace of one replica, one thread and one table with nothing recorded.
 pub const EMPTY: [u8; 20] = [
@@ -67,34 +68,29 @@ pub fn push_dump(
 
 /// The bytes of a trace: what comes before its one dump, and the dump.
 pub fn bytes_of(
+    rt: &impl Abort,
     alloc: Global,
     front: &[u8],
     applied: u8,
     words: &[(u64, u64)],
-) -> Result<Vec<u8>, AllocError> {
-    let mut bytes = Vec::new(alloc);
-    bytes.extend_from_slice(front)?;
-    push_dump(&mut bytes, applied, 1, words)?;
-    Ok(bytes)
+) -> Vec<u8> {
+    let mut bytes = Vec::from_slice(alloc, front).expect(rt, "memory");
+    push_dump(&mut bytes, applied, 1, words).expect(rt, "memory");
+    bytes
 }
 
 /// The trace with the map and the resolve.
-pub fn map_then_resolve(alloc: Global) -> Result<Vec<u8>, AllocError> {
-    bytes_of(alloc, &MAPPED, 1, TABLES)
+pub fn map_then_resolve(rt: &impl Abort, alloc: Global) -> Vec<u8> {
+    bytes_of(rt, alloc, &MAPPED, 1, TABLES)
 }
 
 /// The bytes with others at some indexes.
-pub fn changed(
-    alloc: Global,
-    bytes: &[u8],
-    changes: &[(usize, u8)],
-) -> Result<Vec<u8>, AllocError> {
-    let mut changed = Vec::new(alloc);
-    changed.extend_from_slice(bytes)?;
+pub fn changed(rt: &impl Abort, alloc: Global, bytes: &[u8], changes: &[(usize, u8)]) -> Vec<u8> {
+    let mut changed = Vec::from_slice(alloc, bytes).expect(rt, "memory");
     for (index, other) in changes {
         if let Some(byte) = changed.get_mut(*index) {
             *byte = *other;
         }
     }
-    Ok(changed)
+    changed
 }

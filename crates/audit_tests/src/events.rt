@@ -2,8 +2,8 @@
 
 use nr_trace::{Event, Recorded};
 use std::alloc::Global;
-use std::test::Fail;
-use vs_types::{Access, Answer, Depth, Mode, Op, Request, Rights, Size};
+use std::process::Abort;
+use vs_types::{Access, Answer, BadOp, Depth, Mode, Op, Request, Rights, Size};
 
 /// What a call asks.
 #[derive(Clone, Copy)]
@@ -43,30 +43,34 @@ pub const ACCESS_EVENTS: &[Item] = &[
     Item::Reply(2, 1, Answer::Allowed(0x1123)),
 ];
 
-fn request_of(asks: Asks) -> Result<Request, Fail> {
+fn request_of(asks: Asks) -> Result<Request, BadOp> {
     let depth = Depth::Four;
-    Ok(match asks {
-        Asks::Map => Request::update(Op::map(depth, 0x400000, Size::K4, 0x1000, Rights::ALL)?),
-        Asks::Resolve(address) => Request::resolve(depth, address)?,
-        Asks::Write(address) => Request::access(depth, address, Mode::User, Access::Write)?,
-    })
+    match asks {
+        Asks::Map => {
+            let map = Op::map(depth, 0x400000, Size::K4, 0x1000, Rights::ALL)?;
+            Ok(Request::update(map))
+        }
+        Asks::Resolve(address) => Request::resolve(depth, address),
+        Asks::Write(address) => Request::access(depth, address, Mode::User, Access::Write),
+    }
 }
 
-fn event_of(item: Item) -> Result<Event, Fail> {
+fn event_of(rt: &impl Abort, item: Item) -> Event {
     match item {
-        Item::Call(replica, thread, asks) => Ok(Event::Call {
+        Item::Call(replica, thread, asks) => Event::Call {
             replica,
             thread,
-            request: request_of(asks)?,
-        }),
-        Item::Reply(call, at, answer) => Ok(Event::Reply { call, at, answer }),
+            request: request_of(asks).expect(rt, "a request"),
+        },
+        Item::Reply(call, at, answer) => Event::Reply { call, at, answer },
     }
 }
 
-pub fn events_of(alloc: Global, items: &[Item]) -> Result<Vec<Recorded>, Fail> {
+pub fn events_of(rt: &impl Abort, alloc: Global, items: &[Item]) -> Vec<Recorded> {
     let mut events = Vec::new(alloc);
     for item in items {
-        events.push(Recorded::of(event_of(*item)?))?;
+        let event = Recorded::of(event_of(rt, *item));
+        events.push(event).expect(rt, "memory");
     }
-    Ok(events)
+    events
 }

@@ -6,7 +6,7 @@ use crate::trace::is_spelled;
 use nr_audit::{Verdict, audit, judge};
 use nr_trace::{Fault, Format, read};
 use std::alloc::{AllocError, Global};
-use std::test::Fail;
+use std::process::Abort;
 use vs_types::Depth;
 use vs_walk::{Dump, leaves};
 
@@ -94,43 +94,43 @@ fn told(verdict: &Verdict) -> Result<usize, Option<Fault>> {
     Ok(order.calls().len())
 }
 
+/// The same of bytes.
+fn audited(rt: &impl Abort, alloc: Global, bytes: &[u8]) -> Result<usize, Option<Fault>> {
+    told(&audit(alloc, bytes).expect(rt, "memory"))
+}
+
 /// The frames that a dump's tables lead to, and how many pages are found there.
-fn gathered(alloc: Global, dump: &Dump) -> Result<(usize, usize), Fail> {
-    let listed = leaves(alloc, dump, dump.root(), Depth::Five)?;
-    let held = dump.count();
-    let again = Dump::gather(alloc, dump, dump.root(), Depth::Five, 7)?;
-    if held != again.count() {
-        return Err(Fail::from("another number of frames"));
-    }
-    Ok((again.count(), listed.pages.as_slice().len()))
+fn gathered(rt: &impl Abort, alloc: Global, dump: &Dump) -> (usize, usize) {
+    let listed = leaves(alloc, dump, dump.root(), Depth::Five).expect(rt, "pages");
+    let again = Dump::gather(alloc, dump, dump.root(), Depth::Five, 7).expect(rt, "a dump");
+    assert_eq!(rt; dump.count(), again.count());
+    (again.count(), listed.pages.as_slice().len())
 }
 
 #[test]
-fn read_and_written(rt: HostRuntime) -> Result<(), Fail> {
+fn read_and_written(rt: HostRuntime) {
     let alloc = rt.alloc();
-    let bytes = large_trace(alloc)?;
+    let bytes = large_trace(alloc).expect(&rt, "memory");
     assert_eq!(rt;
         bytes.len(),
         20 + 80_000 + 60_000 * 24 + 2 * 16 + 4_090 * 4_104
     );
-    let trace = read(alloc, &bytes)?;
-    assert!(rt; is_spelled(alloc, &trace, &bytes)?);
-    assert!(rt; is_read_in_pieces(alloc, &bytes, 1_000_003)?);
-    Ok(())
+    let trace = read(alloc, &bytes).expect(&rt, "a trace");
+    assert!(rt; is_spelled(&rt, alloc, &trace, &bytes));
+    assert!(rt; is_read_in_pieces(&rt, alloc, &bytes, 1_000_003));
 }
 
 #[test]
-fn judged(rt: HostRuntime) -> Result<(), Fail> {
+fn judged(rt: HostRuntime) {
     let alloc = rt.alloc();
-    let mut bytes = large_trace(alloc)?;
-    assert_eq!(rt; told(&audit(alloc, &bytes)?), Ok(30_000));
-    let trace = read(alloc, &bytes)?;
-    assert_eq!(rt; told(&judge(alloc, &trace)?), Ok(30_000));
-    let mut dumps = trace.dumps().iter();
-    let dump = dumps.next().ok_or("a dump")?;
-    assert_eq!(rt; gathered(alloc, dump)?, (4_089, 0));
-    bytes.push(0)?;
+    let mut bytes = large_trace(alloc).expect(&rt, "memory");
+    assert_eq!(rt; audited(&rt, alloc, &bytes), Ok(30_000));
+    let trace = read(alloc, &bytes).expect(&rt, "a trace");
+    let verdict = judge(alloc, &trace).expect(&rt, "memory");
+    assert_eq!(rt; told(&verdict), Ok(30_000));
+    let dump = trace.dumps().first().expect(&rt, "a dump");
+    assert_eq!(rt; gathered(&rt, alloc, dump), (4_089, 0));
+    bytes.push(0).expect(&rt, "memory");
     let trailing = Fault::Format(Format::Trailing);
-    assert_eq!(rt; told(&audit(alloc, &bytes)?), Err(Some(trailing)));
-    Ok(())
+    assert_eq!(rt; audited(&rt, alloc, &bytes), Err(Some(trailing)));
 }

@@ -25,6 +25,8 @@ mod large;
 #[cfg(test)]
 mod named_files;
 #[cfg(test)]
+mod other_dumps;
+#[cfg(test)]
 mod pieces;
 #[cfg(test)]
 mod recorded;

@@ -6,7 +6,6 @@ use crate::trace::is_spelled;
 use nr_trace::{Event, Format, SegmentFeed, Trace, TraceLayout, Version, read};
 use std::alloc::Global;
 use std::process::Abort;
-use std::test::Fail;
 use vs_types::{Access, Depth, Mode};
 
 /// One replica, one thread and four tables; and nothing else.
@@ -39,37 +38,36 @@ type Bytes = &'static [u8];
 type Changes = &'static [(usize, u8)];
 
 /// The first segment of the bytes, in pieces of this length.
-fn segment_of(rt: &impl Abort, alloc: Global, bytes: &[u8], len: usize) -> Result<Trace, Fail>
+fn segment_of(rt: &impl Abort, alloc: Global, bytes: &[u8], len: usize) -> Trace
     requires { 0 < len }
 {
     let mut feed = SegmentFeed::new(alloc, None);
     for piece in bytes.chunks(len) {
         assert!(rt; !feed.is_whole());
-        assert_eq!(rt; feed.feed(piece)?, piece.len());
+        assert_eq!(rt; feed.feed(piece), Ok(piece.len()));
     }
     assert!(rt; feed.is_whole());
-    Ok(feed.end()?)
+    feed.end().expect(rt, "a segment")
 }
 
 #[test]
-fn segments_are_read_in_pieces_and_written(rt: HostRuntime) -> Result<(), Fail> {
+fn segments_are_read_in_pieces_and_written(rt: HostRuntime) {
     let alloc = rt.alloc();
     let segments: [Bytes; 3] = [&NOTHING, &TOUCHES_NOTHING, &FORESEES_A_MAP];
     for bytes in segments {
         for len in [1, 7, 4096] {
             assert!(rt; len > 0);
-            let segment = segment_of(&rt, alloc, bytes, len)?;
+            let segment = segment_of(&rt, alloc, bytes, len);
             assert_eq!(rt; segment.version(), Version::Segment);
             assert!(rt; segment.start().is_none());
-            assert!(rt; is_spelled(alloc, &segment, bytes)?, "{len}");
+            assert!(rt; is_spelled(&rt, alloc, &segment, bytes), "{len}");
         }
     }
-    Ok(())
 }
 
 #[test]
-fn a_touch_is_an_access(rt: HostRuntime) -> Result<(), Fail> {
-    let segment = segment_of(&rt, rt.alloc(), &TOUCHES_NOTHING, 4096)?;
+fn a_touch_is_an_access(rt: HostRuntime) {
+    let segment = segment_of(&rt, rt.alloc(), &TOUCHES_NOTHING, 4096);
     assert_eq!(rt; segment.layout().threads(), 65_535);
     assert_eq!(rt; segment.layout().tables(), 65_535);
     let touch = Event::Touch {
@@ -83,26 +81,23 @@ fn a_touch_is_an_access(rt: HostRuntime) -> Result<(), Fail> {
         segment.events().first().map(|recorded| recorded.event()),
         Some(touch)
     );
-    Ok(())
 }
 
 /// What comes after a segment is not taken.
 #[test]
-fn a_feed_stops_behind_a_segment(rt: HostRuntime) -> Result<(), Fail> {
+fn a_feed_stops_behind_a_segment(rt: HostRuntime) {
     let alloc = rt.alloc();
-    let mut bytes = Vec::new(alloc);
-    bytes.extend_from_slice(&NOTHING)?;
-    bytes.extend_from_slice(&NOTHING)?;
+    let mut bytes = Vec::from_slice(alloc, &NOTHING).expect(&rt, "memory");
+    bytes.extend_from_slice(&NOTHING).expect(&rt, "memory");
     let mut feed = SegmentFeed::new(alloc, None);
     assert_eq!(rt; feed.feed(&bytes), Ok(40));
     assert!(rt; feed.is_whole());
     assert_eq!(rt; feed.feed(&bytes), Ok(0));
-    let segment = feed.end()?;
-    assert!(rt; is_spelled(alloc, &segment, &NOTHING)?);
+    let segment = feed.end().expect(&rt, "a segment");
+    assert!(rt; is_spelled(&rt, alloc, &segment, &NOTHING));
     let mut next = SegmentFeed::new(alloc, Some(segment.layout()));
     assert_eq!(rt; next.feed(&bytes), Ok(40));
     assert!(rt; next.is_whole());
-    Ok(())
 }
 
 /// Bytes with these changes have this fault as a segment.
@@ -135,17 +130,16 @@ fn fault_of(
     bytes: &[u8],
 ) -> Option<vs_types::Fail<Format>> {
     let mut feed = SegmentFeed::new(alloc, before);
-    if let Err(fault) = feed.feed(bytes) {
-        return Some(fault);
-    }
-    feed.end().err()
+    let told = feed.feed(bytes).err();
+    let end = feed.end().err();
+    told.or(end)
 }
 
 #[test]
-fn faults_of_segments(rt: HostRuntime) -> Result<(), Fail> {
+fn faults_of_segments(rt: HostRuntime) {
     let alloc = rt.alloc();
     for (bytes, changes, fault) in FAULTS {
-        let mut other = changed(alloc, bytes, changes)?;
+        let mut other = changed(&rt, alloc, bytes, changes);
         if changes.is_empty() {
             other.pop();
         }
@@ -154,11 +148,10 @@ fn faults_of_segments(rt: HostRuntime) -> Result<(), Fail> {
             Some(vs_types::Fail::Refused(fault))
         );
     }
-    Ok(())
 }
 
 #[test]
-fn a_further_segment_is_laid_out_alike(rt: HostRuntime) -> Result<(), Fail> {
+fn a_further_segment_is_laid_out_alike(rt: HostRuntime) {
     let alloc = rt.alloc();
     let chain = Some(vs_types::Fail::Refused(Format::BadChain));
     for (depth, replicas, threads, tables, fault) in [
@@ -172,16 +165,14 @@ fn a_further_segment_is_laid_out_alike(rt: HostRuntime) -> Result<(), Fail> {
         assert!(rt; before.is_some());
         assert_eq!(rt; fault_of(alloc, before, &NOTHING), fault);
     }
-    Ok(())
 }
 
 #[test]
-fn a_segment_is_no_trace(rt: HostRuntime) -> Result<(), Fail> {
+fn a_segment_is_no_trace(rt: HostRuntime) {
     let alloc = rt.alloc();
     let magic = Some(vs_types::Fail::Refused(Format::BadMagic));
     assert_eq!(rt; read(alloc, &NOTHING).err(), magic);
-    let third = changed(alloc, &NOTHING, &[(3, 0x54), (5, 3)])?;
+    let third = changed(&rt, alloc, &NOTHING, &[(3, 0x54), (5, 3)]);
     let version = Some(vs_types::Fail::Refused(Format::BadVersion));
     assert_eq!(rt; read(alloc, &third).err(), version);
-    Ok(())
 }

@@ -1,6 +1,6 @@
 //! Traces whose address space doesn't begin empty.
 
-ghost use Rattle.std.specs.Prelude.{◌≡◌, IfOk};
+ghost use Rattle.std.specs.Prelude.{◌≡◌};
 
 use crate::audit::trace_of;
 use crate::audit_cases::{
@@ -10,7 +10,6 @@ use nr_audit::{Judged, judge_from};
 use nr_trace::{Fault, Trace, read};
 use std::alloc::Global;
 use std::process::Abort;
-use std::test::Fail;
 use vs_plain::PlainSpace;
 use vs_types::{Op, Rights, Size};
 
@@ -83,16 +82,22 @@ static BEGUN_WITH_A_PAGE: [(Case, usize); 6] = [
 ];
 
 /// The space with the page that the cases begin with, of a trace's depth and limit of tables.
-fn space_with_page(rt: &impl Abort, alloc: Global, trace: &Trace) -> Result<PlainSpace, Fail>
-    ensures depth { IfOk result (λ space. space.depth ≡ trace.now.layout.depth) }
-    ensures limit { IfOk result (λ space. space.limit ≡ trace.now.layout.tables) }
+fn space_with_page(rt: &impl Abort, alloc: Global, trace: &Trace) -> PlainSpace
+    ensures depth { result.depth ≡ trace.now.layout.depth }
+    ensures limit { result.limit ≡ trace.now.layout.tables }
 {
     let layout = trace.layout();
     let mut space = PlainSpace::new(alloc, layout.tables(), layout.depth());
-    let op = Op::map(layout.depth(), 0x400000, Size::K4, 0x1000, Rights::ALL)?;
+    let op = Op::map(layout.depth(), 0x400000, Size::K4, 0x1000, Rights::ALL);
+    let op = op.expect(rt, "an operation");
     assert!(rt; op.fits(space.depth()));
-    space.apply(op)?;
-    Ok(space)
+    space.apply(op).expect(rt, "memory");
+    space
+}
+
+/// The trace of a case.
+fn read_case(rt: &impl Abort, alloc: Global, case: &Case) -> Trace {
+    read(alloc, &trace_of(rt, alloc, case)).expect(rt, "a trace")
 }
 
 /// Holds what is found of a case against what is expected; gives the space at the end.
@@ -110,35 +115,35 @@ fn expect_case(rt: &impl Abort, case: &Case, judged: Judged) -> Option<PlainSpac
 }
 
 #[test]
-fn begun_with_a_page(rt: HostRuntime) -> Result<(), Fail> {
+fn begun_with_a_page(rt: HostRuntime) {
     let alloc = rt.alloc();
     for (case, left) in &BEGUN_WITH_A_PAGE {
-        let trace = read(alloc, &trace_of(alloc, case)?)?;
-        let start = space_with_page(&rt, alloc, &trace)?;
-        if let Some(space) = expect_case(&rt, case, judge_from(alloc, &trace, start)?) {
-            assert_eq!(&rt; space.pages()?.len(), *left, "{}", case.name);
+        let trace = read_case(&rt, alloc, case);
+        let start = space_with_page(&rt, alloc, &trace);
+        let judged = judge_from(alloc, &trace, start).expect(&rt, "memory");
+        if let Some(space) = expect_case(&rt, case, judged) {
+            let pages = space.pages().expect(&rt, "memory");
+            assert_eq!(&rt; pages.len(), *left, "{}", case.name);
         }
     }
-    Ok(())
 }
 
 /// A trace goes on where another one ended.
 #[test]
-fn one_after_another(rt: HostRuntime) -> Result<(), Fail> {
+fn one_after_another(rt: HostRuntime) {
     let alloc = rt.alloc();
-    let first = read(alloc, &trace_of(alloc, &RIGHT)?)?;
-    let second = read(alloc, &trace_of(alloc, &UNMAPPED)?)?;
+    let first = read_case(&rt, alloc, &RIGHT);
+    let second = read_case(&rt, alloc, &UNMAPPED);
     let layout = first.layout();
     assert_eq!(&rt; second.layout(), layout);
     let empty = PlainSpace::new(alloc, layout.tables(), layout.depth());
-    let Judged::Right(_, space) = judge_from(alloc, &first, empty)? else {
+    let Judged::Right(_, space) = judge_from(alloc, &first, empty).expect(&rt, "memory") else {
         panic!(&rt; "the first is right")
     };
     assert_eq!(&rt; space.tables(), 4);
-    let Judged::Right(order, end) = judge_from(alloc, &second, space)? else {
+    let Judged::Right(order, end) = judge_from(alloc, &second, space).expect(&rt, "memory") else {
         panic!(&rt; "the second is right")
     };
     assert_eq!(&rt; Ok(order.calls()), UNMAPPED.verdict);
     assert_eq!(&rt; end.tables(), 1);
-    Ok(())
 }

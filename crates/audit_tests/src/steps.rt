@@ -3,7 +3,6 @@
 use crate::bytes::map_then_resolve;
 use nr_explain::{Step, entries_read};
 use nr_trace::read;
-use std::test::Fail;
 use vs_types::Depth;
 
 /// The entries on the way to 0x400123, a root's first.
@@ -35,13 +34,13 @@ const STEPS: [Step; 4] = [
 ];
 
 #[test]
-fn entries_that_a_walk_reads(rt: HostRuntime) -> Result<(), Fail> {
+fn entries_that_a_walk_reads(rt: HostRuntime) {
     let alloc = rt.alloc();
-    let bytes = map_then_resolve(alloc)?;
-    let trace = read(alloc, &bytes)?;
+    let bytes = map_then_resolve(&rt, alloc);
+    let trace = read(alloc, &bytes).expect(&rt, "a trace");
     for dump in trace.dumps() {
-        let steps = entries_read(alloc, dump, Depth::Four, 0x400123)?;
+        let steps = entries_read(alloc, dump, Depth::Four, 0x400123);
+        let steps = steps.expect(&rt, "memory");
         assert_eq!(rt; steps.as_slice(), STEPS.as_slice());
     }
-    Ok(())
 }

@@ -5,7 +5,6 @@ use crate::events::{ACCESS_EVENTS, Item, RESOLVE_EVENTS, events_of};
 use nr_trace::{Format, Trace, TraceLayout, Version, read, write};
 use std::alloc::Global;
 use std::process::Abort;
-use std::test::Fail;
 use vs_types::{Config, Depth};
 use vs_walk::{Dump, Frames};
 
@@ -78,8 +77,8 @@ static EXAMPLES: [Example; 5] = [
 ];
 
 /// Whether the trace is spelled by these bytes.
-pub fn is_spelled(alloc: Global, trace: &Trace, bytes: &[u8]) -> Result<bool, Fail> {
-    Ok(write(alloc, trace)?.as_slice() == bytes)
+pub fn is_spelled(rt: &impl Abort, alloc: Global, trace: &Trace, bytes: &[u8]) -> bool {
+    write(alloc, trace).expect(rt, "memory").as_slice() == bytes
 }
 
 /// Whether the frame of this number has this word at the index, and no other that is not 0.
@@ -110,41 +109,33 @@ fn assert_dump(rt: &impl Abort, dump: &Dump, example: &Example) {
 }
 
 /// The trace is what the example says.
-fn assert_trace(
-    rt: &impl Abort,
-    alloc: Global,
-    trace: &Trace,
-    example: &Example,
-) -> Result<(), Fail> {
+fn assert_trace(rt: &impl Abort, alloc: Global, trace: &Trace, example: &Example) {
     let config = Config::new(example.depth, 1, 1, example.tables);
     assert!(rt; trace.version() == example.version);
     assert!(rt; Ok(trace.layout()) == config.map(TraceLayout::of));
     assert!(rt; trace.log() == example.log);
-    assert!(rt; trace.events() == events_of(alloc, example.events)?.as_slice());
+    assert!(rt; trace.events() == events_of(rt, alloc, example.events).as_slice());
     assert_eq!(rt; trace.dumps().len(), 1);
     for dump in trace.dumps() {
         assert_dump(rt, dump, example);
     }
-    Ok(())
 }
 
 /// Its bytes are read as what it says, and written again.
-fn run(rt: &impl Abort, alloc: Global, example: &Example) -> Result<(), Fail> {
-    let first = bytes_of(alloc, example.front, example.applied, example.words)?;
-    let bytes = changed(alloc, &first, example.changes)?;
+fn run(rt: &impl Abort, alloc: Global, example: &Example) {
+    let first = bytes_of(rt, alloc, example.front, example.applied, example.words);
+    let bytes = changed(rt, alloc, &first, example.changes);
     assert_eq!(rt; bytes.len(), example.len);
-    let trace = read(alloc, &bytes)?;
-    assert_trace(rt, alloc, &trace, example)?;
-    assert!(rt; is_spelled(alloc, &trace, &bytes)?);
-    Ok(())
+    let trace = read(alloc, &bytes).expect(rt, "a trace");
+    assert_trace(rt, alloc, &trace, example);
+    assert!(rt; is_spelled(rt, alloc, &trace, &bytes));
 }
 
 #[test]
-fn examples(rt: HostRuntime) -> Result<(), Fail> {
+fn examples(rt: HostRuntime) {
     for example in &EXAMPLES {
-        run(&rt, rt.alloc(), example)?;
+        run(&rt, rt.alloc(), example);
     }
-    Ok(())
 }
 
 /// Changes of the trace without calls, and the fault of each.
@@ -187,52 +178,44 @@ pub fn assert_refused(rt: &impl Abort, alloc: Global, bytes: &[u8], fault: Forma
 }
 
 /// The bytes with each of these changes are refused with its fault.
-fn refuse_all(
-    rt: &impl Abort,
-    alloc: Global,
-    bytes: &[u8],
-    cases: &[(Changes, Format)],
-) -> Result<(), Fail> {
+fn refuse_all(rt: &impl Abort, alloc: Global, bytes: &[u8], cases: &[(Changes, Format)]) {
     for (changes, fault) in cases {
-        assert_refused(rt, alloc, &changed(alloc, bytes, *changes)?, *fault);
+        assert_refused(rt, alloc, &changed(rt, alloc, bytes, *changes), *fault);
     }
-    Ok(())
 }
 
 #[test]
-fn malformed_bytes(rt: HostRuntime) -> Result<(), Fail> {
+fn malformed_bytes(rt: HostRuntime) {
     let alloc = rt.alloc();
-    let empty = bytes_of(alloc, &EMPTY, 0, ROOT)?;
-    let first = map_then_resolve(alloc)?;
-    let access = changed(alloc, &first, ACCESS)?;
-    refuse_all(&rt, alloc, &empty, &CHANGES_OF_EMPTY)?;
-    refuse_all(&rt, alloc, &first, &CHANGES)?;
-    refuse_all(&rt, alloc, &access, &CHANGES_OF_ACCESS)
+    let empty = bytes_of(&rt, alloc, &EMPTY, 0, ROOT);
+    let first = map_then_resolve(&rt, alloc);
+    let access = changed(&rt, alloc, &first, ACCESS);
+    refuse_all(&rt, alloc, &empty, &CHANGES_OF_EMPTY);
+    refuse_all(&rt, alloc, &first, &CHANGES);
+    refuse_all(&rt, alloc, &access, &CHANGES_OF_ACCESS);
 }
 
 /// A byte too many, one too few, none, and events that are promised and do not come.
 #[test]
-fn lengths(rt: HostRuntime) -> Result<(), Fail> {
+fn lengths(rt: HostRuntime) {
     let alloc = rt.alloc();
-    let mut bytes = bytes_of(alloc, &EMPTY, 0, ROOT)?;
-    bytes.push(0)?;
+    let mut bytes = bytes_of(&rt, alloc, &EMPTY, 0, ROOT);
+    bytes.push(0).expect(&rt, "memory");
     assert_refused(&rt, alloc, &bytes, Format::Trailing);
     bytes.truncate(4139);
     assert_refused(&rt, alloc, &bytes, Format::Truncated);
     assert_refused(&rt, alloc, &[], Format::Truncated);
-    let promised = changed(alloc, &EMPTY, &[(13, 1), (17, 2)])?;
+    let promised = changed(&rt, alloc, &EMPTY, &[(13, 1), (17, 2)]);
     assert_refused(&rt, alloc, &promised, Format::Truncated);
-    Ok(())
 }
 
 #[test]
-fn bytes_cut_short_are_truncated(rt: HostRuntime) -> Result<(), Fail> {
+fn bytes_cut_short_are_truncated(rt: HostRuntime) {
     let alloc = rt.alloc();
-    let bytes = map_then_resolve(alloc)?;
+    let bytes = map_then_resolve(&rt, alloc);
     for len in 0..bytes.len() {
         if len < 200 || len % 97 == 0 {
             assert_refused(&rt, alloc, &bytes[..len], Format::Truncated);
         }
     }
-    Ok(())
 }

@@ -5,19 +5,17 @@ ghost use Rattle.std.specs.Prelude.{◌<◌};
 use crate::bytes::map_then_resolve;
 use nr_explain::{BadField, BadUnit, EventField, FieldFault, TraceUnit, UnitFeed, Unread};
 use nr_trace::{Format, Trace};
-use std::alloc::{AllocError, Global};
+use std::alloc::Global;
 use std::process::Abort;
-use std::test::Fail;
-use vs_types::Memory;
 
-/// What is read of the bytes in pieces of this length: a trace, or the unit that is bad.
-fn read_in_units(alloc: Global, bytes: &[u8], len: usize) -> Result<Result<Trace, BadUnit>, Memory>
+/// The unit that is bad in bytes that come in pieces of this length.
+fn bad_unit(rt: &impl Abort, alloc: Global, bytes: &[u8], len: usize) -> BadUnit
     requires { 0 < len }
 {
-    match feed_in_units(alloc, bytes, len) {
-        Ok(trace) => Ok(Ok(trace)),
-        Err(Unread::Bad(bad)) => Ok(Err(bad)),
-        Err(Unread::Memory) => Err(Memory),
+    match feed_in_units(alloc, bytes, len).err() {
+        Some(Unread::Bad(bad)) => bad,
+        Some(Unread::Memory) => panic!(rt; "memory"),
+        None => panic!(rt; "no bad unit"),
     }
 }
 
@@ -38,14 +36,12 @@ fn holds(
     bytes: &[u8],
     wanted: (Format, TraceUnit),
     place: (usize, usize),
-) -> Result<(), Fail> {
+) {
     let (fault, unit) = wanted;
     let (offset, there) = place;
     for len in [1, 24, 4096] {
         assert!(rt; len > 0);
-        let Err(bad) = read_in_units(alloc, bytes, len)? else {
-            panic!(rt; "{offset}: no bad unit");
-        };
+        let bad = bad_unit(rt, alloc, bytes, len);
         assert_eq!(rt; bad.fault, fault, "{offset}");
         assert_eq!(rt; bad.unit, unit, "{offset}");
         assert_eq!(rt; bad.offset, offset as u64, "{offset}");
@@ -56,11 +52,10 @@ fn holds(
             "{offset}"
         );
     }
-    Ok(())
 }
 
 #[test]
-fn each_unit_is_refused(rt: HostRuntime) -> Result<(), Fail> {
+fn each_unit_is_refused(rt: HostRuntime) {
     let alloc = rt.alloc();
     for (version, levels) in [(1, 4), (2, 4), (2, 5)] {
         for (at, byte, fault, unit, offset, there) in [
@@ -88,22 +83,21 @@ fn each_unit_is_refused(rt: HostRuntime) -> Result<(), Fail> {
                 8,
             ),
         ] {
-            let mut bytes = map_then_resolve(alloc)?;
+            let mut bytes = map_then_resolve(&rt, alloc);
             for (place, value) in [(5, version), (6, levels), (at, byte)] {
                 if let Some(slot) = bytes.get_mut(place) {
                     *slot = value;
                 }
             }
-            holds(&rt, alloc, &bytes, (fault, unit), (offset, there))?;
+            holds(&rt, alloc, &bytes, (fault, unit), (offset, there));
         }
     }
-    Ok(())
 }
 
 #[test]
-fn each_unit_is_cut_off(rt: HostRuntime) -> Result<(), Fail> {
+fn each_unit_is_cut_off(rt: HostRuntime) {
     let alloc = rt.alloc();
-    let bytes = map_then_resolve(alloc)?;
+    let bytes = map_then_resolve(&rt, alloc);
     for (len, unit, offset) in [
         (0, TraceUnit::Magic, 0),
         (3, TraceUnit::Magic, 0),
@@ -122,50 +116,40 @@ fn each_unit_is_cut_off(rt: HostRuntime) -> Result<(), Fail> {
     ] {
         let front = &bytes[..bytes.len().min(len)];
         let place = (offset, len.saturating_sub(offset));
-        holds(&rt, alloc, front, (Format::Truncated, unit), place)?;
+        holds(&rt, alloc, front, (Format::Truncated, unit), place);
     }
-    Ok(())
 }
 
 #[test]
-fn what_stands_behind_the_last_unit(rt: HostRuntime) -> Result<(), Fail> {
+fn what_stands_behind_the_last_unit(rt: HostRuntime) {
     let alloc = rt.alloc();
-    let mut bytes = map_then_resolve(alloc)?;
+    let mut bytes = map_then_resolve(&rt, alloc);
     for len in [1, 7, 4096] {
         assert!(rt; len > 0);
-        assert!(rt; read_in_units(alloc, &bytes, len)?.is_ok(), "{len}");
+        assert!(rt; feed_in_units(alloc, &bytes, len).is_ok(), "{len}");
     }
-    bytes.extend_from_slice(&[7, 8])?;
+    bytes.extend_from_slice(&[7, 8]).expect(&rt, "memory");
     holds(
         &rt,
         alloc,
         &bytes,
         (Format::Trailing, TraceUnit::Behind),
         (16552, 1),
-    )
+    );
 }
 
 /// Holds the field of an event that is named against what is expected, where one byte of a trace of version 1 is another.
-fn names(
-    rt: &impl Abort,
-    alloc: Global,
-    at: usize,
-    byte: u8,
-    wanted: BadField,
-) -> Result<(), Fail> {
-    let mut bytes = map_then_resolve(alloc)?;
+fn names(rt: &impl Abort, alloc: Global, at: usize, byte: u8, wanted: BadField) {
+    let mut bytes = map_then_resolve(rt, alloc);
     if let Some(slot) = bytes.get_mut(at) {
         *slot = byte;
     }
-    let Err(bad) = read_in_units(alloc, &bytes, 7)? else {
-        panic!(rt; "{at}: no bad unit");
-    };
+    let bad = bad_unit(rt, alloc, &bytes, 7);
     assert_eq!(rt; bad.field, Some(wanted), "{at}");
-    Ok(())
 }
 
 #[test]
-fn the_wrong_field_of_an_event_is_named(rt: HostRuntime) -> Result<(), Fail> {
+fn the_wrong_field_of_an_event_is_named(rt: HostRuntime) {
     let alloc = rt.alloc();
     for (at, byte, field, value, fault) in [
         (24, 2, EventField::Tag, 2, FieldFault::NotBelow(2)),
@@ -221,7 +205,6 @@ fn the_wrong_field_of_an_event_is_named(rt: HostRuntime) -> Result<(), Fail> {
                 value,
                 fault,
             },
-        )?;
+        );
     }
-    Ok(())
 }

@@ -5,7 +5,6 @@ use crate::events::{Asks, DONE, Item, MAP, RESOLVE, RESOLVE_EVENTS, RESOLVED, ev
 use nr_trace::{Format, Trace, TraceLayout, Version, write};
 use std::alloc::Global;
 use std::process::Abort;
-use std::test::Fail;
 use vs_types::{Config, Depth};
 use vs_walk::Dump;
 
@@ -105,63 +104,58 @@ static OUT_OF_RANGE: [Case; 5] = [
     },
 ];
 
-fn dumps_of(alloc: Global, dumps: Dumps, applied: u8) -> Result<Vec<Dump>, Fail> {
+fn dumps_of(rt: &impl Abort, alloc: Global, dumps: Dumps, applied: u8) -> Vec<Dump> {
     let mut dump = Dump::new(alloc, u32::from(applied), 1);
     if let Dumps::Root = dumps {
-        dump.push(1, &[0; 512])?;
+        dump.push(1, &[0; 512]).expect(rt, "memory");
     }
     let mut all = Vec::new(alloc);
     if let Dumps::Root | Dumps::NoFrame = dumps {
-        all.push(dump)?;
+        all.push(dump).expect(rt, "memory");
     }
-    Ok(all)
+    all
 }
 
-/// The bytes of the trace of the parts, or why there is none.
-fn written(alloc: Global, case: &Case) -> Result<Result<Vec<u8>, Format>, Fail> {
-    let config = Config::new(case.depth, 1, 1, case.tables)?;
-    let mut log = Vec::new(alloc);
-    log.extend_from_slice(case.log)?;
-    let events = events_of(alloc, case.events)?;
-    let dumps = dumps_of(alloc, case.dumps, case.applied)?;
-    match Trace::new(
+/// The trace of the parts, or why there is none.
+fn made(rt: &impl Abort, alloc: Global, case: &Case) -> Result<Trace, Format> {
+    let config = Config::new(case.depth, 1, 1, case.tables).expect(rt, "a configuration");
+    let log = Vec::from_slice(alloc, case.log).expect(rt, "memory");
+    let events = events_of(rt, alloc, case.events);
+    let dumps = dumps_of(rt, alloc, case.dumps, case.applied);
+    Trace::new(
         Version::V1,
         TraceLayout::of(config),
         None,
         log,
         events,
         dumps,
-    ) {
-        Ok(trace) => Ok(Ok(write(alloc, &trace)?)),
-        Err(fault) => Ok(Err(fault)),
-    }
+    )
+}
+
+/// The bytes of the trace of the parts, or why there is none.
+fn written(rt: &impl Abort, alloc: Global, case: &Case) -> Result<Vec<u8>, Format> {
+    let trace = made(rt, alloc, case)?;
+    Ok(write(alloc, &trace).expect(rt, "memory"))
 }
 
 /// What comes of the case.
-fn told(alloc: Global, case: &Case) -> Result<Result<Vec<u8>, Format>, Fail> {
-    match case.told {
-        Ok(front) => Ok(Ok(bytes_of(alloc, front, case.applied, ROOT)?)),
-        Err(fault) => Ok(Err(fault)),
-    }
+fn told(rt: &impl Abort, alloc: Global, case: &Case) -> Result<Vec<u8>, Format> {
+    let front = case.told?;
+    Ok(bytes_of(rt, alloc, front, case.applied, ROOT))
 }
 
-fn run(rt: &impl Abort, alloc: Global, case: &Case) -> Result<(), Fail> {
-    assert!(rt; written(alloc, case)? == told(alloc, case)?);
-    Ok(())
+fn run(rt: &impl Abort, alloc: Global, cases: &[Case]) {
+    for case in cases {
+        assert!(rt; written(rt, alloc, case) == told(rt, alloc, case));
+    }
 }
 
 #[test]
-fn traces(rt: HostRuntime) -> Result<(), Fail> {
-    for case in &TRACES {
-        run(&rt, rt.alloc(), case)?;
-    }
-    Ok(())
+fn traces(rt: HostRuntime) {
+    run(&rt, rt.alloc(), &TRACES);
 }
 
 #[test]
-fn parts_out_of_range(rt: HostRuntime) -> Result<(), Fail> {
-    for case in &OUT_OF_RANGE {
-        run(&rt, rt.alloc(), case)?;
-    }
-    Ok(())
+fn parts_out_of_range(rt: HostRuntime) {
+    run(&rt, rt.alloc(), &OUT_OF_RANGE);
 }

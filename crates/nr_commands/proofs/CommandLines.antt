@@ -16,7 +16,7 @@ use Rattle.nr_commands.specs.Words.{AsksAudit, AsksTraces, HasSeveralFiles, IsFl
 use Rattle.nr_commands.specs.declared.inspection.Inspection.{Inspection}
 use Rattle.nr_commands.specs.declared.inspection.Inspection.TheVariants.{One, Each, Chain}
 use Rattle.nr_commands.specs.declared.task.Task.{Task}
-use Rattle.nr_commands.specs.declared.task.Task.TheVariants.{Audit, Explain, Resolve}
+use Rattle.nr_commands.specs.declared.task.Task.TheVariants.{Audit, Explain, Resolve, Pages}
 
 -- one kind more may come
 pub one_more : (k : ErrorKind) (kinds : Kinds) (e : Error) → HasKind kinds e → HasKind (k ∷ kinds) e
@@ -82,8 +82,9 @@ asks_traces rows (Chain still input) chain quiet asks = absurd asks
 pub asks_chain : (rows : List Row) (task : Task) (input : Option (Bor (List ℕ))) (quiet : Bool) → IsFlag (one_of (codes "chain") rows) true
     → IsFlag (one_of (codes "quiet") rows) quiet → AsksTraces rows (One task input) → AsksAudit rows (Chain quiet input)
 asks_chain rows Audit input quiet chain still asks = (chain, still, asks)
-asks_chain rows (Explain as_json) input quiet chain still asks = absurd asks
+asks_chain rows (Explain as_json with_dumps) input quiet chain still asks = absurd asks
 asks_chain rows (Resolve word replica with_steps) input quiet chain still asks = absurd asks
+asks_chain rows (Pages replica as_ranges) input quiet chain still asks = absurd asks
 
 -- several files
 pub several_files : (rows : List Row) (asked : Inspection) → AsksTraces rows asked

@@ -9,27 +9,32 @@ use Rattle.clap.specs.declared.error.kind.ErrorKind.{ErrorKind}
 use Rattle.clap.specs.declared.error.kind.ErrorKind.TheVariants as kind
 use Rattle.nr_engines.specs.Answers.{IsAudit, IsNamedAudit, IsReadOf, IsResolve, WritesReport}
 use Rattle.nr_engines.specs.Explained.{IsExplained}
+use Rattle.nr_engines.specs.FullExplained.{IsFullyExplained}
 use Rattle.nr_engines.specs.Refusals.{IsEndFault, IsResolveFault, WritesAnswersAlone, exit_status, refusal_status}
 use Rattle.nr_engines.specs.declared.fault.ProgFault.{ProgFault}
 use Rattle.nr_chain_engines.specs.ChainAudit.{HasWrittenFirst, IsChainAudit}
 use Rattle.nr_engines.specs.declared.fault.ProgFault.TheVariants.{CannotRead, CannotWrite, Memory}
+use Rattle.nr_pages.specs.Answers.{IsPages, IsPagesFault}
 use Rattle.nr_commands.specs.declared.inspection.Inspection.{Inspection}
 use Rattle.nr_commands.specs.declared.inspection.Inspection.TheVariants.{One, Each, Chain}
 use Rattle.nr_commands.specs.declared.task.Task.{Task}
-use Rattle.nr_commands.specs.declared.task.Task.TheVariants.{Audit, Explain, Resolve}
+use Rattle.nr_commands.specs.declared.task.Task.TheVariants.{Audit, Explain, Resolve, Pages}
 use Rattle.nr_commands.specs.Words.{named_file}
 
 -- the text and the status that are those of the task on these bytes
 abbrev pub IsTaskReport : Task → List ℕ → List ℕ → ℕ → Type 0
 IsTaskReport Audit = IsAudit
-IsTaskReport (Explain as_json) = IsExplained as_json
+IsTaskReport (Explain as_json false) = IsExplained as_json
+IsTaskReport (Explain as_json true) = IsFullyExplained as_json
 IsTaskReport (Resolve word replica with_steps) = IsResolve word.now replica with_steps
+IsTaskReport (Pages replica as_ranges) = IsPages as_ranges replica
 
 -- the fault of the task, where the input is known
 abbrev pub IsTaskFault : Task → Option (List ℕ) → ProgFault → Type 0
 IsTaskFault Audit known = IsEndFault
-IsTaskFault (Explain as_json) known = IsEndFault
+IsTaskFault (Explain as_json with_dumps) known = IsEndFault
 IsTaskFault (Resolve word replica with_steps) known = IsResolveFault word.now replica with_steps known
+IsTaskFault (Pages replica as_ranges) known = IsPagesFault as_ranges replica known
 
 -- the task's answer was written, or there is none, for a reason that is its own
 pub record RunsTask {W : Type 0} (task : Task) (known : Option (List ℕ)) (contents : W

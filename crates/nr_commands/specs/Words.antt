@@ -1,4 +1,4 @@
--- The words of the commands `audit`, `explain` and `resolve`, as clap's definitions read words, and what they ask for.
+-- The words of the commands `audit`, `explain`, `resolve` and `pages`, as clap's definitions read words, and what they ask for.
 use Rattle.std.specs.Prelude.{◌≡◌, ◌≤◌, ◌⊎◌, ℕ, Bool, true, false, List, [], ◌∷◌, Option, Some, None, IfSome, Ok, Err, codes, length, map, pos, unwrap_or, option_map, if◌then◌else◌}
 use Rattle.std.specs.Borrow.{Bor}
 use Rattle.std.specs.Str.{bytes_eq}
@@ -13,7 +13,7 @@ use Rattle.clap.specs.declared.error.kind.ErrorKind.{ErrorKind}
 use Rattle.clap.specs.declared.error.kind.ErrorKind.TheVariants as kind
 use Rattle.nr_commands.specs.declared.inspection.Inspection.{Inspection}
 use Rattle.nr_commands.specs.declared.inspection.Inspection.TheVariants.{One, Each, Chain}
-use Rattle.nr_commands.specs.declared.task.Task.TheVariants.{Audit, Explain, Resolve}
+use Rattle.nr_commands.specs.declared.task.Task.TheVariants.{Audit, Explain, Resolve, Pages}
 use Rattle.nr_commands.specs.declared.host_words.NoWords.{NoWords}
 use Rattle.nr_commands.specs.declared.host_words.NoWords.TheVariants.{Memory, NotText}
 
@@ -45,6 +45,10 @@ replica_option = record (new_rule (codes "replica")) {
 abbrev pub json_option : Rule
 json_option = record (new_rule (codes "json")) { long = Some (codes "json"); action = Some SetTrue }
 
+-- --all, which has no value
+abbrev pub all_option : Rule
+all_option = record (new_rule (codes "all")) { long = Some (codes "all"); action = Some SetTrue }
+
 -- --chain and --quiet, which have no value
 abbrev pub chain_option : Rule
 chain_option = record (new_rule (codes "chain")) { long = Some (codes "chain"); action = Some SetTrue }
@@ -56,15 +60,22 @@ quiet_option = record (new_rule (codes "quiet")) { long = Some (codes "quiet"); 
 abbrev pub steps_option : Rule
 steps_option = record (new_rule (codes "steps")) { long = Some (codes "steps"); action = Some SetTrue }
 
+-- --ranges, which has no value
+abbrev pub ranges_option : Rule
+ranges_option = record (new_rule (codes "ranges")) { long = Some (codes "ranges"); action = Some SetTrue }
+
 abbrev pub audit_app : App
 audit_app = with_rule (with_rule (with_rule (new_app (codes "audit")) chain_option) quiet_option) files_argument
 
 abbrev pub explain_app : App
-explain_app = with_rule (with_rule (new_app (codes "explain")) json_option) file_argument
+explain_app = with_rule (with_rule (with_rule (new_app (codes "explain")) json_option) all_option) file_argument
 
 abbrev pub resolve_app : App
 resolve_app =
     with_rule (with_rule (with_rule (with_rule (new_app (codes "resolve")) address_option) replica_option) steps_option) file_argument
+
+abbrev pub pages_app : App
+pages_app = with_rule (with_rule (with_rule (new_app (codes "pages")) replica_option) ranges_option) file_argument
 
 -- the file of this name, but standard input where it is `-` or there is none
 abbrev pub named_file : Text → Option Text
@@ -120,7 +131,8 @@ IsMisused (Some given) fault = (given.0 ≡ codes "audit") × IsMisuse given.1 f
 
 -- with `explain`
 abbrev pub AsksExplain : List Row → Inspection → Type 0
-AsksExplain rows (One (Explain as_json) input) = IsFlag (one_of (codes "json") rows) as_json
+AsksExplain rows (One (Explain as_json with_dumps) input) =
+    IsFlag (one_of (codes "json") rows) as_json × IsFlag (one_of (codes "all") rows) with_dumps
     × (option_map (λ name. name.now) input ≡ input_of (first_of (codes "file") rows))
 AsksExplain rows _ = ⊥
 
@@ -131,10 +143,18 @@ AsksResolve rows (One (Resolve address replica with_steps) input) = (unwrap_or (
     × (option_map (λ name. name.now) input ≡ input_of (first_of (codes "file") rows))
 AsksResolve rows _ = ⊥
 
+-- with `pages`
+abbrev pub AsksPages : List Row → Inspection → Type 0
+AsksPages rows (One (Pages replica as_ranges) input) =
+    IsReplica (one_of (codes "replica") rows) replica × IsFlag (one_of (codes "ranges") rows) as_ranges
+    × (option_map (λ name. name.now) input ≡ input_of (first_of (codes "file") rows))
+AsksPages rows _ = ⊥
+
 -- a subcommand and what was given with it ask for an inspection
 abbrev pub AsksInspection : Text × List Row → Inspection → Type 0
 AsksInspection given inspection = ((given.0 ≡ codes "audit") × AsksAudit given.1 inspection)
     ⊎ ((given.0 ≡ codes "explain") × AsksExplain given.1 inspection) ⊎ ((given.0 ≡ codes "resolve") × AsksResolve given.1 inspection)
+    ⊎ ((given.0 ≡ codes "pages") × AsksPages given.1 inspection)
 
 -- where the words are not known: memory ran out, or one of them is no text, which is a fault of the command line
 abbrev pub kinds_of_no_words : NoWords → Kinds

@@ -1,6 +1,6 @@
 ghost use Rattle.std.specs.Prelude.{◌≡◌, ◌⊎◌, IfErr, IfOk, codes, option_map};
 ghost use Rattle.clap.specs.Words.{first_of, found_of, kind_of, rows_of};
-ghost use Rattle.nr_commands.specs.Words.{AsksAudit, AsksExplain, AsksResolve, AsksTraces, IsMisuse};
+ghost use Rattle.nr_commands.specs.Words.{AsksAudit, AsksExplain, AsksPages, AsksResolve, AsksTraces, IsMisuse};
 ghost use Rattle.nr_commands.specs.Words.{input_of, named_file};
 
 use crate::task::Task;
@@ -8,7 +8,7 @@ use clap::error::ErrorKind;
 use clap::{ArgMatches, Command, Error};
 use std::alloc::{AllocError, Global};
 
-/// What the words of `audit`, `explain` or `resolve` ask for.
+/// What the words of `audit`, `explain`, `resolve` or `pages` ask for.
 #[derive(Debug, Drop)]
 pub enum Inspection<'a> {
     /// A task on one input: the file of this name, or standard input.
@@ -95,7 +95,9 @@ pub fn read_audit<'a>(
 pub fn read_explain<'a>(given: &ArgMatches<'a>) -> Inspection<'a>
     ensures { AsksExplain (rows_of (found_of given.now)) result }
 {
-    Inspection::One(Task::Explain(given.get_flag("json")), input_of(given))
+    let as_json = given.get_flag("json");
+    let with_dumps = given.get_flag("all");
+    Inspection::One(Task::Explain(as_json, with_dumps), input_of(given))
 }
 
 /// What was given with `resolve` asks for.
@@ -106,4 +108,13 @@ pub fn read_resolve<'a>(given: &ArgMatches<'a>) -> Inspection<'a>
     let replica = given.get_one::<u8>("replica").unwrap_or(0);
     let with_steps = given.get_flag("steps");
     Inspection::One(Task::Resolve(address, replica, with_steps), input_of(given))
+}
+
+/// What was given with `pages` asks for.
+pub fn read_pages<'a>(given: &ArgMatches<'a>) -> Inspection<'a>
+    ensures { AsksPages (rows_of (found_of given.now)) result }
+{
+    let replica = given.get_one::<u8>("replica").unwrap_or(0);
+    let as_ranges = given.get_flag("ranges");
+    Inspection::One(Task::Pages(replica, as_ranges), input_of(given))
 }

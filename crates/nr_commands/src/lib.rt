@@ -1,4 +1,4 @@
-//! The commands `audit`, `explain` and `resolve`: their words on the command line, and what they do with standard input or with the
+//! The commands `audit`, `explain`, `resolve` and `pages`: their words on the command line, and what they do with standard input or with the
 //! files that are named.
 #![tactic(auto)]
 
@@ -12,8 +12,8 @@ mod words;
 
 pub use files::FilesByName;
 pub use host_words::{NoWords, program_words};
-pub use inspection::{Inspection, read_audit, read_explain, read_resolve};
+pub use inspection::{Inspection, read_audit, read_explain, read_pages, read_resolve};
 pub use refusal::{end, tell_refusal};
 pub use running::run_inspection;
 pub use task::Task;
-pub use words::{VERSION, audit, explain, resolve};
+pub use words::{VERSION, audit, explain, pages, resolve};

@@ -1,4 +1,5 @@
-use nr_engines::{ProgFault, audit_io, explain_io, resolve_io};
+use nr_engines::{ProgFault, audit_io, explain_all_io, explain_io, resolve_io};
+use nr_pages::pages_io;
 use std::alloc::Global;
 use std::io::{Read, Write};
 
@@ -7,10 +8,12 @@ use std::io::{Read, Write};
 pub enum Task<'a> {
     /// Judge it.
     Audit,
-    /// Judge it, and show the evidence of its fault; and as JSON.
-    Explain(bool),
+    /// Judge it, and show the evidence of its fault; as JSON; and what is wrong with the other dumps.
+    Explain(bool, bool),
     /// Walk at this address, as the command line spells it, in the dump of this replica; and list the entries that are read.
     Resolve(&'a str, u8, bool),
+    /// List the pages of the dump of this replica; and as ranges.
+    Pages(u8, bool),
 }
 
 impl Task<'_> {
@@ -23,7 +26,7 @@ impl Task<'_> {
     ///
     /// # Errors
     ///
-    /// Those of `audit_io`, of `explain_io`, or of `resolve_io`.
+    /// Those of `audit_io`, of `explain_io`, of `resolve_io`, or of `pages_io`.
     pub fn run<R: Read, W: Write>(
         self,
         alloc: Global,
@@ -38,10 +41,12 @@ impl Task<'_> {
     {
         match self {
             Task::Audit => audit_io(alloc, reader, writer),
-            Task::Explain(as_json) => explain_io(alloc, reader, writer, as_json),
+            Task::Explain(as_json, false) => explain_io(alloc, reader, writer, as_json),
+            Task::Explain(as_json, true) => explain_all_io(alloc, reader, writer, as_json),
             Task::Resolve(address, replica, with_steps) => {
                 resolve_io(alloc, reader, writer, address, replica, with_steps)
             }
+            Task::Pages(replica, as_ranges) => pages_io(alloc, reader, writer, replica, as_ranges),
         }
     }
 }

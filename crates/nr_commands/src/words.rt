@@ -1,7 +1,7 @@
 //! The words of the commands.
 ghost use Rattle.std.specs.Prelude.{◌≡◌, false, IfOk};
 ghost use Rattle.clap.specs.Words.{app_of, rule_of};
-ghost use Rattle.nr_commands.specs.Words.{audit_app, explain_app, file_argument, resolve_app, IsLocal};
+ghost use Rattle.nr_commands.specs.Words.{audit_app, explain_app, file_argument, pages_app, resolve_app, IsLocal};
 
 use clap::{Arg, ArgAction, Command, value_parser};
 use std::alloc::{AllocError, Global};
@@ -62,9 +62,14 @@ pub fn explain<'a>(alloc: Global) -> Result<Command<'a>, AllocError>
         .long("json")
         .action(ArgAction::SetTrue)
         .help("Prints one JSON object");
+    let all = Arg::new(alloc, "all")
+        .long("all")
+        .action(ArgAction::SetTrue)
+        .help("Prints what is wrong with each other dump, too");
     Command::new(alloc, "explain")
         .about("Prints whether a trace is right, and what shows a fault")
         .arg(json)?
+        .arg(all)?
         .arg(file(alloc))
 }
 
@@ -95,5 +100,30 @@ pub fn resolve<'a>(alloc: Global) -> Result<Command<'a>, AllocError>
         .arg(address)?
         .arg(replica)?
         .arg(steps)?
+        .arg(file(alloc))
+}
+
+/// The words of `pages`.
+///
+/// # Errors
+///
+/// Out of memory.
+pub fn pages<'a>(alloc: Global) -> Result<Command<'a>, AllocError>
+    ensures app { IfOk result (λ command. app_of command ≡ pages_app) }
+    ensures local { IfOk result IsLocal }
+{
+    let replica = Arg::new(alloc, "replica")
+        .long("replica")
+        .value_parser(value_parser!(u8))
+        .default_value("0")
+        .help("The number of the replica whose dump is looked into");
+    let ranges = Arg::new(alloc, "ranges")
+        .long("ranges")
+        .action(ArgAction::SetTrue)
+        .help("Prints pages that follow one another on one line");
+    Command::new(alloc, "pages")
+        .about("Prints the pages of a dump of a trace")
+        .arg(replica)?
+        .arg(ranges)?
         .arg(file(alloc))
 }

@@ -11,6 +11,9 @@ use Rattle.nr_explain.specs.declared.evidence.Evidence.{Evidence}
 use Rattle.nr_explain.specs.declared.evidence.Evidence.TheVariants as evidence
 use Rattle.nr_explain.specs.declared.explaining.Explanation.{Explanation}
 use Rattle.nr_explain.specs.declared.explaining.Explanation.TheVariants.{Yes, No}
+use Rattle.nr_explain.specs.declared.all_dumps.DumpExplanation.{DumpExplanation}
+use Rattle.nr_explain.specs.declared.all_dumps.DumpExplanation.TheVariants.{Sound, Faulty}
+use Rattle.nr_engines.specs.FullExplained.{dump_data, full_data}
 use Rattle.nr_engines.specs.EvidenceJson.{changed_data, event_data, evidence_data, explanation_data, number_data, option_data, own_data, step_data, way_data}
 
 numbers : (order : List ℕ) → items_have_float (items_of (map number_data order)) ≡ false
@@ -72,3 +75,16 @@ evidence_has_no_float (evidence.Differs wrong) = ap₂ two (changed wrong.change
 pub explanation_has_no_float : (explanation : Explanation) → has_float (explanation_data explanation) ≡ false
 explanation_has_no_float (Yes order counts) = ap one (numbers order)
 explanation_has_no_float (No fault shown) = ap one (evidence_has_no_float shown)
+
+dump : (told : DumpExplanation) → has_float (dump_data told) ≡ false
+dump (Sound replica) = refl
+dump (Faulty replica fault shown) = ap one (evidence_has_no_float shown)
+
+dumps : (told : List DumpExplanation) → items_have_float (items_of (map dump_data told)) ≡ false
+dumps [] = refl
+dumps (first ∷ more) = ap₂ (λ (a b : Bool). a || b) (dump first) (dumps more)
+
+pub full_has_no_float : (explanation : Explanation) (told : List DumpExplanation) → has_float (full_data explanation told) ≡ false
+full_has_no_float (Yes order counts) told = explanation_has_no_float (Yes order counts)
+full_has_no_float (No fault shown) [] = explanation_has_no_float (No fault shown)
+full_has_no_float (No fault shown) (first ∷ more) = ap₂ two (dumps (first ∷ more)) (evidence_has_no_float shown)

@@ -1,12 +1,11 @@
 -- What is known of an input that is read in blocks and fed to a reader of units.
-use Rattle.std.proofs.Common.{◌≡◌, ℕ, ◌+◌, ◌≤◌, inl, List, [], ◌++◌, length, Option, Some, None, Result, Ok, Err, refl, ap, sym, subst, ◌∙◌, arith}
+use Rattle.std.proofs.Common.{◌≡◌, ℕ, ◌+◌, ◌≤◌, List, [], ◌++◌, length, Option, Some, None, Result, Err, refl, ap, sym, subst, ◌∙◌, arith}
 use Rattle.std.specs.Io.KnownBytes.{Appends, Consumes, IsAtEnd, Keeps}
 use Rattle.std.proofs.KnownBytes.{Consumes-nil, Consumes-kept, Consumes-trans}
 use Rattle.std.proofs.lemmas.List.{append-nil, length-append}
 use Rattle.nr_trace.specs.Recording.{Recording}
 use Rattle.nr_trace.specs.Feed.{HasNoFaultYet}
 use Rattle.nr_explain.specs.Units.{IfBad, IsBadFor, IsBadUnit, ReadsUnits}
-use Rattle.nr_explain.specs.declared.units.BadUnit.{BadUnit}
 use Rattle.nr_explain.specs.declared.units.Unread.{Unread}
 use Rattle.nr_explain.specs.declared.units.Unread.TheVariants.{Memory, Bad}
 use Rattle.nr_engines.specs.Answers.{HasReadUnits, HasReadFew, WritesReport}

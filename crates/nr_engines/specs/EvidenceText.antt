@@ -35,7 +35,7 @@ use Rattle.nr_explain.specs.declared.evidence.StrayTable.{StrayTable}
 use Rattle.nr_explain.specs.declared.evidence.Difference.{Difference}
 use Rattle.nr_explain.specs.declared.evidence.Evidence.{Evidence}
 use Rattle.nr_explain.specs.declared.evidence.Evidence.TheVariants as evidence
-use Rattle.nr_engines.specs.Text.{answer_text, line_end, no_text, walk_text, yes_text}
+use Rattle.nr_engines.specs.Text.{answer_text, line_end, walk_text}
 
 -- the line of a call: its number, its thread, its replica and what it asks
 unfoldable pub call_line : RecordedCall → List ℕ

@@ -4,6 +4,7 @@ pub mod FieldText
 pub mod Sentence
 pub mod EvidenceJson
 pub mod Explained
+pub mod FullExplained
 pub mod Answers
 pub mod Refusals
 pub use Rattle.vs_types.specs.Config

@@ -1,14 +1,14 @@
 //! The evidence of each fault as JSON.
 
-ghost use Rattle.std.specs.Prelude.{◌≡◌, IfOk, string_bytes};
-ghost use Rattle.serde_json.specs.View.{view};
+ghost use Rattle.std.specs.Prelude.{◌≡◌, [], IfOk, OnOk};
+ghost use Rattle.serde_json.specs.Data.{object};
+ghost use Rattle.serde_json.specs.View.{members_view, view};
 ghost use Rattle.nr_explain.specs.declared.evidence.Evidence.TheVariants as evidence;
 ghost use Rattle.nr_engines.specs.EvidenceJson.{counts_data, evidence_data};
 
-use crate::answer::answer_text;
 use crate::fact_json::{
-    call_value, changed_value, event_value, option_value, own_value, reply_value, step_value,
-    way_value,
+    Members, put_answer, put_call, put_changed, put_event, put_hexadecimal, put_option, put_own,
+    put_reply, put_step, put_text, put_way,
 };
 use crate::text::{format_text, walk_words};
 use crate::unit_text::{bytes_text, unit_text};
@@ -17,280 +17,290 @@ use nr_explain::{
     NoUpdate, OpenCalls, OtherAnswer, PastEnd, ReservedEntry, SharedTable, ShortPrefix, StrayReply,
     StrayTable, TwoPlaces, TwoReplies,
 };
-use serde_json::{Value, json};
+use serde_json::{Map, Value, put};
 use std::alloc::{AllocError, Global};
 
 #[tactic(auto, unfolding(crate::specs::EvidenceJson::evidence_data))]
-fn bad_unit_value(alloc: Global, bad: &BadUnit) -> Result<Value, AllocError>
-    ensures { IfOk result (λ value. view value ≡ evidence_data (evidence.Format bad.now)) }
+fn put_bad_unit(members: &mut Members, alloc: Global, bad: &BadUnit) -> Result<(), AllocError>
+    requires { members.old.entries ≡ [] }
+    ensures { OnOk result (object (members_view members.new.entries) ≡ evidence_data (evidence.Format bad.now)) }
 {
-    let is = format_text(alloc, bad.fault)?;
+    put_text(members, alloc, "fault", "Format")?;
+    let format = format_text(alloc, bad.fault)?;
+    put(members, alloc, "format", Value::String(format))?;
+    put(members, alloc, "offset", Value::from(bad.offset))?;
     let read = bytes_text(alloc, &bad.read)?;
+    put(members, alloc, "read", Value::String(read))?;
+    put(members, alloc, "size", Value::from(bad.unit.size()))?;
+    put(members, alloc, "there", Value::from(bad.read.len()))?;
     let unit = unit_text(alloc, bad.unit)?;
-    json!(in alloc; {
-        "fault": "Format",
-        "format": is,
-        "offset": bad.offset,
-        "read": read,
-        "size": bad.unit.size(),
-        "there": bad.read.len(),
-        "unit": unit
-    })
+    put(members, alloc, "unit", Value::String(unit))
 }
 
 #[tactic(auto, unfolding(crate::specs::EvidenceJson::evidence_data))]
-fn open_value(alloc: Global, calls: OpenCalls) -> Result<Value, AllocError>
-    ensures { IfOk result (λ value. view value ≡ evidence_data (evidence.ThreadOpen calls)) }
+fn put_open(members: &mut Members, alloc: Global, calls: OpenCalls) -> Result<(), AllocError>
+    requires { members.old.entries ≡ [] }
+    ensures { OnOk result (object (members_view members.new.entries) ≡ evidence_data (evidence.ThreadOpen calls)) }
 {
-    let first = call_value(alloc, calls.first)?;
-    let second = call_value(alloc, calls.second)?;
-    json!(in alloc; {"fault": "ThreadOpen", "first": first, "second": second})
+    put_text(members, alloc, "fault", "ThreadOpen")?;
+    put_call(members, alloc, "first", calls.first)?;
+    put_call(members, alloc, "second", calls.second)
 }
 
 #[tactic(auto, unfolding(crate::specs::EvidenceJson::evidence_data))]
-fn stray_reply_value(alloc: Global, stray: StrayReply) -> Result<Value, AllocError>
-    ensures { IfOk result (λ value. view value ≡ evidence_data (evidence.NoSuchCall stray)) }
+fn put_stray_reply(
+    members: &mut Members,
+    alloc: Global,
+    stray: StrayReply,
+) -> Result<(), AllocError>
+    requires { members.old.entries ≡ [] }
+    ensures { OnOk result (object (members_view members.new.entries) ≡ evidence_data (evidence.NoSuchCall stray)) }
 {
-    let named = event_value(alloc, stray.reply.call, stray.named)?;
-    let reply = reply_value(alloc, stray.reply)?;
-    json!(in alloc; {"fault": "NoSuchCall", "named": named, "reply": reply})
+    put_text(members, alloc, "fault", "NoSuchCall")?;
+    put_event(members, alloc, "named", stray.reply.call, stray.named)?;
+    put_reply(members, alloc, "reply", stray.reply)
 }
 
 #[tactic(auto, unfolding(crate::specs::EvidenceJson::evidence_data))]
-fn two_replies_value(alloc: Global, replies: TwoReplies) -> Result<Value, AllocError>
-    ensures { IfOk result (λ value. view value ≡ evidence_data (evidence.AnsweredTwice replies)) }
+fn put_two_replies(
+    members: &mut Members,
+    alloc: Global,
+    replies: TwoReplies,
+) -> Result<(), AllocError>
+    requires { members.old.entries ≡ [] }
+    ensures { OnOk result (object (members_view members.new.entries) ≡ evidence_data (evidence.AnsweredTwice replies)) }
 {
-    let call = call_value(alloc, replies.call)?;
-    let first = reply_value(alloc, replies.first)?;
-    let second = reply_value(alloc, replies.second)?;
-    json!(in alloc; {"call": call, "fault": "AnsweredTwice", "first": first, "second": second})
+    put_call(members, alloc, "call", replies.call)?;
+    put_text(members, alloc, "fault", "AnsweredTwice")?;
+    put_reply(members, alloc, "first", replies.first)?;
+    put_reply(members, alloc, "second", replies.second)
 }
 
 #[tactic(auto, unfolding(crate::specs::EvidenceJson::evidence_data))]
-fn no_update_value(alloc: Global, wrong: NoUpdate) -> Result<Value, AllocError>
-    ensures { IfOk result (λ value. view value ≡ evidence_data (evidence.NotAnUpdate wrong)) }
+fn put_no_update(members: &mut Members, alloc: Global, wrong: NoUpdate) -> Result<(), AllocError>
+    requires { members.old.entries ≡ [] }
+    ensures { OnOk result (object (members_view members.new.entries) ≡ evidence_data (evidence.NotAnUpdate wrong)) }
 {
-    let named = event_value(alloc, wrong.call, wrong.named)?;
-    json!(in alloc; {
-        "call": wrong.call,
-        "fault": "NotAnUpdate",
-        "named": named,
-        "place": wrong.place
-    })
+    put(members, alloc, "call", Value::from(wrong.call))?;
+    put_text(members, alloc, "fault", "NotAnUpdate")?;
+    put_event(members, alloc, "named", wrong.call, wrong.named)?;
+    put(members, alloc, "place", Value::from(wrong.place))
 }
 
 #[tactic(auto, unfolding(crate::specs::EvidenceJson::evidence_data))]
-fn two_places_value(alloc: Global, places: TwoPlaces) -> Result<Value, AllocError>
-    ensures { IfOk result (λ value. view value ≡ evidence_data (evidence.PlacedTwice places)) }
+fn put_two_places(members: &mut Members, alloc: Global, places: TwoPlaces) -> Result<(), AllocError>
+    requires { members.old.entries ≡ [] }
+    ensures { OnOk result (object (members_view members.new.entries) ≡ evidence_data (evidence.PlacedTwice places)) }
 {
-    let call = call_value(alloc, places.call)?;
-    json!(in alloc; {
-        "call": call,
-        "fault": "PlacedTwice",
-        "first": places.first,
-        "second": places.second
-    })
+    put_call(members, alloc, "call", places.call)?;
+    put_text(members, alloc, "fault", "PlacedTwice")?;
+    put(members, alloc, "first", Value::from(places.first))?;
+    put(members, alloc, "second", Value::from(places.second))
 }
 
 #[tactic(auto, unfolding(crate::specs::EvidenceJson::evidence_data))]
-fn misplaced_value(alloc: Global, wrong: Misplaced) -> Result<Value, AllocError>
-    ensures { IfOk result (λ value. view value ≡ evidence_data (evidence.NotPlaced wrong)) }
+fn put_misplaced(members: &mut Members, alloc: Global, wrong: Misplaced) -> Result<(), AllocError>
+    requires { members.old.entries ≡ [] }
+    ensures { OnOk result (object (members_view members.new.entries) ≡ evidence_data (evidence.NotPlaced wrong)) }
 {
-    let call = call_value(alloc, wrong.call)?;
-    let own = option_value(wrong.own);
-    let reply = reply_value(alloc, wrong.reply)?;
-    let there = option_value(wrong.there);
-    json!(in alloc; {
-        "call": call,
-        "fault": "NotPlaced",
-        "own": own,
-        "reply": reply,
-        "there": there
-    })
+    put_call(members, alloc, "call", wrong.call)?;
+    put_text(members, alloc, "fault", "NotPlaced")?;
+    put_option(members, alloc, "own", wrong.own)?;
+    put_reply(members, alloc, "reply", wrong.reply)?;
+    put_option(members, alloc, "there", wrong.there)
 }
 
 #[tactic(auto, unfolding(crate::specs::EvidenceJson::evidence_data))]
-fn past_end_value(alloc: Global, wrong: PastEnd) -> Result<Value, AllocError>
-    ensures { IfOk result (λ value. view value ≡ evidence_data (evidence.PastLog wrong)) }
+fn put_past_end(members: &mut Members, alloc: Global, wrong: PastEnd) -> Result<(), AllocError>
+    requires { members.old.entries ≡ [] }
+    ensures { OnOk result (object (members_view members.new.entries) ≡ evidence_data (evidence.PastLog wrong)) }
 {
-    let call = call_value(alloc, wrong.call)?;
-    let reply = reply_value(alloc, wrong.reply)?;
-    json!(in alloc; {"call": call, "fault": "PastLog", "places": wrong.places, "reply": reply})
+    put_call(members, alloc, "call", wrong.call)?;
+    put_text(members, alloc, "fault", "PastLog")?;
+    put(members, alloc, "places", Value::from(wrong.places))?;
+    put_reply(members, alloc, "reply", wrong.reply)
 }
 
 #[tactic(auto, unfolding(crate::specs::EvidenceJson::evidence_data))]
-fn early_value(alloc: Global, early: EarlyCall) -> Result<Value, AllocError>
-    ensures { IfOk result (λ value. view value ≡ evidence_data (evidence.Early early)) }
+fn put_early(members: &mut Members, alloc: Global, early: EarlyCall) -> Result<(), AllocError>
+    requires { members.old.entries ≡ [] }
+    ensures { OnOk result (object (members_view members.new.entries) ≡ evidence_data (evidence.Early early)) }
 {
-    let answered = call_value(alloc, early.answered)?;
-    let call = call_value(alloc, early.call)?;
-    let own = own_value(alloc, early.own)?;
-    let reply = reply_value(alloc, early.reply)?;
-    json!(in alloc; {
-        "answered": answered,
-        "call": call,
-        "entries": early.entries,
-        "fault": "Early",
-        "floor": early.floor,
-        "own": own,
-        "reply": reply
-    })
+    put_call(members, alloc, "answered", early.answered)?;
+    put_call(members, alloc, "call", early.call)?;
+    put(members, alloc, "entries", Value::from(early.entries))?;
+    put_text(members, alloc, "fault", "Early")?;
+    put(members, alloc, "floor", Value::from(early.floor))?;
+    put_own(members, alloc, "own", early.own)?;
+    put_reply(members, alloc, "reply", early.reply)
 }
 
 #[tactic(auto, unfolding(crate::specs::EvidenceJson::evidence_data))]
-fn other_answer_value(alloc: Global, wrong: OtherAnswer) -> Result<Value, AllocError>
-    ensures { IfOk result (λ value. view value ≡ evidence_data (evidence.WrongAnswer wrong)) }
+fn put_other_answer(
+    members: &mut Members,
+    alloc: Global,
+    wrong: OtherAnswer,
+) -> Result<(), AllocError>
+    requires { members.old.entries ≡ [] }
+    ensures { OnOk result (object (members_view members.new.entries) ≡ evidence_data (evidence.WrongAnswer wrong)) }
 {
-    let address = wrong.address;
-    let address = format!(in alloc; "0x{address:x}")?;
-    let call = call_value(alloc, wrong.call)?;
-    let changed = changed_value(alloc, wrong.changed)?;
-    let reply = reply_value(alloc, wrong.reply)?;
-    let wanted = answer_text(alloc, wrong.wanted)?;
-    json!(in alloc; {
-        "address": address,
-        "call": call,
-        "changed": changed,
-        "fault": "WrongAnswer",
-        "reply": reply,
-        "wanted": wanted
-    })
+    put_hexadecimal(members, alloc, "address", wrong.address)?;
+    put_call(members, alloc, "call", wrong.call)?;
+    put_changed(members, alloc, "changed", wrong.changed)?;
+    put_text(members, alloc, "fault", "WrongAnswer")?;
+    put_reply(members, alloc, "reply", wrong.reply)?;
+    put_answer(members, alloc, "wanted", wrong.wanted)
 }
 
 #[tactic(auto, unfolding(crate::specs::EvidenceJson::evidence_data))]
-fn long_prefix_value(alloc: Global, wrong: LongPrefix) -> Result<Value, AllocError>
-    ensures { IfOk result (λ value. view value ≡ evidence_data (evidence.PrefixPastLog wrong)) }
+fn put_long_prefix(
+    members: &mut Members,
+    alloc: Global,
+    wrong: LongPrefix,
+) -> Result<(), AllocError>
+    requires { members.old.entries ≡ [] }
+    ensures { OnOk result (object (members_view members.new.entries) ≡ evidence_data (evidence.PrefixPastLog wrong)) }
 {
-    json!(in alloc; {
-        "applied": wrong.applied,
-        "fault": "PrefixPastLog",
-        "places": wrong.places,
-        "replica": wrong.replica
-    })
+    put(members, alloc, "applied", Value::from(wrong.applied))?;
+    put_text(members, alloc, "fault", "PrefixPastLog")?;
+    put(members, alloc, "places", Value::from(wrong.places))?;
+    put(members, alloc, "replica", Value::from(wrong.replica))
 }
 
 #[tactic(auto, unfolding(crate::specs::EvidenceJson::evidence_data))]
-fn short_prefix_value(alloc: Global, wrong: ShortPrefix) -> Result<Value, AllocError>
-    ensures { IfOk result (λ value. view value ≡ evidence_data (evidence.PrefixShort wrong)) }
+fn put_short_prefix(
+    members: &mut Members,
+    alloc: Global,
+    wrong: ShortPrefix,
+) -> Result<(), AllocError>
+    requires { members.old.entries ≡ [] }
+    ensures { OnOk result (object (members_view members.new.entries) ≡ evidence_data (evidence.PrefixShort wrong)) }
 {
-    let call = call_value(alloc, wrong.call)?;
-    let reply = reply_value(alloc, wrong.reply)?;
-    json!(in alloc; {
-        "applied": wrong.applied,
-        "call": call,
-        "fault": "PrefixShort",
-        "known": wrong.known,
-        "replica": wrong.replica,
-        "reply": reply
-    })
+    put(members, alloc, "applied", Value::from(wrong.applied))?;
+    put_call(members, alloc, "call", wrong.call)?;
+    put_text(members, alloc, "fault", "PrefixShort")?;
+    put(members, alloc, "known", Value::from(wrong.known))?;
+    put(members, alloc, "replica", Value::from(wrong.replica))?;
+    put_reply(members, alloc, "reply", wrong.reply)
 }
 
 #[tactic(auto, unfolding(crate::specs::EvidenceJson::evidence_data))]
-fn missing_value(alloc: Global, wrong: &MissingTable) -> Result<Value, AllocError>
-    ensures { IfOk result (λ value. view value ≡ evidence_data (evidence.MissingFrame wrong.now)) }
+fn put_missing(members: &mut Members, alloc: Global, wrong: &MissingTable) -> Result<(), AllocError>
+    requires { members.old.entries ≡ [] }
+    ensures { OnOk result (object (members_view members.new.entries) ≡ evidence_data (evidence.MissingFrame wrong.now)) }
 {
-    let path = way_value(alloc, wrong.path.as_slice())?;
-    json!(in alloc; {
-        "fault": "MissingFrame",
-        "frame": wrong.frame,
-        "path": path,
-        "replica": wrong.replica
-    })
+    put_text(members, alloc, "fault", "MissingFrame")?;
+    put(members, alloc, "frame", Value::from(wrong.frame))?;
+    put_way(members, alloc, "path", wrong.path.as_slice())?;
+    put(members, alloc, "replica", Value::from(wrong.replica))
 }
 
 #[tactic(auto, unfolding(crate::specs::EvidenceJson::evidence_data))]
-fn shared_value(alloc: Global, wrong: &SharedTable) -> Result<Value, AllocError>
-    ensures { IfOk result (λ value. view value ≡ evidence_data (evidence.SharedFrame wrong.now)) }
+fn put_shared(members: &mut Members, alloc: Global, wrong: &SharedTable) -> Result<(), AllocError>
+    requires { members.old.entries ≡ [] }
+    ensures { OnOk result (object (members_view members.new.entries) ≡ evidence_data (evidence.SharedFrame wrong.now)) }
 {
-    let first = way_value(alloc, wrong.first.as_slice())?;
-    let second = way_value(alloc, wrong.second.as_slice())?;
-    json!(in alloc; {
-        "fault": "SharedFrame",
-        "first": first,
-        "frame": wrong.frame,
-        "replica": wrong.replica,
-        "second": second
-    })
+    put_text(members, alloc, "fault", "SharedFrame")?;
+    put_way(members, alloc, "first", wrong.first.as_slice())?;
+    put(members, alloc, "frame", Value::from(wrong.frame))?;
+    put(members, alloc, "replica", Value::from(wrong.replica))?;
+    put_way(members, alloc, "second", wrong.second.as_slice())
 }
 
 #[tactic(auto, unfolding(crate::specs::EvidenceJson::evidence_data))]
-fn reserved_value(alloc: Global, wrong: &ReservedEntry) -> Result<Value, AllocError>
-    ensures { IfOk result (λ value. view value ≡ evidence_data (evidence.ReservedBit wrong.now)) }
+fn put_reserved(
+    members: &mut Members,
+    alloc: Global,
+    wrong: &ReservedEntry,
+) -> Result<(), AllocError>
+    requires { members.old.entries ≡ [] }
+    ensures { OnOk result (object (members_view members.new.entries) ≡ evidence_data (evidence.ReservedBit wrong.now)) }
 {
-    let entry = step_value(alloc, wrong.entry)?;
-    let path = way_value(alloc, wrong.path.as_slice())?;
-    json!(in alloc; {
-        "bit": wrong.bit,
-        "entry": entry,
-        "fault": "ReservedBit",
-        "path": path,
-        "replica": wrong.replica
-    })
+    put(members, alloc, "bit", Value::from(wrong.bit))?;
+    put_step(members, alloc, "entry", wrong.entry)?;
+    put_text(members, alloc, "fault", "ReservedBit")?;
+    put_way(members, alloc, "path", wrong.path.as_slice())?;
+    put(members, alloc, "replica", Value::from(wrong.replica))
 }
 
 #[tactic(auto, unfolding(crate::specs::EvidenceJson::evidence_data))]
-fn stray_value(alloc: Global, wrong: StrayTable) -> Result<Value, AllocError>
-    ensures { IfOk result (λ value. view value ≡ evidence_data (evidence.StrayFrame wrong)) }
+fn put_stray(members: &mut Members, alloc: Global, wrong: StrayTable) -> Result<(), AllocError>
+    requires { members.old.entries ≡ [] }
+    ensures { OnOk result (object (members_view members.new.entries) ≡ evidence_data (evidence.StrayFrame wrong)) }
 {
-    json!(in alloc; {"fault": "StrayFrame", "frame": wrong.frame, "replica": wrong.replica})
+    put_text(members, alloc, "fault", "StrayFrame")?;
+    put(members, alloc, "frame", Value::from(wrong.frame))?;
+    put(members, alloc, "replica", Value::from(wrong.replica))
 }
 
 #[tactic(auto, unfolding(crate::specs::EvidenceJson::evidence_data))]
-fn difference_value(alloc: Global, wrong: &Difference) -> Result<Value, AllocError>
-    ensures { IfOk result (λ value. view value ≡ evidence_data (evidence.Differs wrong.now)) }
+fn put_difference(
+    members: &mut Members,
+    alloc: Global,
+    wrong: &Difference,
+) -> Result<(), AllocError>
+    requires { members.old.entries ≡ [] }
+    ensures { OnOk result (object (members_view members.new.entries) ≡ evidence_data (evidence.Differs wrong.now)) }
 {
-    let address = wrong.address;
-    let address = format!(in alloc; "0x{address:x}")?;
-    let changed = changed_value(alloc, wrong.changed)?;
+    put_hexadecimal(members, alloc, "address", wrong.address)?;
+    put(members, alloc, "applied", Value::from(wrong.applied))?;
+    put_changed(members, alloc, "changed", wrong.changed)?;
+    put_text(members, alloc, "fault", "Differs")?;
     let found = walk_words(alloc, wrong.found)?;
-    let path = way_value(alloc, wrong.path.as_slice())?;
-    let wanted = answer_text(alloc, wrong.wanted)?;
-    json!(in alloc; {
-        "address": address,
-        "applied": wrong.applied,
-        "changed": changed,
-        "fault": "Differs",
-        "found": found,
-        "path": path,
-        "replica": wrong.replica,
-        "wanted": wanted
-    })
+    put(members, alloc, "found", Value::String(found))?;
+    put_way(members, alloc, "path", wrong.path.as_slice())?;
+    put(members, alloc, "replica", Value::from(wrong.replica))?;
+    put_answer(members, alloc, "wanted", wrong.wanted)
 }
 
 /// How much a right trace has.
 pub(crate) fn counts_value(alloc: Global, counts: Counts) -> Result<Value, AllocError>
     ensures { IfOk result (λ value. view value ≡ counts_data counts) }
 {
-    json!(in alloc; {
-        "calls": counts.calls,
-        "pages": counts.pages,
-        "reads": counts.reads,
-        "replicas": counts.replicas,
-        "updates": counts.updates
-    })
+    let mut members = Map::new(alloc);
+    put(&mut members, alloc, "calls", Value::from(counts.calls))?;
+    put(&mut members, alloc, "pages", Value::from(counts.pages))?;
+    put(&mut members, alloc, "reads", Value::from(counts.reads))?;
+    put(
+        &mut members,
+        alloc,
+        "replicas",
+        Value::from(counts.replicas),
+    )?;
+    put(&mut members, alloc, "updates", Value::from(counts.updates))?;
+    Ok(Value::Object(members))
+}
+
+fn put_evidence(members: &mut Members, alloc: Global, shown: &Evidence) -> Result<(), AllocError>
+    requires { members.old.entries ≡ [] }
+    ensures { OnOk result (object (members_view members.new.entries) ≡ evidence_data shown.now) }
+{
+    match shown {
+        Evidence::Format(bad) => put_bad_unit(members, alloc, bad),
+        Evidence::ThreadOpen(calls) => put_open(members, alloc, *calls),
+        Evidence::NoSuchCall(stray) => put_stray_reply(members, alloc, *stray),
+        Evidence::AnsweredTwice(replies) => put_two_replies(members, alloc, *replies),
+        Evidence::NotAnUpdate(wrong) => put_no_update(members, alloc, *wrong),
+        Evidence::PlacedTwice(places) => put_two_places(members, alloc, *places),
+        Evidence::NotPlaced(wrong) => put_misplaced(members, alloc, *wrong),
+        Evidence::PastLog(wrong) => put_past_end(members, alloc, *wrong),
+        Evidence::Early(early) => put_early(members, alloc, *early),
+        Evidence::WrongAnswer(wrong) => put_other_answer(members, alloc, *wrong),
+        Evidence::PrefixPastLog(wrong) => put_long_prefix(members, alloc, *wrong),
+        Evidence::PrefixShort(wrong) => put_short_prefix(members, alloc, *wrong),
+        Evidence::MissingFrame(wrong) => put_missing(members, alloc, wrong),
+        Evidence::SharedFrame(wrong) => put_shared(members, alloc, wrong),
+        Evidence::ReservedBit(wrong) => put_reserved(members, alloc, wrong),
+        Evidence::StrayFrame(wrong) => put_stray(members, alloc, *wrong),
+        Evidence::Differs(wrong) => put_difference(members, alloc, wrong),
+    }
 }
 
 /// The evidence of a fault.
 pub(crate) fn evidence_value(alloc: Global, shown: &Evidence) -> Result<Value, AllocError>
     ensures { IfOk result (λ value. view value ≡ evidence_data shown.now) }
 {
-    match shown {
-        Evidence::Format(bad) => bad_unit_value(alloc, bad),
-        Evidence::ThreadOpen(calls) => open_value(alloc, *calls),
-        Evidence::NoSuchCall(stray) => stray_reply_value(alloc, *stray),
-        Evidence::AnsweredTwice(replies) => two_replies_value(alloc, *replies),
-        Evidence::NotAnUpdate(wrong) => no_update_value(alloc, *wrong),
-        Evidence::PlacedTwice(places) => two_places_value(alloc, *places),
-        Evidence::NotPlaced(wrong) => misplaced_value(alloc, *wrong),
-        Evidence::PastLog(wrong) => past_end_value(alloc, *wrong),
-        Evidence::Early(early) => early_value(alloc, *early),
-        Evidence::WrongAnswer(wrong) => other_answer_value(alloc, *wrong),
-        Evidence::PrefixPastLog(wrong) => long_prefix_value(alloc, *wrong),
-        Evidence::PrefixShort(wrong) => short_prefix_value(alloc, *wrong),
-        Evidence::MissingFrame(wrong) => missing_value(alloc, wrong),
-        Evidence::SharedFrame(wrong) => shared_value(alloc, wrong),
-        Evidence::ReservedBit(wrong) => reserved_value(alloc, wrong),
-        Evidence::StrayFrame(wrong) => stray_value(alloc, *wrong),
-        Evidence::Differs(wrong) => difference_value(alloc, wrong),
-    }
+    let mut members = Map::new(alloc);
+    put_evidence(&mut members, alloc, shown)?;
+    Ok(Value::Object(members))
 }

@@ -1,10 +1,10 @@
-ghost use Rattle.std.specs.Prelude.{◌≡◌, ◌++◌, ℕ, IfOk, IfErr, List, codes, map, string_bytes};
-ghost use Rattle.serde_json.specs.Data.{array};
+ghost use Rattle.std.specs.Prelude.{◌≡◌, ◌++◌, ℕ, [], IfOk, IfErr, List, OnOk, codes, map, string_bytes};
+ghost use Rattle.serde_json.specs.Data.{array, object, put as with_member, string};
 ghost use Rattle.nr_engines.specs.Text.{fault_text};
 ghost use Rattle.nr_explain.specs.Units.{ReadsUnits};
-ghost use Rattle.serde_json.specs.View.{items_of, view};
-ghost use Rattle.nr_engines.specs.Sentence.{explanation_text};
-ghost use Rattle.nr_engines.specs.EvidenceJson.{explanation_data, explanation_json, number_data};
+ghost use Rattle.serde_json.specs.View.{items_of, members_view, view};
+ghost use Rattle.nr_engines.specs.Sentence.{explanation_text, sentence_text};
+ghost use Rattle.nr_engines.specs.EvidenceJson.{evidence_data, explanation_data, explanation_json, number_data};
 ghost use Rattle.nr_engines.specs.Explained.{explanation_status, told_explanation, IsExplained};
 ghost use Rattle.nr_engines.specs.Refusals.{IsEndFault, WritesAnswersAlone};
 ghost use Rattle.nr_engines.specs.Answers.{HasReadFew, WritesReport};
@@ -12,19 +12,20 @@ ghost use Rattle.nr_engines.specs.Answers.{HasReadFew, WritesReport};
 use crate::ends::write_report;
 use crate::evidence_json::{counts_value, evidence_value};
 use crate::evidence_text::{counts_lines, evidence_text};
+use crate::fact_json::{Members, put_text};
 use crate::fault::ProgFault;
 use crate::report::Report;
 use crate::sentence::sentence_text;
-use crate::text::{fault_text, no_text, yes_text};
+use crate::text::{no_text, no_words, yes_text};
 use crate::unit_input::read_units;
-use nr_explain::{Explanation, Unread, explain_read};
-use nr_trace::Trace;
-use serde_json::{Value, json};
+use nr_explain::{Counts, Evidence, Explanation, Unread, explain_read};
+use nr_trace::{Fault, Trace};
+use serde_json::{Map, Value, put};
 use std::alloc::{AllocError, Global};
 use std::io::{Read, Write};
 use vs_types::Memory;
 
-fn status_of(explanation: &Explanation) -> u8
+pub(crate) fn status_of(explanation: &Explanation) -> u8
     ensures { result ≡ explanation_status explanation.now }
 {
     match explanation {
@@ -34,7 +35,10 @@ fn status_of(explanation: &Explanation) -> u8
 }
 
 /// The lines that `explain` prints. Allocates memory for the text.
-fn explanation_text(alloc: Global, explanation: &Explanation) -> Result<String, AllocError>
+pub(crate) fn explanation_text(
+    alloc: Global,
+    explanation: &Explanation,
+) -> Result<String, AllocError>
     ensures { IfOk result (λ text. string_bytes text ≡ explanation_text explanation.now) }
 {
     match explanation {
@@ -63,24 +67,66 @@ fn order_value(alloc: Global, order: &[u32]) -> Result<Value, AllocError>
     Ok(Value::Array(calls))
 }
 
-/// The object that `explain --json` prints.
-fn explanation_value(alloc: Global, explanation: &Explanation) -> Result<Value, AllocError>
-    ensures { IfOk result (λ value. view value ≡ explanation_data explanation.now) }
+/// Puts the evidence of a fault, its sentence and the verdict.
+pub(crate) fn put_no(
+    members: &mut Members,
+    alloc: Global,
+    fault: Fault,
+    shown: &Evidence,
+) -> Result<(), AllocError>
+    ensures { OnOk result (members_view members.new.entries
+        ≡ with_member (codes "verdict") (string (codes "no " ++ fault_text fault))
+        (with_member (codes "sentence") (string (sentence_text shown.now))
+        (with_member (codes "evidence") (evidence_data shown.now) (members_view members.old.entries)))) }
+{
+    let evidence = evidence_value(alloc, shown)?;
+    put(members, alloc, "evidence", evidence)?;
+    let sentence = sentence_text(alloc, shown)?;
+    put(members, alloc, "sentence", Value::String(sentence))?;
+    let verdict = no_words(alloc, fault)?;
+    put(members, alloc, "verdict", Value::String(verdict))
+}
+
+fn put_yes(
+    members: &mut Members,
+    alloc: Global,
+    order: &[u32],
+    counts: Counts,
+) -> Result<(), AllocError>
+    requires { members.old.entries ≡ [] }
+    ensures { OnOk result (object (members_view members.new.entries) ≡ explanation_data (Explanation.Yes order.now counts)) }
+{
+    let counts = counts_value(alloc, counts)?;
+    put(members, alloc, "counts", counts)?;
+    let order = order_value(alloc, order)?;
+    put(members, alloc, "order", order)?;
+    put_text(members, alloc, "verdict", "yes")
+}
+
+fn put_explanation(
+    members: &mut Members,
+    alloc: Global,
+    explanation: &Explanation,
+) -> Result<(), AllocError>
+    requires { members.old.entries ≡ [] }
+    ensures { OnOk result (object (members_view members.new.entries) ≡ explanation_data explanation.now) }
 {
     match explanation {
-        Explanation::Yes(order, counts) => {
-            let counts = counts_value(alloc, *counts)?;
-            let order = order_value(alloc, order.calls())?;
-            json!(in alloc; {"counts": counts, "order": order, "verdict": "yes"})
-        }
-        Explanation::No(fault, shown) => {
-            let evidence = evidence_value(alloc, shown)?;
-            let fault = fault_text(alloc, *fault)?;
-            let verdict = format!(in alloc; "no {fault}")?;
-            let sentence = sentence_text(alloc, shown)?;
-            json!(in alloc; {"evidence": evidence, "sentence": sentence, "verdict": verdict})
-        }
+        Explanation::Yes(order, counts) => put_yes(members, alloc, order.calls(), *counts),
+        Explanation::No(fault, shown) => put_no(members, alloc, *fault, shown),
     }
+}
+
+/// The object that `explain --json` prints.
+pub(crate) fn explanation_value(
+    alloc: Global,
+    explanation: &Explanation,
+) -> Result<Value, AllocError>
+    ensures { IfOk result (λ value. view value ≡ explanation_data explanation.now) }
+{
+    let mut members = Map::new(alloc);
+    put_explanation(&mut members, alloc, explanation)?;
+    Ok(Value::Object(members))
 }
 
 /// The line that `explain --json` prints. Allocates memory for the object and for the line.

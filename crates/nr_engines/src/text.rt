@@ -1,4 +1,4 @@
-ghost use Rattle.std.specs.Prelude.{◌≡◌, ◌++◌, IfOk, OnOk, string_bytes};
+ghost use Rattle.std.specs.Prelude.{◌≡◌, ◌++◌, IfOk, OnOk, codes, string_bytes};
 ghost use Rattle.nr_engines.specs.Text.{format_text, fault_text, no_text, call_text, yes_text, verdict_line, verdict_text, walk_text, walk_words};
 
 use itoa::Buffer;
@@ -63,7 +63,15 @@ pub fn fault_text(alloc: Global, fault: Fault) -> Result<String, AllocError>
     }
 }
 
-/// The line that is printed of a trace with this fault.
+/// What is printed of a trace with this fault, on a line.
+pub(crate) fn no_words(alloc: Global, fault: Fault) -> Result<String, AllocError>
+    ensures { IfOk result (λ text. string_bytes text ≡ codes "no " ++ fault_text fault) }
+{
+    let text = fault_text(alloc, fault)?;
+    format!(in alloc; "no {text}")
+}
+
+/// This line.
 pub(crate) fn no_text(alloc: Global, fault: Fault) -> Result<String, AllocError>
     ensures { IfOk result (λ text. string_bytes text ≡ no_text fault) }
 {

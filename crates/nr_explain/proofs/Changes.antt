@@ -1,7 +1,16 @@
 -- How an address looks, one place more.
-use Rattle.std.proofs.Common.{◌≡◌, ◌≢◌, ℕ, ◌+◌, ◌≤◌, inl, inr, Option, Some, None, slice_get, sym, ap, ◌∙◌, arith}
+use Rattle.std.proofs.Common.{◌≡◌, ◌≢◌, ℕ, ◌+◌, ◌<◌, ◌≤◌, inl, inr, Option, Some, None, length, get_or, slice_get, sym, ap, ◌∙◌, arith}
+use Rattle.std.specs.Prelude.{option_and_then, if◌then◌else◌}
+use Rattle.std.proofs.lemmas.Option.{get_or_from_slice_get}
 use Rattle.std.proofs.lemmas.Bool.{cases_lt}
 use Rattle.nr_trace.specs.Recording.{Recording}
+use Rattle.vs_types.specs.Space.{Space, no_pages}
+use Rattle.vs_types.specs.Step.{look}
+use Rattle.nr_trace.specs.Calls.{call_of}
+use Rattle.nr_audit.specs.inside.Replies.{asked_by}
+use Rattle.nr_audit.proofs.AnswerFaults.{space_stays}
+use Rattle.nr_explain.specs.inside.Searches.{HasCallAt}
+use Rattle.nr_explain.proofs.FirstFaults.{some_or_none}
 use Rattle.nr_explain.specs.Facts.{IsCallOf, IsLastChange, LooksSame, looks_after}
 use Rattle.nr_explain.specs.declared.evidence.PlacedUpdate.{PlacedUpdate}
 
@@ -36,3 +45,14 @@ change_here trace address end update at call placed differs = (
   (λ same. differs (ap (looks_after trace address) (sym at) ∙ same ∙ ap (λ n. looks_after trace address (n + 1)) at)),
   same_at trace address (update.place + 1) (end + 1) (omega arith),
 )
+
+-- where the looks change, there is a call
+pub change_has_call : (trace : Recording) (address place : ℕ) → place < length trace.log
+    → looks_after trace address place ≢ looks_after trace address (place + 1) → HasCallAt trace place
+change_has_call trace address place within differs call is = elim (some_or_none (call_of trace call)) [
+  | inl made ↦ made
+  | inr none ↦ absurd (differs (ap (λ (s : Space). look s address) (space_stays no_pages trace trace.log place 0 within (asked none))))
+] where
+  asked : call_of trace call ≡ None → asked_by trace (get_or trace.log place 0) ≡ None
+  asked none = ap (asked_by trace) (get_or_from_slice_get trace.log place call 0 is)
+      ∙ ap (option_and_then (λ made. if made.touch then None else Some made.request)) none

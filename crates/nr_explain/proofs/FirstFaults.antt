@@ -8,10 +8,12 @@ use Rattle.nr_trace.specs.Recording.{IsThere, Recording}
 use Rattle.nr_trace.specs.Calls.{Invocation, IsCall, IsUpdate, Response, call_of, reply_of}
 use Rattle.nr_trace.specs.Faults.{HasFault, IsFirst, OpensTwice}
 use Rattle.nr_trace.specs.Laws.{HasCleanLog}
+use Rattle.nr_trace.specs.declared.fault.Fault.{Fault}
 use Rattle.nr_trace.specs.declared.fault.Fault.TheVariants.{AnsweredTwice, Differs, Early, NoSuchCall, NotAnUpdate, NotPlaced, PastLog, PlacedTwice, PrefixPastLog, ThreadOpen}
-use Rattle.nr_trace.proofs.LawsOfCalls.{placed_is_update, update_from_not_not, update_is_call}
+use Rattle.nr_trace.proofs.LawsOfCalls.{update_from_not_not}
 use Rattle.nr_trace.proofs.LawsOfFaults.{less_from_below}
-use Rattle.nr_explain.specs.inside.Searches.{HasOnlyCalls, IsIdle, IsLastCall, IsOpenBelow}
+use Rattle.nr_explain.specs.Dumps.{IsFirstOfItsDump, replica_of}
+use Rattle.nr_explain.specs.inside.Searches.{IsIdle, IsLastCall, IsOpenBelow}
 use Rattle.nr_explain.specs.declared.evidence.RecordedCall.{RecordedCall}
 
 -- ---- open calls
@@ -58,7 +60,7 @@ last_is_open trace index thread last first own is = by_order (cases_order first.
 
 -- ---- calls that replies name
 
-some_or_none : {A : Type 0} (o : Option A) → IsSome o ⊎ (o ≡ None)
+pub some_or_none : {A : Type 0} (o : Option A) → IsSome o ⊎ (o ≡ None)
 some_or_none None = inr refl
 some_or_none (Some x) = inl refl
 
@@ -99,30 +101,17 @@ clean_before_early trace call first = record {
   none_past_log = λ i h. first.none_earlier (PastLog i) h refl;
 }
 
--- a clean log has calls alone
-pub only_calls : (trace : Recording) → HasCleanLog trace → HasOnlyCalls trace
-only_calls trace clean place call e = update_is_call trace call (placed_is_update trace place call clean e)
-
-clean_before_differs : (trace : Recording) (replica address : ℕ) → IsFirst trace (Differs replica address) → HasCleanLog trace
-clean_before_differs trace replica address first = record {
-  no_thread_open = λ i h. first.none_earlier (ThreadOpen i) h refl;
-  no_such_call = λ i h. first.none_earlier (NoSuchCall i) h refl;
-  none_twice = λ i h. first.none_earlier (AnsweredTwice i) h refl;
-  updates_alone = λ i h. first.none_earlier (NotAnUpdate i) h refl;
-  placed_once = λ i h. first.none_earlier (PlacedTwice i) h refl;
-  all_placed = λ i h. first.none_earlier (NotPlaced i) h refl;
-  none_past_log = λ i h. first.none_earlier (PastLog i) h refl;
-}
-
-pub calls_before_differs : (trace : Recording) (replica address : ℕ) → IsFirst trace (Differs replica address) → HasOnlyCalls trace
-calls_before_differs trace replica address first = only_calls trace (clean_before_differs trace replica address first)
-
 -- a dump that translates otherwise has applied no more than the log has
-pub few_before_differs : (trace : Recording) (replica address : ℕ) (dump : Image) → IsFirst trace (Differs replica address)
+pub few_before_differs : (trace : Recording) (replica address : ℕ) (dump : Image) → IsFirstOfItsDump trace (Differs replica address)
     → slice_get trace.dumps replica ≡ Some dump → dump.applied ≤ length trace.log
 few_before_differs trace replica address dump first there = elim (cases_lt (length trace.log) dump.applied) [
-  | inl past ↦ absurd (first.none_earlier (PrefixPastLog replica)
+  | inl past ↦ absurd (first.none_earlier (PrefixPastLog replica) refl
       (dump, there, subst IsThere (same_Some first.holds.0 dump (sym first.holds.1 ∙ there)) first.holds.2, past)
       (less_from_below 7 replica 11 7 replica 17 (inr (inr (refl, refl, omega arith)))))
   | inr few ↦ few
 ]
+
+-- the first fault of all, where it is one of a dump, is the first of that dump
+pub first_of_its_dump : (trace : Recording) (fault : Fault) → IsSome (replica_of fault) → IsFirst trace fault → IsFirstOfItsDump trace fault
+first_of_its_dump trace fault of_dump first =
+    record { of_dump = of_dump; holds = first.holds; none_earlier = λ other same holds. first.none_earlier other holds }

@@ -23,3 +23,5 @@ pub mod OneBadUnit
 pub mod Walked
 pub mod ReservedBits
 pub mod BadFields
+pub mod DumpsFound
+pub mod DumpsTold

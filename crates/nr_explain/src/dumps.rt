@@ -1,24 +1,26 @@
 //! What shows a fault of a dump.
 
 ghost use Rattle.std.specs.Prelude.{◌≡◌, IfOk};
-ghost use Rattle.nr_trace.specs.Faults.{HasDump, IsFirst};
+ghost use Rattle.nr_trace.specs.Faults.{HasDump};
 ghost use Rattle.nr_trace.specs.declared.fault.Fault.TheVariants.{Differs, MissingFrame, PrefixPastLog, ReservedBit, SharedFrame, StrayFrame};
-ghost use Rattle.nr_explain.specs.Evidence.{IsDifference, IsLongPrefix, IsMissingTable, IsReservedEntry, IsSharedTable, IsStrayTable};
+ghost use Rattle.nr_explain.specs.Dumps.{IsFirstOfItsDump};
+ghost use Rattle.nr_explain.specs.Evidence.{IsDifference, IsEvidence, IsLongPrefix, IsMissingTable, IsReservedEntry, IsSharedTable, IsStrayTable};
 
 use crate::evidence::{
-    Difference, LongPrefix, MissingTable, ReservedEntry, SharedTable, StrayTable,
+    Difference, Evidence, LongPrefix, MissingTable, ReservedEntry, SharedTable, StrayTable,
 };
+use crate::floors::short_prefix;
 use crate::log::places;
 use crate::paths::{Target, another_way, entries_read, entry_at, find_way, reserved_bit};
 use crate::replay::last_look;
-use nr_trace::Trace;
+use nr_trace::{Fault, Trace};
 use std::alloc::Global;
 use vs_types::Memory;
 use vs_walk::translate;
 
 /// The replica whose dump has applied more entries than the log has.
-pub(crate) fn long_prefix(trace: &Trace, replica: u8) -> LongPrefix
-    requires { IsFirst trace.now (PrefixPastLog replica) }
+fn long_prefix(trace: &Trace, replica: u8) -> LongPrefix
+    requires { IsFirstOfItsDump trace.now (PrefixPastLog replica) }
     ensures replica { result.replica ≡ replica }
     ensures is { IsLongPrefix trace.now result }
 {
@@ -30,13 +32,13 @@ pub(crate) fn long_prefix(trace: &Trace, replica: u8) -> LongPrefix
 }
 
 /// The entries that lead to a frame that the dump of a replica lacks. Allocates memory for them.
-pub(crate) fn missing_table(
+fn missing_table(
     alloc: Global,
     trace: &Trace,
     replica: u8,
     frame: u64,
 ) -> Result<MissingTable, Memory>
-    requires { IsFirst trace.now (MissingFrame replica frame) }
+    requires { IsFirstOfItsDump trace.now (MissingFrame replica frame) }
     ensures replica { IfOk result (λ wrong. wrong.replica ≡ replica) }
     ensures frame { IfOk result (λ wrong. wrong.frame ≡ frame) }
     ensures is { IfOk result (IsMissingTable trace.now) }
@@ -58,13 +60,13 @@ pub(crate) fn missing_table(
 }
 
 /// The entries that lead to a frame, and others that lead there too. Allocates memory for them.
-pub(crate) fn shared_table(
+fn shared_table(
     alloc: Global,
     trace: &Trace,
     replica: u8,
     frame: u64,
 ) -> Result<SharedTable, Memory>
-    requires { IsFirst trace.now (SharedFrame replica frame) }
+    requires { IsFirstOfItsDump trace.now (SharedFrame replica frame) }
     ensures replica { IfOk result (λ wrong. wrong.replica ≡ replica) }
     ensures frame { IfOk result (λ wrong. wrong.frame ≡ frame) }
     ensures is { IfOk result (IsSharedTable trace.now) }
@@ -89,14 +91,14 @@ pub(crate) fn shared_table(
 }
 
 /// The entries that lead to a table which has a word with a reserved bit set, that word, and such a bit. Allocates them.
-pub(crate) fn reserved_entry(
+fn reserved_entry(
     alloc: Global,
     trace: &Trace,
     replica: u8,
     frame: u64,
     index: u16,
 ) -> Result<ReservedEntry, Memory>
-    requires { IsFirst trace.now (ReservedBit replica frame index) }
+    requires { IsFirstOfItsDump trace.now (ReservedBit replica frame index) }
     ensures replica { IfOk result (λ wrong. wrong.replica ≡ replica) }
     ensures frame { IfOk result (λ wrong. wrong.entry.frame ≡ frame) }
     ensures index { IfOk result (λ wrong. wrong.entry.index ≡ index) }
@@ -122,8 +124,8 @@ pub(crate) fn reserved_entry(
 }
 
 /// The frame of a dump to which its tables do not lead.
-pub(crate) fn stray_table(trace: &Trace, replica: u8, frame: u64) -> StrayTable
-    requires { IsFirst trace.now (StrayFrame replica frame) }
+fn stray_table(trace: &Trace, replica: u8, frame: u64) -> StrayTable
+    requires { IsFirstOfItsDump trace.now (StrayFrame replica frame) }
     ensures replica { result.replica ≡ replica }
     ensures frame { result.frame ≡ frame }
     ensures is { IsStrayTable trace.now result }
@@ -134,13 +136,8 @@ pub(crate) fn stray_table(trace: &Trace, replica: u8, frame: u64) -> StrayTable
 
 /// How the dump of a replica translates an address and by which entries, how the address looks in the space, and the last update
 /// that made it so. Allocates the entries, and a space.
-pub(crate) fn difference(
-    alloc: Global,
-    trace: &Trace,
-    replica: u8,
-    address: u64,
-) -> Result<Difference, Memory>
-    requires { IsFirst trace.now (Differs replica address) }
+fn difference(alloc: Global, trace: &Trace, replica: u8, address: u64) -> Result<Difference, Memory>
+    requires { IsFirstOfItsDump trace.now (Differs replica address) }
     ensures replica { IfOk result (λ wrong. wrong.replica ≡ replica) }
     ensures address { IfOk result (λ wrong. wrong.address ≡ address) }
     ensures is { IfOk result (λ wrong.
@@ -161,4 +158,31 @@ pub(crate) fn difference(
         wanted,
         changed,
     })
+}
+
+/// What shows the first fault of a dump. Allocates it, and for a difference a space.
+pub(crate) fn explain_dump(alloc: Global, trace: &Trace, fault: Fault) -> Result<Evidence, Memory>
+    requires { IsFirstOfItsDump trace.now fault }
+    ensures { IfOk result (IsEvidence trace.now fault) }
+{
+    match fault {
+        Fault::PrefixPastLog(replica) => Ok(Evidence::PrefixPastLog(long_prefix(trace, replica))),
+        Fault::PrefixShort(replica) => Ok(Evidence::PrefixShort(short_prefix(trace, replica))),
+        Fault::MissingFrame(replica, frame) => {
+            Ok(Evidence::MissingFrame(missing_table(alloc, trace, replica, frame)?))
+        }
+        Fault::SharedFrame(replica, frame) => {
+            Ok(Evidence::SharedFrame(shared_table(alloc, trace, replica, frame)?))
+        }
+        Fault::ReservedBit(replica, frame, index) => {
+            Ok(Evidence::ReservedBit(reserved_entry(alloc, trace, replica, frame, index)?))
+        }
+        Fault::StrayFrame(replica, frame) => Ok(Evidence::StrayFrame(stray_table(
+            trace, replica, frame,
+        ))),
+        Fault::Differs(replica, address) => {
+            Ok(Evidence::Differs(difference(alloc, trace, replica, address)?))
+        }
+        _ => unreachable!(),
+    }
 }

@@ -4,16 +4,13 @@ ghost use Rattle.nr_explain.specs.Evidence.{IsEvidence};
 ghost use Rattle.nr_explain.specs.Explanation.{IsExplanationOf};
 ghost use Rattle.nr_explain.specs.Units.{ReadsUnits};
 ghost use Rattle.nr_explain.specs.inside.Explained.{IsExplanationOn};
-ghost use Rattle.nr_explain.specs.inside.Searches.{IsOfDump};
 
 use crate::answers::other_answer;
 use crate::calls::{open_calls, stray_reply, two_replies};
 use crate::counts::{Counts, count};
-use crate::dumps::{
-    difference, long_prefix, missing_table, reserved_entry, shared_table, stray_table,
-};
+use crate::dumps::explain_dump;
 use crate::evidence::Evidence;
-use crate::floors::{early_call, short_prefix};
+use crate::floors::early_call;
 use crate::log::{misplaced, no_update, past_end, two_places};
 use crate::units::Unread;
 use nr_audit::{Order, Verdict, judge};
@@ -63,36 +60,8 @@ pub fn explain(alloc: Global, trace: &Trace, fault: Fault) -> Result<Evidence, M
     }
 }
 
-/// What shows the first fault of a trace, where it is one of a dump.
-fn explain_dump(alloc: Global, trace: &Trace, fault: Fault) -> Result<Evidence, Memory>
-    requires first { IsFirst trace.now fault }
-    requires of_dump { IsOfDump fault }
-    ensures { IfOk result (IsEvidence trace.now fault) }
-{
-    match fault {
-        Fault::PrefixPastLog(replica) => Ok(Evidence::PrefixPastLog(long_prefix(trace, replica))),
-        Fault::PrefixShort(replica) => Ok(Evidence::PrefixShort(short_prefix(trace, replica))),
-        Fault::MissingFrame(replica, frame) => {
-            Ok(Evidence::MissingFrame(missing_table(alloc, trace, replica, frame)?))
-        }
-        Fault::SharedFrame(replica, frame) => {
-            Ok(Evidence::SharedFrame(shared_table(alloc, trace, replica, frame)?))
-        }
-        Fault::ReservedBit(replica, frame, index) => {
-            Ok(Evidence::ReservedBit(reserved_entry(alloc, trace, replica, frame, index)?))
-        }
-        Fault::StrayFrame(replica, frame) => Ok(Evidence::StrayFrame(stray_table(
-            trace, replica, frame,
-        ))),
-        Fault::Differs(replica, address) => {
-            Ok(Evidence::Differs(difference(alloc, trace, replica, address)?))
-        }
-        _ => unreachable!(),
-    }
-}
-
 /// The verdict on a trace, and for a no what shows the fault, for a yes how much the trace has.
-fn explain_trace(alloc: Global, trace: &Trace) -> Result<Explanation, Memory>
+pub(crate) fn explain_trace(alloc: Global, trace: &Trace) -> Result<Explanation, Memory>
     ensures { IfOk result (IsExplanationOn trace.now) }
 {
     match judge(alloc, trace)? {

@@ -4,6 +4,7 @@ ghost use Rattle.std.specs.Prelude.{◌≡◌, ◌<◌, ℕ};
 ghost use Rattle.nr_trace.specs.Faults.{IsFirst, StandsAfter};
 ghost use Rattle.nr_trace.specs.Laws.{HasCleanLog};
 ghost use Rattle.nr_trace.specs.declared.fault.Fault.TheVariants.{Early, PrefixShort};
+ghost use Rattle.nr_explain.specs.Dumps.{IsFirstOfItsDump};
 ghost use Rattle.nr_explain.specs.Evidence.{IsEarly, IsShortPrefix};
 
 use crate::evidence::{EarlyCall, ShortPrefix};
@@ -54,7 +55,7 @@ pub(crate) fn early_call(trace: &Trace, index: u32) -> EarlyCall
 
 /// The first reply at a replica by which more entries are known than its dump has applied.
 pub(crate) fn short_prefix(trace: &Trace, replica: u8) -> ShortPrefix
-    requires { IsFirst trace.now (PrefixShort replica) }
+    requires { IsFirstOfItsDump trace.now (PrefixShort replica) }
     ensures replica { result.replica ≡ replica }
     ensures is { IsShortPrefix trace.now result }
 {

@@ -1,6 +1,7 @@
 //! What shows the fault of a trace: the calls, replies, places and entries of tables that one has to look at.
 #![tactic(auto)]
 
+mod all_dumps;
 mod answers;
 mod calls;
 mod counts;
@@ -20,6 +21,7 @@ mod unit_feed;
 mod unit_numbers;
 mod units;
 
+pub use all_dumps::{DumpExplanation, FullExplanation, explain_all_read};
 pub use counts::Counts;
 pub use evidence::{
     Difference, EarlyCall, Evidence, LongPrefix, Misplaced, MissingTable, NoUpdate, OpenCalls,

@@ -6,7 +6,7 @@ ghost use Rattle.nr_trace.specs.Orders.{answer_in, space_after};
 ghost use Rattle.nr_audit.specs.Verdict.{space_of};
 ghost use Rattle.nr_audit.specs.inside.Steps.{Serves};
 ghost use Rattle.nr_explain.specs.Facts.{IsCallOf, IsLastChange, looks_after};
-ghost use Rattle.nr_explain.specs.inside.Searches.{HasOnlyCalls};
+ghost use Rattle.nr_explain.specs.inside.Searches.{HasCallAt};
 
 use crate::evidence::PlacedUpdate;
 use crate::lookup::{call_at, request_of};
@@ -81,7 +81,7 @@ fn is_same(left: Answer, right: Answer) -> bool
 /// The update at a place of the log.
 fn update_at(trace: &Trace, place: u32) -> PlacedUpdate
     requires within { place < length trace.now.log }
-    requires calls { HasOnlyCalls trace.now }
+    requires call { HasCallAt trace.now place }
     ensures place { result.place ≡ place }
     ensures call { IsCallOf trace.now result.call }
     ensures placed { slice_get trace.now.log place ≡ Some result.call.event }
@@ -100,8 +100,7 @@ pub(crate) fn last_look(
     address: u64,
     end: u32,
 ) -> Result<(Answer, Option<PlacedUpdate>), Memory>
-    requires within { end ≤ length trace.now.log }
-    requires calls { HasOnlyCalls trace.now }
+    requires { end ≤ length trace.now.log }
     ensures looks { IfOk result (λ last. last.0 ≡ looks_after trace.now address end) }
     ensures changed { IfOk result (λ last. IsLastChange trace.now address end last.1) }
 {

@@ -1,16 +1,16 @@
 //! A trace that comes in pieces, of which each unit is known: where it begins, and what was read of it.
 
-ghost use Rattle.std.specs.Prelude.{◌≡◌, ◌≢◌, ◌≤◌, ◌<◌, ◌++◌, [], length, IfErr, MatchResult};
+ghost use Rattle.std.specs.Prelude.{◌≡◌, ◌≢◌, ◌≤◌, ◌<◌, ◌+◌, ◌-◌, ◌^◌, ◌++◌, ℕ, List, [], length, min, take, IfErr, MatchResult, OnOk};
 ghost use Rattle.nr_trace.specs.Feed.{HasNoFaultYet};
 ghost use Rattle.nr_explain.specs.Units.{size, IfBad, IsBadFor, ReadsUnits};
-ghost use Rattle.nr_explain.specs.inside.Positions.{taken, IsRun, IsSound};
+ghost use Rattle.nr_explain.specs.inside.Positions.{bytes_fed, taken, HasBegunUnit, HasFed, IsRefused, IsRun, IsSound};
 ghost use Rattle.nr_explain.specs.declared.units.Unread.TheVariants as reasons;
 
 use crate::fields::field_fault;
 use crate::positions::{HEADER_BYTES, Lengths, after, bad_unit, run_len};
 use crate::units::{BadUnit, TraceUnit, Unread};
-use nr_trace::{Feed, Trace};
-use std::alloc::Global;
+use nr_trace::{Feed, Format, Trace};
+use std::alloc::{AllocError, Global};
 use std::marker::Model;
 use vs_types::Fail;
 
@@ -28,70 +28,109 @@ pub(crate) struct Units {
     pub(crate) header: Vec<u8>,
 }
 
+/// Puts the first bytes of a run that was taken behind the header's that are there.
+fn keep_header(header: &mut Vec<u8>, run: &[u8]) -> Result<(), AllocError>
+    requires { length header.old.items ≤ HEADER_BYTES }
+    ensures { OnOk result (header.new.items
+        ≡ header.old.items ++ take (min (HEADER_BYTES - length header.old.items) (length run.now)) run.now) }
+{
+    let missing = (HEADER_BYTES - header.len()).min(run.len());
+    header.extend_from_slice(&run[..missing])
+}
+
+/// Why a run is refused: the bad unit, or that no memory was there for its bytes.
+fn refused(units: &Units, run: &[u8], fault: Format) -> Unread
+    requires run { IsRun units.now.next units.now.lengths (length run.now) }
+    requires fits { units.now.offset + length run.now < 2 ^ 64 }
+    requires bad { (front : List ℕ) × IsRefused units.now front run.now fault }
+    ensures { (front : List ℕ) → IsRefused units.now front run.now fault
+        → IfBad (IsBadFor (front ++ run.now)) result }
+{
+    let (unit, before) = bad_unit(units.next, units.lengths, run, fault);
+    let Ok(read) = Vec::from_slice(units.alloc, &run[before..before + unit.size()]) else {
+        return Unread::Memory;
+    };
+    let field = field_fault(fault, &units.header, &read);
+    Unread::Bad(BadUnit {
+        fault,
+        unit,
+        offset: units.offset + before as u64,
+        read,
+        field,
+    })
+}
+
 /// Takes the next run.
-fn take_run(mut units: Units, run: &[u8]) -> Result<Units, Unread>
-    requires sound { IsSound units }
-    requires run { IsRun units.next units.lengths (length run.now) }
+fn take_run(units: &mut Units, run: &[u8]) -> Result<(), Unread>
+    requires sound { IsSound units.old }
+    requires run { IsRun units.old.next units.old.lengths (length run.now) }
     ensures { MatchResult result
-        (λ next. IsSound next × (taken next.feed ≡ taken units.feed ++ run.now))
-        (IfBad (IsBadFor (taken units.feed ++ run.now))) }
+        (λ _. IsSound units.new × (taken units.new.feed ≡ taken units.old.feed ++ run.now))
+        (IfBad (IsBadFor (taken units.old.feed ++ run.now))) }
 {
     match units.feed.feed(run) {
         Ok(()) => {
-            let missing = (HEADER_BYTES - units.header.len()).min(run.len());
-            units.header.extend_from_slice(&run[..missing])?;
+            keep_header(&mut units.header, run)?;
             let (next, lengths) = after(units.next, units.lengths, run);
             units.next = next;
             units.lengths = lengths;
             units.offset += run.len() as u64;
-            Ok(units)
+            Ok(())
         }
         Err(Fail::Memory) => Err(Unread::Memory),
-        Err(Fail::Refused(fault)) => {
-            let (unit, before) = bad_unit(units.next, units.lengths, run, fault);
-            let mut read = Vec::new(units.alloc);
-            read.extend_from_slice(&run[before..before + unit.size()])?;
-            let field = field_fault(fault, &units.header, &read);
-            Err(Unread::Bad(BadUnit {
-                fault,
-                unit,
-                offset: units.offset + before as u64,
-                read,
-                field,
-            }))
-        }
+        Err(Fail::Refused(fault)) => Err(refused(units, run, fault)),
     }
 }
 
 /// Takes all whole units at the front of the bytes, by runs, and gives what is left.
-fn take_units(units: Units, bytes: &[u8]) -> Result<(Units, &[u8]), Unread>
-    requires { IsSound units }
+fn take_units<'a>(units: &mut Units, bytes: &'a [u8]) -> Result<&'a [u8], Unread>
+    requires { IsSound units.old }
     ensures { MatchResult result
-        (λ left. IsSound left.0 × (taken left.0.feed ++ left.1.now ≡ taken units.feed ++ bytes.now)
-        × (length left.1.now < size left.0.next))
-        (IfBad (IsBadFor (taken units.feed ++ bytes.now))) }
+        (λ left. IsSound units.new × (taken units.new.feed ++ left.now ≡ taken units.old.feed ++ bytes.now)
+        × (length left.now < size units.new.next))
+        (IfBad (IsBadFor (taken units.old.feed ++ bytes.now))) }
 {
-    let mut units = units;
     let mut rest = bytes;
     while let Some(len) = run_len(units.next, units.lengths, rest.len()) {
         let (run, behind) = rest.split_at(len);
-        units = take_run(units, run)?;
+        take_run(units, run)?;
         rest = behind;
     }
-    Ok((units, rest))
+    Ok(rest)
 }
 
 /// Takes all whole units at the front of the bytes, and keeps the beginning of the next one.
-fn take_bytes(units: Units, mut begun: Vec<u8>, bytes: &[u8]) -> Result<UnitFeed, Unread>
-    requires sound { IsSound units }
-    requires between { begun.items ≡ [] }
-    ensures { MatchResult result
-        (λ fed. (fed ≡ taken units.feed ++ bytes.now) × HasNoFaultYet (taken units.feed ++ bytes.now))
-        (IfBad (IsBadFor (taken units.feed ++ bytes.now))) }
+fn take_bytes(units: &mut Units, begun: &mut Vec<u8>, bytes: &[u8]) -> Result<(), Unread>
+    requires sound { IsSound units.old }
+    requires between { begun.old.items ≡ [] }
+    ensures { MatchResult result (λ _. HasFed units.new begun.new.items (taken units.old.feed ++ bytes.now))
+        (IfBad (IsBadFor (taken units.old.feed ++ bytes.now))) }
 {
-    let (units, rest) = take_units(units, bytes)?;
+    let rest = take_units(units, bytes)?;
     begun.extend_from_slice(rest)?;
-    Ok(UnitFeed { units, begun })
+    Ok(())
+}
+
+/// Takes the next piece, of which the beginning may complete a unit.
+fn take_piece(units: &mut Units, begun: &mut Vec<u8>, piece: &[u8]) -> Result<(), Unread>
+    requires { HasBegunUnit units.old begun.old.items }
+    ensures { MatchResult result
+        (λ _. HasFed units.new begun.new.items (bytes_fed units.old begun.old.items ++ piece.now))
+        (IfBad (IsBadFor (bytes_fed units.old begun.old.items ++ piece.now))) }
+{
+    if begun.is_empty() {
+        return take_bytes(units, begun, piece);
+    }
+    let missing = units.next.size() - begun.len();
+    if piece.len() < missing {
+        begun.extend_from_slice(piece)?;
+        return Ok(());
+    }
+    let (front, behind) = piece.split_at(missing);
+    begun.extend_from_slice(front)?;
+    take_run(units, begun)?;
+    begun.clear();
+    take_bytes(units, begun, behind)
 }
 
 /// A reader of a trace that comes in pieces, cut anywhere, which knows the unit that a refusal is about. Contracts see the bytes
@@ -144,20 +183,14 @@ impl UnitFeed {
             (λ fed. (fed ≡ self ++ piece.now) × HasNoFaultYet (self ++ piece.now))
             (IfBad (IsBadFor (self ++ piece.now))) }
     {
-        let UnitFeed { units, mut begun } = self;
-        if begun.is_empty() {
-            return take_bytes(units, begun, piece);
+        let UnitFeed {
+            mut units,
+            mut begun,
+        } = self;
+        match take_piece(&mut units, &mut begun, piece) {
+            Ok(()) => Ok(UnitFeed { units, begun }),
+            Err(unread) => Err(unread),
         }
-        let missing = units.next.size() - begun.len();
-        if piece.len() < missing {
-            begun.extend_from_slice(piece)?;
-            return Ok(UnitFeed { units, begun });
-        }
-        let (front, behind) = piece.split_at(missing);
-        begun.extend_from_slice(front)?;
-        let units = take_run(units, &begun)?;
-        begun.clear();
-        take_bytes(units, begun, behind)
     }
 
     /// The trace that the pieces spell one after the other. It allocates no memory.

@@ -7,7 +7,7 @@ use Rattle.clap.specs.Walk.{one_of}
 use Rattle.clap.specs.declared.builder.value_parser.ValueParser.{ValueParser}
 use Rattle.clap.specs.declared.builder.value_parser.ValueParser.TheVariants as parsers
 use Rattle.clap.specs.declared.builder.action.ArgAction.TheVariants.{SetTrue}
-use Rattle.nr_commands.specs.Words.{AsksInspection, IsFlag, audit_app, explain_app, resolve_app}
+use Rattle.nr_commands.specs.Words.{AsksInspection, IsFlag, audit_app, explain_app, pages_app, resolve_app}
 use Rattle.nr_run_engines.specs.declared.setup.Setup.{Setup}
 use Rattle.nrvs.specs.declared.command.Command.{Command}
 use Rattle.nrvs.specs.declared.command.Command.TheVariants.{Inspect, Simulate, Run}
@@ -49,8 +49,9 @@ program_app = record (new_app (codes "nrvs")) {
 }
 
 abbrev pub command_line : App
-command_line = with_subcommand (with_subcommand (with_subcommand (with_subcommand (with_subcommand program_app audit_app.top) explain_app.top)
-    resolve_app.top) simulate_app.top) run_app.top
+command_line =
+    with_subcommand (with_subcommand (with_subcommand (with_subcommand (with_subcommand (with_subcommand program_app audit_app.top) explain_app.top)
+    resolve_app.top) pages_app.top) simulate_app.top) run_app.top
 
 -- the number that a text is, or the default where it is none below 65,536 and within the limits, or there is none
 abbrev pub IsNumber : ℕ → ℕ → ℕ → Option Text → ℕ → Type 0

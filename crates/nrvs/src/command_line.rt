@@ -6,7 +6,7 @@ ghost use Rattle.nrvs.specs.CommandLine.{command_line, number_option, run_app, s
 
 use clap::builder::ValueParser;
 use clap::{Arg, ArgAction, Command};
-use nr_commands::{VERSION, audit, explain, resolve};
+use nr_commands::{VERSION, audit, explain, pages, resolve};
 use std::alloc::{AllocError, Global};
 
 /// What `--help` prints after the commands.
@@ -100,6 +100,7 @@ pub fn command_line<'a>(alloc: Global) -> Result<Command<'a>, AllocError>
     let audit = audit(alloc)?;
     let explain = explain(alloc)?;
     let resolve = resolve(alloc)?;
+    let pages = pages(alloc)?;
     let simulate = simulate(alloc)?;
     let run = run(alloc)?;
     Command::new(alloc, "nrvs")
@@ -110,6 +111,7 @@ pub fn command_line<'a>(alloc: Global) -> Result<Command<'a>, AllocError>
         .subcommand(audit)?
         .subcommand(explain)?
         .subcommand(resolve)?
+        .subcommand(pages)?
         .subcommand(simulate)?
         .subcommand(run)
 }

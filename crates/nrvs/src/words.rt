@@ -9,7 +9,7 @@ use crate::command::Command;
 use crate::command_line::command_line;
 use clap::error::ErrorKind;
 use clap::{ArgMatches, Error};
-use nr_commands::{NoWords, read_audit, read_explain, read_resolve};
+use nr_commands::{NoWords, read_audit, read_explain, read_pages, read_resolve};
 use nr_run_engines::Setup;
 use std::alloc::{AllocError, Global};
 use vs_types::Depth;
@@ -78,6 +78,7 @@ fn read_words<'a>(alloc: Global, words: &'a [String]) -> Result<Command<'a>, Err
         Some(("audit", given)) => Ok(Command::Inspect(read_audit(alloc, &mut line, given)?)),
         Some(("explain", given)) => Ok(Command::Inspect(read_explain(given))),
         Some(("resolve", given)) => Ok(Command::Inspect(read_resolve(given))),
+        Some(("pages", given)) => Ok(Command::Inspect(read_pages(given))),
         Some(("simulate", given)) => {
             let setup = read_setup(given);
             let as_trace = given.get_flag("trace");

@@ -4,7 +4,7 @@ ghost use Rattle.clap.specs.Words.{app_of};
 ghost use Rattle.nrvs_audit.specs.CommandLine.{nrvs_audit_line};
 
 use clap::Command;
-use nr_commands::{VERSION, audit, explain, resolve};
+use nr_commands::{VERSION, audit, explain, pages, resolve};
 use std::alloc::{AllocError, Global};
 
 /// What `--help` prints after the commands.
@@ -25,6 +25,7 @@ pub fn command_line<'a>(alloc: Global) -> Result<Command<'a>, AllocError>
     let audit = audit(alloc)?;
     let explain = explain(alloc)?;
     let resolve = resolve(alloc)?;
+    let pages = pages(alloc)?;
     Command::new(alloc, "nrvs_audit")
         .about("Checks recorded runs of replicated address spaces")
         .version(VERSION)
@@ -32,5 +33,6 @@ pub fn command_line<'a>(alloc: Global) -> Result<Command<'a>, AllocError>
         .after_help(AFTER_HELP)
         .subcommand(audit)?
         .subcommand(explain)?
-        .subcommand(resolve)
+        .subcommand(resolve)?
+        .subcommand(pages)
 }

@@ -6,7 +6,7 @@ ghost use Rattle.nrvs_audit.specs.CommandLine.{nrvs_audit_line};
 use crate::command_line::command_line;
 use clap::Error;
 use clap::error::ErrorKind;
-use nr_commands::{Inspection, NoWords, read_audit, read_explain, read_resolve};
+use nr_commands::{Inspection, NoWords, read_audit, read_explain, read_pages, read_resolve};
 use std::alloc::{AllocError, Global};
 
 /// What the words ask for, or what clap answers to them.
@@ -28,6 +28,7 @@ fn read_words<'a>(alloc: Global, words: &'a [String]) -> Result<Inspection<'a>, 
         Some(("audit", given)) => read_audit(alloc, &mut line, given),
         Some(("explain", given)) => Ok(read_explain(given)),
         Some(("resolve", given)) => Ok(read_resolve(given)),
+        Some(("pages", given)) => Ok(read_pages(given)),
         _ => Err(line.error(ErrorKind::MissingSubcommand, "a subcommand is required")?),
     }
 }

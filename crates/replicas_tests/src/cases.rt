@@ -10,10 +10,37 @@ use std::process::Abort;
 use std::sync::Wait;
 use std::test::Fail;
 use std::thread::Threads;
-use vs_types::{BadConfig, Config, Depth, Memory, Op, Query};
+use vs_types::{BadConfig, Config, Depth, Op, Query};
+
+/// Steps one after another, and the calls that are to be in the log.
+#[derive(Drop)]
+pub struct Plan {
+    pub steps: Vec<Step>,
+    pub calls: Vec<u32>,
+}
+
+impl Plan {
+    pub fn new(alloc: Global) -> Plan {
+        Plan {
+            steps: Vec::new(alloc),
+            calls: Vec::new(alloc),
+        }
+    }
+
+    /// A step of which nothing comes into the log.
+    pub fn add(&mut self, rt: &impl Abort, step: Step) {
+        self.steps.push(step).expect(rt, "memory");
+    }
+
+    /// A step whose call comes into it.
+    pub fn place(&mut self, rt: &impl Abort, step: Step) {
+        self.add(rt, step);
+        self.calls.push(step.call).expect(rt, "memory");
+    }
+}
 
 /// The calls of a test on new replicas, and what is to be left.
-#[derive(Drop)]
+#[derive(Clone, Copy)]
 pub struct Case<'s> {
     pub depth: Depth,
     pub replicas: u8,
@@ -80,17 +107,19 @@ impl<'s> Case<'s> {
         alloc: Global,
     ) -> Result<(), Fail> {
         let settled = self.settle(rt, alloc)?;
-        let updates = self.updates(rt, alloc)?;
-        assert_dumps(rt, alloc, self.config()?, &settled, &updates)
+        let config = self.config().expect(rt, "a configuration");
+        assert_dumps(rt, alloc, config, &settled, &self.updates(rt, alloc));
+        Ok(())
     }
 
     /// The updates of the log.
-    fn updates(&self, rt: &impl Abort, alloc: Global) -> Result<Vec<Op>, Memory> {
+    fn updates(&self, rt: &impl Abort, alloc: Global) -> Vec<Op> {
         let mut updates = Vec::new(alloc);
         for call in self.calls {
-            updates.push(update_of(rt, self.depth, self.steps, *call))?;
+            let update = update_of(rt, self.depth, self.steps, *call);
+            updates.push(update).expect(rt, "memory");
         }
-        Ok(updates)
+        updates
     }
 }
 

@@ -5,7 +5,7 @@ use std::process::Abort;
 use vs_types::{Access, Depth, Mode, Op, Query, Rights, Size};
 
 /// A linear congruential generator (Knuth's MMIX), of which the upper 32 bits are taken.
-#[derive(Drop)]
+#[derive(Clone, Copy)]
 pub struct Draws {
     state: u64,
 }

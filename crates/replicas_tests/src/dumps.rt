@@ -4,25 +4,19 @@ use crate::scene::Settled;
 use nr_dump::check;
 use std::alloc::Global;
 use std::process::Abort;
-use std::test::Fail;
 use vs_plain::PlainSpace;
 use vs_types::{Config, Op};
 use vs_walk::Dump;
 
 /// A plain space after these updates.
-fn space_after(
-    rt: &impl Abort,
-    alloc: Global,
-    config: Config,
-    updates: &[Op],
-) -> Result<PlainSpace, Fail> {
+fn space_after(rt: &impl Abort, alloc: Global, config: Config, updates: &[Op]) -> PlainSpace {
     let mut space = PlainSpace::new(alloc, config.tables(), config.depth());
     for op in updates {
         let depth = space.depth();
         assert!(rt; op.fits(depth));
-        let _answer = space.apply(*op)?;
+        let _answer = space.apply(*op).expect(rt, "memory");
     }
-    Ok(space)
+    space
 }
 
 /// Its frames are just those from this number on that have been in use at one time.
@@ -42,18 +36,28 @@ pub fn assert_dumps(
     config: Config,
     settled: &Settled,
     updates: &[Op],
-) -> Result<(), Fail> {
+) {
     assert_eq!(rt; settled.calls.len(), updates.len());
     assert_eq!(rt; settled.dumps.len(), usize::from(config.replicas()));
     let mut first = 1u64 << 39;
     for dump in settled.dumps.as_slice() {
-        let applied = dump.applied() as usize;
-        assert!(rt; applied <= updates.len());
-        let space = space_after(rt, alloc, config, &updates[..applied])?;
-        assert_eq!(rt; (dump.root(), dump.count()), (first, space.tables()));
-        assert_numbers(rt, dump, first, config.tables());
-        check(alloc, dump, &space)?;
+        assert_dump(rt, alloc, config, dump, first, updates);
         first = first.wrapping_add(4096);
     }
-    Ok(())
+}
+
+fn assert_dump(
+    rt: &impl Abort,
+    alloc: Global,
+    config: Config,
+    dump: &Dump,
+    first: u64,
+    updates: &[Op],
+) {
+    let applied = dump.applied() as usize;
+    assert!(rt; applied <= updates.len());
+    let space = space_after(rt, alloc, config, &updates[..applied]);
+    assert_eq!(rt; (dump.root(), dump.count()), (first, space.tables()));
+    assert_numbers(rt, dump, first, config.tables());
+    assert!(rt; check(alloc, dump, &space).is_ok());
 }

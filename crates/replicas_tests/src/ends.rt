@@ -1,6 +1,6 @@
 //! The end of a log.
 
-use crate::cases::Case;
+use crate::cases::{Case, Plan};
 use crate::steps::{Asks, Step, TURNS};
 use nr_replicas::UpdateFault;
 use std::alloc::Global;
@@ -8,7 +8,7 @@ use std::process::Abort;
 use std::sync::Wait;
 use std::test::Fail;
 use std::thread::Threads;
-use vs_types::{Access, Answer, Depth, Memory};
+use vs_types::{Access, Answer, Depth};
 
 /// How many entries a log has at most.
 const ENTRIES: u32 = 65_536;
@@ -16,15 +16,17 @@ const ENTRIES: u32 = 65_536;
 /// All of them but two.
 const ALL_BUT_TWO: u32 = ENTRIES - 2;
 
-/// So many updates of thread 0, each of a page that there is not: the steps, and the calls.
-fn unmap_often(alloc: Global, count: u32) -> Result<(Vec<Step>, Vec<u32>), Memory> {
-    let mut steps = Vec::new(alloc);
-    let mut calls = Vec::new(alloc);
+/// So many updates of thread 0, each of a page that there is not, and then these steps.
+fn unmap_often(rt: &impl Abort, alloc: Global, count: u32, then: &[Step]) -> Plan {
+    let mut plan = Plan::new(alloc);
     for call in 0..count {
-        steps.push(Step::update(0, call, Asks::Unmap, call, Answer::NotMapped))?;
-        calls.push(call)?;
+        let step = Step::update(0, call, Asks::Unmap, call, Answer::NotMapped);
+        plan.place(rt, step);
     }
-    Ok((steps, calls))
+    for step in then {
+        plan.add(rt, *step);
+    }
+    plan
 }
 
 /// Takes the steps of a case in whose replicas nothing is mapped in the end.
@@ -48,7 +50,6 @@ fn go_to_the_end<R: Wait + Abort + Threads + Sync>(
     others: &[Step],
     case: Case,
 ) -> Result<(), Fail> {
-    let (mut steps, calls) = unmap_often(alloc, ENTRIES)?;
     let ended = UpdateFault::Ended(ENTRIES);
     let occupied = UpdateFault::Occupied;
     let at_the_end = [
@@ -58,11 +59,13 @@ fn go_to_the_end<R: Wait + Abort + Threads + Sync>(
         Step::read(0, 0x400000, ENTRIES, Answer::NotMapped),
         Step::access(0, 0x400000, Access::Read, ENTRIES, Answer::Fault(4)),
     ];
-    steps.extend_from_slice(&at_the_end)?;
-    steps.extend_from_slice(others)?;
+    let mut plan = unmap_often(rt, alloc, ENTRIES, &at_the_end);
+    for step in others {
+        plan.add(rt, *step);
+    }
     let case = Case {
-        steps: &steps,
-        calls: &calls,
+        steps: &plan.steps,
+        calls: &plan.calls,
         applied: [ENTRIES; 4],
         batches: ENTRIES,
         ..case
@@ -95,7 +98,6 @@ fn log_ends_for_other_threads(rt: HostRuntime) -> Result<(), Fail> {
 /// them.
 #[test]
 fn batch_stays_at_the_end(rt: HostRuntime) -> Result<(), Fail> {
-    let (mut steps, calls) = unmap_often(rt.alloc(), ALL_BUT_TWO)?;
     let last = ALL_BUT_TWO;
     let at_the_end = [
         Step::fault(1, last, Asks::Unmap, 0, UpdateFault::Stopped(last)),
@@ -116,12 +118,12 @@ fn batch_stays_at_the_end(rt: HostRuntime) -> Result<(), Fail> {
         ),
         Step::read(3, 0x400000, last, Answer::NotMapped),
     ];
-    steps.extend_from_slice(&at_the_end)?;
+    let plan = unmap_often(&rt, rt.alloc(), last, &at_the_end);
     let case = Case {
-        calls: &calls,
+        calls: &plan.calls,
         applied: [last; 4],
         batches: last,
-        ..Case::new(Depth::Four, 1, 4, 4, &steps)
+        ..Case::new(Depth::Four, 1, 4, 4, &plan.steps)
     };
     settle_empty(&rt, rt.alloc(), case)
 }

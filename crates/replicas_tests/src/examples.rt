@@ -1,6 +1,6 @@
 //! Calls one after another on few replicas.
 
-use crate::cases::Case;
+use crate::cases::{Case, Plan};
 use crate::steps::{Asks, MAP, Step};
 use std::alloc::Global;
 use std::process::Abort;
@@ -65,23 +65,21 @@ fn leave_replicas_alone<R: Wait + Abort + Threads + Sync>(
     updates: u32,
     taken: u32,
 ) -> Result<(), Fail> {
-    let mut steps = Vec::new(alloc);
-    let mut calls = Vec::new(alloc);
+    let mut plan = Plan::new(alloc);
     for call in 0..updates {
         let (asks, answer) = match call % 3 {
             0 => (MAP, Answer::Done),
             1 => (MAP, Answer::Overlap(0x400000)),
             _ => (Asks::Unmap, Answer::Removed(0x1000, Size::K4, Rights::ALL)),
         };
-        steps.push(Step::update(0, call, asks, call, answer))?;
-        calls.push(call)?;
+        plan.place(rt, Step::update(0, call, asks, call, answer));
     }
     for replicas in [2, 3, 4] {
         Case {
-            calls: &calls,
+            calls: &plan.calls,
             applied: [updates, taken, taken, taken],
             batches: updates,
-            ..Case::new(Depth::Four, replicas, 4, 4, &steps)
+            ..Case::new(Depth::Four, replicas, 4, 4, &plan.steps)
         }
         .assert(rt, alloc)?;
     }

@@ -6,9 +6,8 @@ use crate::scene::Settled;
 use nr_replicas::UpdateFault;
 use std::alloc::Global;
 use std::process::Abort;
-use std::test::Fail;
 use vs_plain::PlainSpace;
-use vs_types::{Config, Op, Query};
+use vs_types::{Config, Memory, Op, Query};
 
 /// Whether a call of this number may be answered so, which is at that place of the log, or nowhere in it.
 fn may_be_told(made: Made, call: u32, place: Option<u32>) -> bool {
@@ -22,12 +21,16 @@ fn may_be_told(made: Made, call: u32, place: Option<u32>) -> bool {
     }
 }
 
-/// Each call is in the log once at most, and was answered what fits to where it is.
-fn judge_places(rt: &impl Abort, alloc: Global, settled: &Settled) -> Result<(), Fail> {
-    let made = settled.made.as_slice();
-    let mut places = vec![in alloc; None::<u32>; made.len()]?;
+/// The place in the log of each of so many calls, of which each is there once at most.
+fn places_of(
+    rt: &impl Abort,
+    alloc: Global,
+    calls: &[u32],
+    count: usize,
+) -> Result<Vec<Option<u32>>, Memory> {
+    let mut places = vec![in alloc; None::<u32>; count]?;
     let mut place = 0u32;
-    for call in settled.calls.as_slice() {
+    for call in calls {
         let stands = places
             .get_mut(*call as usize)
             .expect(rt, "a call of the run");
@@ -35,6 +38,11 @@ fn judge_places(rt: &impl Abort, alloc: Global, settled: &Settled) -> Result<(),
         *stands = Some(place);
         place = place.wrapping_add(1);
     }
+    Ok(places)
+}
+
+/// Each call was answered what fits to where it is in the log.
+fn judge_places(rt: &impl Abort, made: &[Made], places: &[Option<u32>]) {
     let mut call = 0u32;
     for (made, place) in made.iter().zip(places.iter()) {
         let may = may_be_told(*made, call, *place);
@@ -42,7 +50,6 @@ fn judge_places(rt: &impl Abort, alloc: Global, settled: &Settled) -> Result<(),
         assert!(rt; may, "call {call} at {place:?}: {said:?}");
         call = call.wrapping_add(1);
     }
-    Ok(())
 }
 
 /// Each read that saw just as many entries as the space has was answered as the space answers it.
@@ -62,29 +69,15 @@ fn judge_reads(rt: &impl Abort, made: &[Made], entries: u32, space: &PlainSpace)
 }
 
 /// Each answer is that of a plain space at its place of the log; no read saw more entries than there are. The updates of the log.
-fn judge_answers(
-    rt: &impl Abort,
-    alloc: Global,
-    config: Config,
-    settled: &Settled,
-) -> Result<Vec<Op>, Fail> {
+fn judge_answers(rt: &impl Abort, alloc: Global, config: Config, settled: &Settled) -> Vec<Op> {
     let made = settled.made.as_slice();
     let mut updates = Vec::new(alloc);
     let mut space = PlainSpace::new(alloc, config.tables(), config.depth());
     judge_reads(rt, made, 0, &space);
     let mut entries = 0u32;
     for call in settled.calls.as_slice() {
-        let made_here = made.get(*call as usize).expect(rt, "a call of the run");
-        let Query::Update(op) = made_here.query else {
-            panic!(rt; "the read of call {call} stands in the log");
-        };
-        let depth = space.depth();
-        assert!(rt; op.fits(depth));
-        let wanted = space.apply(op)?;
-        if let Said::Answer(_, answer) = made_here.said {
-            assert_eq!(rt; answer, wanted, "call {call}");
-        }
-        updates.push(op)?;
+        let update = judge_update(rt, made, *call, &mut space);
+        updates.push(update).expect(rt, "memory");
         entries = entries.wrapping_add(1);
         judge_reads(rt, made, entries, &space);
     }
@@ -95,7 +88,22 @@ fn judge_answers(
             "{said:?}"
         );
     }
-    Ok(updates)
+    updates
+}
+
+/// The answer to the update of this call is that of the space, where it comes next. The update.
+fn judge_update(rt: &impl Abort, made: &[Made], call: u32, space: &mut PlainSpace) -> Op {
+    let made = made.get(call as usize).expect(rt, "a call of the run");
+    let Query::Update(op) = made.query else {
+        panic!(rt; "the read of call {call} stands in the log");
+    };
+    let depth = space.depth();
+    assert!(rt; op.fits(depth));
+    let wanted = space.apply(op).expect(rt, "memory");
+    if let Said::Answer(_, answer) = made.said {
+        assert_eq!(rt; answer, wanted, "call {call}");
+    }
+    op
 }
 
 /// Each answer is that of a plain space at its place of the log, in which each call is there once at most: those that were answered do,
@@ -106,8 +114,11 @@ pub fn judge(
     alloc: Global,
     config: Config,
     settled: &Settled,
-) -> Result<(), Fail> {
-    judge_places(rt, alloc, settled)?;
-    let updates = judge_answers(rt, alloc, config, settled)?;
-    assert_dumps(rt, alloc, config, settled, &updates)
+) -> Result<(), Memory> {
+    let made = settled.made.as_slice();
+    let places = places_of(rt, alloc, &settled.calls, made.len())?;
+    judge_places(rt, made, &places);
+    let updates = judge_answers(rt, alloc, config, settled);
+    assert_dumps(rt, alloc, config, settled, &updates);
+    Ok(())
 }

@@ -1,5 +1,5 @@
 //! New replicas, on which a test makes its calls, and what is left of them.
-ghost use Rattle.std.specs.Prelude.{◌≡◌, ◌≤◌, ◌+◌, All, IfOk, [], length, replicate};
+ghost use Rattle.std.specs.Prelude.{◌≡◌, ◌≤◌, ◌+◌, All, [], length, replicate};
 ghost use Rattle.nr_ring.specs.Pass.{new_pass};
 
 use crate::caller::{Caller, Made};
@@ -16,7 +16,7 @@ use std::process::Abort;
 use std::sync::Wait;
 use std::test::Fail;
 use std::thread::Threads;
-use vs_types::{Config, Memory};
+use vs_types::Config;
 use vs_walk::Dump;
 
 /// The calls that a test makes on new replicas.
@@ -96,9 +96,9 @@ fn run_named<
     requires passes { All (λ pass. pass.log ≡ K.log) passes.items }
 {
     let replicas = new.named::<K>()?;
-    let callers = callers_of(rt, alloc, &replicas, config, passes)?;
+    let callers = callers_of(rt, alloc, &replicas, config, passes);
     let (callers, made) = make_calls(rt, alloc, callers, test)?;
-    let mut passes = passes_of(alloc, callers)?;
+    let mut passes = passes_of(rt, alloc, callers);
     let (calls, dumps) = replicas.settle(rt, &mut passes)?;
     Ok(Settled { calls, dumps, made })
 }
@@ -140,7 +140,7 @@ fn callers_of<'a, J: LogName, K: ReplicasName>(
     replicas: &'a Replicas<J, K>,
     config: Config,
     passes: Vec<LogPass<J>>,
-) -> Result<Vec<Caller<'a, J, K>>, Memory>
+) -> Vec<Caller<'a, J, K>>
     requires config { (replicas.now ≡ config) × (config.depth ≡ J.depth) }
     requires passes { All (λ pass. pass.log ≡ K.log) passes.items }
 {
@@ -148,21 +148,23 @@ fn callers_of<'a, J: LogName, K: ReplicasName>(
     for pass in passes {
         let thread = callers.len();
         assert!(rt; thread < usize::from(config.threads()));
-        callers.push(Caller::new(replicas, pass, thread as u16, config.depth()))?;
+        let caller = Caller::new(replicas, pass, thread as u16, config.depth());
+        callers.push(caller).expect(rt, "memory");
     }
-    Ok(callers)
+    callers
 }
 
 /// The passes of the callers.
 fn passes_of<J: LogName, K: ReplicasName>(
+    rt: &impl Abort,
     alloc: Global,
     callers: Vec<Caller<'_, J, K>>,
-) -> Result<Vec<LogPass<J>>, Memory>
-    ensures { IfOk result (λ passes. All (λ pass. pass.log ≡ K.log) passes.items) }
+) -> Vec<LogPass<J>>
+    ensures { All (λ pass. pass.log ≡ K.log) result.items }
 {
     let mut passes = Vec::new(alloc);
     for caller in callers {
-        passes.push(caller.into_pass())?;
+        passes.push(caller.into_pass()).expect(rt, "memory");
     }
-    Ok(passes)
+    passes
 }

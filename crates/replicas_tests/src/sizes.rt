@@ -1,6 +1,6 @@
 //! The greatest configurations, and those in which a limit is met.
 
-use crate::cases::Case;
+use crate::cases::{Case, Plan};
 use crate::steps::{Asks, MAP, Step};
 use nr_replicas::UpdateFault;
 use std::alloc::Global;
@@ -14,23 +14,27 @@ use vs_types::{Answer, Depth, Rights, Size};
 #[test]
 fn as_many_threads_as_can_be(rt: HostRuntime) -> Result<(), Fail> {
     let mapped = Answer::Mapped(0x1000, Size::K4, Rights::ALL);
-    let mut steps = Vec::new(rt.alloc());
-    let mut calls = Vec::new(rt.alloc());
+    let mut plan = Plan::new(rt.alloc());
     for thread in 0..64u16 {
         let place = u32::from(thread);
-        let call = 131_071 - place;
-        steps.push(Step::update(thread, call, Asks::Map(place), place, Answer::Done))?;
-        calls.push(call)?;
+        let step = Step::update(
+            thread,
+            131_071 - place,
+            Asks::Map(place),
+            place,
+            Answer::Done,
+        );
+        plan.place(&rt, step);
     }
     for thread in 0..64u16 {
         let address = 0x400000 + 0x200000 * ((u64::from(thread) + 1) % 64);
-        steps.push(Step::read(thread, address, 64, mapped))?;
+        plan.add(&rt, Step::read(thread, address, 64, mapped));
     }
     Case {
-        calls: &calls,
+        calls: &plan.calls,
         applied: [64; 4],
         batches: 64,
-        ..Case::new(Depth::Five, 4, 64, 4096, &steps)
+        ..Case::new(Depth::Five, 4, 64, 4096, &plan.steps)
     }
     .assert(&rt, rt.alloc())
 }
@@ -38,20 +42,21 @@ fn as_many_threads_as_can_be(rt: HostRuntime) -> Result<(), Fail> {
 /// The updates of 64 threads wait in the slots of one replica, more than are in a batch; the last thread's call puts them all.
 #[test]
 fn more_updates_than_a_batch(rt: HostRuntime) -> Result<(), Fail> {
-    let mut steps = Vec::new(rt.alloc());
-    let mut calls = Vec::new(rt.alloc());
+    let mut plan = Plan::new(rt.alloc());
     for thread in 0..63u16 {
         let call = 2 * u32::from(thread);
-        steps.push(Step::fault(thread, call, MAP, 0, UpdateFault::Stopped(call)))?;
-        calls.push(call)?;
+        let stopped = UpdateFault::Stopped(call);
+        plan.place(&rt, Step::fault(thread, call, MAP, 0, stopped));
     }
-    steps.push(Step::update(63, 200, MAP, 63, Answer::Overlap(0x400000)))?;
-    calls.push(200)?;
+    plan.place(
+        &rt,
+        Step::update(63, 200, MAP, 63, Answer::Overlap(0x400000)),
+    );
     Case {
-        calls: &calls,
+        calls: &plan.calls,
         applied: [64; 4],
         batches: 4,
-        ..Case::new(Depth::Four, 1, 64, 4, &steps)
+        ..Case::new(Depth::Four, 1, 64, 4, &plan.steps)
     }
     .assert(&rt, rt.alloc())
 }
@@ -60,8 +65,7 @@ fn more_updates_than_a_batch(rt: HostRuntime) -> Result<(), Fail> {
 /// of the replicas.
 #[test]
 fn as_many_tables_as_can_be(rt: HostRuntime) -> Result<(), Fail> {
-    let mut steps = Vec::new(rt.alloc());
-    let mut calls = Vec::new(rt.alloc());
+    let mut plan = Plan::new(rt.alloc());
     for n in 0..4_088u32 {
         let answer = if n < 4_086 {
             Answer::Done
@@ -69,14 +73,16 @@ fn as_many_tables_as_can_be(rt: HostRuntime) -> Result<(), Fail> {
             Answer::Full(4097)
         };
         let thread = (n % 2) as u16;
-        steps.push(Step::update(thread, n, Asks::Map(n.min(4_086)), n, answer))?;
-        calls.push(n)?;
+        plan.place(
+            &rt,
+            Step::update(thread, n, Asks::Map(n.min(4_086)), n, answer),
+        );
     }
     let case = Case {
-        calls: &calls,
+        calls: &plan.calls,
         applied: [4_087, 4_088, 0, 0],
         batches: 4_088,
-        ..Case::new(Depth::Four, 2, 2, 4096, &steps)
+        ..Case::new(Depth::Four, 2, 2, 4096, &plan.steps)
     };
     case.assert(&rt, rt.alloc())?;
     let settled = case.settle(&rt, rt.alloc())?;

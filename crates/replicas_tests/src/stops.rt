@@ -1,6 +1,7 @@
 //! Calls that are stopped: their turns run out, or a gate says stop.
 
-use crate::cases::Case;
+use crate::caller::Said;
+use crate::cases::{Case, Plan};
 use crate::steps::{Asks, MAP, Step, TURNS};
 use nr_replicas::{Point, UpdateFault};
 use std::alloc::Global;
@@ -134,23 +135,26 @@ fn stop_the_thread<R: Wait + Abort + Threads + Sync>(
     alloc: Global,
     stops: u16,
 ) -> Result<(), Fail> {
-    let mut steps = Vec::new(alloc);
-    steps.push(Step::fault(0, 0, Asks::Unmap, 0, UpdateFault::Stopped(0)))?;
+    let mut plan = Plan::new(alloc);
+    plan.add(
+        rt,
+        Step::fault(0, 0, Asks::Unmap, 0, UpdateFault::Stopped(0)),
+    );
     for (thread, place) in [(1u16, 0), (2, 1), (3, 3), (4, 4), (5, 5), (6, 6)] {
         let call = u32::from(thread);
-        let stopped = UpdateFault::Stopped(call);
-        steps.push(if thread == stops {
-            Step::fault(thread, call, Asks::Unmap, TURNS, stopped)
-        } else {
-            Step::update(thread, call, Asks::Unmap, place, Answer::NotMapped)
-        })?;
+        let step = Step::update(thread, call, Asks::Unmap, place, Answer::NotMapped);
+        let stopped = Step {
+            wanted: Said::Fault(UpdateFault::Stopped(call)),
+            ..step
+        };
+        plan.add(rt, if thread == stops { stopped } else { step });
     }
     Case {
         stops: Some((stops, Point::Appended)),
         calls: &[1, 2, 0, 3, 4, 5, 6],
         applied: [7, 5, 6, 0],
         batches: 6,
-        ..Case::new(Depth::Four, 3, 7, 4, &steps)
+        ..Case::new(Depth::Four, 3, 7, 4, &plan.steps)
     }
     .assert(rt, alloc)
 }

@@ -21,7 +21,7 @@ use std::sync::atomic::{AtomicU64, Ordering};
 use std::test::Fail;
 use std::thread::Threads;
 use std::{env, thread};
-use vs_types::{BadConfig, Config, Depth, Memory, Query};
+use vs_types::{BadConfig, Config, Depth, Query};
 
 /// How many calls each thread makes.
 const EACH: u32 = 64;
@@ -172,15 +172,24 @@ pub fn make_at_once<
     scripts: Vec<Vec<Drawn>>,
 ) -> Result<(Vec<Caller<'a, J, K>>, Vec<Made>), Fail> {
     let shared = Shared::new(callers.len() as u64);
-    let parts = parts_of(rt, alloc, callers, scripts)?;
+    let parts = parts_of(rt, alloc, callers, scripts);
     let parts = thread::map_vec(rt, parts, &|part: Part<J, K>| work(rt, part, &shared))?;
+    Ok(callers_of(rt, alloc, parts))
+}
+
+/// The callers of these parts, and what their calls were answered.
+fn callers_of<'a, J: LogName, K: ReplicasName>(
+    rt: &impl Abort,
+    alloc: Global,
+    parts: Vec<Part<'a, J, K>>,
+) -> (Vec<Caller<'a, J, K>>, Vec<Made>) {
     let mut callers = Vec::new(alloc);
     let mut made = Vec::new(alloc);
     for part in parts {
-        made.extend_from_slice(&part.made)?;
-        callers.push(part.caller)?;
+        made.extend_from_slice(&part.made).expect(rt, "memory");
+        callers.push(part.caller).expect(rt, "memory");
     }
-    Ok((callers, made))
+    (callers, made)
 }
 
 /// The parts of these callers, in order.
@@ -189,23 +198,22 @@ fn parts_of<'a, J: LogName, K: ReplicasName>(
     alloc: Global,
     callers: Vec<Caller<'a, J, K>>,
     scripts: Vec<Vec<Drawn>>,
-) -> Result<Vec<Part<'a, J, K>>, Memory> {
+) -> Vec<Part<'a, J, K>> {
     let mut scripts = scripts;
     let mut parts = Vec::new(alloc);
     let mut first = 0;
     for caller in callers {
         let script = scripts.pop().expect(rt, "a script for each thread");
-        let mut made = Vec::new(alloc);
-        made.reserve(script.len())?;
-        parts.push(Part {
+        let part = Part {
             caller,
             first,
             script,
-            made,
-        })?;
+            made: Vec::new(alloc),
+        };
+        parts.push(part).expect(rt, "memory");
         first = first.wrapping_add(EACH);
     }
-    Ok(parts)
+    parts
 }
 
 fn drawn_config(draws: &mut Draws, replicas: u8, threads: u16) -> Result<Config, BadConfig> {
@@ -229,19 +237,30 @@ fn drawn_scripts(
     draws: &mut Draws,
     config: Config,
     some_stop: bool,
-) -> Result<Vec<Vec<Drawn>>, Memory> {
+) -> Vec<Vec<Drawn>> {
     let mut scripts = Vec::new(alloc);
     for _ in 0..config.threads() {
-        let mut script = Vec::new(alloc);
-        for _ in 0..EACH {
-            let query = draws.query(rt, config.depth());
-            let few = draws.below(64);
-            let turns = if some_stop && few < 8 { few } else { TURNS };
-            script.push(Drawn { query, turns })?;
-        }
-        scripts.push(script)?;
+        let script = drawn_script(rt, alloc, draws, config.depth(), some_stop);
+        scripts.push(script).expect(rt, "memory");
     }
-    Ok(scripts)
+    scripts
+}
+
+fn drawn_script(
+    rt: &impl Abort,
+    alloc: Global,
+    draws: &mut Draws,
+    depth: Depth,
+    some_stop: bool,
+) -> Vec<Drawn> {
+    let mut script = Vec::new(alloc);
+    for _ in 0..EACH {
+        let query = draws.query(rt, depth);
+        let few = draws.below(64);
+        let turns = if some_stop && few < 8 { few } else { TURNS };
+        script.push(Drawn { query, turns }).expect(rt, "memory");
+    }
+    script
 }
 
 /// A number of the environment, or this one.
@@ -261,7 +280,7 @@ fn drawn_run<R: Wait + Abort + Threads + Alloc<A = Global> + Sync>(
     some_stop: bool,
 ) -> Result<u64, Fail> {
     let config = drawn_config(draws, replicas, threads)?;
-    let scripts = drawn_scripts(rt, rt.alloc(), draws, config, some_stop)?;
+    let scripts = drawn_scripts(rt, rt.alloc(), draws, config, some_stop);
     let settled = run(rt, rt.alloc(), config, Test::Scripts(scripts))?;
     judge(rt, rt.alloc(), config, &settled)?;
     assert_batches(rt, config, &settled, EACH);

@@ -1,7 +1,7 @@
 //! What a lone thread's update does in a turn: one poll, or one attempt at one replica's lock, with one batch at most.
 
 use crate::caller::Said;
-use crate::cases::Case;
+use crate::cases::{Case, Plan};
 use crate::steps::{Asks, Step};
 use nr_replicas::UpdateFault;
 use std::alloc::Global;
@@ -18,25 +18,26 @@ fn put_four_batches<R: Wait + Abort + Threads + Sync>(
     turns: u32,
     wanted: Said,
 ) -> Result<(), Fail> {
-    let mut steps = Vec::new(alloc);
-    let mut calls = Vec::new(alloc);
+    let mut plan = Plan::new(alloc);
     for thread in 0..63u16 {
         let call = u32::from(thread);
-        steps.push(Step::fault(thread, call, Asks::Unmap, 0, UpdateFault::Stopped(call)))?;
-        calls.push(call)?;
+        let stopped = UpdateFault::Stopped(call);
+        plan.place(rt, Step::fault(thread, call, Asks::Unmap, 0, stopped));
     }
     let last = Step::update(63, 63, Asks::Unmap, 63, Answer::NotMapped);
-    steps.push(Step {
-        turns,
-        wanted,
-        ..last
-    })?;
-    calls.push(63)?;
+    plan.place(
+        rt,
+        Step {
+            turns,
+            wanted,
+            ..last
+        },
+    );
     Case {
-        calls: &calls,
+        calls: &plan.calls,
         applied: [64; 4],
         batches: 4,
-        ..Case::new(Depth::Four, 1, 64, 4, &steps)
+        ..Case::new(Depth::Four, 1, 64, 4, &plan.steps)
     }
     .assert(rt, alloc)
 }
@@ -62,25 +63,26 @@ fn meet_a_full_ring<R: Wait + Abort + Threads + Sync>(
     placed: u32,
     applied: [u32; 4],
 ) -> Result<(), Fail> {
-    let mut steps = Vec::new(alloc);
-    let mut calls = Vec::new(alloc);
+    let mut plan = Plan::new(alloc);
     for call in 0..16 {
-        steps.push(Step::update(0, call, Asks::Unmap, call, Answer::NotMapped))?;
+        let step = Step::update(0, call, Asks::Unmap, call, Answer::NotMapped);
+        plan.place(rt, step);
     }
-    let last = Step::update(0, 16, Asks::Unmap, 16, Answer::NotMapped);
-    steps.push(Step {
+    let last = Step {
         turns,
         wanted,
-        ..last
-    })?;
-    for call in 0..placed {
-        calls.push(call)?;
+        ..Step::update(0, 16, Asks::Unmap, 16, Answer::NotMapped)
+    };
+    if placed > 16 {
+        plan.place(rt, last);
+    } else {
+        plan.add(rt, last);
     }
     Case {
-        calls: &calls,
+        calls: &plan.calls,
         applied,
         batches: placed,
-        ..Case::new(Depth::Four, 4, 4, 4, &steps)
+        ..Case::new(Depth::Four, 4, 4, 4, &plan.steps)
     }
     .assert(rt, alloc)
 }

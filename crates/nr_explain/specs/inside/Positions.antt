@@ -179,9 +179,21 @@ abbrev pub IsSound : Units → Type 0
 IsSound units =
     IsSoundAt units.feed units.offset units.next units.lengths × (units.header.items ≡ take HEADER_BYTES (taken units.feed))
 
+-- the reader came to the end of the front, and the run after it is refused
+pub record IsRefused (units : Units) (front run : List ℕ) (fault : Format) : Type 0 where
+  pub offset_is : units.offset ≡ length front
+  pub at : IsAt units.next units.lengths front
+  pub no_fault_yet : HasNoFaultYet front
+  pub settled : HasLastingFault (front ++ run) fault
+  pub header_is : units.header.items ≡ take HEADER_BYTES front
+
 -- all whole units are read, and this is the beginning of the next one
 abbrev pub HasBegunUnit : Units → List ℕ → Type 0
 HasBegunUnit units begun = IsSound units × (length begun < size units.next)
 
 abbrev pub bytes_fed : Units → List ℕ → List ℕ
 bytes_fed units begun = taken units.feed ++ begun
+
+-- these bytes were fed, and nothing is wrong with them yet
+abbrev pub HasFed : Units → List ℕ → List ℕ → Type 0
+HasFed units begun bytes = HasBegunUnit units begun × (bytes_fed units begun ≡ bytes) × HasNoFaultYet bytes

@@ -1,10 +1,10 @@
 -- What the searches through a trace find. No public clause cites this file.
-use Rattle.std.specs.Prelude.{◌≡◌, ◌≢◌, ℕ, ◌+◌, ◌<◌, ◌≤◌, slice_get, Option, Some, None, IsSome, ⊤}
+use Rattle.std.specs.Prelude.{◌≡◌, ◌≢◌, ℕ, ◌+◌, ◌<◌, ◌≤◌, slice_get, Option, Some, None, IsSome}
 use Rattle.nr_trace.specs.Recording.{Recording}
 use Rattle.nr_trace.specs.Calls.{Answers, Invocation, IsCall, Response, call_of, reply_of}
 use Rattle.nr_trace.specs.Orders.{floor, known_by}
 use Rattle.nr_trace.specs.declared.fault.Fault.{Fault}
-use Rattle.nr_trace.specs.declared.fault.Fault.TheVariants.{PrefixPastLog, PrefixShort, MissingFrame, SharedFrame, ReservedBit, StrayFrame, Differs}
+use Rattle.nr_explain.specs.Dumps.{HasSoundDump, IsFirstOfItsDump, replica_of}
 use Rattle.nr_explain.specs.Facts.{IsCallOf, IsReplyOf, response}
 use Rattle.nr_explain.specs.declared.evidence.RecordedCall.{RecordedCall}
 use Rattle.nr_explain.specs.declared.evidence.RecordedReply.{RecordedReply}
@@ -50,9 +50,9 @@ IsBinding trace end known None = known ≡ 0
 IsBinding trace end known (Some reply) =
     IsReplyOf trace reply × (reply.event < end) × (known_by trace (response reply) ≡ known) × (floor trace reply.event < known)
 
--- the log has calls alone
-abbrev pub HasOnlyCalls : Recording → Type 0
-HasOnlyCalls trace = (place call : ℕ) → slice_get trace.log place ≡ Some call → IsCall trace call
+-- the log has a call at the place
+abbrev pub HasCallAt : Recording → ℕ → Type 0
+HasCallAt trace place = (call : ℕ) → slice_get trace.log place ≡ Some call → IsCall trace call
 
 -- the event is a reply to a call made at the replica, by which more than so many entries are known
 pub record RestsAt (trace : Recording) (replica applied index : ℕ) : Type 0 where
@@ -78,13 +78,7 @@ pub record IsResting (trace : Recording) (replica applied : ℕ) (found : ShortP
   pub names : found.reply.call ≡ found.call.event
   pub here : found.call.replica ≡ found.replica
 
--- the fault is one of a dump
-abbrev pub IsOfDump : Fault → Type 0
-IsOfDump (PrefixPastLog replica) = ⊤
-IsOfDump (PrefixShort replica) = ⊤
-IsOfDump (MissingFrame replica number) = ⊤
-IsOfDump (SharedFrame replica number) = ⊤
-IsOfDump (ReservedBit replica number index) = ⊤
-IsOfDump (StrayFrame replica number) = ⊤
-IsOfDump (Differs replica address) = ⊤
-IsOfDump _ = ⊥
+-- what a search for the first fault of a replica's dump finds
+abbrev pub IsFoundOfDump : Recording → ℕ → Option Fault → Type 0
+IsFoundOfDump trace replica None = HasSoundDump trace replica
+IsFoundOfDump trace replica (Some fault) = (replica_of fault ≡ Some replica) × IsFirstOfItsDump trace fault

@@ -1,5 +1,5 @@
-use Rattle.std.proofs.Common.{◌≡◌, Bool, true, false, Option, codes, inr, subst, sym}
-use Rattle.clap.specs.Words.{Text, found_of, rows_of}
+use Rattle.std.proofs.Common.{Bool, codes, inr, subst, sym}
+use Rattle.clap.specs.Words.{found_of, rows_of}
 use Rattle.clap.specs.Walk.{one_of}
 use Rattle.clap.proofs.WalkLemmas.{one_text-rows}
 use Rattle.nr_commands.specs.Words.{AsksTraces, IsFlag, IsMisuse}

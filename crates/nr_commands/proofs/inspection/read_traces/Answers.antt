@@ -1,7 +1,7 @@
 use Rattle.std.proofs.Common.{◌∙◌, ◌<◌, ◌≤◌, ap, arith, codes, length, map, Option, option_map, Some, subst, sym, List, ℕ, Bor}
 use Rattle.std.specs.Prelude.{IfSome}
 use Rattle.std.proofs.lemmas.List.{length-map}
-use Rattle.clap.specs.Words.{Text, all_of, found_of, rows_of}
+use Rattle.clap.specs.Words.{Text, found_of}
 use Rattle.clap.proofs.WalkLemmas.{raw_values-rows}
 use Rattle.nr_commands.proofs.inspection.read_traces.Goals as goal
 

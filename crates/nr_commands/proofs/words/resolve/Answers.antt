@@ -1,7 +1,7 @@
 use Rattle.std.proofs.Common.{◌≡◌, ◌∙◌, ap, ap₂, Bool, false, true, Some, [], ◌∷◌, ◌||◌, codes}
 use Rattle.std.specs.Prelude.{pos}
 use Rattle.std.proofs.lemmas.Result.{IfOk-weaker}
-use Rattle.clap.specs.Words.{Rule, app_of, rule_of, with_rule}
+use Rattle.clap.specs.Words.{Rule, rule_of, with_rule}
 use Rattle.clap.specs.Simple.{app_of_fields}
 use Rattle.clap.specs.declared.builder.action.ArgAction.TheVariants.{SetTrue}
 use Rattle.clap.specs.declared.builder.arg.Arg.{Arg}

@@ -1,4 +1,4 @@
-use Rattle.std.proofs.Common.{◌≡◌, ℕ, ap, ◌∙◌, codes}
+use Rattle.std.proofs.Common.{ℕ, ap, ◌∙◌, codes}
 use Rattle.std.proofs.lemmas.Result.{IfOk-weaker}
 use Rattle.nr_engines.specs.EvidenceText.{number_line}
 use Rattle.nr_engines.proofs.Joins.{joined}

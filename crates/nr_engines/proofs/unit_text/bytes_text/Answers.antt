@@ -1,4 +1,4 @@
-use Rattle.std.proofs.Common.{◌≡◌, ℕ, List, ◌++◌, take, ap, ◌∙◌}
+use Rattle.std.proofs.Common.{ℕ, List, ◌++◌, take, ap, ◌∙◌}
 use Rattle.std.specs.Prelude.{flat_map}
 use Rattle.nr_engines.specs.EvidenceText.{byte_text}
 use Rattle.nr_engines.proofs.UnitTexts.{take_least}

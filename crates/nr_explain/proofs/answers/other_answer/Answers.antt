@@ -1,10 +1,7 @@
 use Rattle.std.proofs.Common.{ℕ, length, ap, subst, sym, ◌∙◌}
-use Rattle.vs_types.specs.Space.{no_pages}
 use Rattle.nr_trace.specs.Faults.{IsFirst}
 use Rattle.nr_trace.specs.declared.fault.Fault.TheVariants.{WrongAnswer}
-use Rattle.nr_trace.proofs.LawsOfFaults.{clean_before_answers}
 use Rattle.nr_explain.specs.inside.Searches.{IsOpenBelow}
-use Rattle.nr_explain.proofs.FirstFaults.{only_calls}
 use Rattle.nr_explain.proofs.Replies.{some_reply}
 use Rattle.nr_explain.proofs.WrongAnswers.{few_seen, wrong_facts}
 use Rattle.nr_explain.proofs.answers.other_answer.Goals as goal
@@ -20,12 +17,9 @@ pub answer_after-requires-clause-within : goal.answer_after-requires-clause-with
 answer_after-requires-clause-within c =
     few_seen c.args.trace.now c.args.index c.in-Some.reply c.requires c.in-Some.ensures.0 c.in-Some.ensures.1
 
-pub last_look-requires-clause-within : goal.last_look-requires-clause-within
-last_look-requires-clause-within c =
+pub last_look-requires : goal.last_look-requires
+last_look-requires c =
     few_seen c.args.trace.now c.args.index c.in-Some.reply c.requires c.in-Some.ensures.0 c.in-Some.ensures.1
-
-pub last_look-requires-clause-calls : goal.last_look-requires-clause-calls
-last_look-requires-clause-calls c = only_calls c.args.trace.now (clean_before_answers no_pages c.args.trace.now c.args.index c.requires)
 
 pub returns-clause-is : goal.returns-clause-is
 returns-clause-is c =

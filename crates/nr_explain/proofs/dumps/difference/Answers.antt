@@ -7,11 +7,11 @@ use Rattle.vs_walk.specs.Walk.{as_walk, walk}
 use Rattle.nr_trace.specs.Recording.{IsThere}
 use Rattle.nr_explain.specs.Facts.{entries_read, looks_after}
 use Rattle.nr_explain.proofs.Dumped.{dump_read, one_dump}
-use Rattle.nr_explain.proofs.FirstFaults.{calls_before_differs, few_before_differs}
+use Rattle.nr_explain.proofs.FirstFaults.{few_before_differs}
 use Rattle.nr_explain.proofs.dumps.difference.Goals as goal
 
-pub last_look-requires-clause-within : goal.last_look-requires-clause-within
-last_look-requires-clause-within c =
+pub last_look-requires : goal.last_look-requires
+last_look-requires c =
     let trace = c.args.trace.now in
     let holds = c.requires.holds in
     let dump = c.index-dumps-replica.result in
@@ -19,9 +19,6 @@ last_look-requires-clause-within c =
     let one = one_dump trace c.args.replica dump holds.0 there holds.1 in
     let few : dump.applied ≤ length trace.log = few_before_differs trace c.args.replica c.args.address dump c.requires there in
     omega (arith, c.applied-applied.ensures)
-
-pub last_look-requires-clause-calls : goal.last_look-requires-clause-calls
-last_look-requires-clause-calls c = calls_before_differs c.args.trace.now c.args.replica c.args.address c.requires
 
 pub returns-clause-is : goal.returns-clause-is
 returns-clause-is c =

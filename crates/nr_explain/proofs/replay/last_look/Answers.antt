@@ -1,9 +1,9 @@
-use Rattle.std.proofs.Common.{◌≡◌, ◌+◌, sym, ap, subst, ◌∙◌}
+use Rattle.std.proofs.Common.{◌≡◌, ◌+◌, ◌<◌, length, sym, ap, subst, ◌∙◌, arith}
 use Rattle.std.proofs.lemmas.Bool.{iff_false}
 use Rattle.vs_types.specs.Step.{look}
 use Rattle.vs_plain.specs.Plain.{BoundedSpace}
 use Rattle.nr_explain.specs.Facts.{IsLastChange, looks_after}
-use Rattle.nr_explain.proofs.Changes.{change_here, change_stays}
+use Rattle.nr_explain.proofs.Changes.{change_has_call, change_here, change_stays}
 use Rattle.nr_explain.proofs.replay.last_look.Goals as goal
 use Rattle.nr_explain.proofs.replay.last_look.Goals.{then-not-is_same, else-not-is_same}
 
@@ -28,3 +28,17 @@ loop-place-preserved c =
             (sym is.looks ∙ c.is_same.ensures.0 w.if-not-is_same.false ∙ looks) is.changed)
       ];
     }
+
+-- the place whose update changed it has a call
+pub update_at-requires-clause-call : goal.update_at-requires-clause-call
+update_at-requires-clause-call c =
+    let trace = c.args.trace.now in
+    let address = c.args.address in
+    let place = c.loop-place.place in
+    let is = c.loop-place.invariant in
+    let looks : c.resolve-then.result ≡ looks_after trace address (place + 1) =
+    c.resolve-then.ensures ∙ ap (λ (s : BoundedSpace). look s.space address) c.in_ok-apply_place.ensures in
+    let test = c.loop-place-test.true in
+    let within : place < length trace.log = omega (arith, c.requires, test) in
+    change_has_call trace address place within
+    (λ same. iff_false c.is_same.ensures c.if-not-is_same.true (is.looks ∙ same ∙ sym looks))

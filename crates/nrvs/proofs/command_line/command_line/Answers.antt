@@ -19,8 +19,9 @@ returns c =
     let one_is = c.in_ok-subcommand.ensures.shape c.in_ok-audit.ensures.local ∙ ap₂ with_subcommand program_is (ap top c.in_ok-audit.ensures.app) in
     let two_is = c.in_ok-subcommand-2.ensures.shape c.in_ok-explain.ensures.local ∙ ap₂ with_subcommand one_is (ap top c.in_ok-explain.ensures.app) in
     let three_is = c.in_ok-subcommand-3.ensures.shape c.in_ok-resolve.ensures.local ∙ ap₂ with_subcommand two_is (ap top c.in_ok-resolve.ensures.app) in
-    let four_is = c.in_ok-subcommand-4.ensures.shape c.in_ok-simulate.ensures.local ∙ ap₂ with_subcommand three_is (ap top c.in_ok-simulate.ensures.app) in
+    let four_is = c.in_ok-subcommand-4.ensures.shape c.in_ok-pages.ensures.local ∙ ap₂ with_subcommand three_is (ap top c.in_ok-pages.ensures.app) in
+    let five_is = c.in_ok-subcommand-5.ensures.shape c.in_ok-simulate.ensures.local ∙ ap₂ with_subcommand four_is (ap top c.in_ok-simulate.ensures.app) in
     record {
-      app = IfOk-weaker c.subcommand-5.result _ _ (λ command h. h.shape c.in_ok-run.ensures.local
-          ∙ ap₂ with_subcommand four_is (ap top c.in_ok-run.ensures.app)) c.subcommand-5.ensures;
+      app = IfOk-weaker c.subcommand-6.result _ _ (λ command h. h.shape c.in_ok-run.ensures.local
+          ∙ ap₂ with_subcommand five_is (ap top c.in_ok-run.ensures.app)) c.subcommand-6.ensures;
     }

@@ -91,7 +91,25 @@ returns-in-Some-resolve-default-clause-asks c =
     (c.in_ok-matches.ensures.ok.2 (ap is_simple app_is)).1 ∙ ap (λ (a : App). subcommand_of a texts) app_is in
     let name_is = ap Some (sym arm.is-resolve) ∙ arm.ensures.name in
     let sub_is = sym parsed ∙ entered _ (codes "resolve") (rows_of found) name_is arm.ensures.rows in
-    asks_inspection _ (codes "resolve", rows_of found) c.read_resolve.result sub_is (inr (inr (refl, c.read_resolve.ensures)))
+    asks_inspection _ (codes "resolve", rows_of found) c.read_resolve.result sub_is (inr (inr (inl (refl, c.read_resolve.ensures))))
+
+pub returns-in-Some-pages-default-clause-faultless : goal.returns-in-Some-pages-default-clause-faultless
+returns-in-Some-pages-default-clause-faultless c =
+    let app_is : app_of c.in_ok-line.line ≡ command_line = c.in_ok-line.ensures.app in
+    subst (λ (a : App). fault_of a (map (λ word. string_bytes word) c.args.words.now) ≡ []) app_is
+    (c.in_ok-matches.ensures.kinds (ap is_simple_and_free app_is))
+
+pub returns-in-Some-pages-default-clause-asks : goal.returns-in-Some-pages-default-clause-asks
+returns-in-Some-pages-default-clause-asks c =
+    let app_is : app_of c.in_ok-line.line ≡ command_line = c.in_ok-line.ensures.app in
+    let arm = c.in-Some-pages-default in
+    let found = found_of arm.given.now in
+    let texts = map (λ word. string_bytes word) c.args.words.now in
+    let parsed : subcommand_rows_of c.in_ok-matches.matches ≡ subcommand_of command_line texts =
+    (c.in_ok-matches.ensures.ok.2 (ap is_simple app_is)).1 ∙ ap (λ (a : App). subcommand_of a texts) app_is in
+    let name_is = ap Some (sym arm.is-pages) ∙ arm.ensures.name in
+    let sub_is = sym parsed ∙ entered _ (codes "pages") (rows_of found) name_is arm.ensures.rows in
+    asks_inspection _ (codes "pages", rows_of found) c.read_pages.result sub_is (inr (inr (inr (refl, c.read_pages.ensures))))
 
 pub returns-in-Some-simulate-default-clause-faultless : goal.returns-in-Some-simulate-default-clause-faultless
 returns-in-Some-simulate-default-clause-faultless c =

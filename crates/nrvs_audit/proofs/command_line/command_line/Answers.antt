@@ -18,7 +18,8 @@ returns c =
     ∙ (ap app_of_fields c.subcommand_required.ensures ∙ ap needs (ap app_of_fields c.version.ensures ∙ ap versioned (ap app_of_fields c.about.ensures ∙ c.new.ensures.app))) in
     let one_is = c.in_ok-subcommand.ensures.shape c.in_ok-audit.ensures.local ∙ ap₂ with_subcommand program_is (ap top c.in_ok-audit.ensures.app) in
     let two_is = c.in_ok-subcommand-2.ensures.shape c.in_ok-explain.ensures.local ∙ ap₂ with_subcommand one_is (ap top c.in_ok-explain.ensures.app) in
+    let three_is = c.in_ok-subcommand-3.ensures.shape c.in_ok-resolve.ensures.local ∙ ap₂ with_subcommand two_is (ap top c.in_ok-resolve.ensures.app) in
     record {
-      app = IfOk-weaker c.subcommand-3.result _ _ (λ command h. h.shape c.in_ok-resolve.ensures.local
-          ∙ ap₂ with_subcommand two_is (ap top c.in_ok-resolve.ensures.app)) c.subcommand-3.ensures;
+      app = IfOk-weaker c.subcommand-4.result _ _ (λ command h. h.shape c.in_ok-pages.ensures.local
+          ∙ ap₂ with_subcommand three_is (ap top c.in_ok-pages.ensures.app)) c.subcommand-4.ensures;
     }

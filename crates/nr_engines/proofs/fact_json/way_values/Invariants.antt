@@ -1,7 +1,7 @@
 use Rattle.std.proofs.Common.{◌≡◌, map, take}
 use Rattle.serde_json.specs.View.{view}
 use Rattle.nr_engines.specs.EvidenceJson.{step_data}
-use Rattle.nr_engines.proofs.fact_json.way_value.Given as goal
+use Rattle.nr_engines.proofs.fact_json.way_values.Given as goal
 
 -- the entries so far
 abbrev pub invariant-loop-step : goal.invariant-loop-step

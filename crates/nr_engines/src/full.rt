@@ -1,0 +1,242 @@
+//! An explanation with what is wrong with each other dump.
+
+ghost use Rattle.std.specs.Prelude.{◌≡◌, ◌++◌, ℕ, [], IfOk, IfErr, List, OnOk, flat_map, map, string_bytes};
+ghost use Rattle.serde_json.specs.Data.{array, object};
+ghost use Rattle.serde_json.specs.View.{items_of, members_view, view};
+ghost use Rattle.nr_explain.specs.Units.{ReadsUnits};
+ghost use Rattle.nr_engines.specs.Answers.{HasReadFew, WritesReport};
+ghost use Rattle.nr_engines.specs.FullExplained.{dump_data, dump_lines, full_data, full_json, full_text, told_full, IsFullyExplained};
+ghost use Rattle.nr_engines.specs.Refusals.{IsEndFault, WritesAnswersAlone};
+
+use crate::ends::write_report;
+use crate::evidence_json::evidence_value;
+use crate::evidence_text::evidence_text;
+use crate::explain::{explanation_text, explanation_value, put_no, status_of};
+use crate::fact_json::Members;
+use crate::fault::ProgFault;
+use crate::report::Report;
+use crate::sentence::sentence_text;
+use crate::text::fault_text;
+use crate::unit_input::read_units;
+use nr_explain::{
+    DumpExplanation, Evidence, Explanation, FullExplanation, Unread, explain_all_read,
+};
+use nr_trace::{Fault, Trace};
+use serde_json::{Map, Value, put};
+use std::alloc::{AllocError, Global};
+use std::io::{Read, Write};
+use vs_types::Memory;
+
+/// The lines of a dump.
+#[tactic(auto, unfolding(crate::specs::FullExplained::dump_lines))]
+fn dump_lines(alloc: Global, dump: &DumpExplanation) -> Result<String, AllocError>
+    ensures { IfOk result (λ text. string_bytes text ≡ dump_lines dump.now) }
+{
+    match dump {
+        DumpExplanation::Sound(replica) => {
+            let replica = *replica;
+            format!(in alloc; "dump {replica}: no fault\n")
+        }
+        DumpExplanation::Faulty(replica, fault, shown) => {
+            let replica = *replica;
+            let fault = fault_text(alloc, *fault)?;
+            let sentence = sentence_text(alloc, shown)?;
+            let lines = evidence_text(alloc, shown)?;
+            format!(in alloc; "dump {replica}: {fault}\n{sentence}\n{lines}")
+        }
+    }
+}
+
+/// Adds the lines of dumps.
+fn push_dumps(alloc: Global, text: &mut String, dumps: &[DumpExplanation]) -> Result<(), AllocError>
+    ensures { OnOk result (string_bytes text.new
+        ≡ string_bytes text.old ++ flat_map dump_lines dumps.now) }
+{
+    for dump in dumps {
+        let lines = dump_lines(alloc, dump)?;
+        text.push_str(lines.as_str())?;
+    }
+    Ok(())
+}
+
+/// The lines that `explain --all` prints. Allocates memory for the text.
+fn full_text(alloc: Global, full: &FullExplanation) -> Result<String, AllocError>
+    ensures { IfOk result (λ text. string_bytes text ≡ full_text full.now) }
+{
+    let mut text = explanation_text(alloc, &full.explanation)?;
+    push_dumps(alloc, &mut text, full.dumps.as_slice())?;
+    Ok(text)
+}
+
+/// Puts the first fault of a dump and what shows it.
+fn put_faulty(
+    members: &mut Members,
+    alloc: Global,
+    replica: u8,
+    fault: Fault,
+    shown: &Evidence,
+) -> Result<(), AllocError>
+    requires { members.old.entries ≡ [] }
+    ensures { OnOk result (object (members_view members.new.entries)
+        ≡ dump_data (DumpExplanation.Faulty replica fault shown.now)) }
+{
+    let evidence = evidence_value(alloc, shown)?;
+    put(members, alloc, "evidence", evidence)?;
+    let is = fault_text(alloc, fault)?;
+    put(members, alloc, "fault", Value::String(is))?;
+    put(members, alloc, "replica", Value::from(replica))?;
+    let sentence = sentence_text(alloc, shown)?;
+    put(members, alloc, "sentence", Value::String(sentence))
+}
+
+fn put_sound(members: &mut Members, alloc: Global, replica: u8) -> Result<(), AllocError>
+    requires { members.old.entries ≡ [] }
+    ensures { OnOk result (object (members_view members.new.entries)
+        ≡ dump_data (DumpExplanation.Sound replica)) }
+{
+    put(members, alloc, "fault", Value::Null)?;
+    put(members, alloc, "replica", Value::from(replica))
+}
+
+fn put_dump(members: &mut Members, alloc: Global, dump: &DumpExplanation) -> Result<(), AllocError>
+    requires { members.old.entries ≡ [] }
+    ensures { OnOk result (object (members_view members.new.entries) ≡ dump_data dump.now) }
+{
+    match dump {
+        DumpExplanation::Sound(replica) => put_sound(members, alloc, *replica),
+        DumpExplanation::Faulty(replica, fault, shown) => {
+            put_faulty(members, alloc, *replica, *fault, shown)
+        }
+    }
+}
+
+/// The object of a dump.
+fn dump_value(alloc: Global, dump: &DumpExplanation) -> Result<Value, AllocError>
+    ensures { IfOk result (λ value. view value ≡ dump_data dump.now) }
+{
+    let mut members = Map::new(alloc);
+    put_dump(&mut members, alloc, dump)?;
+    Ok(Value::Object(members))
+}
+
+/// The objects of dumps.
+fn dumps_value(alloc: Global, dumps: &[DumpExplanation]) -> Result<Value, AllocError>
+    ensures { IfOk result (λ value. view value ≡ array (items_of (map dump_data dumps.now))) }
+{
+    let mut values = Vec::new(alloc);
+    for dump in dumps {
+        let value = dump_value(alloc, dump)?;
+        values.push(value)?;
+    }
+    Ok(Value::Array(values))
+}
+
+/// Puts what is wrong, and before it what is said of other dumps, where there are some.
+fn put_no_and_dumps(
+    members: &mut Members,
+    alloc: Global,
+    fault: Fault,
+    shown: &Evidence,
+    dumps: &[DumpExplanation],
+) -> Result<(), AllocError>
+    requires { members.old.entries ≡ [] }
+    ensures { OnOk result (object (members_view members.new.entries)
+        ≡ full_data (Explanation.No fault shown.now) dumps.now) }
+{
+    if dumps.is_empty() {
+        return put_no(members, alloc, fault, shown);
+    }
+    let dumps = dumps_value(alloc, dumps)?;
+    put(members, alloc, "dumps", dumps)?;
+    put_no(members, alloc, fault, shown)
+}
+
+fn no_value(
+    alloc: Global,
+    fault: Fault,
+    shown: &Evidence,
+    dumps: &[DumpExplanation],
+) -> Result<Value, AllocError>
+    ensures { IfOk result (λ value. view value ≡ full_data (Explanation.No fault shown.now) dumps.now) }
+{
+    let mut members = Map::new(alloc);
+    put_no_and_dumps(&mut members, alloc, fault, shown, dumps)?;
+    Ok(Value::Object(members))
+}
+
+/// The object that `explain --all --json` prints.
+fn full_value(alloc: Global, full: &FullExplanation) -> Result<Value, AllocError>
+    ensures { IfOk result (λ value. view value ≡ full_data full.now.explanation full.now.dumps.items) }
+{
+    match &full.explanation {
+        Explanation::Yes(_, _) => explanation_value(alloc, &full.explanation),
+        Explanation::No(fault, shown) => no_value(alloc, *fault, shown, full.dumps.as_slice()),
+    }
+}
+
+/// The line that `explain --all --json` prints. Allocates memory for the object and for the line.
+#[tactic(auto, using(crate::proofs::NoFloats::full_has_no_float))]
+fn full_json(alloc: Global, full: &FullExplanation) -> Result<String, AllocError>
+    ensures { IfOk result (λ text. string_bytes text ≡ full_json full.now) }
+{
+    let value = full_value(alloc, full)?;
+    let mut text = value.to_string(alloc)?;
+    text.push_str("\n")?;
+    Ok(text)
+}
+
+fn told_full(alloc: Global, as_json: bool, full: &FullExplanation) -> Result<String, AllocError>
+    ensures { IfOk result (λ text. string_bytes text ≡ told_full as_json full.now) }
+{
+    if as_json {
+        full_json(alloc, full)
+    } else {
+        full_text(alloc, full)
+    }
+}
+
+/// What `explain --all` answers to what was read of an input: as `explained_read`, and then what is wrong with each dump that the first
+/// fault is not of, where there is a fault and it is not of the format. Allocates memory for the judgement, the evidence and the text.
+///
+/// # Errors
+///
+/// `Memory` where a growth of memory was refused, here or as the input was read.
+pub fn fully_explained_read(
+    alloc: Global,
+    read: Result<Trace, Unread>,
+    as_json: bool,
+) -> Result<Report, Memory>
+    ensures { (bytes : List ℕ) → ReadsUnits bytes read → IfOk result (λ report.
+        IsFullyExplained as_json bytes (string_bytes report.text) report.status) }
+{
+    let full = explain_all_read(alloc, read)?;
+    let text = told_full(alloc, as_json, &full)?;
+    Ok(Report {
+        text,
+        status: status_of(&full.explanation),
+    })
+}
+
+/// As `explain_io`, and after the explanation writes what is wrong with each dump that the first fault is not of: the first fault of
+/// that dump with a sentence and what shows it, or that it has none. Of a right trace, and of an input that spells none, it writes what
+/// `explain_io` writes.
+///
+/// # Errors
+///
+/// `CannotRead` and `CannotWrite` where an end gave an error, `Memory` where a growth of memory was refused.
+pub fn explain_all_io<R: Read, W: Write>(
+    alloc: Global,
+    reader: &mut R,
+    writer: &mut W,
+    as_json: bool,
+) -> Result<u8, ProgFault>
+    ensures ok { IfOk result (WritesReport (IsFullyExplained as_json) (R.remaining reader.old)
+        (W.contents writer.old) (W.contents writer.new)) }
+    ensures err { IfErr result IsEndFault }
+    ensures alone { WritesAnswersAlone writer.old writer.new result }
+    ensures few { HasReadFew (R.remaining reader.old) (R.remaining reader.new) }
+{
+    let read = read_units(alloc, reader)?;
+    let report = fully_explained_read(alloc, read, as_json)?;
+    write_report(writer, &report)
+}

@@ -1,0 +1,68 @@
+-- What was found of some dumps, and of one more.
+use Rattle.std.proofs.Common.{◌≡◌, ℕ, ◌+◌, true, false, List, [], ◌∷◌, ◌++◌, Option, filter, length, map, refl, sym, ap, ap₂, subst, ◌∙◌, add-one, append-nil}
+use Rattle.std.specs.Prelude.{All}
+use Rattle.std.proofs.lemmas.List.{map-append}
+use Rattle.std.proofs.lemmas.List.Elements.{All-append, All-cons, All-nil, filter-append}
+use Rattle.nr_trace.specs.Recording.{Recording}
+use Rattle.nr_trace.specs.Spelling.{Spells}
+use Rattle.nr_trace.specs.Orders.{below}
+use Rattle.nr_trace.specs.declared.fault.Fault.{Fault}
+use Rattle.nr_explain.specs.Dumps.{AreDumpsOf, AreToldOfDumps, IsToldOfDump, is_other, replica_of, told_replica}
+use Rattle.nr_explain.specs.Evidence.{IsEvidence}
+use Rattle.nr_explain.specs.inside.Explained.{IsExplanationOn}
+use Rattle.nr_explain.specs.declared.evidence.Evidence.{Evidence}
+use Rattle.nr_explain.specs.declared.evidence.Evidence.TheVariants as evidence
+use Rattle.nr_explain.specs.declared.explaining.Explanation.{Explanation}
+use Rattle.nr_explain.specs.declared.explaining.Explanation.TheVariants.{No}
+use Rattle.nr_explain.specs.declared.all_dumps.DumpExplanation.{DumpExplanation}
+
+-- of the replicas below an end, but the own one
+pub record AreToldBelow (trace : Recording) (own : Option ℕ) (end : ℕ) (dumps : List DumpExplanation) : Type 0 where
+  pub replicas : map told_replica dumps ≡ filter (is_other own) (below end)
+  pub told : All (IsToldOfDump trace) dumps
+
+pub none_told : (trace : Recording) (own : Option ℕ) → AreToldBelow trace own 0 []
+none_told trace own = record { replicas = refl; told = All-nil (IsToldOfDump trace) }
+
+below_more : (own : Option ℕ) (end : ℕ) → filter (is_other own) (below (end + 1)) ≡ filter (is_other own) (below end) ++ filter (is_other own) (end ∷ [])
+below_more own end = ap (λ (n : ℕ). filter (is_other own) (below n)) (add-one end) ∙ filter-append (is_other own) (below end) (end ∷ [])
+
+pub one_told : (trace : Recording) (own : Option ℕ) (end : ℕ) (dumps : List DumpExplanation) (told : DumpExplanation) → is_other own end ≡ true
+    → told_replica told ≡ end → IsToldOfDump trace told → AreToldBelow trace own end dumps → AreToldBelow trace own (end + 1) (dumps ++ told ∷ [])
+one_told trace own end dumps told other same is are = record {
+  replicas = map-append told_replica dumps (told ∷ []) ∙ ap₂ (λ (xs ys : List ℕ). xs ++ ys) are.replicas
+      (ap (λ (n : ℕ). n ∷ []) same ∙ sym (kept other)) ∙ sym (below_more own end);
+  told = All-append (IsToldOfDump trace) dumps (told ∷ []) are.told (All-cons (IsToldOfDump trace) told [] is (All-nil (IsToldOfDump trace)));
+} where
+  kept : is_other own end ≡ true → filter (is_other own) (end ∷ []) ≡ end ∷ []
+  kept same = rw same refl
+
+pub own_left : (trace : Recording) (own : Option ℕ) (end : ℕ) (dumps : List DumpExplanation) → is_other own end ≡ false
+    → AreToldBelow trace own end dumps → AreToldBelow trace own (end + 1) dumps
+own_left trace own end dumps left_out are = record {
+  replicas = are.replicas ∙ sym (below_more own end ∙ ap (λ (xs : List ℕ). filter (is_other own) (below end) ++ xs) (left left_out) ∙ append-nil (filter (is_other own) (below end)));
+  told = are.told;
+} where
+  left : is_other own end ≡ false → filter (is_other own) (end ∷ []) ≡ []
+  left is = rw is refl
+
+pub all_told : (trace : Recording) (own : Option ℕ) (end : ℕ) (dumps : List DumpExplanation) → end ≡ length trace.dumps → AreToldBelow trace own end dumps
+    → AreToldOfDumps trace own dumps
+all_told trace own end dumps at_end are = record {
+  replicas = are.replicas ∙ ap (λ (n : ℕ). filter (is_other own) (below n)) at_end;
+  told = are.told;
+}
+
+-- ---- the whole
+
+dumps_of_fault : (bytes : List ℕ) (trace : Recording) (fault : Fault) (shown : Evidence) (dumps : List DumpExplanation) → Spells bytes trace
+    → IsEvidence trace fault shown → AreToldOfDumps trace (replica_of fault) dumps → AreDumpsOf bytes (No fault shown) dumps
+dumps_of_fault bytes trace fault (evidence.Format bad) dumps spelled is are = absurd is
+dumps_of_fault bytes trace fault shown dumps spelled is are = (trace, spelled, are)
+
+pub dumps_of_no : (bytes : List ℕ) (trace : Recording) (explanation : Explanation) (fault : Fault) (shown : Evidence) (dumps : List DumpExplanation)
+    → explanation ≡ No fault shown → Spells bytes trace → IsExplanationOn trace explanation → AreToldOfDumps trace (replica_of fault) dumps
+    → AreDumpsOf bytes explanation dumps
+dumps_of_no bytes trace explanation fault shown dumps same spelled is are =
+    subst (λ e. AreDumpsOf bytes e dumps) (sym same)
+    (dumps_of_fault bytes trace fault shown dumps spelled (subst (IsExplanationOn trace) same is).1 are)

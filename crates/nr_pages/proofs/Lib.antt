@@ -1,0 +1,4 @@
+pub mod Joining
+pub mod Taking
+pub mod OneText
+pub mod Texts

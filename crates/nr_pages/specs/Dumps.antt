@@ -1,0 +1,27 @@
+-- What is printed of the pages of a dump.
+use Rattle.std.specs.Prelude.{◌≡◌, ℕ, Bool, List, None}
+use Rattle.vs_types.specs.Depth.{IsCanonical}
+use Rattle.vs_types.specs.declared.depth.Depth.{Depth}
+use Rattle.vs_types.specs.declared.page.Page.{Page}
+use Rattle.vs_walk.specs.Dump.{Image, IsDump}
+use Rattle.vs_walk.specs.Traversal.{found, traversal, walk_fault}
+use Rattle.vs_walk.specs.Walk.{walk}
+use Rattle.nr_pages.specs.Listing.{pages_text}
+
+-- its pages, in the order of the traversal: each once, by rising base
+abbrev pub pages_in : Depth → Image → List Page
+pages_in depth dump = found (traversal depth dump.frames dump.root)
+
+-- what is printed of them
+abbrev pub dump_text : Bool → Depth → Image → List ℕ
+dump_text as_ranges depth dump = pages_text as_ranges (pages_in depth dump)
+
+-- a dump whose traversal meets no fault
+pub record IsFaultless (depth : Depth) (dump : Image) : Type 0 where
+  pub is_dump : IsDump dump
+  pub no_fault : walk_fault depth dump.frames dump.root ≡ None
+
+-- both translate each address alike that is canonical for both
+abbrev pub TranslateAlike : Depth → Image → Depth → Image → Type 0
+TranslateAlike depth dump other_depth other = (address : ℕ) → IsCanonical depth address → IsCanonical other_depth address
+    → walk depth dump.frames dump.root address ≡ walk other_depth other.frames other.root address

@@ -1,0 +1,2 @@
+-- Steps on the way to what public clauses say: none cites them.
+pub mod Taking

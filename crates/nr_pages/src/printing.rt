@@ -1,0 +1,70 @@
+//! What is printed of the pages of a dump.
+
+ghost use Rattle.std.specs.Prelude.{◌≡◌, IfErr, IfOk, None, OnOk, Some, false, true, string_bytes};
+ghost use Rattle.vs_types.specs.Refusal.{IfRefused};
+ghost use Rattle.vs_walk.specs.Dump.{IsDump};
+ghost use Rattle.vs_walk.specs.Traversal.{walk_fault};
+ghost use Rattle.nr_pages.specs.Dumps.{dump_text};
+
+use crate::visitors::{PageLines, RangeLines};
+use std::alloc::Global;
+use vs_types::{Depth, Fail};
+use vs_walk::{Dump, WalkFault, traverse};
+
+/// That this is a dump. It does nothing: a call that counts the frames shows it.
+fn is_dump(dump: &Dump)
+    ensures { IsDump dump.now }
+{
+    let _count = dump.count();
+}
+
+/// The lines of its pages.
+fn lines_of_pages(alloc: Global, dump: &Dump, depth: Depth) -> Result<String, Fail<WalkFault>>
+    ensures text { IfOk result (λ text. string_bytes text ≡ dump_text false depth dump.now) }
+    ensures faultless { OnOk result (walk_fault depth dump.now.frames dump.now.root ≡ None) }
+    ensures first { IfErr result
+        (IfRefused (λ fault. walk_fault depth dump.now.frames dump.now.root ≡ Some fault)) }
+{
+    let mut lines = PageLines::new(alloc);
+    traverse(alloc, dump, dump.root(), depth, &mut lines)?;
+    Ok(lines.text)
+}
+
+/// The lines of their ranges.
+fn lines_of_ranges(alloc: Global, dump: &Dump, depth: Depth) -> Result<String, Fail<WalkFault>>
+    ensures text { IfOk result (λ text. string_bytes text ≡ dump_text true depth dump.now) }
+    ensures faultless { OnOk result (walk_fault depth dump.now.frames dump.now.root ≡ None) }
+    ensures first { IfErr result
+        (IfRefused (λ fault. walk_fault depth dump.now.frames dump.now.root ≡ Some fault)) }
+{
+    is_dump(dump);
+    let mut lines = RangeLines::new(alloc);
+    traverse(alloc, dump, dump.root(), depth, &mut lines)?;
+    Ok(lines.end()?)
+}
+
+/// The pages that a dump maps, by rising base: a line for each, or, as ranges, one for all that follow one another with one size
+/// and the same rights, virtually and physically. It goes once through the tables. It allocates memory for the text and for the numbers
+/// of the frames that are reached, and keeps no pages.
+///
+/// # Errors
+///
+/// The first fault of the traversal (a frame that is missing, one that is reached a second time, or a word with a reserved bit
+/// set), or out of memory.
+pub fn dump_text(
+    alloc: Global,
+    dump: &Dump,
+    depth: Depth,
+    as_ranges: bool,
+) -> Result<String, Fail<WalkFault>>
+    ensures text { IfOk result (λ text. string_bytes text ≡ dump_text as_ranges depth dump.now) }
+    ensures faultless { OnOk result (walk_fault depth dump.now.frames dump.now.root ≡ None) }
+    ensures first { IfErr result
+        (IfRefused (λ fault. walk_fault depth dump.now.frames dump.now.root ≡ Some fault)) }
+{
+    if as_ranges {
+        lines_of_ranges(alloc, dump, depth)
+    } else {
+        lines_of_pages(alloc, dump, depth)
+    }
+}
