@@ -45,11 +45,16 @@ static nrvs_answer apply(nrvs_request request)
 	return page_table_protect(&table, request.address, request.rights);
 }
 
-/* No TLB has the page any more when this returns. */
-static void flush(uint64_t base)
+/*
+ * No TLB has a page any more that was there before the update. That is so of a map too: the flush of what was there may still be
+ * under way on another thread, and who was answered that the new page is there must not meet the old one.
+ */
+static void flush(nrvs_request request)
 {
+	const uint64_t bytes = (uint64_t)4096 << (9 * (request.kind == NRVS_KIND_MAP ? request.size : 0));
+
 	for (unsigned k = 0; k < worker_count; k++)
-		tlb_flush(&workers[k].tlb, base);
+		tlb_flush(&workers[k].tlb, request.address, bytes);
 }
 
 /* Some requests wait a little after their first stamp, so that calls overlap where there are few processors too. */
@@ -82,10 +87,10 @@ static void update(struct worker *worker, nrvs_request request)
 	if (bug(LATE_FLUSH, 1, 0)) {
 		must(nrvs_reply(trace, call, at, answer));
 		let_other_in(worker);
-		flush(request.address);
+		flush(request);
 		return;
 	}
-	flush(request.address);
+	flush(request);
 	if (!bug(REPLY_BEFORE_PLACE, 1, 0))
 		must(nrvs_reply(trace, call, at, answer));         /* trace */
 	if (bug(ANSWERED_TWICE, 16, at))

@@ -43,11 +43,11 @@ void tlb_keep(struct tlb *tlb, uint64_t address, nrvs_answer found)
 	pthread_mutex_unlock(&tlb->lock);
 }
 
-void tlb_flush(struct tlb *tlb, uint64_t base)
+void tlb_flush(struct tlb *tlb, uint64_t base, uint64_t bytes)
 {
 	pthread_mutex_lock(&tlb->lock);
 	for (unsigned k = 0; k < TLB_ENTRIES; k++)
-		if (tlb->entries[k].base == base)
+		if (base - tlb->entries[k].base < tlb->entries[k].bytes || tlb->entries[k].base - base < bytes)
 			tlb->entries[k].bytes = 0;
 	pthread_mutex_unlock(&tlb->lock);
 }

@@ -25,8 +25,8 @@ int tlb_find(struct tlb *tlb, uint64_t address, nrvs_mode mode, nrvs_act act, nr
 /* Keeps what a resolve of the address was answered: under the page table's lock, so that no flush of it is missed. */
 void tlb_keep(struct tlb *tlb, uint64_t address, nrvs_answer found);
 
-/* Drops the page that begins there. */
-void tlb_flush(struct tlb *tlb, uint64_t base);
+/* Drops each page of which an address is in this range. */
+void tlb_flush(struct tlb *tlb, uint64_t base, uint64_t bytes);
 
 /* What an access is answered where a resolve of its address was answered so. */
 nrvs_answer access_answer(nrvs_answer found, nrvs_mode mode, nrvs_act act);

@@ -1,10 +1,10 @@
 -- What a parse by clap says of the inspection that is asked for.
-use Rattle.std.proofs.Common.{◌≡◌, ◌∙◌, ◌≤◌, ◌⊎◌, length, map, ℕ, Bool, true, false, List, [], ◌∷◌, Option, Some, None, Result, Ok, Err, ap, inl, inr, sym, refl, subst, codes, option_map, unwrap_or}
+use Rattle.std.proofs.Common.{◌≡◌, ◌∙◌, ◌≤◌, ◌⊎◌, map, ℕ, Bool, true, false, List, [], ◌∷◌, Option, Some, None, Result, Ok, Err, ap, inl, inr, sym, refl, subst, codes, option_map, unwrap_or}
 use Rattle.std.proofs.Common.{Bor, Box, IfErr}
 use Rattle.std.specs.Result.{IsErrAnd}
 use Rattle.std.specs.Box.{box_value}
 use Rattle.std.specs.Str.Parse.{ParsesUnsigned}
-use Rattle.clap.specs.Words.{HasKind, Kinds, ReadsOne, kind_of, Row, Text, all_of, subcommand_rows}
+use Rattle.clap.specs.Words.{HasKind, Kinds, ReadsOne, kind_of, Row, Text, subcommand_rows}
 use Rattle.clap.specs.Walk.{one_of}
 use Rattle.std.proofs.lemmas.List.{length-map}
 use Rattle.clap.specs.declared.error.Error.{Error}

@@ -1,7 +1,7 @@
 -- What is said of several files, one after another.
 use Rattle.std.proofs.Common.{◌≡◌, ◌∙◌, ◌++◌, ◌+◌, ◌<◌, ℕ, Bor, List, [], ◌∷◌, Option, Result, Ok, Err, IfErr, ap, ap₂, append-nil, arith, get_or, length, map, max, refl, subst, sym, take, inl, inr}
 use Rattle.std.specs.Prelude.{IfOk}
-use Rattle.std.specs.List.{All, concat}
+use Rattle.std.specs.List.{concat}
 use Rattle.std.specs.Io.KnownBytes.{Appends}
 use Rattle.std.proofs.KnownBytes.{Appends-nil, Appends-trans}
 use Rattle.std.proofs.Math.Nat.{max-zero, zero-max}

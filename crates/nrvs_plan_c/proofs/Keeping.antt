@@ -1,0 +1,47 @@
+-- A planner is kept whole: its codes read back as they were.
+use Rattle.std.specs.Prelude.{IfSome}
+use Rattle.std.proofs.Common.{◌≡◌, ℕ, Bool, true, false, Option, Some, None, List, ◌++◌, length, take, refl, sym, ap, ◌∙◌}
+use Rattle.std.proofs.Math.Seq.{take-append_seam}
+use Rattle.vs_types.specs.Codes.{rights_code}
+use Rattle.vs_types.specs.declared.page.Rights.{Rights}
+use Rattle.vs_plan.specs.declared.plan.Store.{Store}
+use Rattle.vs_plan.specs.declared.planner.Phase.{Phase}
+use Rattle.vs_plan.specs.declared.planner.Planner.{Planner}
+use Rattle.vs_plan.specs.declared.request.Request.{Request}
+use Rattle.vs_plan.specs.declared.target.Target.{Target}
+use Rattle.nrvs_plan_c.specs.Kept.{rights_in}
+
+bits_back : (w u x : Bool) → rights_in (rights_code (record { write = w; user = u; exec = x })) ≡ record { write = w; user = u; exec = x }
+bits_back true true true = refl
+bits_back true true false = refl
+bits_back true false true = refl
+bits_back true false false = refl
+bits_back false true true = refl
+bits_back false true false = refl
+bits_back false false true = refl
+bits_back false false false = refl
+
+pub rights_back : (rights : Rights) → rights_in (rights_code rights) ≡ rights
+rights_back rights = bits_back rights.write rights.user rights.exec
+
+-- the planner with other parts
+abbrev pub with_parts : Planner → Target → Request → Phase → Rights → List Store → Planner
+with_parts p target request phase rights stores =
+    record p { target = target; request = request; phase = phase; rights = rights; stores = record { items = stores } }
+
+pub parts_back : (p : Planner) (target : Target) (request : Request) (phase : Phase) (rights : Rights) (stores : List Store) → target ≡ p.target
+    → request ≡ p.request → phase ≡ p.phase → rights ≡ p.rights → stores ≡ p.stores.items → with_parts p target request phase rights stores ≡ p
+parts_back p target request phase rights stores a b c d e =
+    ap (λ (t : Target). with_parts p t request phase rights stores) a ∙ ap (λ (r : Request). with_parts p p.target r phase rights stores) b
+    ∙ ap (λ (h : Phase). with_parts p p.target p.request h rights stores) c
+    ∙ ap (λ (r : Rights). with_parts p p.target p.request p.phase r stores) d
+    ∙ ap (λ (s : List Store). with_parts p p.target p.request p.phase p.rights s) e
+
+-- what was copied to the front of an array
+pub front_back : (items copied rest : List Store) (n : ℕ) → copied ≡ items → n ≡ length items → take n (copied ++ rest) ≡ items
+front_back items copied rest n same count =
+    ap (λ (m : ℕ). take m (copied ++ rest)) (count ∙ ap length (sym same)) ∙ take-append_seam copied rest ∙ same
+
+pub some_more : (o : Option ℕ) (P Q : ℕ → Type 0) → ((n : ℕ) → P n → Q n) → IfSome o P → IfSome o Q
+some_more None P Q more is = tt
+some_more (Some n) P Q more is = more n is

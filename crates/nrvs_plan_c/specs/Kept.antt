@@ -1,0 +1,86 @@
+-- The planner that is kept in C's struct between two calls.
+use Rattle.std.specs.Prelude.{ℕ, ◌/◌, ◌%◌, ◌≤◌, nat_eq, not, take, if◌then◌else◌}
+use Rattle.vs_types.specs.declared.depth.Depth.{Depth}
+use Rattle.vs_types.specs.declared.depth.Depth.TheVariants.{Four, Five}
+use Rattle.vs_types.specs.declared.page.Page.{Page}
+use Rattle.vs_types.specs.declared.page.Rights.{Rights}
+use Rattle.vs_types.specs.declared.page.Size.{Size}
+use Rattle.vs_types.specs.declared.page.Size.TheVariants.{K4, M2, G1}
+use Rattle.vs_plan.specs.declared.plan.TheConstants.{MOST_STORES}
+use Rattle.vs_plan.specs.declared.planner.Phase.{Phase}
+use Rattle.vs_plan.specs.declared.planner.Phase.TheVariants.{Descent, Search, Growth, Ended}
+use Rattle.vs_plan.specs.declared.planner.Planner.{Planner}
+use Rattle.vs_plan.specs.declared.request.Request.{Request}
+use Rattle.vs_plan.specs.declared.request.Request.TheVariants.{Map, Unmap, Protect, Ask}
+use Rattle.vs_plan.specs.declared.target.Target as targets
+use Rattle.vs_plan.specs.Planner.{AwaitsWords, AwaitsFrame}
+use Rattle.nrvs_plan_c.specs.declared.kept.Call.{Call}
+use Rattle.nrvs_plan_c.specs.declared.kept.Plan.{Plan}
+use Rattle.nrvs_plan_c.specs.declared.kept.Target.{Target}
+
+-- the depth with so many levels
+abbrev pub depth_in : ℕ → Depth
+depth_in levels = if nat_eq levels 5 then Five else Four
+
+-- the size of a code
+abbrev pub size_in : ℕ → Size
+size_in code = if nat_eq code 0 then K4 else if nat_eq code 1 then M2 else G1
+
+-- the rights of a code
+abbrev pub rights_in : ℕ → Rights
+rights_in code = record { write = nat_eq (code % 2) 1; user = nat_eq (code / 2 % 2) 1; exec = nat_eq (code / 4 % 2) 1 }
+
+-- how far a planner is, by its code
+abbrev pub phase_in : ℕ → Phase
+phase_in code = if nat_eq code 0 then Descent else if nat_eq code 1 then Search else if nat_eq code 2 then Growth else Ended
+
+-- the page table of C's target
+abbrev pub target_of : Target → targets.Target
+target_of target =
+    record { depth = depth_in target.levels; pinned = not (nat_eq target.pinned 0); phys_bits = target.phys_bits; root = target.root }
+
+-- the page table that a plan is for
+abbrev pub target_in : Call → targets.Target
+target_in call = record { depth = depth_in call.levels; pinned = nat_eq call.pinned 1; phys_bits = call.phys_bits; root = call.root }
+
+-- a page of these numbers
+abbrev pub page_in : ℕ → ℕ → ℕ → ℕ → Page
+page_in base size physical rights = record { base = base; size = size_in size; rights = rights_in rights; phys = physical }
+
+-- what is to be done
+abbrev pub request_in : Call → Request
+request_in call =
+    if nat_eq call.kind 0 then Map (page_in call.address call.size call.physical call.rights) call.bits
+    else if nat_eq call.kind 1 then Unmap call.address
+    else if nat_eq call.kind 2 then Protect call.address (rights_in call.rights)
+    else Ask call.address
+
+-- the planner
+abbrev pub planner_in : Plan → Planner
+planner_in plan = record {
+  target = target_in plan.call;
+  request = request_in plan.call;
+  phase = phase_in plan.way.phase;
+  level = plan.way.level;
+  number = plan.frame;
+  rights = rights_in plan.way.allowed;
+  numbers = plan.way.numbers;
+  words = plan.way.words;
+  stop = plan.way.stop;
+  base = plan.way.base;
+  height = plan.way.height;
+  below = plan.way.below;
+  stores = record { items = take plan.store_count plan.stores };
+}
+
+-- what a planner waits for in a phase
+abbrev pub IsWaiting : Phase → Planner → Type 0
+IsWaiting Descent planner = AwaitsWords planner
+IsWaiting Search planner = AwaitsWords planner
+IsWaiting Growth planner = AwaitsFrame planner
+IsWaiting Ended planner = Unit {0}
+
+-- the plan is as a call left it
+pub record IsSound (plan : Plan) : Type 0 where
+  pub room : plan.store_count ≤ MOST_STORES
+  pub waits : IsWaiting (phase_in plan.way.phase) (planner_in plan)

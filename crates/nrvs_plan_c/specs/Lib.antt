@@ -1,0 +1,4 @@
+pub mod Status
+pub mod Kept
+pub mod Told
+pub mod Next

@@ -1,0 +1,24 @@
+-- What a call's status means.
+use Rattle.std.specs.Prelude.{◌≡◌, ℕ, List, Option}
+use Rattle.vs_types.specs.Space.{Space}
+use Rattle.vs_walk.specs.Memory.{Memory}
+use Rattle.vs_plan.specs.declared.plan.Plan as plans
+use Rattle.vs_plan.specs.Premise.{IsPremise}
+use Rattle.vs_plan.specs.Request.{address_of}
+use Rattle.vs_plan.specs.Right.{IsRight}
+use Rattle.vs_plan.specs.Shown.{IsShown}
+use Rattle.nrvs_plan_c.specs.declared.kept.Plan.{Plan}
+use Rattle.nrvs_plan_c.specs.Kept.{planner_in, request_in, target_in}
+use Rattle.nrvs_plan_c.specs.Told.{IsTold}
+
+-- the plan in these numbers is right for each space that the memory translates as
+abbrev pub IsPlanned : Memory → Plan → List (Option ℕ) → Type 0
+IsPlanned memory plan offered = (space : Space)
+    → IsPremise (target_in plan.call).depth memory (target_in plan.call).root (address_of (request_in plan.call)) space
+    → (made : plans.Plan) × IsRight (target_in plan.call) (request_in plan.call) memory space offered made × IsTold plan made
+
+-- of 32 and 33 what is kept is so in the memory; of 0 the plan is there
+pub record IsNextOf (memory : Memory) (plan : Plan) (offered : List (Option ℕ)) (status : ℕ) : Type 0 where
+  pub sees : status ≡ 32 → IsShown memory (planner_in plan)
+  pub gives : status ≡ 33 → IsShown memory (planner_in plan)
+  pub planned : status ≡ 0 → IsPlanned memory plan offered

@@ -1,0 +1,75 @@
+-- A plan in numbers.
+use Rattle.std.specs.Prelude.{◌≡◌, ℕ, nat_eq, length, take, slice_index_or, if◌then◌else◌}
+use Rattle.vs_types.specs.Codes.{size_code, rights_code}
+use Rattle.vs_types.specs.declared.answer.Answer.{Answer}
+use Rattle.vs_types.specs.declared.answer.Answer.TheVariants as answers
+use Rattle.vs_plan.specs.declared.plan.Flush.{Flush}
+use Rattle.vs_plan.specs.declared.plan.Flush.TheVariants as flushes
+use Rattle.vs_plan.specs.Again.{flags_into, with_flags_of}
+use Rattle.vs_plan.specs.declared.plan.Plan as plans
+use Rattle.vs_plan.specs.declared.plan.Reply as outcomes
+use Rattle.vs_plan.specs.declared.plan.Reply.TheVariants as replies
+use Rattle.vs_plan.specs.declared.plan.Store.{Store}
+use Rattle.nrvs_plan_c.specs.declared.kept.Plan.{Plan}
+use Rattle.nrvs_plan_c.specs.declared.told.Reply.{Reply}
+
+abbrev numbered : ℕ → ℕ → Reply
+numbered code number = record { code = code; size = 0; rights = 0; number = number }
+
+-- the code of an answer and what it has, with 0 for what it doesn't have
+abbrev pub answer_numbers : Answer → Reply
+answer_numbers answers.Done = numbered 0 0
+answer_numbers (answers.Overlap base) = numbered 1 base
+answer_numbers (answers.Full need) = numbered 2 need
+answer_numbers (answers.Removed phys size rights) = record { code = 3; size = size_code size; rights = rights_code rights; number = phys }
+answer_numbers answers.NotMapped = numbered 4 0
+answer_numbers (answers.Inside base) = numbered 5 base
+answer_numbers (answers.Changed rights) = record { code = 6; size = 0; rights = rights_code rights; number = 0 }
+answer_numbers (answers.Mapped phys size rights) = record { code = 7; size = size_code size; rights = rights_code rights; number = phys }
+answer_numbers (answers.Allowed phys) = numbered 8 phys
+answer_numbers (answers.Fault code) = numbered 9 code
+
+-- those of what came out
+abbrev pub reply_numbers : outcomes.Reply → Reply
+reply_numbers (replies.Answer answer) = answer_numbers answer
+reply_numbers replies.NoFrame = numbered 10 0
+reply_numbers (replies.FrameRange number) = numbered 11 number
+reply_numbers replies.Rights = numbered 12 0
+reply_numbers (replies.Empty number) = numbered 13 number
+reply_numbers (replies.Reserved number index) = numbered 14 number
+
+-- the bits of the page's entry; or the index of the word with a reserved bit
+abbrev pub bits_told : outcomes.Reply → ℕ → ℕ
+bits_told (replies.Reserved number index) bits = index
+bits_told reply bits = bits
+
+-- the code of a flush, the page's base and the code of its size
+abbrev pub flush_numbers : Flush → ℕ × ℕ × ℕ
+flush_numbers flushes.Nothing = (0, 0, 0)
+flush_numbers (flushes.Page base size) = (1, base, size_code size)
+flush_numbers (flushes.PageAndTables base size) = (2, base, size_code size)
+
+-- the numbers of the plan are those of this one
+pub record IsTold (plan : Plan) (made : plans.Plan) : Type 0 where
+  pub reply : plan.reply ≡ reply_numbers made.reply
+  pub bits : plan.bits ≡ bits_told made.reply made.bits
+  pub store_count : plan.store_count ≡ length made.stores.items
+  pub stores : take plan.store_count plan.stores ≡ made.stores.items
+  pub flush : (plan.flush, plan.flush_base, plan.flush_size) ≡ flush_numbers made.flush
+  pub unlinked_count : plan.unlinked_count ≡ length made.unlinked.items
+  pub unlinked : take plan.unlinked_count plan.unlinked ≡ made.unlinked.items
+
+-- the store at an index
+abbrev pub store_at : Plan → ℕ → Store
+store_at plan index = slice_index_or plan.stores index (record { frame = 0; index = 0; old = 0; new = 0 })
+
+-- a store that found another word
+abbrev pub store_again : Store → ℕ → Store
+store_again store found = record store { old = found; new = with_flags_of found store.new }
+
+-- the bits that are said of the page's entry, which the first store of all but a map changes: with the flags that were found there
+abbrev pub bits_again : ℕ → ℕ → ℕ → ℕ → ℕ
+bits_again kind index bits found =
+    if nat_eq kind 0 then bits
+    else if nat_eq index 0 then flags_into found bits
+    else bits

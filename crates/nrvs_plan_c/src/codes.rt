@@ -1,0 +1,72 @@
+//! What the numbers mean that are kept.
+ghost use Rattle.std.specs.Prelude.{◌≡◌};
+ghost use Rattle.nrvs_plan_c.specs.Kept.{depth_in, size_in, rights_in, phase_in};
+
+use vs_plan::Phase;
+use vs_types::{Depth, Rights, Size};
+
+/// The greatest code of a phase in which words are waited for.
+pub(crate) const SEARCH: u8 = 1;
+
+/// The code of the phase in which a frame is.
+pub(crate) const GROWTH: u8 = 2;
+
+/// The code of the phase in which the plan is there.
+pub(crate) const ENDED: u8 = 3;
+
+/// The depth with so many levels.
+pub(crate) fn depth_in(levels: u8) -> Depth
+    ensures { result ≡ depth_in levels }
+{
+    if levels == 5 {
+        Depth::Five
+    } else {
+        Depth::Four
+    }
+}
+
+/// The size of a code below 3.
+pub(crate) fn size_in(code: u8) -> Size
+    ensures { result ≡ size_in code }
+{
+    match code {
+        0 => Size::K4,
+        1 => Size::M2,
+        _ => Size::G1,
+    }
+}
+
+/// The rights of a code below 8.
+pub(crate) fn rights_in(code: u8) -> Rights
+    ensures { result ≡ rights_in code }
+{
+    Rights {
+        write: code % 2 == 1,
+        user: code / 2 % 2 == 1,
+        exec: code / 4 % 2 == 1,
+    }
+}
+
+/// How far a planner is by a code below 4.
+pub(crate) fn phase_in(code: u8) -> Phase
+    ensures { result ≡ phase_in code }
+{
+    match code {
+        0 => Phase::Descent,
+        1 => Phase::Search,
+        2 => Phase::Growth,
+        _ => Phase::Ended,
+    }
+}
+
+/// The code of how far a planner is.
+pub(crate) fn code_of(phase: Phase) -> u8
+    ensures { phase_in result ≡ phase }
+{
+    match phase {
+        Phase::Descent => 0,
+        Phase::Search => 1,
+        Phase::Growth => 2,
+        Phase::Ended => 3,
+    }
+}

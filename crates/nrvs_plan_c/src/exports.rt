@@ -1,0 +1,238 @@
+//! The calls for C.
+ghost use Rattle.std.specs.Prelude.{◌≡◌, ◌≢◌, ◌↔◌, ◌<◌, ◌-◌, ◌⊎◌, ℕ, [], ◌∷◌, ◌++◌, Some, None, IfSome, nat_lt, slice_set, if◌then◌else◌};
+ghost use Rattle.std.specs.FinMap as finite;
+ghost use Rattle.vs_walk.specs.Memory.{Memory};
+ghost use Rattle.vs_plan.specs.declared.request.Request.{Request};
+ghost use Rattle.vs_plan.specs.Again.{HasFlagsSet};
+ghost use Rattle.vs_plan.specs.Planner.{IsSpareFor, frames_given};
+ghost use Rattle.vs_plan.specs.Request.{request_fault};
+ghost use Rattle.vs_plan.specs.Shown.{IsShown};
+ghost use Rattle.nrvs_plan_c.specs.declared.codes.TheConstants.{ENDED, GROWTH, SEARCH};
+ghost use Rattle.nrvs_plan_c.specs.Kept.{IsSound, page_in, planner_in, request_in, rights_in, target_in, target_of};
+ghost use Rattle.nrvs_plan_c.specs.Next.{IsNextOf};
+ghost use Rattle.nrvs_plan_c.specs.Told.{bits_again, store_again, store_at};
+ghost use Rattle.nrvs_plan_c.specs.Status.{begun_status, target_status};
+
+use crate::begin::{begin, call_of};
+use crate::codes::{ENDED, GROWTH, SEARCH};
+use crate::kept::{Call, Plan, Target, Words, open};
+use crate::next::go_on;
+use crate::status::{BAD_RIGHTS, BAD_SIZE, NOT_ASKED, PLANNED};
+
+/// Begins the plan of a map.
+#[unsafe(no_mangle)]
+pub extern "C" fn nrvs_plan_map(
+    plan: &mut Plan,
+    target: &Target,
+    base: u64,
+    size: u32,
+    physical: u64,
+    rights: u32,
+    bits: u64,
+) -> u32
+    ensures status { result ≡ target_status target.now.levels target.now.phys_bits
+        (if nat_lt 2 size then 6 else if nat_lt 7 rights then 7
+        else begun_status (request_fault (target_of target.now)
+        (Request.Map (page_in base size physical rights) bits))) }
+    ensures target { result ≡ 32 → target_in plan.new.call ≡ target_of target.now }
+    ensures request { result ≡ 32 → request_in plan.new.call
+        ≡ Request.Map (page_in base size physical rights) bits }
+    ensures sound { result ≡ 32 → IsSound plan.new }
+    ensures shown { result ≡ 32 → (memory : Memory) → IsShown memory (planner_in plan.new) }
+    ensures refused { result ≢ 32 → plan.new ≡ plan.old }
+{
+    let call = match call_of(target, 0, base) {
+        Ok(call) => call,
+        Err(status) => return status,
+    };
+    if size > 2 {
+        return BAD_SIZE;
+    }
+    if rights > 7 {
+        return BAD_RIGHTS;
+    }
+    let call = Call {
+        physical,
+        bits,
+        size: size as u8,
+        rights: rights as u8,
+        ..call
+    };
+    begin(plan, call)
+}
+
+/// Begins the plan of an unmap.
+#[unsafe(no_mangle)]
+pub extern "C" fn nrvs_plan_unmap(plan: &mut Plan, target: &Target, base: u64) -> u32
+    ensures status { result ≡ target_status target.now.levels target.now.phys_bits
+        (begun_status (request_fault (target_of target.now) (Request.Unmap base))) }
+    ensures target { result ≡ 32 → target_in plan.new.call ≡ target_of target.now }
+    ensures request { result ≡ 32 → request_in plan.new.call ≡ Request.Unmap base }
+    ensures sound { result ≡ 32 → IsSound plan.new }
+    ensures shown { result ≡ 32 → (memory : Memory) → IsShown memory (planner_in plan.new) }
+    ensures refused { result ≢ 32 → plan.new ≡ plan.old }
+{
+    match call_of(target, 1, base) {
+        Ok(call) => begin(plan, call),
+        Err(status) => status,
+    }
+}
+
+/// Begins the plan of a protect.
+#[unsafe(no_mangle)]
+pub extern "C" fn nrvs_plan_protect(plan: &mut Plan, target: &Target, base: u64, rights: u32) -> u32
+    ensures status { result ≡ target_status target.now.levels target.now.phys_bits
+        (if nat_lt 7 rights then 7 else begun_status (request_fault (target_of target.now)
+        (Request.Protect base (rights_in rights)))) }
+    ensures target { result ≡ 32 → target_in plan.new.call ≡ target_of target.now }
+    ensures request { result ≡ 32 → request_in plan.new.call
+        ≡ Request.Protect base (rights_in rights) }
+    ensures sound { result ≡ 32 → IsSound plan.new }
+    ensures shown { result ≡ 32 → (memory : Memory) → IsShown memory (planner_in plan.new) }
+    ensures refused { result ≢ 32 → plan.new ≡ plan.old }
+{
+    let call = match call_of(target, 2, base) {
+        Ok(call) => call,
+        Err(status) => return status,
+    };
+    if rights > 7 {
+        return BAD_RIGHTS;
+    }
+    let call = Call {
+        rights: rights as u8,
+        ..call
+    };
+    begin(plan, call)
+}
+
+/// Begins to look at an address.
+#[unsafe(no_mangle)]
+pub extern "C" fn nrvs_plan_ask(plan: &mut Plan, target: &Target, address: u64) -> u32
+    ensures status { result ≡ target_status target.now.levels target.now.phys_bits
+        (begun_status (request_fault (target_of target.now) (Request.Ask address))) }
+    ensures target { result ≡ 32 → target_in plan.new.call ≡ target_of target.now }
+    ensures request { result ≡ 32 → request_in plan.new.call ≡ Request.Ask address }
+    ensures sound { result ≡ 32 → IsSound plan.new }
+    ensures shown { result ≡ 32 → (memory : Memory) → IsShown memory (planner_in plan.new) }
+    ensures refused { result ≢ 32 → plan.new ≡ plan.old }
+{
+    match call_of(target, 3, address) {
+        Ok(call) => begin(plan, call),
+        Err(status) => status,
+    }
+}
+
+/// Takes the words of the frame that is asked for: `Planner::see`.
+#[unsafe(no_mangle)]
+pub extern "C" fn nrvs_plan_see(plan: &mut Plan, words: &Words) -> u32
+    requires { IsSound plan.old }
+    ensures asked { (result ≡ 17) ↔ (SEARCH < plan.old.way.phase) }
+    ensures sound { IsSound plan.new }
+    ensures call { plan.new.call ≡ plan.old.call }
+    ensures refused { result ≡ 17 → plan.new ≡ plan.old }
+    ensures fewer { result ≡ 32 → plan.new.way.level < plan.old.way.level }
+    ensures given { result ≡ 33 → frames_given (planner_in plan.new) ≡ [] }
+    ensures next { result ≢ 17 → (memory : Memory) → IsShown memory (planner_in plan.old)
+        → finite.get memory plan.old.frame ≡ Some words.now.word
+        → IsNextOf memory plan.new [] result }
+{
+    if plan.way.phase > SEARCH {
+        return NOT_ASKED;
+    }
+    let mut planner = open(plan);
+    let step = planner.see(&words.word);
+    go_on(plan, planner, step)
+}
+
+/// Takes a frame whose words are all 0: `Planner::give`.
+#[unsafe(no_mangle)]
+pub extern "C" fn nrvs_plan_give(plan: &mut Plan, frame: u64) -> u32
+    requires { IsSound plan.old }
+    ensures asked { (result ≡ 17) ↔ (plan.old.way.phase ≢ GROWTH) }
+    ensures sound { IsSound plan.new }
+    ensures call { plan.new.call ≡ plan.old.call }
+    ensures refused { result ≡ 17 → plan.new ≡ plan.old }
+    ensures fewer { result ≡ 33 → plan.new.way.level - plan.new.way.height
+        < plan.old.way.level - plan.old.way.height }
+    ensures given { result ≡ 33 → frames_given (planner_in plan.new)
+        ≡ frames_given (planner_in plan.old) ++ frame ∷ [] }
+    ensures next { result ≢ 17 → (memory : Memory) → IsShown memory (planner_in plan.old)
+        → IsSpareFor memory (planner_in plan.old) frame
+        → IsNextOf memory plan.new (Some frame ∷ []) result }
+{
+    give(plan, Some(frame))
+}
+
+/// Says that there is no frame: `Planner::give`.
+#[unsafe(no_mangle)]
+pub extern "C" fn nrvs_plan_give_none(plan: &mut Plan) -> u32
+    requires { IsSound plan.old }
+    ensures asked { (result ≡ 17) ↔ (plan.old.way.phase ≢ GROWTH) }
+    ensures sound { IsSound plan.new }
+    ensures call { plan.new.call ≡ plan.old.call }
+    ensures refused { result ≡ 17 → plan.new ≡ plan.old }
+    ensures next { result ≢ 17 → (memory : Memory) → IsShown memory (planner_in plan.old)
+        → IsNextOf memory plan.new (None ∷ []) result }
+{
+    give(plan, None)
+}
+
+/// Where the store at an index finds a word in place of its `old` that has other flags and is the same else: the plan with that word in
+/// its place (`Store::again`), and its flags in the bits that are said of the page's entry.
+#[unsafe(no_mangle)]
+pub extern "C" fn nrvs_plan_again(plan: &mut Plan, index: usize, found: u64) -> u32
+    requires { IsSound plan.old }
+    ensures sound { IsSound plan.new }
+    ensures status { (result ≡ 0) ⊎ (result ≡ 17) }
+    ensures refused { result ≡ 17 → plan.new ≡ plan.old }
+    ensures flags { result ≡ 0 → HasFlagsSet (store_at plan.old index).old found }
+    ensures again { result ≡ 0 → plan.new ≡ record plan.old {
+      stores = slice_set plan.old.stores index (store_again (store_at plan.old index) found);
+      bits = bits_again plan.old.call.kind index plan.old.bits found;
+    } }
+    ensures done { plan.old.way.phase ≡ ENDED → index < plan.old.store_count
+        → HasFlagsSet (store_at plan.old index).old found → result ≡ 0 }
+{
+    if plan.way.phase != ENDED || index >= plan.store_count {
+        return NOT_ASKED;
+    }
+    let Some(store) = plan.stores[index].again(found) else {
+        return NOT_ASKED;
+    };
+    plan.stores[index] = store;
+    plan.bits = bits_again(plan.call.kind, index, plan.bits, found);
+    PLANNED
+}
+
+/// The bits that are said of a page's entry, which the first store of all but a map changes, once it was found with other flags.
+fn bits_again(kind: u8, index: usize, bits: u64, found: u64) -> u64
+    ensures { result ≡ bits_again kind index bits found }
+{
+    if kind == 0 || index != 0 {
+        return bits;
+    }
+    bits % (1 << 5) + found % (1 << 7) / (1 << 5) * (1 << 5) + bits / (1 << 7) * (1 << 7)
+}
+
+/// Takes a frame, or none.
+fn give(plan: &mut Plan, frame: Option<u64>) -> u32
+    requires { IsSound plan.old }
+    ensures asked { (result ≡ 17) ↔ (plan.old.way.phase ≢ GROWTH) }
+    ensures sound { IsSound plan.new }
+    ensures call { plan.new.call ≡ plan.old.call }
+    ensures refused { result ≡ 17 → plan.new ≡ plan.old }
+    ensures fewer { result ≡ 33 → plan.new.way.level - plan.new.way.height
+        < plan.old.way.level - plan.old.way.height }
+    ensures given { result ≡ 33 → IfSome frame (λ number. frames_given (planner_in plan.new)
+        ≡ frames_given (planner_in plan.old) ++ number ∷ []) }
+    ensures next { result ≢ 17 → (memory : Memory) → IsShown memory (planner_in plan.old)
+        → IfSome frame (λ number. IsSpareFor memory (planner_in plan.old) number)
+        → IsNextOf memory plan.new (frame ∷ []) result }
+{
+    if plan.way.phase != GROWTH {
+        return NOT_ASKED;
+    }
+    let mut planner = open(plan);
+    let step = planner.give(frame);
+    go_on(plan, planner, step)
+}

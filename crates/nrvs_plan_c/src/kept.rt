@@ -1,0 +1,201 @@
+//! C's structs, and the planner that is kept in one between two calls.
+ghost use Rattle.std.specs.Prelude.{◌≡◌, ◌≤◌};
+ghost use Rattle.vs_plan.specs.declared.plan.TheConstants.{MOST_STORES};
+ghost use Rattle.nrvs_plan_c.specs.Kept.{planner_in, request_in, target_in};
+
+use crate::codes::{code_of, depth_in, phase_in, rights_in, size_in};
+use crate::told::Reply;
+use arrayvec::ArrayVec;
+use vs_plan::{MOST_STORES, MOST_UNLINKED, Planner, Request, Store};
+use vs_types::{FRAME_WORDS, Page};
+
+/// The page table that a plan is for, as C has it.
+#[repr(C)]
+#[derive(Clone, Copy, Debug, PartialEq, Eq)]
+pub struct Target {
+    /// The frame number of the root.
+    pub root: u64,
+    /// 4 or 5.
+    pub levels: u32,
+    /// How many bits a physical address has.
+    pub phys_bits: u32,
+    /// Not 0 where the tables that the root leads to stay linked.
+    pub pinned: u32,
+}
+
+/// The words of a frame.
+#[repr(C)]
+#[derive(Clone, Copy, Debug)]
+pub struct Words {
+    pub word: [u64; FRAME_WORDS],
+}
+
+/// What was asked for: the numbers of a target and of a request.
+#[repr(C)]
+#[derive(Clone, Copy, Debug, PartialEq, Eq)]
+pub struct Call {
+    /// The frame number of the root.
+    pub root: u64,
+    /// The address.
+    pub address: u64,
+    /// Of a map: the physical address.
+    pub physical: u64,
+    /// Of a map: the bits of the page's entry beside its address and its rights.
+    pub bits: u64,
+    /// 4 or 5.
+    pub levels: u8,
+    /// How many bits a physical address has.
+    pub phys_bits: u8,
+    /// 1 where the tables that the root leads to stay linked.
+    pub pinned: u8,
+    /// 0 a map, 1 an unmap, 2 a protect, 3 what only asks.
+    pub kind: u8,
+    /// Of a map: the code of the size.
+    pub size: u8,
+    /// Of a map and a protect: the code of the rights.
+    pub rights: u8,
+}
+
+/// What was met on the way, as a planner has it.
+#[repr(C)]
+#[derive(Clone, Copy, Debug, PartialEq, Eq)]
+pub struct Way {
+    pub base: u64,
+    pub below: u64,
+    pub numbers: [u64; 6],
+    pub words: [u64; 6],
+    /// 0 and 1: words are waited for; 2: a frame; 3: nothing, since the plan is there.
+    pub phase: u8,
+    pub level: u8,
+    /// The code of the rights that the entries on the way allow.
+    pub allowed: u8,
+    pub stop: u8,
+    pub height: u8,
+}
+
+/// A plan, and how far it is.
+#[repr(C)]
+#[derive(Clone, Copy, Debug)]
+pub struct Plan {
+    /// The frame whose words are waited for.
+    pub frame: u64,
+    /// What came out.
+    pub reply: Reply,
+    /// The bits of the page's entry beside its address and its rights; of a reserved bit the index of the word.
+    pub bits: u64,
+    /// How many stores there are.
+    pub store_count: usize,
+    pub stores: [Store; MOST_STORES],
+    /// 0 nothing, 1 the page, 2 the page and the tables of its range.
+    pub flush: u32,
+    /// The code of the page's size.
+    pub flush_size: u32,
+    /// Its first address.
+    pub flush_base: u64,
+    /// How many tables are unlinked.
+    pub unlinked_count: usize,
+    pub unlinked: [u64; MOST_UNLINKED],
+    /// The library's own.
+    pub call: Call,
+    /// The library's own.
+    pub way: Way,
+}
+
+impl Call {
+    /// The page table that the plan is for.
+    pub(crate) fn target(self) -> vs_plan::Target
+        ensures { result ≡ target_in self }
+    {
+        vs_plan::Target {
+            depth: depth_in(self.levels),
+            pinned: self.pinned == 1,
+            phys_bits: self.phys_bits,
+            root: self.root,
+        }
+    }
+
+    /// What is to be done.
+    pub(crate) fn request(self) -> Request
+        ensures { result ≡ request_in self }
+    {
+        match self.kind {
+            0 => Request::Map(
+                Page {
+                    base: self.address,
+                    size: size_in(self.size),
+                    rights: rights_in(self.rights),
+                    phys: self.physical,
+                },
+                self.bits,
+            ),
+            1 => Request::Unmap(self.address),
+            2 => Request::Protect(self.address, rights_in(self.rights)),
+            _ => Request::Ask(self.address),
+        }
+    }
+}
+
+/// The planner that is kept.
+pub(crate) fn open(plan: &Plan) -> Planner
+    requires { plan.now.store_count ≤ MOST_STORES }
+    ensures { result ≡ planner_in plan.now }
+{
+    let mut stores = ArrayVec::new();
+    let Ok(()) = stores.try_extend_from_slice(&plan.stores[..plan.store_count]) else {
+        unreachable!();
+    };
+    Planner {
+        target: plan.call.target(),
+        request: plan.call.request(),
+        phase: phase_in(plan.way.phase),
+        level: plan.way.level,
+        number: plan.frame,
+        rights: rights_in(plan.way.allowed),
+        numbers: plan.way.numbers,
+        words: plan.way.words,
+        stop: plan.way.stop,
+        base: plan.way.base,
+        height: plan.way.height,
+        below: plan.way.below,
+        stores,
+    }
+}
+
+/// Keeps a planner of the same request.
+pub(crate) fn keep(plan: &mut Plan, planner: Planner)
+    requires target { planner.target ≡ target_in plan.old.call }
+    requires request { planner.request ≡ request_in plan.old.call }
+    ensures kept { planner_in plan.new ≡ planner }
+    ensures same { plan.new.call ≡ plan.old.call }
+    ensures count { plan.new.store_count ≤ MOST_STORES }
+{
+    let Planner {
+        target: _,
+        request: _,
+        phase,
+        level,
+        number,
+        rights,
+        numbers,
+        words,
+        stop,
+        base,
+        height,
+        below,
+        stores,
+    } = planner;
+    plan.frame = number;
+    plan.way = Way {
+        base,
+        below,
+        numbers,
+        words,
+        phase: code_of(phase),
+        level,
+        allowed: rights.code(),
+        stop,
+        height,
+    };
+    plan.store_count = stores.len();
+    plan.stores[..stores.len()].copy_from_slice(stores.as_slice());
+}

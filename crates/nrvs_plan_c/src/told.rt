@@ -1,0 +1,107 @@
+//! A plan in numbers.
+ghost use Rattle.std.specs.Prelude.{◌≡◌};
+ghost use Rattle.nrvs_plan_c.specs.Told.{IsTold, answer_numbers, bits_told, flush_numbers, reply_numbers};
+
+use crate::kept::Plan;
+use vs_plan::{Flush, Reply as Outcome};
+use vs_types::Answer;
+
+/// What came out in numbers: its code, and what it has; what it doesn't have is 0.
+#[repr(C)]
+#[derive(Clone, Copy, Debug, PartialEq, Eq)]
+pub struct Reply {
+    /// 0 to 9 as an answer; 10 no frame, 11 a frame out of range, 12 too few rights, 13 an empty table, 14 a reserved bit.
+    pub code: u8,
+    /// The code of a page's size.
+    pub size: u8,
+    /// The code of a page's rights.
+    pub rights: u8,
+    /// An address in bytes, or the number of a frame.
+    pub number: u64,
+}
+
+impl Reply {
+    /// The numbers of what came out.
+    fn of(outcome: Outcome) -> Reply
+        ensures { result ≡ reply_numbers outcome }
+    {
+        match outcome {
+            Outcome::Answer(answer) => Reply::of_answer(answer),
+            Outcome::NoFrame => Reply::with(10, 0),
+            Outcome::FrameRange(number) => Reply::with(11, number),
+            Outcome::Rights => Reply::with(12, 0),
+            Outcome::Empty(number) => Reply::with(13, number),
+            Outcome::Reserved(number, _) => Reply::with(14, number),
+        }
+    }
+
+    /// The numbers of an answer.
+    fn of_answer(answer: Answer) -> Reply
+        ensures { result ≡ answer_numbers answer }
+    {
+        match answer {
+            Answer::Done | Answer::NotMapped => Reply::with(answer.code(), 0),
+            Answer::Overlap(base) | Answer::Inside(base) => Reply::with(answer.code(), base),
+            Answer::Full(number) | Answer::Allowed(number) | Answer::Fault(number) => {
+                Reply::with(answer.code(), number)
+            }
+            Answer::Changed(rights) => Reply {
+                rights: rights.code(),
+                ..Reply::with(answer.code(), 0)
+            },
+            Answer::Removed(phys, size, rights) | Answer::Mapped(phys, size, rights) => Reply {
+                code: answer.code(),
+                size: size.code(),
+                rights: rights.code(),
+                number: phys,
+            },
+        }
+    }
+
+    fn with(code: u8, number: u64) -> Reply
+        ensures { result ≡ record { code = code; size = 0; rights = 0; number = number } }
+    {
+        Reply {
+            code,
+            size: 0,
+            rights: 0,
+            number,
+        }
+    }
+}
+
+/// The bits of the page's entry; or the index of the word with a reserved bit.
+fn bits_told(outcome: Outcome, bits: u64) -> u64
+    ensures { result ≡ bits_told outcome bits }
+{
+    match outcome {
+        Outcome::Reserved(_, index) => index as u64,
+        _ => bits,
+    }
+}
+
+/// The numbers of a flush: its code, the page's base and the code of its size.
+fn flush_numbers(flush: Flush) -> (u32, u64, u32)
+    ensures { result ≡ flush_numbers flush }
+{
+    match flush {
+        Flush::Nothing => (0, 0, 0),
+        Flush::Page(base, size) => (1, base, u32::from(size.code())),
+        Flush::PageAndTables(base, size) => (2, base, u32::from(size.code())),
+    }
+}
+
+/// Writes what a plan says.
+pub(crate) fn write(plan: &mut Plan, made: vs_plan::Plan)
+    ensures says { IsTold plan.new made }
+    ensures call { plan.new.call ≡ plan.old.call }
+    ensures way { plan.new.way ≡ plan.old.way }
+{
+    plan.reply = Reply::of(made.reply);
+    plan.bits = bits_told(made.reply, made.bits);
+    plan.store_count = made.stores.len();
+    plan.stores[..made.stores.len()].copy_from_slice(made.stores.as_slice());
+    (plan.flush, plan.flush_base, plan.flush_size) = flush_numbers(made.flush);
+    plan.unlinked_count = made.unlinked.len();
+    plan.unlinked[..made.unlinked.len()].copy_from_slice(made.unlinked.as_slice());
+}

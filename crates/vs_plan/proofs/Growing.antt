@@ -1,0 +1,261 @@
+-- New tables that are filled before they are linked.
+use Rattle.std.proofs.Common.{◌≡◌, ◌≢◌, ℕ, suc, ◌+◌, ◌-◌, ◌%◌, ◌<◌, ◌≤◌, List, [], ◌∷◌, ◌++◌, length, Bool, true, false, Option, Some, All, Contains, ⊎_elim, refl, sym, ap, subst, ◌∙◌, arith}
+use Rattle.std.specs.Prelude.{◌&&◌, unwrap_or, slice_set}
+use Rattle.std.proofs.lemmas.Bool.{cases_eq, cases_lt}
+use Rattle.std.proofs.lemmas.List.{get_or-set_same, get_or-set_other, length-replicate}
+use Rattle.std.proofs.lemmas.List.Elements.{All-push, All-head, All-tail, Contains-append_left, Contains-append_right}
+use Rattle.std.specs.FinMap as finite
+use Rattle.vs_types.specs.Depth.{levels, index_at}
+use Rattle.vs_types.specs.Entry.{meaning, all_rights, table_word}
+use Rattle.vs_types.specs.Page.{level_of, bytes_of, intersection}
+use Rattle.vs_types.specs.declared.depth.Depth.{Depth}
+use Rattle.vs_types.specs.declared.page.Page.{Page}
+use Rattle.vs_types.specs.declared.page.Rights.{Rights}
+use Rattle.vs_types.specs.declared.entry.Meaning.{Meaning}
+use Rattle.vs_types.specs.declared.entry.Meaning.TheVariants as entry
+use Rattle.vs_types.proofs.Lists.{Contains-head, Contains-cases, not_in_nil}
+use Rattle.vs_types.proofs.Pages.{level_some}
+use Rattle.vs_arena.specs.Store.{zeros}
+use Rattle.vs_walk.specs.Memory.{Memory, AreWhole}
+use Rattle.vs_walk.specs.Walk.{walk, walk_entry, walk_from}
+use Rattle.vs_walk.specs.declared.walk.Walk.TheVariants.{Mapped}
+use Rattle.vs_space.specs.Held.{word_at}
+use Rattle.vs_space.specs.Path.{found_at, table_in, table_at, SamePath}
+use Rattle.vs_space.proofs.Links.{zeros_are}
+use Rattle.vs_space.proofs.Paths.{walk_found}
+use Rattle.vs_space.proofs.Prunes.{word_in}
+use Rattle.vs_space.proofs.Trees.{unreached_table, unreached_walk}
+use Rattle.vs_space.proofs.Writes.{get_written, get_written_other}
+use Rattle.vs_space.proofs.Written.{size_same}
+use Rattle.vs_plan.specs.declared.plan.Store.{Store}
+use Rattle.vs_plan.specs.declared.request.Request.TheVariants.{Map}
+use Rattle.vs_plan.specs.Bits.{page_word}
+use Rattle.vs_plan.specs.Premise.{IsSpare}
+use Rattle.vs_plan.specs.Right.{IsWritten, AreLinks}
+use Rattle.vs_plan.specs.Shown.{last_frame, EndsAt, frames_of, AreSameIn, IsLone, LeadsToPage, AreFilled}
+use Rattle.vs_plan.specs.Stores.{stored, stored_all, FindTheirWords}
+use Rattle.vs_plan.proofs.Linking.{lone_lowest, lone_higher}
+use Rattle.vs_plan.proofs.Pages.{found_word}
+use Rattle.vs_plan.proofs.Parts.{words_apart, store_at}
+use Rattle.vs_plan.proofs.Stored.{stored_push, found_push, stored_elsewhere, whole_stored, used_word}
+
+-- ---- rights
+
+both : (b : Bool) → (b && true) ≡ b
+both true = refl
+both false = refl
+
+pub all_of : (rights : Rights) → intersection rights all_rights ≡ rights
+all_of rights = rw (both rights.write, both rights.user, both rights.exec) refl
+
+-- ---- what is stored in spare frames changes no walk
+
+frame_among : (stores : List Store) (q : ℕ) → Contains (frames_of stores) q → (P : ℕ → Type 0) → All (λ (s : Store). P s.frame) stores → P q
+frame_among [] q among P are = absurd (not_in_nil q among)
+frame_among (s ∷ stores) q among P are = ⊎_elim
+    (λ (here : s.frame ≡ q). subst P here (All-head (λ (t : Store). P t.frame) s stores are))
+    (λ (later : Contains (frames_of stores) q). frame_among stores q later P (All-tail (λ (t : Store). P t.frame) s stores are))
+    (Contains-cases s.frame (frames_of stores) q among)
+
+module _ {depth : Depth} {memory : Memory} {root : ℕ} (stores : List Store) (spare : All (λ (s : Store). IsSpare depth memory root s.frame) stores) where
+  pub not_spare : (j b q : ℕ) → table_at (levels depth) memory root j b ≡ Some q → Contains (frames_of stores) q → ⊥
+  not_spare j b q reached among =
+      let is : IsSpare depth memory root q = frame_among stores q among (IsSpare depth memory root) spare in
+      is.unreached j b reached
+
+  pub alike : (j b q : ℕ) → table_at (levels depth) memory root j b ≡ Some q → finite.get (stored_all memory stores) q ≡ finite.get memory q
+  alike j b q reached = stored_elsewhere memory stores q (not_spare j b q reached)
+
+  pub walk_filled : (b : ℕ) → walk depth (stored_all memory stores) root b ≡ walk depth memory root b
+  walk_filled b = unreached_walk (levels depth) root memory (stored_all memory stores) alike b
+
+  pub table_filled : (j b : ℕ) → table_at (levels depth) (stored_all memory stores) root j b ≡ table_at (levels depth) memory root j b
+  table_filled j b = unreached_table (levels depth) root memory (stored_all memory stores) alike j b
+
+pub whole_filled : (m : Memory) (stores : List Store) → AreWhole m → FindTheirWords m stores → AreWhole (stored_all m stores)
+whole_filled m [] whole found = whole
+whole_filled m (s ∷ stores) whole found =
+    whole_filled (stored m s) stores (whole_stored m s.frame s.index s.new whole (used_word m s.frame s.index s.old found.0)) found.1
+
+-- ---- links
+
+pub links_push : (frame : ℕ) (xs : List Store) (t : Store) → AreLinks frame xs → t.new ≡ table_word (last_frame frame xs) → AreLinks frame (xs ++ t ∷ [])
+links_push frame [] t before is = (is, tt)
+links_push frame (x ∷ xs) t before is = (before.0, links_push x.frame xs t before.1 is)
+
+pub last_push : (frame : ℕ) (xs : List Store) (t : Store) → last_frame frame (xs ++ t ∷ []) ≡ t.frame
+last_push frame [] t = refl
+last_push frame (x ∷ xs) t = last_push x.frame xs t
+
+some_stores : (xs : List Store) → (xs ≡ [] → ⊥) → 1 ≤ length xs
+some_stores [] more = absurd (more refl)
+some_stores (x ∷ xs) more = omega arith
+
+zero_absent : (level : ℕ) → meaning level 0 ≡ entry.Absent
+zero_absent level = refl
+
+-- ---- one more table is filled
+
+path_down : (top level a b : ℕ) → SamePath (suc top) level a b → SamePath top level a b
+path_down top level a b same = λ i from to. same i from (omega arith)
+
+path_up : (top level a b : ℕ) → SamePath top level a b → index_at (suc top) a ≡ index_at (suc top) b → SamePath (suc top) level a b
+path_up top level a b same here = λ i from to. ⊎_elim
+    (λ (last : i ≡ suc top). subst (λ j. index_at j a ≡ index_at j b) (sym last) here)
+    (λ (other : i ≢ suc top). same i from (omega (arith, other)))
+    (cases_eq i (suc top))
+
+-- a frame of zeros but for one word
+module _ (m : Memory) (n i w : ℕ) (low : i < 512) (is : finite.get m n ≡ Some (slice_set zeros i w)) where
+  found_there : (level b : ℕ) → index_at level b ≡ i → found_at level m n b ≡ Some (meaning level w)
+  found_there level b same = found_word level m n b w
+      (ap (word_at m n) same ∙ word_in m n i _ is ∙ ap Some (get_or-set_same zeros i w 0 (omega (arith, length-replicate {A = ℕ} 512 0))))
+
+  found_beside : (level b : ℕ) → index_at level b ≢ i → found_at level m n b ≡ Some entry.Absent
+  found_beside level b other = found_word level m n b 0
+      (word_in m n (index_at level b) _ is ∙ ap Some (get_or-set_other zeros i (index_at level b) w 0 other ∙ zeros_are (index_at level b)))
+
+module _ {depth : Depth} {memory : Memory} {root : ℕ} {page : Page} {bits : ℕ} {height below : ℕ} {stores : List Store}
+    (filled : AreFilled depth memory root page bits height below stores) (lowest : level_of page.size ≤ height)
+    (count : length stores + level_of page.size ≡ height) {number : ℕ} (spare : IsSpare depth memory root number)
+    (new : Contains (frames_of stores) number → ⊥) (w : ℕ) where
+  abbrev s : Store
+  s = store_at number (index_at height page.base) 0 w
+
+  abbrev mk : Memory
+  mk = stored_all memory stores
+
+  clear : finite.get mk number ≡ Some zeros
+  clear = stored_elsewhere memory stores number new ∙ spare.clear
+
+  frames_push : (xs : List Store) → frames_of (xs ++ s ∷ []) ≡ frames_of xs ++ number ∷ []
+  frames_push [] = refl
+  frames_push (t ∷ xs) = ap (λ ns. t.frame ∷ ns) (frames_push xs)
+
+  after : stored_all memory (stores ++ s ∷ []) ≡ stored mk s
+  after = stored_push memory stores s
+
+  here : Contains (frames_of (stores ++ s ∷ [])) number
+  here = subst (λ ns. Contains ns number) (sym (frames_push stores)) (Contains-append_right (frames_of stores) (number ∷ []) number (Contains-head number []))
+
+  module _ (m : Memory) (same : AreSameIn (frames_of (stores ++ s ∷ [])) (stored_all memory (stores ++ s ∷ [])) m) where
+    own_words : finite.get m number ≡ Some (slice_set zeros (index_at height page.base) w)
+    own_words = same number here ∙ ap (λ (n : Memory). finite.get n number) after ∙ get_written mk number (index_at height page.base) w
+        ∙ ap (λ (o : Option (List ℕ)). Some (slice_set (unwrap_or o []) (index_at height page.base) w)) clear
+
+    others_same : AreSameIn (frames_of stores) mk m
+    others_same q among = same q (subst (λ ns. Contains ns q) (sym (frames_push stores)) (Contains-append_left (frames_of stores) (number ∷ []) q among))
+        ∙ ap (λ (n : Memory). finite.get n q) after
+        ∙ get_written_other mk number (index_at height page.base) w q (λ e. new (subst (Contains (frames_of stores)) e among))
+
+    -- the table of the page
+    lowest_leads : height ≡ level_of page.size → meaning (level_of page.size) w ≡ entry.Leaf page.phys page.rights → LeadsToPage depth m page height number
+    lowest_leads at leads = subst (λ h. finite.get m number ≡ Some (slice_set zeros (index_at h page.base) w) → LeadsToPage depth m page h number) (sym at)
+        (λ words. by (level_of page.size - 1) (omega (arith, level_some page.size)) words) own_words
+      where
+        by : (low : ℕ) → level_of page.size ≡ suc low → finite.get m number ≡ Some (slice_set zeros (index_at (level_of page.size) page.base) w)
+            → LeadsToPage depth m page (level_of page.size) number
+        by low one words = λ b rights. (
+          λ path. walk_one b rights (entry.Leaf page.phys page.rights)
+              (found_there m number (index_at (level_of page.size) page.base) w (omega arith) words (level_of page.size) b
+              (sym (path (level_of page.size) (omega arith) (omega arith))) ∙ ap Some leads)
+              ∙ ap (λ z. Mapped (page.phys + b % bytes_of page.size) z (intersection rights page.rights)) (size_same page.size),
+          λ apart. walk_one b rights entry.Absent
+              (found_beside m number (index_at (level_of page.size) page.base) w (omega arith) words (level_of page.size) b
+              (λ e. apart (λ i from to. let only : i ≡ level_of page.size = omega arith in
+              subst (λ j. index_at j page.base ≡ index_at j b) (sym only) (sym e)))),
+        ) where
+          walk_one : (b : ℕ) (rights : Rights) (e : Meaning) → found_at (level_of page.size) m number b ≡ Some e
+              → walk_from m (level_of page.size) number rights b
+              ≡ walk_entry (level_of page.size) rights b (λ next given. walk_from m low next given b) e
+          walk_one b rights e found = subst (λ l. found_at l m number b ≡ Some e → walk_from m l number rights b
+              ≡ walk_entry l rights b (λ next given. walk_from m low next given b) e) (sym one) (walk_found m low number rights b e) found
+
+    -- a table above
+    higher_leads : level_of page.size < height → meaning height w ≡ entry.Table below all_rights → LeadsToPage depth m page height number
+    higher_leads deep leads = by (height - 1) (omega arith) ((filled.hang deep).1 m others_same) where
+      by : (low : ℕ) → height ≡ suc low → LeadsToPage depth m page (height - 1) below → LeadsToPage depth m page height number
+      by low one lower = λ b rights. (
+        λ path. on b rights (sym (path height (omega arith) (omega arith)))
+            ∙ (leads_low b rights).0 (λ i from to. path i from (omega (arith, one))),
+        λ apart. ⊎_elim
+            (λ (turn : index_at height b ≡ index_at height page.base). on b rights turn
+            ∙ (leads_low b rights).1 (λ path. apart (subst (λ h. SamePath h (level_of page.size) page.base b) (sym one)
+            (path_up low (level_of page.size) page.base b path (subst (λ h. index_at h page.base ≡ index_at h b) one (sym turn))))))
+            (λ (off : index_at height b ≢ index_at height page.base). walk_one b rights entry.Absent
+            (found_beside m number (index_at height page.base) w (omega arith) own_words height b off))
+            (cases_eq (index_at height b) (index_at height page.base)),
+      ) where
+        walk_one : (b : ℕ) (rights : Rights) (e : Meaning) → found_at height m number b ≡ Some e
+            → walk_from m height number rights b ≡ walk_entry height rights b (λ next given. walk_from m low next given b) e
+        walk_one b rights e found = subst (λ l. found_at l m number b ≡ Some e → walk_from m l number rights b
+            ≡ walk_entry l rights b (λ next given. walk_from m low next given b) e) (sym one) (walk_found m low number rights b e) found
+
+        on : (b : ℕ) (rights : Rights) → index_at height b ≡ index_at height page.base → walk_from m height number rights b ≡ walk_from m low below rights b
+        on b rights turn = walk_one b rights (entry.Table below all_rights)
+            (found_there m number (index_at height page.base) w (omega arith) own_words height b turn ∙ ap Some leads)
+            ∙ ap (λ r. walk_from m low below r b) (all_of rights)
+
+        leads_low : LeadsToPage depth m page low below
+        leads_low = subst (λ h. LeadsToPage depth m page h below) (let e : height - 1 ≡ low = omega arith in e) lower
+
+    lowest_lone : height ≡ level_of page.size → meaning (level_of page.size) w ≡ entry.Leaf page.phys page.rights
+        → IsLone m page.base height number (frames_of (stores ++ s ∷ []))
+    lowest_lone at leads = lone_lowest m number (index_at height page.base) w (omega arith) own_words page.base height (frames_of (stores ++ s ∷ []))
+        (omega (arith, level_some page.size, at)) (ap (λ e. table_in (Some e)) (ap (λ l. meaning l w) at ∙ leads)) here
+
+    higher_lone : level_of page.size < height → meaning height w ≡ entry.Table below all_rights
+        → IsLone m page.base height number (frames_of (stores ++ s ∷ []))
+    higher_lone deep leads = by (height - 1) (omega arith) (filled.lone deep m others_same) where
+      by : (low : ℕ) → height ≡ suc low → IsLone m page.base (height - 1) below (frames_of stores)
+          → IsLone m page.base height number (frames_of (stores ++ s ∷ []))
+      by low one lone =
+          subst (λ h. IsLone m page.base h number (frames_of (stores ++ s ∷ []))) (sym one)
+          (subst (λ ns. IsLone m page.base (suc low) number ns) (sym (frames_push stores))
+          (lone_higher m page.base low below number w all_rights (frames_of stores)
+          (subst (λ h. finite.get m number ≡ Some (slice_set zeros (index_at h page.base) w)) one own_words)
+          (subst (λ h. meaning h w ≡ entry.Table below all_rights) one leads) new
+          (subst (λ h. IsLone m page.base h below (frames_of stores)) (let e : height - 1 ≡ low = omega arith in e) lone)))
+
+  written_push : (xs : List Store) → IsWritten (Map page bits) xs → EndsAt below xs → (xs ≡ [] → w ≡ page_word page bits)
+      → ((xs ≡ [] → ⊥) → w ≡ table_word below) → IsWritten (Map page bits) (xs ++ s ∷ [])
+  written_push [] before ends first later = (first refl, tt)
+  written_push (t ∷ xs) before ends first later = (before.0, links_push t.frame xs s before.1 (later (λ e. cc) ∙ ap table_word (sym ends)))
+
+  ends_push : (xs : List Store) → EndsAt number (xs ++ s ∷ [])
+  ends_push [] = refl
+  ends_push (t ∷ xs) = last_push t.frame xs s
+
+  -- what is written is no 0
+  fresh_word : (height ≡ level_of page.size → (w ≡ page_word page bits) × (meaning (level_of page.size) w ≡ entry.Leaf page.phys page.rights))
+      → (level_of page.size < height → (w ≡ table_word below) × (meaning height w ≡ entry.Table below all_rights)) → 0 ≢ w
+  fresh_word at above = ⊎_elim
+      (λ (up : level_of page.size < height). words_apart height 0 w (λ same. let both = same ∙ (above up).1 in cc (both, zero_absent height)))
+      (λ (le : height ≤ level_of page.size).
+      words_apart (level_of page.size) 0 w (λ same. let both = same ∙ (at (omega (arith, lowest))).1 in cc (both, zero_absent (level_of page.size))))
+      (cases_lt (level_of page.size) height)
+
+  pub filled_more : (height ≡ level_of page.size → (w ≡ page_word page bits) × (meaning (level_of page.size) w ≡ entry.Leaf page.phys page.rights))
+      → (level_of page.size < height → (w ≡ table_word below) × (meaning height w ≡ entry.Table below all_rights))
+      → AreFilled depth memory root page bits (height + 1) number (stores ++ s ∷ [])
+  filled_more at above = record {
+    found = found_push memory stores s filled.found (word_in mk number (index_at height page.base) zeros clear ∙ ap Some (zeros_are (index_at height page.base)));
+    spare = All-push (λ (t : Store). IsSpare depth memory root t.frame) stores s filled.spare spare;
+    written = written_push stores filled.written filled.ends (λ none.
+        let empty : length stores ≡ 0 = ap length none in (at (omega (arith, count, empty))).0)
+        (λ more. (above (omega (arith, count, some_stores stores more))).0);
+    ends = ends_push stores;
+    hang = λ deep. (
+      here,
+      λ m same. subst (λ h. LeadsToPage depth m page h number) (let e : height ≡ height + 1 - 1 = omega arith in e) (⊎_elim
+          (λ (up : level_of page.size < height). higher_leads m same up (above up).1)
+          (λ (le : height ≤ level_of page.size). let is : height ≡ level_of page.size = omega (arith, lowest) in lowest_leads m same is (at is).1)
+          (cases_lt (level_of page.size) height)),
+    );
+    absent = All-push (λ (t : Store). t.old % 2 ≡ 0) stores s filled.absent refl;
+    changing = All-push (λ (t : Store). t.old ≢ t.new) stores s filled.changing (fresh_word at above);
+    lone = λ deep m same. subst (λ h. IsLone m page.base h number (frames_of (stores ++ s ∷ []))) (let e : height ≡ height + 1 - 1 = omega arith in e) (⊎_elim
+        (λ (up : level_of page.size < height). higher_lone m same up (above up).1)
+        (λ (le : height ≤ level_of page.size). let is : height ≡ level_of page.size = omega (arith, lowest) in lowest_lone m same is (at is).1)
+        (cases_lt (level_of page.size) height));
+  }

@@ -1,0 +1,237 @@
+-- A plan that adds a page.
+use Rattle.std.proofs.Common.{◌≡◌, ℕ, suc, ◌+◌, ◌-◌, ◌%◌, ◌<◌, ◌≤◌, List, [], ◌∷◌, ◌++◌, take, Option, Some, Contains, ⊎_elim, refl, sym, ap, subst, ◌∙◌, arith, ◌≢◌}
+use Rattle.std.specs.Prelude.{IsSome, option_map, slice_index}
+use Rattle.std.proofs.lemmas.Bool.{cases_lt}
+use Rattle.std.proofs.lemmas.List.Elements.{All-nil, All-cons, All-push, All-take, All-weaker}
+use Rattle.std.specs.FinMap as finite
+use Rattle.vs_types.specs.Depth.{levels, entry_bytes, index_at, IsCanonical}
+use Rattle.vs_types.specs.Entry.{meaning, size_at, all_rights, table_word}
+use Rattle.vs_types.specs.Page.{level_of, bytes_of, intersection, IsPage}
+use Rattle.vs_types.specs.Space.{Space, table_count}
+use Rattle.vs_types.specs.Step.{step}
+use Rattle.vs_types.specs.declared.op.Action.TheVariants as actions
+use Rattle.vs_types.specs.declared.page.Page.{Page}
+use Rattle.vs_types.specs.declared.page.Rights.{Rights}
+use Rattle.vs_types.specs.declared.entry.Meaning.TheVariants as entry
+use Rattle.vs_types.specs.declared.answer.Answer.TheVariants as answers
+use Rattle.vs_types.proofs.Lists.{not_in_nil}
+use Rattle.vs_walk.specs.Memory.{Memory, AreWhole}
+use Rattle.vs_walk.specs.Walk.{walk, walk_from, TranslatesAs}
+use Rattle.vs_walk.specs.declared.walk.Walk.TheVariants.{NotMapped, Mapped}
+use Rattle.vs_space.specs.Held.{word_at}
+use Rattle.vs_space.specs.Path.{found_at, table_in, SamePath}
+use Rattle.vs_space.specs.Table.{IsTableOf}
+use Rattle.vs_space.proofs.Paths.{found_same, walk_found}
+use Rattle.vs_space.proofs.Writes.{get_written_other, found_alike, same_or_not}
+use Rattle.vs_space.proofs.Written.{size_same}
+use Rattle.vs_plan.specs.declared.plan.Flush.TheVariants as flushes
+use Rattle.vs_plan.specs.declared.plan.Reply.TheVariants as replies
+use Rattle.vs_plan.specs.declared.plan.Store.{Store}
+use Rattle.vs_plan.specs.declared.request.Request.TheVariants.{Map}
+use Rattle.vs_plan.specs.declared.target.Target.{Target}
+use Rattle.vs_plan.specs.Bits.{page_word}
+use Rattle.vs_plan.specs.Premise.{HasOwnWay, IsSpare}
+use Rattle.vs_plan.specs.Right.{IsMeant, OfPage, OfSpare, IsWritten, IsFlushed, IsPruned}
+use Rattle.vs_plan.specs.Shown.{EndsAt, frames_of, LeadsToPage, AreFilled}
+use Rattle.vs_plan.specs.Stores.{stored, stored_all}
+use Rattle.vs_plan.specs.Way.{IsWay}
+use Rattle.vs_plan.proofs.Growing.{links_push, all_of, not_spare, walk_filled, table_filled, alike, whole_filled}
+use Rattle.vs_plan.proofs.OneStore.{walk_off, walk_on, walk_leaf, own_on}
+use Rattle.vs_plan.proofs.Pages.{table_from, found_word}
+use Rattle.vs_plan.proofs.EntryStores.{IsOwnTable}
+use Rattle.vs_plan.proofs.Linking.{own_linked}
+use Rattle.vs_plan.proofs.Parts.{words_apart, none_named, Parts, safe_one, safe_last, store_at, EndAt}
+use Rattle.vs_plan.proofs.Steps.{added_answer, added_translates}
+use Rattle.vs_plan.proofs.Stored.{stored_push, found_push, used_word, whole_stored}
+use Rattle.vs_plan.proofs.Ways.{way_table, way_within, way_walk, way_kept}
+
+word_same : (m m' : Memory) (n i : ℕ) → finite.get m' n ≡ finite.get m n → word_at m' n i ≡ word_at m n i
+unfolding word_at
+word_same m m' n i same = ap (option_map (λ (words : List ℕ). slice_index words i)) same
+
+-- the bit of a word that is absent
+absent_even : (level word : ℕ) → meaning level word ≡ entry.Absent → word % 2 ≡ 0
+absent_even level word says = grind arith
+
+module _ (target : Target) (bits : ℕ) {memory : Memory} {space : Space} {page : Page} {level number word : ℕ} {given : Rights}
+    (end : EndAt target memory space level number given word page.base) (some : 1 ≤ level) (good : IsPage target.depth page)
+    (says : meaning level word ≡ entry.Absent) (lowest : level_of page.size ≤ level) where
+  table : IsTableOf (table_from target.depth memory target.root) space
+  table = record { is_space = end.premise.is_space; translates = end.premise.translates }
+
+  used : IsSome (finite.get memory number)
+  used = used_word memory number (index_at level page.base) word end.word_is
+
+  -- nothing is mapped where the entry is taken
+  absent_below : (b : ℕ) → SamePath (levels target.depth) level page.base b → walk target.depth memory target.root b ≡ NotMapped
+  absent_below b path = way_walk level number given end.way b (λ i from to. path i (omega arith) to) ∙ by (level - 1) (omega arith) where
+    by : (below : ℕ) → level ≡ suc below → walk_from memory level number given b ≡ NotMapped
+    by below one = subst (λ l. found_at l memory number b ≡ Some entry.Absent → walk_from memory l number given b ≡ NotMapped) (sym one)
+        (λ found. walk_found memory below number given b entry.Absent found)
+        (found_same level memory number b page.base (sym (path level (omega arith) (way_within level number given end.way)))
+        ∙ found_word level memory number page.base word end.word_is ∙ ap Some says)
+
+  nothing : (b : ℕ) → IsCanonical target.depth b → SamePath (levels target.depth) (level_of page.size) page.base b
+      → walk target.depth memory target.root b ≡ NotMapped
+  nothing b canonical path = absent_below b (λ i from to. path i (omega (arith, lowest)) to)
+
+  -- a map of the page is done
+  pub would_add : (step target.depth (table_count target.depth (finite.insert space page.base page)) space (actions.Map page)).answer ≡ answers.Done
+  would_add = added_answer table good nothing
+
+  module _ (allows : intersection given page.rights ≡ page.rights) where
+    pruned_map : (after : Memory) (stores : List Store) → IsPruned target after (Map page bits) stores
+    pruned_map after [] = tt
+    pruned_map after (s ∷ stores) = tt
+
+    flushed_map : (stores : List Store) → IsFlushed target memory (Map page bits) stores [] flushes.Nothing
+    flushed_map [] = refl
+    flushed_map (s ∷ stores) = refl
+
+    -- ---- the page's entry alone is written
+
+    pub alone_parts : (offered : List (Option ℕ)) → level ≡ level_of page.size → (w : ℕ) → w ≡ page_word page bits → meaning (level_of page.size) w ≡ entry.Leaf page.phys page.rights
+        → Parts target (Map page bits) memory space offered (replies.Answer answers.Done) 0 (store_at number (index_at level page.base) word w ∷ [])
+        flushes.Nothing []
+    alone_parts offered at w is leads =
+        let says_new : meaning level w ≡ entry.Leaf page.phys page.rights = ap (λ l. meaning l w) at ∙ leads in
+        record {
+          reply_is = sym (added_answer table good nothing);
+          safe = safe_one (store_at number (index_at level page.base) word w) end.premise.translates (added_translates table good nothing
+              (stored memory (store_at number (index_at level page.base) word w))
+              (λ b canonical path.
+              walk_leaf end.way end.premise.own used w end.premise.whole says_new some b (λ i from to. path i (omega (arith, at)) to)
+              ∙ ap (λ l. Mapped (page.phys + b % entry_bytes l) (size_at l) (intersection given page.rights)) at
+              ∙ ap (λ z. Mapped (page.phys + b % bytes_of page.size) z (intersection given page.rights)) (size_same page.size)
+              ∙ ap (Mapped (page.phys + b % bytes_of page.size) page.size) allows)
+              (λ b apart. walk_off end.way end.premise.own used w b (λ path. apart (λ i from to. path i (omega (arith, at)) to))));
+          found = (end.word_is, tt);
+          meant = All-cons (IsMeant target memory page.base []) (store_at number (index_at level page.base) word w) []
+              (OfPage (record { level = level; reached = way_table level number given end.way; index = refl }) (ap (λ e. table_in (Some e)) says)) (All-nil _);
+          nothing = λ none. absurd (none (λ e. cc));
+          written = (is, tt);
+          changing = All-cons (λ (t : Store). t.old ≢ t.new) (store_at number (index_at level page.base) word w) []
+              (words_apart level word w (λ same. let both = sym says ∙ same ∙ says_new in cc)) (All-nil _);
+          one_way = All-cons (λ (t : Store). t.old % 2 ≡ 0) (store_at number (index_at level page.base) word w) [] (absent_even level word says) (All-nil _);
+          told = refl;
+          flushed = refl;
+          gone = All-nil _;
+          pruned = tt;
+          named_once = none_named;
+          whole = whole_stored memory number (index_at level page.base) w end.premise.whole used;
+          own = own_on end.way end.premise.own used w end.premise.whole (ap (λ e. table_in (Some e)) says_new) some;
+        }
+
+    -- ---- new tables are linked
+
+    module _ {below : ℕ} {stores : List Store} (filled : AreFilled target.depth memory target.root page bits level below stores) (deep : level_of page.size < level)
+        (w : ℕ) (link_is : w ≡ table_word below) (leads : meaning level w ≡ entry.Table below all_rights) where
+      abbrev s : Store
+      s = store_at number (index_at level page.base) word w
+
+      abbrev mk : Memory
+      mk = stored_all memory stores
+
+      abbrev m' : Memory
+      m' = stored mk s
+
+      number_apart : Contains (frames_of stores) number → ⊥
+      number_apart among = not_spare stores filled.spare level page.base number (way_table level number given end.way) among
+
+      way : IsWay target.depth mk target.root page.base level number given
+      way = way_kept mk level number given end.way (λ j q over reached. found_alike j memory mk q page.base (alike stores filled.spare j page.base q reached))
+
+      own_filled : (c : ℕ) → HasOwnWay target.depth memory target.root c → HasOwnWay target.depth mk target.root c
+      own_filled c has = record {
+        once = λ l q j b one other.
+            has.once l q j b (sym (table_filled stores filled.spare l c) ∙ one) (sym (table_filled stores filled.spare j b) ∙ other);
+      }
+
+      word_filled : word_at mk number (index_at level page.base) ≡ Some word
+      word_filled = word_same memory mk number (index_at level page.base)
+          (alike stores filled.spare level page.base number (way_table level number given end.way)) ∙ end.word_is
+
+      used_filled : IsSome (finite.get mk number)
+      used_filled = used_word mk number (index_at level page.base) word word_filled
+
+      whole_mk : AreWhole mk
+      whole_mk = whole_filled memory stores end.premise.whole filled.found
+
+      hung : LeadsToPage target.depth m' page (level - 1) below
+      hung = (filled.hang deep).1 m' (λ q among. get_written_other mk number (index_at level page.base) w q
+          (λ e. number_apart (subst (Contains (frames_of stores)) e among)))
+
+      walk_linked : (b : ℕ) → SamePath (levels target.depth) level page.base b
+          → walk target.depth m' target.root b ≡ walk_from m' (level - 1) below (intersection given all_rights) b
+      walk_linked b path = walk_on way (own_filled page.base end.premise.own) used_filled w whole_mk (entry.Table below all_rights) leads some b path
+
+      there : (b : ℕ) → IsCanonical target.depth b → SamePath (levels target.depth) (level_of page.size) page.base b
+          → walk target.depth m' target.root b ≡ Mapped (page.phys + b % bytes_of page.size) page.size page.rights
+      there b canonical path =
+          let within = way_within level number given end.way in
+          walk_linked b (λ i from to. path i (omega (arith, lowest)) to)
+          ∙ (hung b (intersection given all_rights)).0 (λ i from to. path i from (omega arith))
+          ∙ ap (Mapped (page.phys + b % bytes_of page.size) page.size) (ap (λ r. intersection r page.rights) (all_of given) ∙ allows)
+
+      elsewhere : (b : ℕ) → (SamePath (levels target.depth) (level_of page.size) page.base b → ⊥)
+          → walk target.depth m' target.root b ≡ walk target.depth memory target.root b
+      elsewhere b apart = ⊎_elim
+          (λ path. walk_linked b path
+          ∙ (hung b (intersection given all_rights)).1 (λ low. apart (λ i from to. ⊎_elim
+          (λ (under : i < level). low i from (omega arith))
+          (λ (over : level ≤ i). path i over to)
+          (cases_lt i level)))
+          ∙ sym (absent_below b path))
+          (λ off. walk_off way (own_filled page.base end.premise.own) used_filled w b off ∙ walk_filled stores filled.spare b)
+          (same_or_not (levels target.depth) level page.base b)
+
+      here : m' ≡ stored_all memory (stores ++ s ∷ [])
+      here = sym (stored_push memory stores s)
+
+      written_link : (xs : List Store) → IsWritten (Map page bits) xs → EndsAt below xs → (xs ≡ [] → ⊥) → IsWritten (Map page bits) (xs ++ s ∷ [])
+      written_link [] before ends some = absurd (some refl)
+      written_link (t ∷ xs) before ends some = (before.0, links_push t.frame xs s before.1 (link_is ∙ ap table_word (sym ends)))
+
+      some_store : stores ≡ [] → ⊥
+      some_store none =
+          let among = subst (λ (xs : List Store). Contains (frames_of xs) below) none (filled.hang deep).0 in
+          not_in_nil below among
+
+      own_table : IsOwnTable target.depth mk target.root level page.base number
+      own_table = record { own = own_filled page.base end.premise.own; whole = whole_mk; used = used_filled; at = way_table level number given way }
+
+      own_link : (a : ℕ) → HasOwnWay target.depth memory target.root a → HasOwnWay target.depth (stored_all memory (stores ++ s ∷ [])) target.root a
+      own_link a has = subst (λ (n : Memory). HasOwnWay target.depth n target.root a) here
+          (own_linked own_table w below (level - 1) all_rights leads (omega arith) (frames_of stores)
+          (filled.lone deep m' (λ q among. get_written_other mk number (index_at level page.base) w q
+          (λ e. number_apart (subst (Contains (frames_of stores)) e among))))
+          (λ q among j b r. not_spare stores filled.spare j b q (sym (table_filled stores filled.spare j b) ∙ r) among) a (own_filled a has))
+
+      pub link_parts : (offered : List (Option ℕ))
+          → Parts target (Map page bits) memory space offered (replies.Answer answers.Done) 0 (stores ++ s ∷ []) flushes.Nothing []
+      link_parts offered = record {
+        reply_is = sym (added_answer table good nothing);
+        safe = safe_last stores s
+            (λ n le b canonical. walk_filled (take n stores)
+            (All-take (λ (t : Store). IsSpare target.depth memory target.root t.frame) n stores filled.spare) b
+            ∙ end.premise.translates b canonical)
+            (subst (λ (n : Memory). TranslatesAs target.depth n target.root (step target.depth (table_count target.depth
+            (finite.insert space page.base page)) space (actions.Map page)).space) here (added_translates table good nothing m' there elsewhere));
+        found = found_push memory stores s filled.found word_filled;
+        meant = All-push (IsMeant target memory page.base []) stores s
+            (All-weaker (λ (t : Store). IsSpare target.depth memory target.root t.frame) (IsMeant target memory page.base []) (λ t is. OfSpare is)
+            stores filled.spare)
+            (OfPage (record { level = level; reached = way_table level number given end.way; index = refl }) (ap (λ e. table_in (Some e)) says));
+        nothing = λ none. absurd (none (λ e. cc));
+        written = written_link stores filled.written filled.ends some_store;
+        changing = All-push (λ (t : Store). t.old ≢ t.new) stores s filled.changing
+            (words_apart level word w (λ same. let both = sym says ∙ same ∙ leads in cc));
+        one_way = All-push (λ (t : Store). t.old % 2 ≡ 0) stores s filled.absent (absent_even level word says);
+        told = refl;
+        flushed = flushed_map (stores ++ s ∷ []);
+        gone = All-nil _;
+        pruned = pruned_map (stored_all memory (stores ++ s ∷ [])) (stores ++ s ∷ []);
+        named_once = none_named;
+        whole = subst AreWhole here (whole_stored mk number (index_at level page.base) w whole_mk used_filled);
+        own = own_link;
+      }

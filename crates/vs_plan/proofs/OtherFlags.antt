@@ -1,0 +1,162 @@
+-- Memories in which the accessed flag and the dirty flag differ: they translate alike, and so they do after stores that differ so.
+use lib.Pow.{shr-shr}
+use Rattle.std.proofs.Common.{◌≡◌, ◌≢◌, ℕ, zero, suc, ◌+◌, ◌-◌, ◌*◌, ◌/◌, ◌%◌, ◌^◌, ◌<◌, ◌≤◌, true, false, List, [], ◌∷◌, Option, Some, None, ⊎_elim, refl, sym, ap, subst, ◌∙◌, nat_eq, cond, Bool, arith}
+use Rattle.std.specs.Prelude.{IsSome, is_some, option_map, slice_set, unwrap_or}
+use Rattle.std.specs.FinMap as finite
+use Rattle.std.specs.Int.{bit_at}
+use Rattle.std.specs.List.{AllZip}
+use Rattle.std.proofs.lemmas.Bool.{cases_eq, cases_lt, eqb-false, ne_eqb}
+use Rattle.vs_types.specs.Depth.{levels, index_at}
+use Rattle.vs_types.specs.Entry.{meaning}
+use Rattle.vs_types.specs.Space.{Space}
+use Rattle.vs_types.specs.declared.depth.Depth.{Depth}
+use Rattle.vs_walk.specs.Memory.{Memory}
+use Rattle.vs_walk.specs.Walk.{TranslatesAs}
+use Rattle.vs_types.specs.declared.page.Rights.{Rights}
+use Rattle.vs_types.specs.declared.page.Size.{Size}
+use Rattle.vs_types.specs.declared.page.Size.TheVariants.{K4, M2, G1}
+use Rattle.vs_plan.specs.Again.{HasFlagsSet, flags_into, with_flags_of}
+use Rattle.vs_plan.specs.Bits.{bits_in, with_rights}
+use Rattle.vs_space.specs.Held.{with_word}
+use Rattle.vs_space.specs.Flags.{IsSameButFlags, AreSameButFlags}
+use Rattle.vs_space.specs.Path.{found_at}
+use Rattle.vs_space.proofs.Paths.{agree_walk}
+use Rattle.vs_space.proofs.Prunes.{word_in}
+use Rattle.vs_space.proofs.Writes.{words_in, get_written, get_written_other}
+use Rattle.vs_space.proofs.Written.{word_alike}
+use Rattle.vs_space.proofs.FlaggedWords.{flagged_meaning, flagged_at}
+
+no_frame : (o : Option (List ℕ)) → is_some o ≡ false → o ≡ None
+no_frame None none = refl
+no_frame (Some words) none = let wrong : true ≡ false = none in absurd (cc)
+
+module _ {old new : Memory} (is : AreSameButFlags old new) where
+  used_after : (n : ℕ) → IsSome (finite.get old n) → IsSome (finite.get new n)
+  used_after n used = is.frames n ∙ used
+
+  -- the words of a frame in use before and after
+  both : (n : ℕ) → IsSome (finite.get old n)
+      → (before : List ℕ) × (after : List ℕ) × (finite.get old n ≡ Some before) × (finite.get new n ≡ Some after) × AllZip IsSameButFlags before after
+  both n used =
+      let first = words_in old n used in
+      let second = words_in new n (used_after n used) in
+      (_, _, first, second, is.words n _ _ first second)
+
+  same_found : (level n a : ℕ) → 1 ≤ level → found_at level new n a ≡ found_at level old n a
+  unfolding found_at
+  same_found level n a some = by (finite.get old n) refl where
+    by : (o : Option (List ℕ)) → finite.get old n ≡ o → found_at level new n a ≡ found_at level old n a
+    by None none =
+        let gone : finite.get new n ≡ None = no_frame (finite.get new n) (is.frames n ∙ ap is_some none) in
+        ap (option_map (meaning level)) (word_alike old new n (index_at level a) (gone ∙ sym none))
+    by (Some words) got =
+        let here = both n (ap is_some got) in
+        let index = index_at level a in
+        ap (option_map (meaning level)) (word_in new n index here.1 here.3)
+        ∙ ap Some (flagged_meaning (flagged_at here.0 here.1 here.4 index) level some)
+        ∙ sym (ap (option_map (meaning level)) (word_in old n index here.0 here.2))
+
+  pub same_translations : (depth : Depth) (root : ℕ) (space : Space) → TranslatesAs depth old root space → TranslatesAs depth new root space
+  same_translations depth root space translates address canonical =
+      agree_walk (levels depth) root old new address (λ j n over at. same_found j n address over) ∙ translates address canonical
+
+-- ---- stores
+
+zip_set : (xs ys : List ℕ) → AllZip IsSameButFlags xs ys → (i w v : ℕ) → IsSameButFlags w v → AllZip IsSameButFlags (slice_set xs i w) (slice_set ys i v)
+zip_set [] [] are i w v same = tt
+zip_set [] (y ∷ ys) are i w v same = absurd are
+zip_set (x ∷ xs) [] are i w v same = absurd are
+zip_set (x ∷ xs) (y ∷ ys) are zero w v same = (same, are.1)
+zip_set (x ∷ xs) (y ∷ ys) are (suc i) w v same = (are.0, zip_set xs ys are.1 i w v same)
+
+one_list : (x y : List ℕ) → Some x ≡ Some y → x ≡ y
+one_list x y e = cc
+
+module _ {old new : Memory} (is : AreSameButFlags old new) (n i w v : ℕ) (used : IsSome (finite.get old n)) (same : IsSameButFlags w v) where
+  stored_here : (f : ℕ) → f ≡ n → finite.get (with_word old n i w) f ≡ Some (slice_set (unwrap_or (finite.get old n) []) i w)
+  stored_here f here = ap (finite.get (with_word old n i w)) here ∙ get_written old n i w
+
+  stored_there : (f : ℕ) → f ≡ n → finite.get (with_word new n i v) f ≡ Some (slice_set (unwrap_or (finite.get new n) []) i v)
+  stored_there f here = ap (finite.get (with_word new n i v)) here ∙ get_written new n i v
+
+  pub same_stored : AreSameButFlags (with_word old n i w) (with_word new n i v)
+  same_stored = record {
+    frames = λ f. ⊎_elim
+        (λ (here : f ≡ n). ap is_some (stored_there f here) ∙ sym (ap is_some (stored_here f here)))
+        (λ (other : f ≢ n). ap is_some (get_written_other new n i v f other) ∙ is.frames f ∙ sym (ap is_some (get_written_other old n i w f other)))
+        (cases_eq f n);
+    words = λ f before after got had. ⊎_elim
+        (λ (here : f ≡ n).
+        let first = one_list _ before (sym (stored_here f here) ∙ got) in
+        let second = one_list _ after (sym (stored_there f here) ∙ had) in
+        let zipped = zip_set _ _ (is.words n _ _ (words_in old n used) (words_in new n (used_after is n used))) i w v same in
+        subst (λ (b : List ℕ). AllZip IsSameButFlags b after) first
+        (subst (AllZip IsSameButFlags (slice_set (unwrap_or (finite.get old n) []) i w)) second zipped))
+        (λ (other : f ≢ n).
+        is.words f before after (sym (get_written_other old n i w f other) ∙ got) (sym (get_written_other new n i v f other) ∙ had))
+        (cases_eq f n);
+  }
+
+-- ---- one store that found other flags
+
+bit_above : (n k i : ℕ) → bit_at (n / 2 ^ k) i ≡ bit_at n (k + i)
+bit_above n k i = ap (λ x. x % 2) (shr-shr n k i)
+
+low_bit : (old new : ℕ) → old % 32 ≡ new % 32 → (bit : ℕ) → bit < 5 → bit_at new bit ≡ bit_at old bit
+low_bit old new same zero low = omega (arith, same)
+low_bit old new same (suc zero) low = omega (arith, same)
+low_bit old new same (suc (suc zero)) low = omega (arith, same)
+low_bit old new same (suc (suc (suc zero))) low = omega (arith, same)
+low_bit old new same (suc (suc (suc (suc zero)))) low = omega (arith, same)
+low_bit old new same (suc (suc (suc (suc (suc bit))))) low = absurd (omega (arith, low))
+
+pub flags_set : (old new : ℕ) → HasFlagsSet old new → IsSameButFlags old new
+flags_set old new is = record {
+  absent = λ none. absurd (omega (arith, none, is.present));
+  bits = λ bit apart other. ⊎_elim
+      (λ (low : bit < 5). low_bit old new is.below bit low)
+      (λ (high : 5 ≤ bit).
+      let above : 7 + (bit - 7) ≡ bit = omega (arith, high, apart, other) in
+      subst (λ b. bit_at new b ≡ bit_at old b) above
+      (sym (bit_above new 7 (bit - 7)) ∙ ap (λ n. bit_at n (bit - 7)) (sym is.above) ∙ bit_above old 7 (bit - 7)))
+      (cases_lt bit 5);
+}
+
+pub flags_kept : (word entry : ℕ) → IsSameButFlags entry (with_flags_of word entry)
+flags_kept word entry = by (nat_eq (entry % 2) 0) refl where
+  by : (none : Bool) → nat_eq (entry % 2) 0 ≡ none
+      → IsSameButFlags entry (cond none entry (entry % 2 ^ 5 + word % 2 ^ 7 / 2 ^ 5 * 2 ^ 5 + entry / 2 ^ 7 * 2 ^ 7))
+  by true none = record { absent = λ none. refl; bits = λ bit apart other. refl }
+  by false some = flags_set _ _ (record {
+    present = let odd = eqb-false (entry % 2) 0 some in omega (arith, odd);
+    below = omega arith;
+    above = omega arith;
+  })
+
+-- ---- a protect, and the bits of a page, as they would be of the word that was found
+
+kept_bits : (word old a b c : ℕ) → HasFlagsSet old word → a < 2 → b < 2 → c < 2 → (entry : ℕ)
+    → entry ≡ old % 2 + a * 2 + b * 4 + old % 2 ^ 63 / 2 ^ 3 * 2 ^ 3 + c * 2 ^ 63
+    → with_flags_of word entry ≡ word % 2 + a * 2 + b * 4 + word % 2 ^ 63 / 2 ^ 3 * 2 ^ 3 + c * 2 ^ 63
+kept_bits word old a b c is la lb lc entry is_entry =
+    ap (λ (none : Bool). cond none entry (flags_into word entry)) (ne_eqb (entry % 2) 0 (λ none. omega (arith, is.present, is_entry, none)))
+    ∙ omega (arith, is.present, is.below, is.above, la, lb, lc, is_entry)
+
+kept_rights : (word old : ℕ) (w u x : Bool) → HasFlagsSet old word
+    → with_flags_of word (with_rights old (record { write = w; user = u; exec = x })) ≡ with_rights word (record { write = w; user = u; exec = x })
+kept_rights word old true true true is = kept_bits word old 1 1 0 is (omega arith) (omega arith) (omega arith) _ refl
+kept_rights word old true true false is = kept_bits word old 1 1 1 is (omega arith) (omega arith) (omega arith) _ refl
+kept_rights word old true false true is = kept_bits word old 1 0 0 is (omega arith) (omega arith) (omega arith) _ refl
+kept_rights word old true false false is = kept_bits word old 1 0 1 is (omega arith) (omega arith) (omega arith) _ refl
+kept_rights word old false true true is = kept_bits word old 0 1 0 is (omega arith) (omega arith) (omega arith) _ refl
+kept_rights word old false true false is = kept_bits word old 0 1 1 is (omega arith) (omega arith) (omega arith) _ refl
+kept_rights word old false false true is = kept_bits word old 0 0 0 is (omega arith) (omega arith) (omega arith) _ refl
+kept_rights word old false false false is = kept_bits word old 0 0 1 is (omega arith) (omega arith) (omega arith) _ refl
+
+pub protect_again : (word old : ℕ) (rights : Rights) → HasFlagsSet old word → with_flags_of word (with_rights old rights) ≡ with_rights word rights
+protect_again word old rights is = kept_rights word old rights.write rights.user rights.exec is
+
+pub bits_after : (size : Size) (word old : ℕ) → HasFlagsSet old word → flags_into word (bits_in size old) ≡ bits_in size word
+bits_after K4 word old is = omega (arith, is.below, is.above)
+bits_after M2 word old is = omega (arith, is.below, is.above)
+bits_after G1 word old is = omega (arith, is.below, is.above)

@@ -1,0 +1,242 @@
+-- A plan is right by its parts.
+use Rattle.std.proofs.Common.{AllPairs, ◌≡◌, ◌≢◌, ℕ, zero, suc, ◌<◌, ◌≤◌, List, [], ◌∷◌, ◌++◌, length, take, Option, Some, All, refl, sym, ap, subst, ◌∙◌, arith}
+use Rattle.std.proofs.lemmas.List.{length-append, take-append-le}
+use Rattle.std.proofs.lemmas.List.Elements.{All-nil}
+use Rattle.std.proofs.Math.Seq.{take-length}
+use Rattle.vs_types.specs.Depth.{index_at, IsCanonical}
+use Rattle.vs_types.specs.Entry.{meaning}
+use Rattle.vs_types.specs.Space.{Space}
+use Rattle.vs_types.specs.declared.page.Rights.{Rights}
+use Rattle.vs_space.specs.Held.{word_at}
+use Rattle.vs_types.specs.declared.depth.Depth.{Depth}
+use Rattle.vs_walk.specs.Memory.{Memory, AreWhole}
+use Rattle.vs_walk.specs.Walk.{TranslatesAs}
+use Rattle.vs_plan.specs.declared.plan.Flush.{Flush}
+use Rattle.vs_plan.specs.declared.plan.Flush.TheVariants as flushes
+use Rattle.vs_plan.specs.declared.plan.Plan.{Plan}
+use Rattle.vs_plan.specs.declared.plan.Reply.{Reply}
+use Rattle.vs_plan.specs.declared.plan.Step.{Step}
+use Rattle.vs_plan.specs.declared.plan.Step.TheVariants as steps
+use Rattle.vs_plan.specs.declared.plan.Store.{Store}
+use Rattle.vs_plan.specs.Shown.{IsNext}
+use Rattle.vs_plan.specs.declared.request.Request.{Request}
+use Rattle.vs_plan.specs.declared.request.Request.TheVariants.{Map, Unmap, Protect, Ask}
+use Rattle.vs_plan.specs.declared.target.Target.{Target}
+use Rattle.vs_plan.specs.Planner.{Awaits, HasGiven}
+use Rattle.vs_plan.specs.declared.planner.Phase.TheVariants as phases
+use Rattle.vs_plan.specs.Premise.{HasOwnWay, IsPremise}
+use Rattle.vs_plan.specs.Request.{address_of}
+use Rattle.vs_plan.specs.Right.{IsReply, space_after, Changes, IsMeant, IsWritten, IsOneWay, IsPruned, IsTold, IsFlushed, IsUnlinked, IsRight}
+use Rattle.vs_plan.specs.Stores.{stored, stored_all, FindTheirWords, AreSafe}
+use Rattle.vs_plan.specs.Way.{IsWay}
+use Rattle.vs_plan.specs.declared.planner.Planner.{Planner}
+use Rattle.vs_plan.specs.inside.Ended.{IsEnd, IsAtEnd, HasEnded, ChangesNothing, IsPlanned}
+
+-- where no table is unlinked
+pub none_named : AllPairs (λ (number other : ℕ). number ≢ other) []
+none_named i j d lt within = absurd (omega arith)
+
+-- words that mean different things are different
+pub words_apart : (level old new : ℕ) → (meaning level old ≡ meaning level new → ⊥) → old ≢ new
+words_apart level old new apart same = apart (ap (meaning level) same)
+
+pub record Parts (target : Target) (request : Request) (memory : Memory) (space : Space) (offered : List (Option ℕ)) (reply : Reply) (bits : ℕ)
+    (stores : List Store) (flush : Flush) (unlinked : List ℕ) : Type 0 where
+  pub reply_is : IsReply target request memory space offered reply
+  pub safe : AreSafe target.depth memory target.root space (space_after target request space reply) stores
+  pub found : FindTheirWords memory stores
+  pub meant : All (IsMeant target memory (address_of request) unlinked) stores
+  pub nothing : (Changes reply → ⊥) → stores ≡ []
+  pub written : IsWritten request stores
+  pub changing : All (λ (store : Store). store.old ≢ store.new) stores
+  pub one_way : IsOneWay request stores
+  pub told : IsTold target memory (address_of request) bits reply
+  pub flushed : IsFlushed target memory request stores unlinked flush
+  pub gone : All (IsUnlinked target memory (stored_all memory stores) (address_of request)) unlinked
+  pub pruned : IsPruned target (stored_all memory stores) request stores
+  pub named_once : AllPairs (λ number other. number ≢ other) unlinked
+  pub whole : AreWhole (stored_all memory stores)
+  pub own : (a : ℕ) → HasOwnWay target.depth memory target.root a → HasOwnWay target.depth (stored_all memory stores) target.root a
+
+module _ {target : Target} {request : Request} {memory : Memory} {space : Space} {offered : List (Option ℕ)} where
+  right_of : (plan : Plan) → Parts target request memory space offered plan.reply plan.bits plan.stores.items plan.flush plan.unlinked.items
+      → IsRight target request memory space offered plan
+  right_of plan parts = record {
+    reply = parts.reply_is;
+    safe = parts.safe;
+    found = parts.found;
+    meant = parts.meant;
+    nothing = parts.nothing;
+    written = parts.written;
+    changing = parts.changing;
+    one_way = parts.one_way;
+    told = parts.told;
+    flushed = parts.flushed;
+    unlinked = parts.gone;
+    pruned = parts.pruned;
+    named_once = parts.named_once;
+    whole = parts.whole;
+    own = parts.own;
+  }
+
+  pub right_as : (plan : Plan) {reply : Reply} {bits : ℕ} {stores : List Store} {flush : Flush} {unlinked : List ℕ}
+      → plan.reply ≡ reply → plan.bits ≡ bits → plan.stores.items ≡ stores → plan.flush ≡ flush → plan.unlinked.items ≡ unlinked
+      → Parts target request memory space offered reply bits stores flush unlinked → IsRight target request memory space offered plan
+  right_as plan {reply} {bits} {stores} {flush} {unlinked} e1 e2 e3 e4 e5 parts = right_of plan
+      (subst (λ r. Parts target request memory space offered r plan.bits plan.stores.items plan.flush plan.unlinked.items) (sym e1)
+      (subst (λ b. Parts target request memory space offered reply b plan.stores.items plan.flush plan.unlinked.items) (sym e2)
+      (subst (λ s. Parts target request memory space offered reply bits s plan.flush plan.unlinked.items) (sym e3)
+      (subst (λ f. Parts target request memory space offered reply bits stores f plan.unlinked.items) (sym e4)
+      (subst (λ u. Parts target request memory space offered reply bits stores flush u) (sym e5) parts)))))
+
+-- ---- when stores are safe
+
+module _ {depth : Depth} {m : Memory} {root : ℕ} {before after : Space} where
+  pub safe_none : TranslatesAs depth m root before → TranslatesAs depth m root after → AreSafe depth m root before after []
+  safe_none at then = record {
+    switch = 0;
+    until = λ n le few. let none : 0 ≡ n = omega arith in subst (λ k. TranslatesAs depth (stored_all m (take k [])) root before) none at;
+    since = λ n lt few. absurd (omega arith);
+    done = then;
+  }
+
+  -- the first store is the switch
+  pub safe_first : (s : Store) (rest : List Store) → TranslatesAs depth m root before
+      → ((n : ℕ) → n ≤ length rest → TranslatesAs depth (stored_all (stored m s) (take n rest)) root after)
+      → AreSafe depth m root before after (s ∷ rest)
+  safe_first s rest at then = record {
+    switch = 0;
+    until = λ n le few. let none : 0 ≡ n = omega arith in subst (λ k. TranslatesAs depth (stored_all m (take k (s ∷ rest))) root before) none at;
+    since = later;
+    done = subst (λ (xs : List Store). TranslatesAs depth (stored_all (stored m s) xs) root after) (take-length rest) (then (length rest) (omega arith));
+  } where
+    later : (n : ℕ) → 0 < n → n ≤ length (s ∷ rest) → TranslatesAs depth (stored_all m (take n (s ∷ rest))) root after
+    later zero lt few = absurd (omega arith)
+    later (suc n) lt few = then n (omega arith)
+
+  pub safe_one : (s : Store) → TranslatesAs depth m root before → TranslatesAs depth (stored m s) root after → AreSafe depth m root before after (s ∷ [])
+  safe_one s at then = safe_first s [] at (λ n le.
+      let none : 0 ≡ n = omega arith in subst (λ k. TranslatesAs depth (stored_all (stored m s) (take k [])) root after) none then)
+
+  -- the last store is the switch
+  pub safe_last : (stores : List Store) (s : Store) → ((n : ℕ) → n ≤ length stores → TranslatesAs depth (stored_all m (take n stores)) root before)
+      → TranslatesAs depth (stored_all m (stores ++ s ∷ [])) root after → AreSafe depth m root before after (stores ++ s ∷ [])
+  safe_last stores s at then = record {
+    switch = length stores;
+    until = λ n le few. subst (λ (xs : List Store). TranslatesAs depth (stored_all m xs) root before) (sym (take-append-le n stores (s ∷ []) le)) (at n le);
+    since = λ n lt few.
+        let all : n ≡ length (stores ++ s ∷ []) = omega (arith, length-append stores (s ∷ []), few, lt) in
+        subst (λ (xs : List Store). TranslatesAs depth (stored_all m xs) root after)
+        (sym (ap (λ k. take k (stores ++ s ∷ [])) all ∙ take-length (stores ++ s ∷ []))) then;
+    done = then;
+  }
+
+-- ---- a plan that changes nothing
+
+module _ {target : Target} {request : Request} {memory : Memory} {space : Space} {offered : List (Option ℕ)}
+    (premise : IsPremise target.depth memory target.root (address_of request) space) {reply : Reply} {bits : ℕ} where
+  nothing_parts : IsReply target request memory space offered reply → TranslatesAs target.depth memory target.root (space_after target request space reply)
+      → IsTold target memory (address_of request) bits reply → Parts target request memory space offered reply bits [] flushes.Nothing []
+  nothing_parts is then told = record {
+    reply_is = is;
+    safe = safe_none premise.translates then;
+    found = tt;
+    meant = All-nil _;
+    nothing = λ none. refl;
+    written = written_none request;
+    changing = All-nil _;
+    one_way = one_way_none request;
+    told = told;
+    flushed = flushed_none request;
+    gone = All-nil _;
+    pruned = tt;
+    named_once = none_named;
+    whole = premise.whole;
+    own = λ a has. has;
+  } where
+    written_none : (request : Request) → IsWritten request []
+    written_none request = tt
+
+    one_way_none : (request : Request) → IsOneWay request []
+    one_way_none (Map page bits) = All-nil _
+    one_way_none (Unmap base) = All-nil _
+    one_way_none (Protect base rights) = tt
+    one_way_none (Ask address) = tt
+
+    flushed_none : (request : Request) → IsFlushed target memory request [] [] flushes.Nothing
+    flushed_none request = refl
+
+  pub nothing_right : (plan : Plan) → ChangesNothing reply bits plan → IsReply target request memory space offered reply
+      → TranslatesAs target.depth memory target.root (space_after target request space reply)
+      → IsTold target memory (address_of request) bits reply → IsRight target request memory space offered plan
+  nothing_right plan none is then told =
+      right_as plan none.reply_is none.bits_are none.stores none.flush none.unlinked (nothing_parts is then told)
+
+-- ---- one store
+
+abbrev pub store_at : ℕ → ℕ → ℕ → ℕ → Store
+store_at frame index old new = record { frame = frame; index = index; old = old; new = new }
+
+-- the list with one store, as it was made
+pub only_store : (before : List Store) → before ≡ [] → (frame old : ℕ) {index at new word : ℕ} → index ≡ at → new ≡ word
+    → before ++ store_at frame index old new ∷ [] ≡ store_at frame at old word ∷ []
+only_store before none frame old {index} {at} {new} {word} same written =
+    ap (λ (xs : List Store). xs ++ store_at frame index old new ∷ []) none
+    ∙ ap (λ i. store_at frame i old new ∷ []) same ∙ ap (λ w. store_at frame at old w ∷ []) written
+
+-- ---- the end of a way, at the address of the request
+
+pub record EndAt (target : Target) (memory : Memory) (space : Space) (level number : ℕ) (rights : Rights) (word : ℕ) (address : ℕ) : Type 0 where
+  pub premise : IsPremise target.depth memory target.root address space
+  pub way : IsWay target.depth memory target.root address level number rights
+  pub word_is : word_at memory number (index_at level address) ≡ Some word
+  pub canonical : IsCanonical target.depth address
+
+pub end_at : {p : Planner} {word : ℕ} → IsAtEnd p → {memory : Memory} {space : Space} → HasEnded memory p word
+    → IsPremise p.target.depth memory p.target.root (address_of p.request) space → {address : ℕ} → address_of p.request ≡ address
+    → EndAt p.target memory space p.level p.number p.rights word address
+end_at {p} {word} end {memory} {space} ended premise place = subst (EndAt p.target memory space p.level p.number p.rights word) place
+    (record { premise = premise; way = ended.way; word_is = ended.word_is; canonical = end.request.canonical })
+
+-- a plan that changes nothing, with its reply and bits written otherwise
+pub nothing_as : {reply reply' : Reply} {bits bits' : ℕ} {plan : Plan} → ChangesNothing reply bits plan → reply ≡ reply' → bits ≡ bits'
+    → ChangesNothing reply' bits' plan
+nothing_as none same alike = record {
+  reply_is = none.reply_is ∙ same;
+  bits_are = none.bits_are ∙ alike;
+  stores = none.stores;
+  flush = none.flush;
+  unlinked = none.unlinked;
+}
+
+-- ---- the end of a planner
+
+pub planned_next : {memory : Memory} (p p' : Planner) {offered : List (Option ℕ)} {reply : Reply} (step : Step) → p'.target ≡ p.target → p'.request ≡ p.request
+    → IsPlanned reply step
+    → ((plan : Plan) → ChangesNothing reply 0 plan → (space : Space) → IsPremise p.target.depth memory p.target.root (address_of p.request) space
+    → IsRight p.target p.request memory space offered plan)
+    → IsNext memory p' offered step
+planned_next p p' (steps.See number) same_target same_request planned right = absurd planned
+planned_next p p' steps.Give same_target same_request planned right = absurd planned
+planned_next {memory} p p' {offered} (steps.Planned plan) same_target same_request planned right = λ space premise.
+    subst (λ (r : Request). IsRight p'.target r memory space offered plan) (sym same_request)
+    (subst (λ (t : Target). IsRight t p.request memory space offered plan) (sym same_target)
+    (right plan planned space
+    (subst (λ (r : Request). IsPremise p.target.depth memory p.target.root (address_of r) space) same_request
+    (subst (λ (t : Target). IsPremise t.depth memory t.root (address_of p'.request) space) same_target premise))))
+
+-- a planner that has refused awaits nothing
+pub planned_awaits : (reply : Reply) (p : Planner) (step : Step) → p.phase ≡ phases.Ended → IsPlanned reply step → Awaits p step
+planned_awaits reply p (steps.See number) ended planned = absurd planned
+planned_awaits reply p steps.Give ended planned = absurd planned
+planned_awaits reply p (steps.Planned plan) ended planned = ended
+
+pub planned_given : (reply : Reply) (p : Planner) (frames : List ℕ) (step : Step) → IsPlanned reply step → HasGiven p frames step
+planned_given reply p frames (steps.See number) planned = absurd planned
+planned_given reply p frames steps.Give planned = absurd planned
+planned_given reply p frames (steps.Planned plan) planned = tt
+
+pub end_given : (p : Planner) (frames : List ℕ) (step : Step) → IsEnd step → HasGiven p frames step
+end_given p frames (steps.See number) planned = absurd planned
+end_given p frames steps.Give planned = absurd planned
+end_given p frames (steps.Planned plan) planned = tt

@@ -1,0 +1,177 @@
+-- A plan that changes the rights of a page.
+use Rattle.std.proofs.Common.{◌≡◌, ◌≢◌, ℕ, suc, ◌+◌, ◌-◌, ◌%◌, ◌≤◌, [], ◌∷◌, Some, refl, sym, ap, subst, ◌∙◌, arith}
+use Rattle.std.proofs.lemmas.List.Elements.{All-nil, All-cons}
+use Rattle.vs_types.specs.Depth.{levels, entry_bytes, index_at}
+use Rattle.vs_types.specs.Entry.{meaning, size_at}
+use Rattle.vs_types.specs.Laws.{changes}
+use Rattle.vs_types.specs.Page.{bytes_of, intersection}
+use Rattle.vs_types.specs.Space.{Space}
+use Rattle.vs_types.specs.declared.page.Page.{Page}
+use Rattle.vs_types.specs.Step.{step}
+use Rattle.vs_types.specs.declared.op.Action.TheVariants as actions
+use Rattle.vs_types.specs.declared.page.Rights.{Rights}
+use Rattle.vs_types.specs.declared.page.Size.{Size}
+use Rattle.vs_types.specs.declared.entry.Meaning.TheVariants as entry
+use Rattle.vs_types.specs.declared.answer.Answer.TheVariants as answers
+use Rattle.vs_walk.specs.Memory.{Memory}
+use Rattle.vs_walk.specs.Walk.{walk_from}
+use Rattle.vs_walk.specs.declared.walk.Walk.TheVariants.{Mapped}
+use Rattle.vs_space.specs.Path.{found_at, table_in, SamePath}
+use Rattle.vs_space.specs.Table.{IsTableOf}
+use Rattle.vs_space.proofs.Paths.{found_same, walk_found}
+use Rattle.vs_space.proofs.Regions.{IsLeafPage}
+use Rattle.vs_plan.specs.declared.plan.Flush.TheVariants as flushes
+use Rattle.vs_plan.specs.declared.plan.Plan.{Plan}
+use Rattle.vs_plan.specs.declared.plan.Reply.TheVariants as replies
+use Rattle.vs_plan.specs.declared.planner.Planner.{Planner}
+use Rattle.vs_plan.specs.declared.request.Request.TheVariants.{Protect}
+use Rattle.vs_plan.specs.declared.plan.Store.{Store}
+use Rattle.vs_plan.specs.declared.target.Target.{Target}
+use Rattle.vs_plan.specs.Bits.{bits_in, with_rights}
+use Rattle.vs_plan.specs.Request.{address_of, stepped}
+use Rattle.vs_plan.specs.Right.{IsEntryOf, IsMeant, OfPage, IsRight, WantsMore}
+use Rattle.vs_plan.specs.Stores.{stored}
+use Rattle.vs_plan.specs.Way.{IsWay}
+use Rattle.vs_plan.specs.inside.Ended.{IsAtEnd, IsRightAt, ChangesNothing}
+use Rattle.vs_plan.proofs.Asking.{entry_of}
+use Rattle.vs_plan.proofs.OneStore.{walk_off, walk_leaf, own_on}
+use Rattle.vs_plan.proofs.Pages.{table_from, found_word, page_here}
+use Rattle.vs_plan.proofs.Parts.{none_named, Parts, right_as, safe_none, safe_one, nothing_right, store_at, EndAt, end_at}
+use Rattle.vs_plan.proofs.Stored.{used_word, whole_stored}
+use Rattle.vs_plan.proofs.Steps.{changed_answer, changed_translates}
+use Rattle.vs_plan.proofs.Words.{with_rights_reads}
+use Rattle.vs_plan.proofs.Ways.{way_table, way_within, way_walk}
+
+one_leaf : (phys : ℕ) (own : Rights) (other : ℕ) (rights : Rights) → entry.Leaf phys own ≡ entry.Leaf other rights → own ≡ rights
+one_leaf phys own other rights e = cc
+
+-- what a protect of a page that begins there answers
+would_change : (target : Target) {memory : Memory} {space : Space} {base level number word phys : ℕ} {given own : Rights} (rights : Rights)
+    (end : EndAt target memory space level number given word base) → 1 ≤ level → meaning level word ≡ entry.Leaf phys own
+    → base % bytes_of (size_at level) ≡ 0
+    → (step target.depth 0 space (actions.Protect base rights)).answer ≡ answers.Changed (intersection given own)
+would_change target {memory} {space} rights end some says aligned =
+    let page = page_here end.way some end.word_is end.premise.is_space end.premise.translates end.canonical says in
+    let table : IsTableOf (table_from target.depth memory target.root) space =
+    record { is_space = end.premise.is_space; translates = end.premise.translates } in
+    changed_answer table page.1 aligned rights
+
+module _ (target : Target) {memory : Memory} {space : Space} {base level number word phys : ℕ} {given own rights : Rights}
+    (end : EndAt target memory space level number given word base) (some : 1 ≤ level) (says : meaning level word ≡ entry.Leaf phys own)
+    (aligned : base % bytes_of (size_at level) ≡ 0) (allows : intersection given rights ≡ rights) where
+  way : IsWay target.depth memory target.root base level number given
+  way = end.way
+
+  page : (q : Page) × IsLeafPage target.depth space base level phys (intersection given own) q
+  page = page_here end.way some end.word_is end.premise.is_space end.premise.translates end.canonical says
+
+  table : IsTableOf (table_from target.depth memory target.root) space
+  table = record { is_space = end.premise.is_space; translates = end.premise.translates }
+
+  told : (size : Size) × (found : ℕ) × IsEntryOf target memory base size found × (bits_in (size_at level) word ≡ bits_in size found)
+  told = (size_at level, word, entry_of way end.word_is says, refl)
+
+  -- the entry has these rights already
+  pub same_parts : word ≡ with_rights word rights → meaning level (with_rights word rights) ≡ entry.Leaf phys rights
+      → Parts target (Protect base rights) memory space [] (replies.Answer (answers.Changed (intersection given own))) (bits_in (size_at level) word)
+      [] flushes.Nothing []
+  same_parts same leads =
+      let rights_are : intersection given own ≡ rights =
+      ap (intersection given) (one_leaf phys own phys rights (sym says ∙ ap (meaning level) same ∙ leads)) ∙ allows in
+      record {
+        reply_is = sym (changed_answer table page.1 aligned rights);
+        safe = safe_none end.premise.translates (changed_translates table page.1 aligned rights memory
+            (λ b path. way_walk level number given way b (λ i from to. path i (omega arith) to) ∙ walks b path rights_are)
+            (λ b apart. refl));
+        found = tt;
+        meant = All-nil _;
+        nothing = λ none. refl;
+        written = tt;
+        changing = All-nil _;
+        one_way = tt;
+        told = told;
+        flushed = refl;
+        gone = All-nil _;
+        pruned = tt;
+        named_once = none_named;
+        whole = end.premise.whole;
+        own = λ a has. has;
+      } where
+        walks : (b : ℕ) → SamePath (levels target.depth) level base b → intersection given own ≡ rights
+            → walk_from memory level number given b ≡ Mapped (phys + b % entry_bytes level) (size_at level) rights
+        walks b path are = by (level - 1) (omega arith) where
+          by : (below : ℕ) → level ≡ suc below → walk_from memory level number given b ≡ Mapped (phys + b % entry_bytes level) (size_at level) rights
+          by below one = subst (λ l. found_at l memory number b ≡ Some (entry.Leaf phys own)
+              → walk_from memory l number given b ≡ Mapped (phys + b % entry_bytes l) (size_at l) rights) (sym one)
+              (λ found. walk_found memory below number given b (entry.Leaf phys own) found
+              ∙ ap (Mapped (phys + b % entry_bytes (suc below)) (size_at (suc below))) are)
+              (found_same level memory number b base (sym (path level (omega arith) (way_within level number given way)))
+              ∙ found_word level memory number base word end.word_is ∙ ap Some says)
+
+  -- the entry is written with them
+  pub written_parts : word ≢ with_rights word rights → meaning level (with_rights word rights) ≡ entry.Leaf phys rights
+      → Parts target (Protect base rights) memory space [] (replies.Answer (answers.Changed (intersection given own))) (bits_in (size_at level) word)
+      (store_at number (index_at level base) word (with_rights word rights) ∷ []) (flushes.Page base (size_at level)) []
+  written_parts new leads =
+      let used = used_word memory number (index_at level base) word end.word_is in
+      let own = end.premise.own in
+      record {
+        reply_is = sym (changed_answer table page.1 aligned rights);
+        safe = safe_one (store_at number (index_at level base) word (with_rights word rights)) end.premise.translates (changed_translates table page.1 aligned rights
+            (stored memory (store_at number (index_at level base) word (with_rights word rights)))
+            (λ b path. walk_leaf way own used (with_rights word rights) end.premise.whole leads some b path
+            ∙ ap (Mapped (phys + b % entry_bytes level) (size_at level)) allows)
+            (λ b apart. walk_off way own used (with_rights word rights) b apart));
+        found = (end.word_is, tt);
+        meant = All-cons (IsMeant target memory base []) (store_at number (index_at level base) word (with_rights word rights)) [] (OfPage (record { level = level; reached = way_table level number given way; index = refl })
+            (ap (λ e. table_in (Some e)) says)) (All-nil _);
+        nothing = λ none. absurd (none (λ e. cc));
+        written = (refl, refl);
+        changing = All-cons (λ (t : Store). t.old ≢ t.new) (store_at number (index_at level base) word (with_rights word rights)) [] new (All-nil _);
+        one_way = tt;
+        told = told;
+        flushed = (size_at level, entry_of way end.word_is says, refl);
+        gone = All-nil _;
+        pruned = tt;
+        named_once = none_named;
+        whole = whole_stored memory number (index_at level base) (with_rights word rights) end.premise.whole used;
+        own = own_on way own used (with_rights word rights) end.premise.whole (ap (λ e. table_in (Some e)) leads) some;
+      }
+
+-- ---- as the code has it
+
+module _ {p : Planner} {word : ℕ} (end : IsAtEnd p) {phys : ℕ} {own : Rights} (says : meaning p.level word ≡ entry.Leaf phys own) {base : ℕ} {rights : Rights}
+    (is : p.request ≡ Protect base rights) (aligned : base % bytes_of (size_at p.level) ≡ 0) where
+  -- the entries above allow less
+  pub less_right : intersection p.rights rights ≢ rights → (plan : Plan) → ChangesNothing replies.Rights 0 plan → IsRightAt p word plan
+  less_right less plan none memory ended space premise =
+      nothing_right premise plan none (
+        subst (WantsMore p.target memory) (sym is) (record {
+          level = p.level;
+          number = p.number;
+          rights = p.rights;
+          way = subst (λ a. IsWay p.target.depth memory p.target.root a p.level p.number p.rights) (ap address_of is) ended.way;
+          less = less;
+        }),
+        ap (λ r. changes (stepped p.target.depth space r).answer) is
+            ∙ ap changes (would_change p.target rights (end_at end ended premise (ap address_of is)) end.some says aligned),
+      )
+      premise.translates refl
+
+  module _ (allows : intersection p.rights rights ≡ rights) {answer : Rights} (answer_is : answer ≡ intersection p.rights own) {bits : ℕ}
+      (bits_are : bits ≡ bits_in (size_at p.level) word) {plan : Plan} (reply : plan.reply ≡ replies.Answer (answers.Changed answer)) (told : plan.bits ≡ bits) where
+    pub same_right : plan.stores.items ≡ [] → plan.flush ≡ flushes.Nothing → plan.unlinked.items ≡ [] → word ≡ with_rights word rights
+        → IsRightAt p word plan
+    same_right stores flush unlinked same memory ended space premise =
+        subst (λ r. IsRight p.target r memory space [] plan) (sym is)
+        (right_as plan (reply ∙ ap (λ r. replies.Answer (answers.Changed r)) answer_is) (told ∙ bits_are) stores flush unlinked
+        (same_parts p.target (end_at end ended premise (ap address_of is)) end.some says aligned allows same
+        (with_rights_reads p.level word rights phys own end.some says)))
+
+    pub written_right : plan.stores.items ≡ store_at p.number (index_at p.level base) word (with_rights word rights) ∷ []
+        → plan.flush ≡ flushes.Page base (size_at p.level) → plan.unlinked.items ≡ [] → word ≢ with_rights word rights → IsRightAt p word plan
+    written_right stores flush unlinked new memory ended space premise =
+        subst (λ r. IsRight p.target r memory space [] plan) (sym is)
+        (right_as plan (reply ∙ ap (λ r. replies.Answer (answers.Changed r)) answer_is) (told ∙ bits_are) stores flush unlinked
+        (written_parts p.target (end_at end ended premise (ap address_of is)) end.some says aligned allows new
+        (with_rights_reads p.level word rights phys own end.some says)))

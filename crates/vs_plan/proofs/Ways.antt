@@ -1,0 +1,46 @@
+-- The way of an address to a table: which tables are on it, how addresses that take it are walked.
+use Rattle.std.proofs.Common.{◌≡◌, ℕ, suc, ◌<◌, ◌≤◌, Some, refl, sym, ap, ◌∙◌, arith}
+use Rattle.vs_types.specs.Depth.{levels}
+use Rattle.vs_types.specs.declared.depth.Depth.{Depth}
+use Rattle.vs_types.specs.declared.page.Rights.{Rights}
+use Rattle.vs_types.specs.declared.entry.Meaning.TheVariants as entry
+use Rattle.vs_walk.specs.Memory.{Memory}
+use Rattle.vs_walk.specs.Walk.{walk, walk_from}
+use Rattle.vs_space.specs.Path.{found_at, table_in, table_at, SamePath}
+use Rattle.vs_space.proofs.Paths.{table_first, table_next, reached_within, found_same, walk_found}
+use Rattle.vs_plan.specs.Way.{IsWay, Begins, Leads}
+
+module _ {depth : Depth} {m : Memory} {root a : ℕ} where
+  pub way_table : (level n : ℕ) (rights : Rights) → IsWay depth m root a level n rights → table_at (levels depth) m root level a ≡ Some n
+  way_table level n rights Begins = table_first (levels depth) root m a
+  way_table level n rights (Leads l p next above own way found) =
+      table_next (levels depth) root m l a p (way_table (suc l) p above way) ∙ ap table_in found
+
+  pub way_within : (level n : ℕ) (rights : Rights) → IsWay depth m root a level n rights → level ≤ levels depth
+  way_within level n rights way = reached_within (levels depth) root m level a n (way_table level n rights way)
+
+  -- addresses that take the way are walked from its table on
+  pub way_walk : (level n : ℕ) (rights : Rights) → IsWay depth m root a level n rights → (b : ℕ) → SamePath (levels depth) (suc level) a b
+      → walk depth m root b ≡ walk_from m level n rights b
+  way_walk level n rights Begins b same = refl
+  way_walk level n rights (Leads l p next above own way found) b same =
+      way_walk (suc l) p above way b (λ i from to. same i (omega arith) to)
+      ∙ walk_found m l p above b (entry.Table next own)
+      (found_same (suc l) m p b a (sym (same (suc l) (omega arith) (way_within (suc l) p above way))) ∙ found)
+
+  -- where the same is found on it, it is the same way
+  pub way_kept : (m' : Memory) (level n : ℕ) (rights : Rights) → IsWay depth m root a level n rights
+      → ((j q : ℕ) → level < j → table_at (levels depth) m root j a ≡ Some q → found_at j m' q a ≡ found_at j m q a)
+      → IsWay depth m' root a level n rights
+  way_kept m' level n rights Begins alike = Begins
+  way_kept m' level n rights (Leads l p next above own way found) alike =
+      Leads l p next above own (way_kept m' (suc l) p above way (λ j q over at. alike j q (omega arith) at))
+      (alike (suc l) p (omega arith) (way_table (suc l) p above way) ∙ found)
+
+  -- an address that takes the same entries has it too
+  pub way_shared : (b : ℕ) (level n : ℕ) (rights : Rights) → IsWay depth m root a level n rights → SamePath (levels depth) (suc level) a b
+      → IsWay depth m root b level n rights
+  way_shared b level n rights Begins same = Begins
+  way_shared b level n rights (Leads l p next above own way found) same =
+      Leads l p next above own (way_shared b (suc l) p above way (λ i from to. same i (omega arith) to))
+      (found_same (suc l) m p b a (sym (same (suc l) (omega arith) (way_within (suc l) p above way))) ∙ found)

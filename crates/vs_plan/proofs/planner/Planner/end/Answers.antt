@@ -1,0 +1,17 @@
+use Rattle.std.proofs.Common.{[], sym, subst}
+use Rattle.vs_plan.specs.declared.plan.Plan.{Plan}
+use Rattle.vs_plan.specs.Right.{IsRight}
+use Rattle.vs_plan.proofs.planner.Planner.end.Goals as goal
+use Rattle.vs_plan.proofs.planner.Planner.end.Goals.{in-Unmap, in-Protect, in-Ask}
+
+pub returns-clause-next : goal.returns-clause-next
+returns-clause-next c = λ memory ended space premise.
+    let p = c.args.self.now in
+    elim c.match-self.branch [
+      | in-Unmap w ↦ subst (λ (plan : Plan). IsRight p.target p.request memory space [] plan) (sym w.plan-is)
+          (w.plan_unmap-plan.ensures memory ended space premise)
+      | in-Protect w ↦ subst (λ (plan : Plan). IsRight p.target p.request memory space [] plan) (sym w.plan-is)
+          (w.plan_protect-plan.ensures memory ended space premise)
+      | in-Ask w ↦ subst (λ (plan : Plan). IsRight p.target p.request memory space [] plan) (sym w.plan-is)
+          (w.plan_ask-plan.ensures memory ended space premise)
+    ]

@@ -1,0 +1,37 @@
+use Rattle.std.proofs.Common.{◌≡◌, sym, ap, ◌∙◌}
+use Rattle.vs_types.specs.Entry.{meaning}
+use Rattle.vs_types.specs.Page.{bytes_of}
+use Rattle.vs_types.specs.declared.entry.Meaning.TheVariants as entry
+use Rattle.vs_plan.specs.declared.planner.Planner.{Planner}
+use Rattle.vs_plan.proofs.Asking.{reserved_right}
+use Rattle.vs_plan.proofs.Grown.{overlap_right}
+use Rattle.vs_plan.proofs.Parts.{planned_next}
+use Rattle.vs_plan.proofs.Searching.{search_begins}
+use Rattle.vs_plan.proofs.planner.Planner.end_map.Goals as goal
+
+pub returns-in-Leaf-clause-next : goal.returns-in-Leaf-clause-next
+returns-in-Leaf-clause-next c = λ memory ended.
+    let p = c.args.self.now in
+    let says : meaning p.level c.args.word ≡ entry.Leaf c.in-Leaf.field-0 c.in-Leaf.field-1 =
+    ap (meaning p.level) (sym c.new.ensures) ∙ sym c.read.ensures ∙ c.in-Leaf.is in
+    planned_next p c.refuse.new.self c.refuse.result (ap (λ (q : Planner). q.target) c.refuse.ensures.same)
+    (ap (λ (q : Planner). q.request) c.refuse.ensures.same) c.refuse.ensures.planned
+    (λ plan none space premise.
+    overlap_right p c.requires.end.request c.requires.request c.requires.end says (c.bytes.ensures ∙ ap bytes_of c.at_level.ensures) plan none memory ended
+    space premise)
+
+pub returns-in-Table-clause-next : goal.returns-in-Table-clause-next
+returns-in-Table-clause-next c = λ memory ended.
+    let p = c.args.self.now in
+    let says : meaning p.level c.args.word ≡ entry.Table c.in-Table.next c.in-Table.field-1 =
+    ap (meaning p.level) (sym c.new.ensures) ∙ sym c.read.ensures ∙ c.in-Table.is in
+    search_begins c.args.word c.requires.end c.requires.request says ended
+
+pub returns-in-Reserved-clause-next : goal.returns-in-Reserved-clause-next
+returns-in-Reserved-clause-next c = λ memory ended.
+    let p = c.args.self.now in
+    let says : meaning p.level c.args.word ≡ entry.Reserved =
+    ap (meaning p.level) (sym c.new.ensures) ∙ sym c.read.ensures ∙ c.in-Reserved.is in
+    planned_next p c.refuse-in-Reserved.new.self c.refuse-in-Reserved.result (ap (λ (q : Planner). q.target) c.refuse-in-Reserved.ensures.same)
+    (ap (λ (q : Planner). q.request) c.refuse-in-Reserved.ensures.same) c.refuse-in-Reserved.ensures.planned
+    (λ plan none space premise. reserved_right c.requires.end says plan memory ended space premise)

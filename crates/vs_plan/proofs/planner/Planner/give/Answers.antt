@@ -1,0 +1,36 @@
+use Rattle.std.proofs.Common.{ℕ, [], ◌∷◌, Option, Contains, refl, ap, subst, arith}
+use Rattle.std.specs.Prelude.{IfSome}
+use Rattle.vs_types.proofs.Lists.{Contains-head}
+use Rattle.vs_plan.specs.Planner.{IsSpareFor}
+use Rattle.vs_plan.specs.Shown.{IsShownIn}
+use Rattle.vs_plan.specs.declared.planner.Phase.{Phase}
+use Rattle.vs_plan.specs.declared.planner.Planner.{Planner}
+use Rattle.vs_plan.proofs.Parts.{planned_next, nothing_right}
+use Rattle.vs_plan.proofs.planner.Planner.give.Goals as goal
+
+pub returns-in_default-clause-next : goal.returns-in_default-clause-next
+returns-in_default-clause-next c = λ memory shown spare.
+    let p = c.args.self.now in
+    planned_next p c.refuse.new.self c.refuse.result (ap (λ (q : Planner). q.target) c.refuse.ensures.same)
+    (ap (λ (q : Planner). q.request) c.refuse.ensures.same) c.refuse.ensures.planned
+    (λ plan none space premise.
+    nothing_right premise plan none (subst (λ (o : Option ℕ). Contains (c.args.frame ∷ []) o) c.in_default.is (Contains-head c.args.frame []))
+    premise.translates refl)
+
+pub returns-then-number-frames_end-clause-next : goal.returns-then-number-frames_end-clause-next
+returns-then-number-frames_end-clause-next c = λ memory shown spare.
+    let p = c.args.self.now in
+    let refused = c.refuse-then-number-frames_end in
+    planned_next p refused.new.self refused.result (ap (λ (q : Planner). q.target) refused.ensures.same)
+    (ap (λ (q : Planner). q.request) refused.ensures.same) refused.ensures.planned
+    (λ plan none space premise.
+    nothing_right premise plan none
+    (subst (λ (o : Option ℕ). Contains (c.args.frame ∷ []) o) c.in-Some.is (Contains-head c.args.frame []), omega (arith, c.if-number-frames_end.true, c.frames_end.ensures.is))
+    premise.translates refl)
+
+pub returns-clause-next : goal.returns-clause-next
+returns-clause-next c = λ memory shown spare.
+    let p = c.args.self.now in
+    let grown = subst (λ (phase : Phase). IsShownIn phase memory p) c.requires.phase shown in
+    let spare_for : IsSpareFor memory p c.in-Some.number = subst (λ (o : Option ℕ). IfSome o (λ number. IsSpareFor memory p number)) c.in-Some.is spare in
+    c.link.ensures.next memory (c.args.frame ∷ []) (c.fill.ensures.grown memory grown spare_for)

@@ -1,0 +1,12 @@
+use Rattle.std.proofs.Common.{◌+◌, ap, ◌∙◌}
+use Rattle.vs_types.specs.Entry.{meaning, leaf_word}
+use Rattle.vs_types.specs.Page.{level_of}
+use Rattle.vs_plan.proofs.Words.{page_reads}
+use Rattle.vs_plan.proofs.word.page_word.Goals as goal
+
+pub returns-clause-read_back : goal.returns-clause-read_back
+returns-clause-read_back c =
+    let page = c.args.page in
+    ap (λ n. meaning (level_of page.size) (n + c.placed.result)) (c.word.ensures ∙ c.leaf.ensures.written)
+    ∙ ap (λ n. meaning (level_of page.size) (leaf_word page.size page.phys page.rights + n)) c.placed.ensures
+    ∙ page_reads page.size page.phys c.args.bits page.rights.write page.rights.user page.rights.exec c.requires.aligned c.requires.in_range c.requires.bits

@@ -1,0 +1,90 @@
+-- Requests: which are well formed, the first thing that is wrong with one, and what one does to a space.
+use Rattle.std.specs.Prelude.{◌≡◌, ℕ, ◌+◌, ◌%◌, ◌^◌, ◌<◌, ◌≤◌, not, ◌==◌, ◌&&◌, ◌||◌, nat_lt, min, Bool, Option, Some, None, if◌then◌else◌}
+use Rattle.std.specs.FinMap as finite
+use Rattle.vs_types.specs.Depth.{is_canonical, IsCanonical}
+use Rattle.vs_types.specs.Page.{level_of, bytes_of, IsPage}
+use Rattle.vs_types.specs.Space.{Space, table_count}
+use Rattle.vs_types.specs.Step.{Stepped, step, look}
+use Rattle.vs_types.specs.declared.depth.Depth.{Depth}
+use Rattle.vs_types.specs.declared.page.Page.{Page}
+use Rattle.vs_types.specs.declared.op.Action.TheVariants as actions
+use Rattle.vs_plan.specs.declared.target.Target.{Target}
+use Rattle.vs_plan.specs.declared.request.Request.{Request}
+use Rattle.vs_plan.specs.declared.request.Request.TheVariants.{Map, Unmap, Protect, Ask}
+use Rattle.vs_plan.specs.declared.request.BadRequest.{BadRequest}
+use Rattle.vs_plan.specs.declared.request.BadRequest.TheVariants.{PhysBits, RootRange, NotCanonical, Unaligned, PhysUnaligned, PhysRange, Bits}
+use Rattle.vs_plan.specs.Bits.{AreBits}
+use Rattle.vs_plan.specs.Target.{HasPhysBits, frames_end}
+
+-- the address whose way is gone
+abbrev pub address_of : Request → ℕ
+address_of (Map page bits) = page.base
+address_of (Unmap base) = base
+address_of (Protect base rights) = base
+address_of (Ask address) = address
+
+-- the level at which its way ends at the latest
+abbrev pub lowest_of : Request → ℕ
+lowest_of (Map page bits) = level_of page.size
+lowest_of (Unmap base) = 1
+lowest_of (Protect base rights) = 1
+lowest_of (Ask address) = 1
+
+-- a page that may be mapped where physical addresses have this many bits
+pub record IsMapped (target : Target) (page : Page) (word : ℕ) : Type 0 where
+  pub good : IsPage target.depth page
+  pub within : page.phys + bytes_of page.size ≤ 2 ^ target.phys_bits
+  pub bits : AreBits word
+
+-- what a request asks of its page
+abbrev pub IsWhole : Target → Request → Type 0
+IsWhole target (Map page bits) = IsMapped target page bits
+IsWhole target (Unmap base) = base % 4096 ≡ 0
+IsWhole target (Protect base rights) = base % 4096 ≡ 0
+IsWhole target (Ask address) = Unit {0}
+
+-- a request for which there can be a plan
+pub record IsRequest (target : Target) (request : Request) : Type 0 where
+  pub phys_bits : HasPhysBits target
+  pub root : target.root < frames_end target
+  pub canonical : IsCanonical target.depth (address_of request)
+  pub whole : IsWhole target request
+
+-- whether no bit is set but those that a map may set
+abbrev pub are_bits : ℕ → Bool
+are_bits bits = (bits % 2 ^ 3 == 0) && nat_lt (bits % 2 ^ 52) (2 ^ 12) && nat_lt bits (2 ^ 63)
+
+-- the first thing that is wrong with a page that is to be mapped, and its bits
+abbrev pub page_fault : Page → ℕ → ℕ → Option BadRequest
+page_fault page bits phys_bits =
+    if not (page.base % bytes_of page.size == 0) then Some Unaligned
+    else if not (page.phys % bytes_of page.size == 0) then Some PhysUnaligned
+    else if nat_lt (2 ^ min phys_bits 51) (page.phys + bytes_of page.size) then Some PhysRange
+    else if are_bits bits then None
+    else Some Bits
+
+-- the first thing that is wrong with the base of a page that is there
+abbrev pub base_fault : ℕ → Option BadRequest
+base_fault base = if base % 4096 == 0 then None else Some Unaligned
+
+-- the first thing that is wrong with what a request asks of its page
+abbrev pub whole_fault : Target → Request → Option BadRequest
+whole_fault target (Map page bits) = page_fault page bits target.phys_bits
+whole_fault target (Unmap base) = base_fault base
+whole_fault target (Protect base rights) = base_fault base
+whole_fault target (Ask address) = None
+
+-- the first thing that is wrong with a request
+abbrev pub request_fault : Target → Request → Option BadRequest
+request_fault target request =
+    if nat_lt target.phys_bits 36 || nat_lt 52 target.phys_bits then Some PhysBits
+    else if not (nat_lt target.root (frames_end target)) then Some RootRange
+    else if not (is_canonical target.depth (address_of request)) then Some NotCanonical
+    else whole_fault target request
+
+-- what a request does to a space, where tables aren't counted: the limit is what the space after it needs
+abbrev pub stepped : Depth → Space → Request → Stepped
+stepped depth space (Map page bits) = step depth (table_count depth (finite.insert space page.base page)) space (actions.Map page)
+stepped depth space (Unmap base) = step depth 0 space (actions.Unmap base)
+stepped depth space (Protect base rights) = step depth 0 space (actions.Protect base rights)
+stepped depth space (Ask address) = record { space = space; answer = look space address }

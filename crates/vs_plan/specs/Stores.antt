@@ -1,0 +1,29 @@
+-- Stores, one after another.
+use Rattle.std.specs.Prelude.{◌≡◌, ℕ, ◌<◌, ◌≤◌, List, [], ◌∷◌, length, take, Some}
+use Rattle.vs_types.specs.Space.{Space}
+use Rattle.vs_types.specs.declared.depth.Depth.{Depth}
+use Rattle.vs_walk.specs.Memory.{Memory}
+use Rattle.vs_walk.specs.Walk.{TranslatesAs}
+use Rattle.vs_space.specs.Held.{word_at, with_word}
+use Rattle.vs_plan.specs.declared.plan.Store.{Store}
+
+-- the memory after a store
+abbrev pub stored : Memory → Store → Memory
+stored memory store = with_word memory store.frame store.index store.new
+
+-- the memory after stores, in their order
+abbrev pub stored_all : Memory → List Store → Memory
+stored_all memory [] = memory
+stored_all memory (store ∷ stores) = stored_all (stored memory store) stores
+
+-- each store finds the word that it says is there
+abbrev pub FindTheirWords : Memory → List Store → Type 0
+FindTheirWords memory [] = Unit {0}
+FindTheirWords memory (store ∷ stores) = (word_at memory store.frame store.index ≡ Some store.old) × FindTheirWords (stored memory store) stores
+
+-- after the stores up to one of them the memory translates as a space, from that one on as another
+pub record AreSafe (depth : Depth) (memory : Memory) (root : ℕ) (before after : Space) (stores : List Store) : Type 0 where
+  pub switch : ℕ
+  pub until : (n : ℕ) → n ≤ switch → n ≤ length stores → TranslatesAs depth (stored_all memory (take n stores)) root before
+  pub since : (n : ℕ) → switch < n → n ≤ length stores → TranslatesAs depth (stored_all memory (take n stores)) root after
+  pub done : TranslatesAs depth (stored_all memory stores) root after

@@ -1,0 +1,17 @@
+-- Page tables in a kernel's own frames: how many frames there can be, and which tables may be unlinked.
+use Rattle.std.specs.Prelude.{ℕ, ◌-◌, ◌^◌, ◌≤◌, if◌then◌else◌}
+use Rattle.vs_types.specs.Depth.{levels}
+use Rattle.vs_plan.specs.declared.target.Target.{Target}
+
+-- from 36 bits, the fewest that processors have, to 52, the most
+pub record HasPhysBits (target : Target) : Type 0 where
+  pub from : 36 ≤ target.phys_bits
+  pub to : target.phys_bits ≤ 52
+
+-- the first frame number that lies beyond the physical addresses
+abbrev pub frames_end : Target → ℕ
+frames_end target = 2 ^ (target.phys_bits - 12)
+
+-- the level of the highest tables whose entries that lead to tables may be cleared
+abbrev pub highest_link : Target → ℕ
+highest_link target = if target.pinned then levels target.depth - 1 else levels target.depth

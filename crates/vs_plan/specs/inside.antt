@@ -1,0 +1,2 @@
+-- What a planner keeps on its way: no public clause cites it but through `IsShown`.
+pub mod Ended

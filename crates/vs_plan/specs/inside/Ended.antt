@@ -1,0 +1,86 @@
+-- Where a way ends. No public clause cites it.
+use Rattle.std.specs.Prelude.{◌≡◌, ◌≢◌, ℕ, ◌^◌, ◌%◌, ◌<◌, ◌≤◌, List, [], Some, None, slice_index, length}
+use Rattle.vs_types.specs.Depth.{levels, index_at}
+use Rattle.vs_types.specs.Entry.{meaning}
+use Rattle.vs_types.specs.Space.{Space}
+use Rattle.vs_walk.specs.Memory.{Memory}
+use Rattle.vs_space.specs.Held.{word_at}
+use Rattle.vs_space.specs.Path.{table_in}
+use Rattle.vs_plan.specs.declared.plan.Plan.{Plan}
+use Rattle.vs_plan.specs.declared.plan.Reply.{Reply}
+use Rattle.vs_plan.specs.declared.plan.Step.{Step}
+use Rattle.vs_plan.specs.declared.plan.Step.TheVariants as steps
+use Rattle.vs_plan.specs.declared.plan.Flush.TheVariants as flushes
+use Rattle.vs_plan.specs.declared.planner.Planner.{Planner}
+use Rattle.vs_plan.specs.declared.request.Request.{Request}
+use Rattle.vs_plan.specs.declared.request.Request.TheVariants.{Map, Unmap, Protect, Ask}
+use Rattle.vs_plan.specs.Premise.{IsPremise}
+use Rattle.vs_plan.specs.Request.{IsRequest, address_of, lowest_of}
+use Rattle.vs_plan.specs.Right.{IsRight}
+use Rattle.vs_plan.specs.Shown.{HasMet}
+use Rattle.vs_plan.specs.Way.{IsWay}
+
+-- the planner is at the end of the way, at a level that there is
+pub record IsAtEnd (planner : Planner) : Type 0 where
+  pub request : IsRequest planner.target planner.request
+  pub some : 1 ≤ planner.level
+  pub few : planner.level ≤ levels planner.target.depth
+  pub lowest : lowest_of planner.request ≤ planner.level
+  pub stop : planner.stop ≤ levels planner.target.depth
+
+-- the way has ended at this word of the table
+pub record HasEnded (memory : Memory) (planner : Planner) (word : ℕ) : Type 0 where
+  pub way : IsWay planner.target.depth memory planner.target.root (address_of planner.request) planner.level planner.number planner.rights
+  pub word_is : word_at memory planner.number (index_at planner.level (address_of planner.request)) ≡ Some word
+  pub last : slice_index planner.words planner.level ≡ word
+  pub ends : lowest_of planner.request < planner.level → table_in (Some (meaning planner.level word)) ≡ None
+  pub met : HasMet memory planner planner.level
+
+-- the plan is right for each memory in which the way has ended so
+abbrev pub IsRightAt : Planner → ℕ → Plan → Type 0
+IsRightAt planner word plan = (memory : Memory) → HasEnded memory planner word → (space : Space)
+    → IsPremise planner.target.depth memory planner.target.root (address_of planner.request) space
+    → IsRight planner.target planner.request memory space [] plan
+
+-- a request of a page that is there
+abbrev pub IsNoMap : Request → Type 0
+IsNoMap (Map page bits) = ⊥
+IsNoMap (Unmap base) = Unit {0}
+IsNoMap (Protect base rights) = Unit {0}
+IsNoMap (Ask address) = Unit {0}
+
+-- the end, with a plan
+abbrev pub IsEnd : Step → Type 0
+IsEnd (steps.See number) = ⊥
+IsEnd steps.Give = ⊥
+IsEnd (steps.Planned plan) = Unit {0}
+
+-- a plan that changes nothing
+pub record ChangesNothing (reply : Reply) (bits : ℕ) (plan : Plan) : Type 0 where
+  pub reply_is : plan.reply ≡ reply
+  pub bits_are : plan.bits ≡ bits
+  pub stores : plan.stores.items ≡ []
+  pub flush : plan.flush ≡ flushes.Nothing
+  pub unlinked : plan.unlinked.items ≡ []
+
+-- the end, with a plan that changes nothing
+abbrev pub IsPlanned : Reply → Step → Type 0
+IsPlanned reply (steps.See number) = ⊥
+IsPlanned reply steps.Give = ⊥
+IsPlanned reply (steps.Planned plan) = ChangesNothing reply 0 plan
+
+-- new tables were filled up to the level of the table to which they are linked
+pub record IsFilledUp (planner : Planner) : Type 0 where
+  pub request : IsRequest planner.target planner.request
+  pub some : 1 ≤ planner.level
+  pub few : planner.level ≤ levels planner.target.depth
+  pub room : length planner.stores.items < 5
+  pub below : planner.below < 2 ^ 40
+  pub height : planner.height ≡ planner.level
+  pub lowest : lowest_of planner.request < planner.level
+
+-- the first word of a frame that is present
+pub record IsFirstPresent (words : List ℕ) (index : ℕ) : Type 0 where
+  pub within : index < 512
+  pub present : slice_index words index % 2 ≢ 0
+  pub before : (i : ℕ) → i < index → slice_index words i % 2 ≡ 0

@@ -1,0 +1,94 @@
+ghost use Rattle.vs_plan.specs.inside.Ended.{ChangesNothing};
+
+use arrayvec::ArrayVec;
+use vs_types::{Answer, Size};
+
+/// The most stores of a plan: a page's entry, and a link to a table of each level below the root's.
+pub const MOST_STORES: usize = 5;
+
+/// The most tables that a plan unlinks.
+pub const MOST_UNLINKED: usize = 4;
+
+/// A store: the word of this frame at this index, which is `old`, becomes `new`.
+#[repr(C)]
+#[derive(Clone, Copy, Debug, Default, PartialEq, Eq)]
+pub struct Store {
+    /// The frame's number.
+    pub frame: u64,
+    /// The word's index in it: 0 to 511.
+    pub index: usize,
+    /// The word as it was shown.
+    pub old: u64,
+    /// The word that is to be stored.
+    pub new: u64,
+}
+
+/// What each processor that may have used the page table has to forget after the last store, before it goes on.
+#[derive(Clone, Copy, Debug, PartialEq, Eq)]
+pub enum Flush {
+    /// Nothing.
+    Nothing,
+    /// The translations of the page at this base, of this size.
+    Page(u64, Size),
+    /// These, and all entries of paging-structure caches: tables were unlinked.
+    PageAndTables(u64, Size),
+}
+
+/// What came out.
+#[derive(Clone, Copy, Debug, PartialEq, Eq)]
+pub enum Reply {
+    /// As one sequential address space answers: `Done`, `Overlap`, `Removed`, `NotMapped`, `Inside`, `Changed` or `Mapped`.
+    Answer(Answer),
+    /// No frame was given where one was needed. Those that were given before aren't used.
+    NoFrame,
+    /// This frame, which was given, lies beyond the physical addresses. None that was given is used.
+    FrameRange(u64),
+    /// The entries that lead to the page's table allow less than the page is to allow.
+    Rights,
+    /// This table, under which the least overlapped page was looked for, has no entry that is present.
+    Empty(u64),
+    /// A reserved bit is set in the word of this frame at this index, from 0 to 511.
+    Reserved(u64, usize),
+}
+
+/// What a caller has to do: the stores in their order, then the flush; then the frames that are no longer linked are its own.
+#[derive(Drop)]
+pub struct Plan {
+    /// What came out.
+    pub reply: Reply,
+    /// The bits of the entry of the page that is removed, changed or asked for, as it was shown, beside its address and its rights:
+    /// at the places that `Request::Map` has. 0 where there is no such page.
+    pub bits: u64,
+    /// The stores. None where nothing is changed.
+    pub stores: ArrayVec<Store, MOST_STORES>,
+    /// What has to be forgotten.
+    pub flush: Flush,
+    /// The frame numbers of the tables that the stores unlink, in whose frames all words are 0 then.
+    pub unlinked: ArrayVec<u64, MOST_UNLINKED>,
+}
+
+/// What is to be done next.
+#[derive(Drop)]
+pub enum Step {
+    /// To show the words of the frame of this number: `Planner::see`.
+    See(u64),
+    /// To give a frame whose words are all 0, or none: `Planner::give`.
+    Give,
+    /// The end: to carry the plan out.
+    Planned(Plan),
+}
+
+impl Plan {
+    /// A plan that changes nothing.
+    pub(crate) fn nothing(reply: Reply, bits: u64) -> Plan
+        ensures { ChangesNothing reply bits result }
+    {
+        Plan {
+            reply,
+            bits,
+            stores: ArrayVec::new(),
+            flush: Flush::Nothing,
+            unlinked: ArrayVec::new(),
+        }
+    }
+}

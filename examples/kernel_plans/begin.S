@@ -1,0 +1,169 @@
+/* From QEMU's -kernel to C: on the first processor over an address space of 4 GiB that is left behind, on the others by a trampoline at
+ * 0x8000, over the address space that the kernel has made by then. Then accesses that may fault, and the two handlers.
+ */
+#include "../kernel/machine.h"
+
+#define TRAMPOLINE 0x8000
+#define AT(label) (TRAMPOLINE + label - trampoline)
+
+	.section .note.pvh, "a", @note
+	.align	4
+	.long	4, 8, 18	/* lengths of name and value; the entry point */
+	.asciz	"Xen"
+	.quad	start
+
+	.section .bss
+	.align	4096
+boot_root:
+	.skip	4096
+boot_pointers:
+	.skip	4096
+stacks:
+	.skip	4 * STACK_BYTES
+	.globl	processors
+processors:
+	.skip	8
+
+	.section .rodata
+	.align	8
+boot_gdt:
+	.quad	0, 0x00af9b000000ffff, 0x00cf93000000ffff
+boot_gdt_pointer:
+	.word	boot_gdt_pointer - boot_gdt - 1
+	.quad	boot_gdt
+
+	.text
+	.code32
+	.globl	start
+start:
+	cli
+	cld
+	mov	$stacks + STACK_BYTES, %esp
+	mov	24(%ebx), %ebp		/* the command line */
+	movl	$boot_pointers + 3, boot_root
+	mov	$boot_pointers, %edi
+	mov	$0x83, %eax		/* four pages of 1 GiB, each for itself */
+	mov	$4, %ecx
+1:	mov	%eax, (%edi)
+	add	$0x40000000, %eax
+	add	$8, %edi
+	loop	1b
+	mov	$CR4_PAE | CR4_OSFXSR | CR4_OSXMMEXCPT, %eax
+	mov	%eax, %cr4
+	mov	$boot_root, %eax
+	mov	%eax, %cr3
+	mov	$MSR_EFER, %ecx
+	rdmsr
+	or	$EFER_LME | EFER_NXE, %eax
+	wrmsr
+	mov	%cr0, %eax
+	and	$~(CR0_EM | CR0_TS), %eax
+	or	$CR0_PG | CR0_MP | CR0_WP, %eax
+	mov	%eax, %cr0
+	lgdt	boot_gdt_pointer
+	ljmp	$8, $start_long
+	.code64
+start_long:
+	mov	$16, %eax
+	mov	%eax, %ds
+	mov	%eax, %es
+	mov	%eax, %ss
+	lgdt	boot_gdt_pointer
+	mov	%ebp, %edi
+	xor	%ebp, %ebp
+	movl	$1, processors
+	call	kernel
+	hlt
+
+	/* Copied to 0x8000; what it needs is written behind it. */
+	.code16
+	.globl	trampoline, trampoline_end, trampoline_root
+trampoline:
+	cli
+	cld
+	xor	%ax, %ax
+	mov	%ax, %ds
+	lgdtl	AT(trampoline_gdt_pointer)
+	mov	$CR4_PAE | CR4_OSFXSR | CR4_OSXMMEXCPT, %eax
+	mov	%eax, %cr4
+	mov	AT(trampoline_root), %eax
+	mov	%eax, %cr3
+	mov	$MSR_EFER, %ecx
+	rdmsr
+	or	$EFER_LME | EFER_NXE, %eax
+	wrmsr
+	mov	$CR0_PG | CR0_MP | CR0_WP | 1, %eax
+	mov	%eax, %cr0
+	ljmpl	$8, $AT(trampoline_long)
+	.code64
+trampoline_long:
+	mov	$16, %eax
+	mov	%eax, %ds
+	mov	%eax, %es
+	mov	%eax, %ss
+	lgdt	boot_gdt_pointer
+	mov	$1, %edi
+	lock xadd %edi, processors	/* its number */
+	lea	1(%rdi), %eax
+	imul	$STACK_BYTES, %eax
+	lea	stacks(%rax), %rsp
+	xor	%ebp, %ebp
+	mov	$processor, %eax
+	call	*%rax
+	hlt
+	.align	8
+trampoline_gdt_pointer:
+	.word	23
+	.long	boot_gdt
+trampoline_root:
+	.long	0
+trampoline_end:
+
+	/* int try_read(address, uint64_t *word), int try_write(address, word): 0 where it faults */
+	.globl	try_read, try_write
+try_read:
+	mov	(%rdi), %rax
+	mov	%rax, (%rsi)
+	mov	$1, %eax
+	ret
+try_write:
+	mov	%rsi, (%rdi)
+	mov	$1, %eax
+	ret
+try_failed:
+	xor	%eax, %eax
+	ret
+
+	/* A page fault of an access goes on at try_failed; another stops all. The stack has code, RIP, CS, RFLAGS, RSP, SS. */
+	.globl	page_fault, other_fault, shoot_down_handler
+page_fault:
+	cmpq	$try_read, 8(%rsp)
+	je	1f
+	cmpq	$try_write, 8(%rsp)
+	jne	other_fault
+1:	movq	$try_failed, 8(%rsp)
+	add	$8, %rsp
+	iretq
+other_fault:
+	pop	%rdi
+	pop	%rsi
+	mov	%cr2, %rdx
+	and	$-16, %rsp
+	call	unexpected
+
+	/* A shootdown: the page is invalidated, and the processor says so. */
+shoot_down_handler:
+	push	%rax
+	mov	shoot_base, %rax
+	invlpg	(%rax)
+	mov	%cr3, %rax
+	cmpl	$0, shoot_all
+	je	1f
+	mov	%rax, %cr3
+1:	mov	$0xfee000b0, %eax
+	movl	$0, (%rax)		/* the end of the interrupt */
+	lock incl shot
+	pop	%rax
+	iretq
+
+	.section .note.GNU-stack, "", @progbits

@@ -1,0 +1,179 @@
+/* Plans for a page table of x86-64 that is the caller's own: what to store, in which order, what to flush, what may be freed.
+ *
+ * For a kernel whose frames come one at a time from an allocator and lie anywhere, whose other processors walk the tables while one changes
+ * them, and whose roots have half of their tables in common. A call holds no memory and touches none but the plan and the words that it is
+ * shown. It is asked for a change, asks for the words of one frame after another, then for empty frames, and ends with a plan. The caller,
+ * under its own lock, finds the frames, carries the plan out by stores of its own (WRITE_ONCE, a compare-exchange, a hypercall), flushes,
+ * and frees. tests/plans_c/loop.c has this as code:
+ *
+ *     struct nrvs_plan plan;
+ *     uint32_t step = nrvs_plan_map(&plan, &target, base, NRVS_4K, physical, NRVS_WRITE, 0);
+ *     while (step == NRVS_SEE)
+ *             step = nrvs_plan_see(&plan, words_of(plan.frame));               // where the direct map has the frame
+ *     while (step == NRVS_GIVE)
+ *             step = empty_frame(&number) ? nrvs_plan_give(&plan, number) : nrvs_plan_give_none(&plan);
+ *     if (step != NRVS_PLANNED)
+ *             return step;                                                     // a refusal: the request is not well formed
+ *     for (i = 0; i < plan.store_count; i++)
+ *             carry_out(&plan, i);                                             // below
+ *     if (plan.flush != NRVS_FLUSH_NOTHING)
+ *             shoot_down(plan.flush, plan.flush_base, plan.flush_size);        // on every processor that uses this table
+ *     for (i = 0; i < plan.unlinked_count; i++)
+ *             free_frame(plan.unlinked[i]);                                    // only now; and where no store is planned, those given
+ *     return plan.reply.code == NRVS_DONE ? 0 : ..;
+ *
+ * Between the words that are shown and the store a processor may set flags of its own in the word (accessed and dirty, bits 5 and 6). So a
+ * store is carried out by compare-exchanges, and where one finds another word, that is put in the plan:
+ *
+ *     uint64_t *at = &words_of(plan.stores[i].frame)[plan.stores[i].index];
+ *     while (!compare_exchange(at, plan.stores[i].old_word, plan.stores[i].new_word, &found))
+ *             if (nrvs_plan_again(&plan, i, found) != NRVS_OK)
+ *                     panic();                                                 // somebody else wrote: the lock doesn't hold
+ *
+ * What is promised of a plan, where the caller keeps what is listed below; in brackets are the clauses, of `IsRight` in crates/vs_plan
+ * where nothing else is said. It is given to C by the clause `next` of each call (crates/nrvs_plan_c/README.md):
+ *   - the answer is that of one sequential address space, as which the memory translates; where it changes nothing, no store is planned
+ *     [reply, nothing];
+ *   - the old word of each store is the one that is there [found]. One of the stores is the switch: after each one before it the memory
+ *     translates every canonical address as before, and from it on as after the call [safe]. So a processor that walks at any moment finds
+ *     the old translation or the new one, never a missing frame, a reserved bit, or a page that was in neither, whatever flags are set
+ *     meanwhile [the law flags_keep_plans_safe];
+ *   - a store writes the page's entry, clears a link to a table that is unlinked, or writes a word of a frame that was given: no other
+ *     present entry changes [meant], and each store changes its word [changing]. A protect keeps all bits of the page's entry but 1, 2 and
+ *     63; a map writes just the bits that it was given, and links to new tables that allow everything [written]. The bits that are answered
+ *     are those of the page's entry [`told`]; no flag is lost where a store is made again [flags_keep_plans_safe: protects, bits];
+ *   - a processor that was up to date is so again after the flush that is named: it keeps nothing that leads elsewhere than a walk of the
+ *     memory, and nothing that leads into an unlinked frame [flushed; the law flushes_of_right_plans_suffice]. An invlpg of the base does
+ *     it, for NRVS_FLUSH_PAGE and NRVS_FLUSH_PAGE_AND_TABLES (SDM volume 3A, 4.10.4.1). Pages that are global or of other PCIDs are the
+ *     caller's;
+ *   - an unlinked frame was a table on the way of the address, is none now, is named once, and its words are all 0 [unlinked, named_once];
+ *   - what the caller has to keep of the memory holds again after the stores [whole, own];
+ *   - the words of a frame are asked for once a level at most, and a frame once for each level [nrvs_plan_see, nrvs_plan_give: fewer].
+ *
+ * What the caller has to keep, which no call can test:
+ *   - pointers are not null, aligned as their types are; nobody else reads or writes the plan meanwhile; each call but the first is given
+ *     the plan as the call before left it;
+ *   - the words shown are the 512 of the frame asked for, and but for flags that processors set they stay so until the plan is carried out:
+ *     one lock is held from the first call to the last store. (Flags that are set while nrvs_plan_see reads a frame: it reads each word
+ *     that matters once, as compiled; no proof says so.)
+ *   - from the root on, each canonical address is translated with no frame that is missing and no reserved bit, and no other way leads to
+ *     the tables on the way of the page. Other addresses may share theirs, as a half that other roots have too [IsPremise]. So tables in
+ *     common are changed through one root at a time, and `pinned` where the root's own entries are in common;
+ *   - a frame that is given has words that are all 0, no table leads to it, and it isn't given twice [IsSpareFor; given]. It has to be seen
+ *     by the other processors as 0 before the stores, as it is where it was cleared by this processor;
+ *   - the stores are carried out in their order, each whole, as an aligned store of 64 bits of x86-64 is; then the flush, on each processor
+ *     that may have used the table; then the unlinked frames may be freed, or given again;
+ *   - the processor: CR0.WP and EFER.NXE are 1; where NXE is 0, bit 63 is reserved, so map with NRVS_EXEC. CR4.SMEP, SMAP, PKE and PKS are
+ *     0, or it refuses more than the rights say. CR4.LA57 is 1 where there are five levels, and 0 where there are four. `phys_bits` is how
+ *     many bits its physical addresses have (CPUID 80000008H). Attributes PWT, PCD and PAT, and memory types, are the caller's;
+ *   - the archive: XMM registers and linking are as in nrvs.h. The stack is aligned to 16 and has 4 KiB left: some 3 KiB are used, whatever
+ *     is asked. No word is kept below RSP. There are jumps by tables and no calls by register; none is marked for CET, so CR4.CET is 0.
+ */
+#ifndef NRVS_PLAN_H
+#define NRVS_PLAN_H
+
+#include "nrvs.h"
+
+#ifdef __cplusplus
+extern "C" {
+#endif
+
+/* The page table that a plan is for. */
+struct nrvs_target {
+	uint64_t root;      /* a frame number: CR3 is root * 4096 */
+	uint32_t levels;    /* 4 or 5 */
+	uint32_t phys_bits; /* how many bits a physical address has: 36 to 52 */
+	uint32_t pinned;    /* not 0: the tables to which the root leads stay linked, since other roots lead to them */
+};
+
+/* A word that is to be stored: word `index` of a frame is `old_word`, and becomes `new_word`. */
+struct nrvs_store {
+	uint64_t frame;
+	uint64_t index;
+	uint64_t old_word;
+	uint64_t new_word;
+};
+
+enum { NRVS_MOST_STORES = 5, NRVS_MOST_UNLINKED = 4 };
+
+/* A plan, and how far it is. */
+struct nrvs_plan {
+	uint64_t frame;           /* after NRVS_SEE: the frame whose words are to be shown */
+	struct nrvs_reply reply;  /* after NRVS_PLANNED: what the call answers; it and all that follows */
+	uint64_t bits;            /* of NRVS_REMOVED, NRVS_CHANGED, NRVS_MAPPED: the page's attributes, flags 5 and 6 among them */
+	uint64_t store_count;
+	struct nrvs_store stores[NRVS_MOST_STORES];
+	uint32_t flush;           /* NRVS_FLUSH_NOTHING .. */
+	uint32_t flush_size;      /* of the page: NRVS_4K .. */
+	uint64_t flush_base;      /* its first address */
+	uint64_t unlinked_count;
+	uint64_t unlinked[NRVS_MOST_UNLINKED];
+	uint64_t own[20];         /* the library's */
+};
+
+/* What comes next. Each call but nrvs_plan_again returns one of these, where it isn't refused. */
+enum {
+	NRVS_PLANNED = 0, /* the plan is there */
+	NRVS_SEE = 32,    /* the words of `plan->frame` are to be shown: nrvs_plan_see */
+	NRVS_GIVE = 33    /* an empty frame is to be given: nrvs_plan_give, or nrvs_plan_give_none */
+};
+
+/* What a call is refused for, beside what nrvs.h has: NRVS_BAD_LEVELS, NRVS_BAD_SIZE, NRVS_BAD_RIGHTS, NRVS_NOT_CANONICAL, NRVS_UNALIGNED,
+ * NRVS_PHYS_UNALIGNED, and NRVS_PHYS_RANGE where the page doesn't lie below physical 2^51 and 2^phys_bits. The plan is then as it was.
+ */
+enum {
+	NRVS_PHYS_BITS = 14, /* `phys_bits` is none of 36 to 52 */
+	NRVS_BAD_BITS = 15,  /* a bit is set that is none of NRVS_ATTRIBUTES */
+	NRVS_BAD_ROOT = 16,  /* the root's frame lies beyond phys_bits */
+	NRVS_NOT_ASKED = 17  /* the plan doesn't ask for that; of nrvs_plan_again: no such store, or more than flags differ */
+};
+
+/* Codes of replies, beside those of nrvs.h. No store is planned then. */
+enum {
+	NRVS_NO_FRAME = 10,    /* none was given; those that were are free */
+	NRVS_FRAME_RANGE = 11, /* number: a frame that was given, and lies beyond phys_bits; all that were given are free */
+	NRVS_NARROW = 12,      /* the entries that lead to the page's table allow less than the page is to allow */
+	NRVS_EMPTY = 13,       /* number: the frame of a table with no present entry, which is where the page would be mapped */
+	NRVS_RESERVED = 14     /* number: the frame of a word with a reserved bit set; bits: the word's index */
+};
+
+/* What the processors that use this table have to forget once the last store is carried out. */
+enum {
+	NRVS_FLUSH_NOTHING = 0,
+	NRVS_FLUSH_PAGE = 1,           /* the translations of a page */
+	NRVS_FLUSH_PAGE_AND_TABLES = 2 /* and what they keep of the tables on the way to it, some of which were unlinked */
+};
+
+/* Attributes of a page, at the places of an entry of 4 KiB, whatever the size: PWT 3, PCD 4, accessed 5, dirty 6, PAT 7, global 8, for
+ * software 11:9 and 58:52, protection key 62:59. Map with both flags (5 and 6) where no processor is to write the entry.
+ */
+#define NRVS_ATTRIBUTES UINT64_C(0x7ff0000000000ff8)
+
+/* Maps a page: NRVS_DONE, NRVS_OVERLAP, or a code of this header. */
+uint32_t nrvs_plan_map(struct nrvs_plan *plan, const struct nrvs_target *target, uint64_t base, uint32_t size, uint64_t physical,
+		       uint32_t rights, uint64_t bits);
+
+/* Unmaps the page that begins at an address: NRVS_REMOVED, NRVS_INSIDE, NRVS_NOT_MAPPED. */
+uint32_t nrvs_plan_unmap(struct nrvs_plan *plan, const struct nrvs_target *target, uint64_t base);
+
+/* Gives the page that begins at an address these rights and no others: NRVS_CHANGED, NRVS_INSIDE, NRVS_NOT_MAPPED, NRVS_NARROW. */
+uint32_t nrvs_plan_protect(struct nrvs_plan *plan, const struct nrvs_target *target, uint64_t base, uint32_t rights);
+
+/* Looks at an address: NRVS_MAPPED, with the physical address of this very address, or NRVS_NOT_MAPPED. No store is planned. */
+uint32_t nrvs_plan_ask(struct nrvs_plan *plan, const struct nrvs_target *target, uint64_t address);
+
+/* Shows the words of `plan->frame`. */
+uint32_t nrvs_plan_see(struct nrvs_plan *plan, const uint64_t words[512]);
+
+/* Gives a frame all of whose words are 0; says that there is none. */
+uint32_t nrvs_plan_give(struct nrvs_plan *plan, uint64_t frame);
+uint32_t nrvs_plan_give_none(struct nrvs_plan *plan);
+
+/* Store `index` finds `found` in place of `old_word`, which differs by flags that a processor set: the plan with that word in its place. */
+uint32_t nrvs_plan_again(struct nrvs_plan *plan, uint64_t index, uint64_t found);
+
+#ifdef __cplusplus
+}
+#endif
+
+#endif

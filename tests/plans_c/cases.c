@@ -1,0 +1,177 @@
+/* Each refusal, and the replies that no drawn call has: over tables that a kernel made itself. */
+#include "calls.h"
+
+#include <string.h>
+
+static struct memory memory;
+static struct nrvs_target target = {0, 4, 40, 0};
+static uint64_t tables[4]; /* of levels 4 to 1, on the way of address 0 */
+
+static const uint64_t GIB = UINT64_C(1) << 30, NX = UINT64_C(1) << 63;
+
+static uint64_t *word(unsigned level, uint64_t index)
+{
+	return &memory_words(&memory, tables[4 - level])[index];
+}
+
+static void tables_for(uint64_t address)
+{
+	unsigned level;
+	for (level = 4; level > 0; level--) {
+		tables[4 - level] = memory_take(&memory);
+		if (level < 4)
+			*word(level + 1, address >> (12 + 9 * level) & 511) = tables[4 - level] << 12 | 7;
+	}
+	target.root = tables[0];
+}
+
+static struct nrvs_plan planned(struct request r, struct stock stock)
+{
+	struct nrvs_plan plan, second;
+	uint32_t step = begin(&LIBRARY, &plan, &target, r);
+	CHECK(step == begin(&REFERENCE, &second, &target, r));
+	CHECK(drive(&LIBRARY, &plan, step, &memory, &stock) == NRVS_PLANNED);
+	CHECK(drive(&REFERENCE, &second, step, &memory, &stock) == NRVS_PLANNED);
+	CHECK(same_plans(&plan, &second));
+	CHECK(plan.reply.code < NRVS_NO_FRAME || plan.store_count + plan.unlinked_count + plan.flush == 0);
+	return plan;
+}
+
+static struct nrvs_plan maps(uint64_t base, unsigned size, unsigned rights)
+{
+	struct request r = {MAPS, size, rights, base, 0, 0};
+	struct stock none = {{0, 0, 0, 0}, 0, 0};
+	return planned(r, none);
+}
+
+/* What is refused: the plan is as it was. */
+static void refusals(void)
+{
+	struct nrvs_target bad;
+	struct nrvs_plan plan, before;
+	const struct planner *p = &LIBRARY;
+	memset(&plan, 0xAB, sizeof plan);
+	before = plan;
+	bad = target;
+	CHECK(p->map(&plan, &target, 0, 3, 0, 0, 0) == NRVS_BAD_SIZE);
+	CHECK(p->map(&plan, &target, 0, 256, 0, 0, 0) == NRVS_BAD_SIZE);
+	CHECK(p->map(&plan, &target, 0, NRVS_4K, 0, 8, 0) == NRVS_BAD_RIGHTS);
+	CHECK(p->map(&plan, &target, UINT64_C(1) << 47, NRVS_4K, 0, 0, 0) == NRVS_NOT_CANONICAL);
+	CHECK(p->map(&plan, &target, 4096, NRVS_2M, 0, 0, 0) == NRVS_UNALIGNED);
+	CHECK(p->map(&plan, &target, 0, NRVS_1G, 4096, 0, 0) == NRVS_PHYS_UNALIGNED);
+	CHECK(p->map(&plan, &target, 0, NRVS_4K, UINT64_C(1) << 51, 0, 0) == NRVS_PHYS_RANGE);
+	CHECK(p->map(&plan, &target, 0, NRVS_4K, UINT64_C(1) << 40, 0, 0) == NRVS_PHYS_RANGE);
+	CHECK(p->map(&plan, &target, 0, NRVS_1G, UINT64_C(1) << 40, 0, 0) == NRVS_PHYS_RANGE);
+	CHECK(p->map(&plan, &target, 0, NRVS_4K, 0, 0, 1) == NRVS_BAD_BITS);
+	CHECK(p->map(&plan, &target, 0, NRVS_4K, 0, 0, NX) == NRVS_BAD_BITS);
+	CHECK(p->map(&plan, &target, 0, NRVS_4K, 0, 0, 1 << 12) == NRVS_BAD_BITS);
+	CHECK(p->unmap(&plan, &target, 1) == NRVS_UNALIGNED);
+	CHECK(p->unmap(&plan, &target, UINT64_C(1) << 60) == NRVS_NOT_CANONICAL);
+	CHECK(p->protect(&plan, &target, 0, 256) == NRVS_BAD_RIGHTS);
+	CHECK(p->protect(&plan, &target, 8, 0) == NRVS_UNALIGNED);
+	CHECK(p->ask(&plan, &target, UINT64_C(1) << 47) == NRVS_NOT_CANONICAL);
+	bad.levels = 3;
+	CHECK(p->ask(&plan, &bad, 0) == NRVS_BAD_LEVELS);
+	bad.levels = 4, bad.phys_bits = 35;
+	CHECK(p->unmap(&plan, &bad, 0) == NRVS_PHYS_BITS);
+	bad.phys_bits = 53;
+	CHECK(p->protect(&plan, &bad, 0, 0) == NRVS_PHYS_BITS);
+	bad.phys_bits = 40, bad.root = UINT64_C(1) << 28;
+	CHECK(p->map(&plan, &bad, 0, NRVS_4K, 0, 0, 0) == NRVS_BAD_ROOT);
+	CHECK(memcmp(&plan, &before, sizeof plan) == 0);
+}
+
+/* Calls for which the plan doesn't ask. */
+static void not_asked(void)
+{
+	static const uint64_t empty[512];
+	struct request r = {MAPS, NRVS_4K, 0, 0, 0, 0};
+	struct nrvs_plan plan;
+	const struct planner *p = &LIBRARY;
+	CHECK(begin(p, &plan, &target, r) == NRVS_SEE);
+	CHECK(plan.frame == target.root);
+	CHECK(p->give(&plan, 1) == NRVS_NOT_ASKED && p->give_none(&plan) == NRVS_NOT_ASKED && p->again(&plan, 0, 1) == NRVS_NOT_ASKED);
+	CHECK(p->see(&plan, empty) == NRVS_GIVE);
+	CHECK(p->see(&plan, empty) == NRVS_NOT_ASKED);
+	CHECK(p->give(&plan, 1) == NRVS_GIVE && p->give(&plan, 2) == NRVS_GIVE && p->give(&plan, 3) == NRVS_PLANNED);
+	CHECK(plan.reply.code == NRVS_DONE && plan.store_count == 4 && plan.stores[3].frame == target.root);
+	CHECK(p->give(&plan, 4) == NRVS_NOT_ASKED && p->see(&plan, empty) == NRVS_NOT_ASKED);
+	CHECK(p->again(&plan, 3, 0x20) == NRVS_NOT_ASKED); /* a word that isn't present has no flags */
+	CHECK(p->again(&plan, 4, 0) == NRVS_NOT_ASKED && p->again(&plan, UINT64_MAX, 0) == NRVS_NOT_ASKED);
+}
+
+/* Tables that a kernel made: with fewer rights, with no entry, with reserved bits; frames that can't be given. */
+static void odd_tables(void)
+{
+	struct request r = {MAPS, NRVS_4K, NRVS_WRITE, GIB, 0, 0};
+	struct stock far = {{UINT64_C(1) << 28, 0, 0, 0}, 1, 0};
+	struct nrvs_plan plan;
+	tables_for(0);
+	plan = maps(0, NRVS_2M, 0);
+	CHECK(plan.reply.code == NRVS_EMPTY && plan.reply.number == tables[3]);
+	*word(1, 9) = 0x7000 | NX | 3;
+	plan = maps(0, NRVS_2M, 0);
+	CHECK(plan.reply.code == NRVS_OVERLAP && plan.reply.number == 0x9000);
+	plan = maps(0, NRVS_1G, 0);
+	CHECK(plan.reply.code == NRVS_OVERLAP && plan.reply.number == 0x9000);
+	*word(3, 0) &= ~UINT64_C(2);
+	plan = maps(0x1000, NRVS_4K, NRVS_WRITE | NRVS_EXEC);
+	CHECK(plan.reply.code == NRVS_NARROW && plan.reply.number == 0);
+	plan = maps(0x9000, NRVS_4K, NRVS_WRITE);
+	CHECK(plan.reply.code == NRVS_OVERLAP && plan.reply.number == 0x9000);
+	r.kind = PROTECTS, r.address = 0x9000;
+	plan = planned(r, far);
+	CHECK(plan.reply.code == NRVS_NARROW);
+	r.rights = NRVS_EXEC;
+	plan = planned(r, far);
+	CHECK(plan.reply.code == NRVS_CHANGED && plan.reply.rights == 0 && plan.stores[0].new_word == 0x7001);
+	r.kind = MAPS, r.rights = NRVS_WRITE, r.address = GIB;
+	*word(3, 0) |= 2;
+	*word(2, 1) = 0x201000 | 0x83;
+	plan = maps(0x200000, NRVS_4K, 0);
+	CHECK(plan.reply.code == NRVS_OVERLAP && plan.reply.number == 0x200000);
+	*word(2, 1) = 0x202000 | 0x83;
+	plan = maps(0x200000, NRVS_4K, 0);
+	CHECK(plan.reply.code == NRVS_RESERVED && plan.reply.number == tables[2] && plan.bits == 1);
+	*word(2, 1) = 0;
+	plan = planned(r, far);
+	CHECK(plan.reply.code == NRVS_FRAME_RANGE && plan.reply.number == UINT64_C(1) << 28);
+	far.count = 0;
+	plan = planned(r, far);
+	CHECK(plan.reply.code == NRVS_NO_FRAME);
+}
+
+/* Where attributes are in entries of each size, and how they are asked for. */
+static void attributes(void)
+{
+	static const struct { unsigned size; uint64_t word; } PLACED[] = {
+		{NRVS_4K, UINT64_C(0xfff0000000000fff)}, {NRVS_2M, UINT64_C(0xfff0000000001fff)}, {NRVS_1G, UINT64_C(0xfff0000000001fff)},
+	};
+	static const uint64_t BASES[] = {0x10000, 0x600000, 3 * (UINT64_C(1) << 30)};
+	struct stock none = {{0, 0, 0, 0}, 0, 0};
+	unsigned i;
+	for (i = 0; i < 3; i++) {
+		struct request r = {MAPS, PLACED[i].size, NRVS_WRITE | NRVS_USER, BASES[i], 0, NRVS_ATTRIBUTES};
+		struct nrvs_plan plan = planned(r, none);
+		CHECK(plan.reply.code == NRVS_DONE && plan.store_count == 1 && plan.stores[0].new_word == PLACED[i].word);
+		memory_words(&memory, plan.stores[0].frame)[plan.stores[0].index] = plan.stores[0].new_word;
+		r.kind = PROTECTS, r.rights = NRVS_EXEC;
+		plan = planned(r, none);
+		CHECK(plan.reply.code == NRVS_CHANGED && plan.stores[0].new_word == (PLACED[i].word & ~(NX | 6)) && plan.bits == NRVS_ATTRIBUTES);
+		r.kind = ASKS;
+		plan = planned(r, none);
+		CHECK(plan.reply.code == NRVS_MAPPED && plan.bits == NRVS_ATTRIBUTES && plan.reply.size == PLACED[i].size);
+	}
+}
+
+int main(void)
+{
+	memory_begin(&memory, 40, 3);
+	target.root = memory_take(&memory);
+	refusals();
+	not_asked();
+	odd_tables();
+	attributes();
+	memory_end(&memory);
+	return counts();
+}

@@ -1,0 +1,266 @@
+/* Drawn calls. Each plan is that of the second planner, is answered as a plain list of pages is, and is carried out in a memory whose
+ * frames lie anywhere; before and after each of its stores a processor walks at drawn addresses, sets flags, and keeps what it found; after
+ * the flush nothing that is kept leads elsewhere than the memory.
+ */
+#include "calls.h"
+#include "kept.h"
+#include "space.h"
+
+#include <stdio.h>
+#include <stdlib.h>
+#include <string.h>
+
+enum { PROBES = 12, FLAGS = 0x60 };
+
+static struct memory memory;
+static struct space space, after;
+static struct kept kept;
+static struct nrvs_target target;
+static uint64_t seed;
+static unsigned done, refused, flagged, unlinked;
+
+/* An address of few, in both halves, so that pages meet. */
+static uint64_t any_address(void)
+{
+	uint64_t address = (draw(&seed, 2) << 39) + (draw(&seed, 3) << 30) + (draw(&seed, 3) << 21) + (draw(&seed, 4) << 12);
+	if (target.levels == 5)
+		address += draw(&seed, 2) << 48;
+	return draw(&seed, 2) ? address : address - (UINT64_C(1) << (11 + 9 * target.levels));
+}
+
+/* A request that is well formed. */
+static struct request any_request(void)
+{
+	struct request r;
+	uint64_t bytes;
+	r.kind = (unsigned)draw(&seed, 6) % 4;
+	r.size = (unsigned)draw(&seed, 5) % 3;
+	bytes = UINT64_C(4096) << 9 * r.size;
+	r.rights = (unsigned)draw(&seed, 8);
+	r.address = any_address();
+	r.physical = draw(&seed, (UINT64_C(1) << (target.phys_bits > 51 ? 51 : target.phys_bits)) / bytes) * bytes;
+	r.bits = (draw(&seed, UINT64_C(1) << 31) << 33 | draw(&seed, UINT64_C(1) << 31) << 2) & NRVS_ATTRIBUTES;
+	if (r.kind == MAPS)
+		r.address &= ~(bytes - 1);
+	if (r.kind == ASKS)
+		r.address += draw(&seed, 4096);
+	return r;
+}
+
+static struct answered answer(struct space *of, struct request r)
+{
+	struct page page = {r.address, r.physical, r.bits, r.size, r.rights};
+	if (r.kind == MAPS)
+		return space_map(of, page);
+	if (r.kind == UNMAPS)
+		return space_unmap(of, r.address);
+	return r.kind == PROTECTS ? space_protect(of, r.address, r.rights) : space_ask(of, r.address);
+}
+
+static void flags_in_space(struct space *of, uint64_t address, uint64_t flags)
+{
+	unsigned i;
+	for (i = 0; i < of->count; i++)
+		if (address - of->pages[i].base < UINT64_C(4096) << 9 * of->pages[i].size)
+			of->pages[i].bits |= flags;
+}
+
+/* A processor goes to an address: it sets the accessed flag of each entry, and in one of two goes the dirty flag of the page's. */
+static void touch(uint64_t address)
+{
+	uint64_t level = target.levels, frame = target.root, flags;
+	for (;; level--) {
+		uint64_t *word = &memory_words(&memory, frame)[address >> (3 + 9 * level) & 511];
+		int leaf = level == 1 || (level < 4 && *word & 128);
+		if (!(*word & 1))
+			return;
+		flags = leaf && draw(&seed, 2) ? FLAGS : 0x20;
+		*word |= flags;
+		if (leaf) {
+			flags_in_space(&space, address, flags);
+			flags_in_space(&after, address, flags);
+			return;
+		}
+		frame = *word >> 12 & ((UINT64_C(1) << 40) - 1);
+	}
+}
+
+static int same(struct walked a, struct walked b)
+{
+	return a.end == b.end && (a.end != ENDS_MAPPED || (a.physical == b.physical && a.size == b.size && a.rights == b.rights));
+}
+
+/* The memory translates as the space before, or as the space after: at the addresses of the page and at others. */
+static int translates(const struct space *as, const uint64_t probes[PROBES])
+{
+	unsigned i;
+	for (i = 0; i < PROBES; i++)
+		if (!same(memory_walk(&memory, target.levels, target.root, probes[i]), space_walk(as, probes[i])))
+			return 0;
+	return 1;
+}
+
+static void draw_probes(uint64_t probes[PROBES], struct request r)
+{
+	uint64_t bytes = UINT64_C(4096) << 9 * r.size, base = r.address & ~UINT64_C(4095);
+	unsigned i;
+	for (i = 0; i < PROBES; i++)
+		probes[i] = any_address() + draw(&seed, 4096);
+	probes[0] = base;
+	probes[1] = base + bytes - 1;
+	probes[2] = base ^ bytes;
+	probes[3] = (base & ~(bytes - 1)) + draw(&seed, bytes);
+}
+
+/* Store number i, by compare-exchanges, as nrvs_plan.h has it. */
+static void carry_out(struct nrvs_plan *plan, struct nrvs_plan *second, unsigned i)
+{
+	uint64_t *at = &memory_words(&memory, plan->stores[i].frame)[plan->stores[i].index];
+	CHECK(at != NULL);
+	while (*at != plan->stores[i].old_word) {
+		flagged++;
+		CHECK(again(&LIBRARY, plan, i, *at) == NRVS_OK);
+		CHECK(again(&REFERENCE, second, i, plan->stores[i].old_word) == NRVS_OK);
+		CHECK(same_plans(plan, second));
+		if (*at != plan->stores[i].old_word)
+			return;
+	}
+	*at = plan->stores[i].new_word;
+}
+
+/* What a store may change: a word of a given frame, the page's entry, the link to a table that is unlinked. */
+static void check_store(const struct nrvs_plan *plan, const struct stock *stock, const struct request *r, unsigned i)
+{
+	const struct nrvs_store *s = &plan->stores[i];
+	unsigned above = r->size + 1 + i, k, given = 0;
+	for (k = 0; k < stock->given; k++)
+		given |= stock->frames[k] == s->frame;
+	if (r->kind == MAPS) {
+		CHECK(given == (i + 1 < plan->store_count) && !(s->old_word & 1) && (!given || s->old_word == 0));
+		CHECK(s->new_word & 1 && s->index == (r->address >> (3 + 9 * above) & 511));
+	} else if (r->kind == PROTECTS) {
+		CHECK(i == 0 && ((s->old_word ^ s->new_word) & ~(UINT64_C(1) << 63 | 6)) == 0 && s->old_word & 1);
+	} else {
+		CHECK(r->kind == UNMAPS && s->new_word == 0 && s->old_word & 1);
+		CHECK(i == 0 || (s->old_word >> 12 & ((UINT64_C(1) << 40) - 1)) == plan->unlinked[i - 1]);
+	}
+}
+
+/* All stores, with what a processor does meanwhile: the switch is one of them. */
+static void carry_out_all(struct nrvs_plan *plan, struct nrvs_plan *second, const struct stock *stock, const struct request *r)
+{
+	uint64_t probes[PROBES];
+	unsigned i, switched = 0;
+	draw_probes(probes, *r);
+	CHECK(translates(&space, probes));
+	for (i = 0; i < plan->store_count; i++) {
+		if (draw(&seed, 2))
+			touch(draw(&seed, 2) ? r->address : any_address());
+		keep_walk(&kept, &memory, target.levels, target.root, draw(&seed, 2) ? r->address : any_address());
+		carry_out(plan, second, i);
+		check_store(plan, stock, r, i);
+		draw_probes(probes, *r);
+		switched |= !translates(&space, probes);
+		CHECK(switched ? translates(&after, probes) : 1);
+	}
+	CHECK(translates(&after, probes));
+}
+
+/* After the flush: what is kept is what is there, and the unlinked frames are free. */
+static void flush_and_free(const struct nrvs_plan *plan, const struct request *r)
+{
+	unsigned i, k;
+	forget(&kept, plan->flush, plan->flush_base, plan->flush_size);
+	for (i = 0; i < PROBES; i++)
+		CHECK(agrees(&kept, &memory, target.levels, target.root, i ? any_address() : r->address));
+	for (i = 0; i < plan->unlinked_count; i++) {
+		const uint64_t *words = memory_words(&memory, plan->unlinked[i]);
+		CHECK(!leads_to(&kept, plan->unlinked[i]));
+		for (k = 0; words && k < 512 && !words[k]; k++)
+			;
+		CHECK(k == 512);
+		memory_free(&memory, plan->unlinked[i]);
+		unlinked++;
+	}
+}
+
+/* A plan's answer beside that of the list; the flags of its page are those at the moment of the store. */
+static void check_answer(const struct nrvs_plan *plan, const struct request *r, struct answered a)
+{
+	CHECK(plan->reply.code == a.reply.code && plan->reply.number == a.reply.number);
+	CHECK(plan->reply.size == a.reply.size && plan->reply.rights == a.reply.rights);
+	CHECK(plan->bits == (r->kind != MAPS && plan->store_count ? space_ask(&space, r->address).bits : a.bits));
+}
+
+static void one_call(void)
+{
+	struct request r = any_request();
+	struct nrvs_plan plan, second;
+	struct stock stock;
+	struct answered a;
+	unsigned i;
+	stock.count = draw(&seed, 8) ? 4 : (unsigned)draw(&seed, 4);
+	for (i = 0; i < stock.count; i++)
+		stock.frames[i] = memory_take(&memory);
+	memset(&plan, 0xAB, sizeof plan);
+	CHECK(begin(&LIBRARY, &plan, &target, r) == NRVS_SEE);
+	CHECK(begin(&REFERENCE, &second, &target, r) == NRVS_SEE);
+	CHECK(drive(&LIBRARY, &plan, NRVS_SEE, &memory, &stock) == NRVS_PLANNED);
+	CHECK(drive(&REFERENCE, &second, NRVS_SEE, &memory, &stock) == NRVS_PLANNED);
+	CHECK(same_plans(&plan, &second));
+	after = space;
+	if (plan.reply.code == NRVS_NO_FRAME) {
+		refused++;
+		CHECK(plan.store_count == 0 && stock.given == stock.count && answer(&after, r).reply.code == NRVS_DONE);
+		after = space;
+		stock.given = 0;
+	} else {
+		a = answer(&after, r);
+		if (r.kind == MAPS && plan.reply.code != NRVS_DONE)
+			CHECK(plan.store_count == 0);
+		if (r.kind == UNMAPS)
+			r.size = plan.reply.code == NRVS_REMOVED ? plan.reply.size : 0;
+		carry_out_all(&plan, &second, &stock, &r);
+		check_answer(&plan, &r, a);
+		done += plan.store_count != 0;
+	}
+	flush_and_free(&plan, &r);
+	for (i = plan.reply.code == NRVS_DONE ? stock.given : 0; i < stock.count; i++)
+		memory_free(&memory, stock.frames[i]);
+	space = after;
+}
+
+static void run(uint32_t levels, uint32_t phys_bits, unsigned calls)
+{
+	unsigned i;
+	memset(&space, 0, sizeof space);
+	memset(&kept, 0, sizeof kept);
+	memory_begin(&memory, phys_bits, seed);
+	target.levels = levels;
+	target.phys_bits = phys_bits;
+	target.root = memory_take(&memory);
+	for (i = 0; i < calls; i++) {
+		one_call();
+		keep_walk(&kept, &memory, target.levels, target.root, any_address());
+		if (i % 64 == 0)
+			CHECK(memory_reached(&memory, levels, target.root) == memory.count);
+		if (draw(&seed, 4) == 0) {
+			after = space;
+			touch(any_address());
+			space = after;
+		}
+	}
+	memory_end(&memory);
+}
+
+int main(int count, char **words)
+{
+	unsigned calls = count > 1 ? (unsigned)atoi(words[1]) : 20000;
+	seed = count > 2 ? (uint64_t)atoll(words[2]) : 1;
+	run(4, 36, calls);
+	run(4, 52, calls);
+	run(5, 52, calls);
+	run(5, 46, calls);
+	printf("%u changes, %u without a frame, %u flags met, %u tables unlinked\n", done, refused, flagged, unlinked);
+	return counts();
+}
