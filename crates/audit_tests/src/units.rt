@@ -14,7 +14,7 @@ fn bad_unit(rt: &impl Abort, alloc: Global, bytes: &[u8], len: usize) -> BadUnit
 {
     match feed_in_units(alloc, bytes, len).err() {
         Some(Unread::Bad(bad)) => bad,
-        Some(Unread::Memory) => panic!(rt; "memory"),
+        Some(Unread::Memory) => panic!(rt; "memory: Memory"),
         None => panic!(rt; "no bad unit"),
     }
 }
@@ -126,7 +126,7 @@ fn what_stands_behind_the_last_unit(rt: HostRuntime) {
     let mut bytes = map_then_resolve(&rt, alloc);
     for len in [1, 7, 4096] {
         assert!(rt; len > 0);
-        assert!(rt; feed_in_units(alloc, &bytes, len).is_ok(), "{len}");
+        let _trace = feed_in_units(alloc, &bytes, len).expect(&rt, "memory");
     }
     bytes.extend_from_slice(&[7, 8]).expect(&rt, "memory");
     holds(

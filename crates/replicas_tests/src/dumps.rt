@@ -59,5 +59,5 @@ fn assert_dump(
     let space = space_after(rt, alloc, config, &updates[..applied]);
     assert_eq!(rt; (dump.root(), dump.count()), (first, space.tables()));
     assert_numbers(rt, dump, first, config.tables());
-    assert!(rt; check(alloc, dump, &space).is_ok());
+    check(alloc, dump, &space).expect(rt, "memory");
 }
