@@ -3,48 +3,12 @@ use Rattle.std.proofs.Common.{◌≡◌, ℕ, Bool, true, false, List, Option, l
 use Rattle.vs_types.specs.Config.{Layout}
 use Rattle.vs_types.specs.declared.depth.Depth.{Depth}
 use Rattle.vs_types.specs.declared.request.Query.{Query}
-use Rattle.nr_trace.specs.Faults.{IsFirstOf}
-use Rattle.nr_trace.specs.Laws.{IsFaultless}
-use Rattle.nr_trace.specs.Orders.{recorded_order}
-use Rattle.nr_audit.specs.Headline.{AreRightWith, IsSpelledWith}
-use Rattle.nr_serve.specs.Run.{AreAllCallsOf, HaveSeenAnswers, IfRunRefused, IfVerified, IsLogOf, IsTraceOf}
+use Rattle.nr_serve.specs.Run.{IfRunRefused, IfVerified, IsRefusedRun, IsVerifiedRun}
 use Rattle.nr_serve.specs.declared.outcome.Outcome.{Outcome}
 use Rattle.nr_serve.specs.declared.outcome.Outcome.TheVariants.{Verified, Refused}
-use Rattle.nr_run_engines.specs.ServedRun.{HasRunnable, IsRefusedRun, IsRunEnd, IsRunFault, IsVerifiedRun, TellsRun, outcome_status, told_of}
+use Rattle.nr_run_engines.specs.ServedRun.{HasRunnable, IsRunEnd, IsRunFault, TellsRun, outcome_status, told_of}
 use Rattle.nr_engines.specs.declared.fault.ProgFault.{ProgFault}
 use Rattle.nr_engines.specs.declared.fault.ProgFault.TheVariants.{BadAddress, NotCanonical, NoSuchReplica, InputTooLong, BadLine, NoThread, CannotRead, CannotWrite, Memory}
-
--- the clauses of a run, together
-pub all_shown : {J : Type 0} (layout : Layout) (scripts : List (List Query)) (outcome : Outcome J)
-    → IfVerified (λ answers trace order passes. IsSpelledWith trace (λ recording. recording.layout ≡ layout)) outcome
-    → IfVerified (λ answers trace order passes. length answers ≡ layout.threads) outcome
-    → IfVerified (λ answers trace order passes. IsSpelledWith trace (λ recording. AreAllCallsOf recording scripts answers)) outcome
-    → IfVerified (λ answers trace order passes. length passes ≡ layout.threads) outcome
-    → IfVerified (λ answers trace order passes. IsSpelledWith trace (λ recording. IsLogOf layout recording.log passes)) outcome
-    → IfVerified (λ answers trace order passes. IsSpelledWith trace (λ recording. HaveSeenAnswers recording passes)) outcome
-    → IfVerified (λ answers trace order passes. IsSpelledWith trace IsFaultless) outcome
-    → IfVerified (λ answers trace order passes. IsSpelledWith trace (λ recording. order ≡ recorded_order recording)) outcome
-    → IfVerified (λ answers trace order passes. AreRightWith trace order) outcome
-    → IfVerified (IsVerifiedRun layout scripts) outcome
-all_shown layout scripts (Verified answers trace order passes) layout_is answers_each calls passes_each log seen faultless order_is right = record {
-  layout_is = layout_is;
-  answers_each = answers_each;
-  calls = calls;
-  passes_each = passes_each;
-  log = log;
-  seen = seen;
-  faultless = faultless;
-  order_is = order_is;
-  right = right;
-}
-all_shown layout scripts (Refused trace fault) layout_is answers_each calls passes_each log seen faultless order_is right = tt
-
--- the clauses of a refused run, together
-pub all_refused : {J : Type 0} (layout : Layout) (scripts : List (List Query)) (outcome : Outcome J)
-    → IfRunRefused (λ trace fault. IsTraceOf layout scripts trace) outcome → IfRunRefused (λ trace fault. IsFirstOf trace fault) outcome
-    → IfRunRefused (IsRefusedRun layout scripts) outcome
-all_refused layout scripts (Verified answers trace order passes) trace_of first = tt
-all_refused layout scripts (Refused trace fault) trace_of first = record { trace_of = trace_of; first = first }
 
 -- what is written of an outcome is written of the run
 pub tells_run : {J : Type 0} (layout : Layout) (scripts : List (List Query)) (as_trace : Bool) (outcome : Outcome J) (status : ℕ)

@@ -4,12 +4,8 @@ use Rattle.vs_types.specs.Config.{Layout}
 use Rattle.vs_types.specs.declared.depth.Depth.{Depth}
 use Rattle.vs_types.specs.declared.request.Query.{Query}
 use Rattle.nr_ring.specs.Pass.{Known}
-use Rattle.nr_trace.specs.Faults.{IsFirstOf}
-use Rattle.nr_trace.specs.Laws.{IsFaultless}
-use Rattle.nr_trace.specs.Orders.{recorded_order}
 use Rattle.nr_trace.specs.declared.fault.Fault.{Fault}
-use Rattle.nr_audit.specs.Headline.{AreRightWith, IsSpelledWith}
-use Rattle.nr_serve.specs.Run.{AreAllCallsOf, HaveSeenAnswers, IsLogOf, IsTraceOf}
+use Rattle.nr_serve.specs.Run.{IsRefusedRun, IsVerifiedRun}
 use Rattle.nr_serve.specs.declared.outcome.Outcome.{Outcome}
 use Rattle.nr_serve.specs.declared.outcome.Outcome.TheVariants.{Verified, Refused}
 use Rattle.nr_serve.specs.declared.said.Said.{Said}
@@ -21,26 +17,6 @@ use Rattle.nr_run_engines.specs.Simulation.{HasBadLine, IsScriptFault, layout_of
 use Rattle.nr_engines.specs.declared.fault.ProgFault.{ProgFault}
 use Rattle.nr_engines.specs.declared.fault.ProgFault.TheVariants.{BadLine, CannotWrite, Memory, NoThread}
 use Rattle.nr_run_engines.specs.declared.setup.Setup.{Setup}
-
--- what a verified run of these scripts has to show. The bytes spell one trace, of this layout; its calls are those of the threads'
--- scripts, and the answers what came of them; its log is that of which each thread's pass has seen all on which the thread's answers
--- rest; it has no fault, and is right with its recorded order
-pub record IsVerifiedRun (layout : Layout) (scripts : List (List Query)) (answers : List (List Said)) (bytes order : List ℕ) (passes : List Known) : Type 0 where
-  pub layout_is : IsSpelledWith bytes (λ trace. trace.layout ≡ layout)
-  pub answers_each : length answers ≡ layout.threads
-  pub calls : IsSpelledWith bytes (λ trace. AreAllCallsOf trace scripts answers)
-  pub passes_each : length passes ≡ layout.threads
-  pub log : IsSpelledWith bytes (λ trace. IsLogOf layout trace.log passes)
-  pub seen : IsSpelledWith bytes (λ trace. HaveSeenAnswers trace passes)
-  pub faultless : IsSpelledWith bytes IsFaultless
-  pub order_is : IsSpelledWith bytes (λ trace. order ≡ recorded_order trace)
-  pub right : AreRightWith bytes order
-
--- what a refused run of these scripts has to show: the bytes spell one trace, of these scripts and on one log, and this is its first
--- fault
-pub record IsRefusedRun (layout : Layout) (scripts : List (List Query)) (bytes : List ℕ) (fault : Fault) : Type 0 where
-  pub trace_of : IsTraceOf layout scripts bytes
-  pub first : IsFirstOf bytes fault
 
 -- the bytes of the trace, where these are asked for; else the text
 abbrev pub asked_for : Bool → List ℕ → List ℕ → List ℕ

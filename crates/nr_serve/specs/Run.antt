@@ -4,9 +4,11 @@ use Rattle.std.specs.Option.{option_map_or}
 use Rattle.vs_types.specs.Config.{Layout}
 use Rattle.vs_types.specs.declared.op.Action.{Action}
 use Rattle.vs_types.specs.declared.request.Query.{Query}
-use Rattle.nr_audit.specs.Headline.{IsSpelledWith}
+use Rattle.nr_audit.specs.Headline.{AreRightWith, IsSpelledWith}
 use Rattle.nr_trace.specs.Calls.{Invocation, IsRead, Response, call_of, operation_of, reply_to}
-use Rattle.nr_trace.specs.Orders.{below}
+use Rattle.nr_trace.specs.Faults.{IsFirstOf}
+use Rattle.nr_trace.specs.Laws.{IsFaultless}
+use Rattle.nr_trace.specs.Orders.{below, recorded_order}
 use Rattle.nr_trace.specs.Recording.{Recording}
 use Rattle.nr_trace.specs.declared.fault.Fault.{Fault}
 use Rattle.nr_ring.specs.LogHistory.{IsLogHistory, log_after}
@@ -75,17 +77,29 @@ AreAllCallsOf trace scripts answers = (thread : ℕ) (script : List Query) (item
 abbrev pub HaveSeenAnswers : Recording → List Known → Type 0
 HaveSeenAnswers trace passes = (thread : ℕ) (pass : Known) → slice_get passes thread ≡ Some pass → HasSeenAnswers trace thread pass
 
--- the bytes spell one trace, of this layout, in which the threads' calls are those of their scripts; its log is one log, of which each
--- thread's pass has seen all on which the thread's answers depend
-pub record IsTraceOf (layout : Layout) (scripts : List (List Query)) (bytes : List ℕ) : Type 0 where
+-- the bytes spell one trace, of this layout, in which the threads' calls are those of their scripts, and the answers what came of them;
+-- its log is one log, of which each thread's pass has seen all on which the thread's answers depend
+pub record IsTraceOf (layout : Layout) (scripts : List (List Query)) (answers : List (List Said)) (passes : List Known) (bytes : List ℕ) : Type 0 where
   pub layout_is : IsSpelledWith bytes (λ trace. trace.layout ≡ layout)
-  pub answers : List (List Said)
-  pub answers_each : length answers ≡ length scripts
+  pub answers_each : length answers ≡ layout.threads
   pub calls : IsSpelledWith bytes (λ trace. AreAllCallsOf trace scripts answers)
-  pub passes : List Known
-  pub passes_each : length passes ≡ length scripts
+  pub passes_each : length passes ≡ layout.threads
   pub log : IsSpelledWith bytes (λ trace. IsLogOf layout trace.log passes)
   pub seen : IsSpelledWith bytes (λ trace. HaveSeenAnswers trace passes)
+
+-- what a verified run of these scripts has to show: a trace of them without a fault, which is right with its recorded order
+pub record IsVerifiedRun (layout : Layout) (scripts : List (List Query)) (answers : List (List Said)) (bytes order : List ℕ) (passes : List Known) : Type 0 where
+  pub trace_of : IsTraceOf layout scripts answers passes bytes
+  pub faultless : IsSpelledWith bytes IsFaultless
+  pub order_is : IsSpelledWith bytes (λ trace. order ≡ recorded_order trace)
+  pub right : AreRightWith bytes order
+
+-- what a refused run of these scripts has to show: a trace of them, for some answers and passes, and its first fault
+pub record IsRefusedRun (layout : Layout) (scripts : List (List Query)) (bytes : List ℕ) (fault : Fault) : Type 0 where
+  pub answers : List (List Said)
+  pub passes : List Known
+  pub trace_of : IsTraceOf layout scripts answers passes bytes
+  pub first : IsFirstOf bytes fault
 
 -- where the outcome is a verified run, its answers, trace, order and passes have the property
 abbrev pub IfVerified : {J : Type 0} → (List (List Said) → List ℕ → List ℕ → List Known → Type 0) → Outcome J → Type 0

@@ -1,15 +1,13 @@
 //! The end of a run: its threads have ended, and what they hand back is settled, written down and audited.
 ghost use Rattle.std.specs.Prelude.{◌≡◌, ℕ, List, All, IfOk, length, map};
 ghost use Rattle.vs_types.specs.declared.request.Query.{Query};
-ghost use Rattle.nr_audit.specs.Headline.{AreRightWith, IsSpelledWith};
+ghost use Rattle.nr_audit.specs.Headline.{AreRightWith};
 ghost use Rattle.nr_audit.specs.Verdict.{IsVerdictOf};
 ghost use Rattle.nr_audit.specs.declared.verdict.Verdict.TheVariants.{Yes};
 ghost use Rattle.nr_record.specs.Pen.{AreAllPens};
 ghost use Rattle.nr_trace.specs.Faults.{IsFirstOf};
-ghost use Rattle.nr_trace.specs.Laws.{IsFaultless};
-ghost use Rattle.nr_trace.specs.Orders.{recorded_order};
 ghost use Rattle.nr_serve.specs.inside.Calls.{AreServed};
-ghost use Rattle.nr_serve.specs.Run.{AreAllCallsOf, HaveSeenAnswers, IfRunRefused, IfVerified, IsLogOf, IsTraceOf};
+ghost use Rattle.nr_serve.specs.Run.{IfRunRefused, IfVerified, IsRefusedRun, IsVerifiedRun};
 ghost use Rattle.nr_serve.specs.inside.Ending.{IsWrittenOf, answers_of, passes_of, pens_of};
 
 use crate::outcome::{Answers, Outcome, Passes, TraceBytes};
@@ -126,35 +124,12 @@ pub(crate) fn ending<J: LogName, K: ReplicasName, R: Wait>(
     requires names { (config.depth ≡ J.depth) × (config.replicas ≡ J.replicas) }
     requires pens { AreAllPens clock (pens_of workers.items) }
     requires passes { All (λ pass. pass.log ≡ K.log) (passes_of workers.items) }
-    ensures spelled { IfOk result
-        (IfVerified
-        (λ answers trace order passes.
-        IsSpelledWith trace (λ recording. recording.layout ≡ config))) }
-    ensures answers { IfOk result
-        (IfVerified (λ answers trace order passes. length answers ≡ length workers.items)) }
-    ensures calls { (scripts : List (List Query)) → AreServed clock K.log scripts workers.items
-        → IfOk result (IfVerified (λ answers trace order passes.
-        IsSpelledWith trace (λ recording. AreAllCallsOf recording scripts answers))) }
-    ensures passes { IfOk result
-        (IfVerified (λ answers trace order passes. length passes ≡ length workers.items)) }
-    ensures log { IfOk result
-        (IfVerified
-        (λ answers trace order passes.
-        IsSpelledWith trace (λ recording. IsLogOf config recording.log passes))) }
-    ensures seen { (scripts : List (List Query)) → AreServed clock K.log scripts workers.items
-        → IfOk result (IfVerified (λ answers trace order passes.
-        IsSpelledWith trace (λ recording. HaveSeenAnswers recording passes))) }
-    ensures faultless { IfOk result
-        (IfVerified (λ answers trace order passes. IsSpelledWith trace IsFaultless)) }
-    ensures order { IfOk result
-        (IfVerified
-        (λ answers trace order passes.
-        IsSpelledWith trace (λ recording. order ≡ recorded_order recording))) }
-    ensures right { IfOk result
-        (IfVerified (λ answers trace order passes. AreRightWith trace order)) }
-    ensures refused { IfOk result (IfRunRefused (λ trace fault. IsFirstOf trace fault)) }
-    ensures refused_run { (scripts : List (List Query)) → AreServed clock K.log scripts workers.items
-        → IfOk result (IfRunRefused (λ trace fault. IsTraceOf config scripts trace)) }
+    ensures verified { (scripts : List (List Query)) → length scripts ≡ config.threads
+        → AreServed clock K.log scripts workers.items
+        → IfOk result (IfVerified (IsVerifiedRun config scripts)) }
+    ensures refused { (scripts : List (List Query)) → length scripts ≡ config.threads
+        → AreServed clock K.log scripts workers.items
+        → IfOk result (IfRunRefused (IsRefusedRun config scripts)) }
 {
     let Parts {
         pens,

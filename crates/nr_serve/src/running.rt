@@ -1,12 +1,8 @@
 //! A run: the replicas, the clock and the pens are made, the threads work, and the ending judges what they did.
 ghost use Rattle.std.specs.Prelude.{◌≡◌, ◌+◌, ◌≤◌, All, IfOk, length, map, sum};
 ghost use Rattle.vs_types.specs.declared.limits.TheConstants.{LOG_PLACES};
-ghost use Rattle.nr_audit.specs.Headline.{AreRightWith, IsSpelledWith};
 ghost use Rattle.nr_record.specs.Pen.{new_pens};
-ghost use Rattle.nr_trace.specs.Faults.{IsFirstOf};
-ghost use Rattle.nr_trace.specs.Laws.{IsFaultless};
-ghost use Rattle.nr_trace.specs.Orders.{recorded_order};
-ghost use Rattle.nr_serve.specs.Run.{AreAllCallsOf, HaveSeenAnswers, IfRunRefused, IfVerified, IsLogOf, IsTraceOf};
+ghost use Rattle.nr_serve.specs.Run.{IfRunRefused, IfVerified, IsRefusedRun, IsVerifiedRun};
 ghost use Rattle.vs_types.specs.Query.{AreScripts};
 
 use crate::ending::ending;
@@ -103,37 +99,10 @@ fn go_on<
         ≡ sum (map (λ script. length script.items) scripts.items) }
     requires pens { beginning.pens.items
         ≡ new_pens beginning.clock 0 (map (λ script. length script.items) scripts.items) }
-    ensures spelled { IfOk result
-        (IfVerified
-        (λ answers trace order passes.
-        IsSpelledWith trace (λ recording. recording.layout ≡ config))) }
-    ensures answers { IfOk result
-        (IfVerified (λ answers trace order passes. length answers ≡ config.threads)) }
-    ensures calls { IfOk result (IfVerified (λ answers trace order passes.
-        IsSpelledWith trace
-        (λ recording.
-        AreAllCallsOf recording (map (λ script. script.items) scripts.items) answers))) }
-    ensures passes { IfOk result
-        (IfVerified (λ answers trace order passes. length passes ≡ config.threads)) }
-    ensures log { IfOk result
-        (IfVerified
-        (λ answers trace order passes.
-        IsSpelledWith trace (λ recording. IsLogOf config recording.log passes))) }
-    ensures seen { IfOk result
-        (IfVerified
-        (λ answers trace order passes.
-        IsSpelledWith trace (λ recording. HaveSeenAnswers recording passes))) }
-    ensures faultless { IfOk result
-        (IfVerified (λ answers trace order passes. IsSpelledWith trace IsFaultless)) }
-    ensures order { IfOk result
-        (IfVerified
-        (λ answers trace order passes.
-        IsSpelledWith trace (λ recording. order ≡ recorded_order recording))) }
-    ensures right { IfOk result
-        (IfVerified (λ answers trace order passes. AreRightWith trace order)) }
-    ensures refused { IfOk result (IfRunRefused (λ trace fault. IsFirstOf trace fault)) }
-    ensures refused_run { IfOk result (IfRunRefused (λ trace fault.
-        IsTraceOf config (map (λ script. script.items) scripts.items) trace)) }
+    ensures verified { IfOk result
+        (IfVerified (IsVerifiedRun config (map (λ script. script.items) scripts.items))) }
+    ensures refused { IfOk result
+        (IfRunRefused (IsRefusedRun config (map (λ script. script.items) scripts.items))) }
 {
     let Beginning {
         opened,
@@ -180,37 +149,10 @@ pub fn run<J: LogName + Send + Sync, G: Gate + Sync, R: Threads + Wait + Sync>(
     requires replicas { config.replicas ≡ J.replicas }
     requires passes { J.passes ≡ config.replicas + config.threads }
     requires scripts { AreScripts config (map (λ script. script.items) scripts.items) }
-    ensures spelled { IfOk result
-        (IfVerified
-        (λ answers trace order passes.
-        IsSpelledWith trace (λ recording. recording.layout ≡ config))) }
-    ensures answers { IfOk result
-        (IfVerified (λ answers trace order passes. length answers ≡ config.threads)) }
-    ensures calls { IfOk result (IfVerified (λ answers trace order passes.
-        IsSpelledWith trace
-        (λ recording.
-        AreAllCallsOf recording (map (λ script. script.items) scripts.items) answers))) }
-    ensures passes { IfOk result
-        (IfVerified (λ answers trace order passes. length passes ≡ config.threads)) }
-    ensures log { IfOk result
-        (IfVerified
-        (λ answers trace order passes.
-        IsSpelledWith trace (λ recording. IsLogOf config recording.log passes))) }
-    ensures seen { IfOk result
-        (IfVerified
-        (λ answers trace order passes.
-        IsSpelledWith trace (λ recording. HaveSeenAnswers recording passes))) }
-    ensures faultless { IfOk result
-        (IfVerified (λ answers trace order passes. IsSpelledWith trace IsFaultless)) }
-    ensures order { IfOk result
-        (IfVerified
-        (λ answers trace order passes.
-        IsSpelledWith trace (λ recording. order ≡ recorded_order recording))) }
-    ensures right { IfOk result
-        (IfVerified (λ answers trace order passes. AreRightWith trace order)) }
-    ensures refused { IfOk result (IfRunRefused (λ trace fault. IsFirstOf trace fault)) }
-    ensures refused_run { IfOk result (IfRunRefused (λ trace fault.
-        IsTraceOf config (map (λ script. script.items) scripts.items) trace)) }
+    ensures verified { IfOk result
+        (IfVerified (IsVerifiedRun config (map (λ script. script.items) scripts.items))) }
+    ensures refused { IfOk result
+        (IfRunRefused (IsRefusedRun config (map (λ script. script.items) scripts.items))) }
 {
     let beginning = begin(alloc, config, &scripts)?;
     go_on::<J, Brand, G, R>(rt, alloc, config, beginning, scripts, turns, gate)

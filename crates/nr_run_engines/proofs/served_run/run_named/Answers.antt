@@ -1,17 +1,14 @@
 use Rattle.std.proofs.Common.{map}
 use Rattle.std.proofs.lemmas.Result.{IfOk-weaker}
 use Rattle.nr_run_engines.specs.ServedRun.{told_of}
-use Rattle.nr_run_engines.proofs.ServedRuns.{all_refused, all_shown, tells_run}
+use Rattle.nr_run_engines.proofs.ServedRuns.{tells_run}
 use Rattle.nr_run_engines.proofs.served_run.run_named.Goals as goal
 
 pub returns-in-Ok-clause-ok : goal.returns-in-Ok-clause-ok
 returns-in-Ok-clause-ok g c =
     let outcome = c.in-Ok.outcome in
-    let config = c.args.config in
     let scripts = map (λ script. script.items) c.args.scripts.items in
-    let e = c.in-Ok.ensures in
-    let shown = all_shown config scripts outcome e.spelled e.answers e.calls e.passes e.log e.seen e.faultless e.order e.right in
-    let refused = all_refused config scripts outcome e.refused_run e.refused in
+    let made = c.in-Ok.ensures in
     IfOk-weaker c.write_outcome.result _ _
-    (λ status h. (told_of c.args.as_trace outcome, tells_run config scripts c.args.as_trace outcome status shown refused h.0, h.1))
+    (λ status h. (told_of c.args.as_trace outcome, tells_run c.args.config scripts c.args.as_trace outcome status made.verified made.refused h.0, h.1))
     c.write_outcome.ensures.ok

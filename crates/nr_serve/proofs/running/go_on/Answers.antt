@@ -1,7 +1,6 @@
-use Rattle.std.proofs.Common.{◌≡◌, ℕ, List, length, sum, ap, sym, subst, ◌∙◌}
+use Rattle.std.proofs.Common.{ℕ, List, length, sum, ap, sym, ◌∙◌}
 use Rattle.vs_types.specs.Config.{Layout}
 use Rattle.vs_types.specs.declared.request.Query.{Query}
-use Rattle.nr_serve.specs.Run.{IfVerified}
 use Rattle.nr_serve.proofs.Teams.{all_of_log, all_pens, map_items}
 use Rattle.nr_serve.proofs.running.go_on.Goals as goal
 
@@ -14,21 +13,8 @@ ending-requires-clause-pens g c =
 pub ending-requires-clause-passes : goal.ending-requires-clause-passes
 ending-requires-clause-passes g c = all_of_log _ _ _ _ c.in_ok-workers.ensures
 
-pub returns-clause-answers : goal.returns-clause-answers
-returns-clause-answers g c =
-    subst (λ (n : ℕ). IfVerified (λ answers trace order passes. length answers ≡ n) c.in_ok-outcome.outcome)
-    (c.in_ok-workers.ensures.one_each ∙ c.requires.scripts.one_each) c.in_ok-outcome.ensures.answers
+pub returns-clause-verified : goal.returns-clause-verified
+returns-clause-verified g c = c.in_ok-outcome.ensures.verified _ c.requires.scripts.one_each c.in_ok-workers.ensures
 
-pub returns-clause-passes : goal.returns-clause-passes
-returns-clause-passes g c =
-    subst (λ (n : ℕ). IfVerified (λ answers trace order passes. length passes ≡ n) c.in_ok-outcome.outcome)
-    (c.in_ok-workers.ensures.one_each ∙ c.requires.scripts.one_each) c.in_ok-outcome.ensures.passes
-
-pub returns-clause-calls : goal.returns-clause-calls
-returns-clause-calls g c = c.in_ok-outcome.ensures.calls _ c.in_ok-workers.ensures
-
-pub returns-clause-seen : goal.returns-clause-seen
-returns-clause-seen g c = c.in_ok-outcome.ensures.seen _ c.in_ok-workers.ensures
-
-pub returns-clause-refused_run : goal.returns-clause-refused_run
-returns-clause-refused_run g c = c.in_ok-outcome.ensures.refused_run _ c.in_ok-workers.ensures
+pub returns-clause-refused : goal.returns-clause-refused
+returns-clause-refused g c = c.in_ok-outcome.ensures.refused _ c.requires.scripts.one_each c.in_ok-workers.ensures
