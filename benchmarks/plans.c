@@ -1,4 +1,5 @@
-/* The calls of plans beside a plain page table in C of the same calls, and beside the page table of nrvs.h: nanoseconds a call.
+/* The calls of plans beside a plain page table in C of the same calls, which tests what is asked, answers and prunes alike; and beside the
+ * page table of nrvs.h: nanoseconds a call.
  *
  *     plans WHICH CALLS: plan, plain or table; maps, protects and unmaps of drawn pages of 4 KiB, a third each
  */
@@ -60,16 +61,33 @@ static uint32_t by_plan(unsigned kind, uint64_t base, uint32_t rights)
 	return carry_out(&plan, nrvs_plan_unmap(&plan, &target, base));
 }
 
-/* ---- in plain C ---- */
+/* ---- in plain C: with the same tests of what is asked, and the same answers ---- */
+
+struct answer {
+	struct nrvs_reply reply;
+	uint64_t bits, flush_base, unlinked_count, unlinked[NRVS_MOST_UNLINKED];
+	uint32_t flush, flush_size;
+};
+
+/* A table on the way and the entry in it; what the entries above allow. */
+struct way {
+	uint64_t tables[6], *at;
+	uint32_t level, rights;
+};
 
 static uint64_t *entry(uint64_t table, unsigned level, uint64_t base)
 {
 	return &words_of(table)[base >> (3 + 9 * level) & 511];
 }
 
-static uint64_t word_of(uint64_t physical, uint32_t rights)
+static uint64_t bits_of(uint32_t rights)
 {
-	return physical | 1 | (rights & NRVS_WRITE ? 2 : 0) | (rights & NRVS_USER ? 4 : 0) | (rights & NRVS_EXEC ? 0 : UINT64_C(1) << 63);
+	return (rights & NRVS_WRITE ? 2 : 0) | (rights & NRVS_USER ? 4 : 0) | (rights & NRVS_EXEC ? 0 : UINT64_C(1) << 63);
+}
+
+static uint32_t rights_of(uint64_t word)
+{
+	return (word & 2 ? NRVS_WRITE : 0) | (word & 4 ? NRVS_USER : 0) | (word >> 63 ? 0 : NRVS_EXEC);
 }
 
 static int is_empty(uint64_t table)
@@ -82,69 +100,160 @@ static int is_empty(uint64_t table)
 	return 1;
 }
 
-static uint32_t plain_map(uint64_t base, uint32_t rights)
+static uint32_t test_target(const struct nrvs_target *of, uint64_t base)
 {
-	uint64_t table = target.root, *at;
-	unsigned level;
-	for (level = 4; level > 1; level--) {
-		at = entry(table, level, base);
-		if (!(*at & 1))
-			__atomic_store_n(at, none[--none_count] << 12 | 7, __ATOMIC_RELAXED);
-		else if (*at & 128)
-			return NRVS_OVERLAP;
-		table = *at >> 12 & ((UINT64_C(1) << 40) - 1);
-	}
-	at = entry(table, 1, base);
-	if (*at & 1)
-		return NRVS_OVERLAP;
-	__atomic_store_n(at, word_of(base, rights), __ATOMIC_RELAXED);
-	return NRVS_DONE;
+	const uint64_t high = base >> (11 + 9 * of->levels);
+	if (of->levels != 4 && of->levels != 5)
+		return NRVS_BAD_LEVELS;
+	if (of->phys_bits < 36 || of->phys_bits > 52)
+		return NRVS_PHYS_BITS;
+	if (of->root >> (of->phys_bits - 12))
+		return NRVS_BAD_ROOT;
+	if (high != 0 && high != UINT64_MAX >> (11 + 9 * of->levels))
+		return NRVS_NOT_CANONICAL;
+	return base % 4096 ? NRVS_UNALIGNED : NRVS_OK;
 }
 
-static uint32_t plain_find(uint64_t base, uint64_t tables[5], uint64_t **at)
+static void answers(struct answer *to, uint8_t code, uint64_t number)
 {
-	unsigned level;
-	tables[4] = target.root;
-	for (level = 4; level > 1; level--) {
-		*at = entry(tables[level], level, base);
-		if (!(**at & 1))
-			return NRVS_NOT_MAPPED;
-		if (**at & 128)
-			return NRVS_INSIDE;
-		tables[level - 1] = **at >> 12 & ((UINT64_C(1) << 40) - 1);
-	}
-	*at = entry(tables[1], 1, base);
-	return **at & 1 ? NRVS_OK : NRVS_NOT_MAPPED;
+	struct nrvs_reply reply = {code, 0, 0, number};
+	to->reply = reply;
 }
 
-static uint32_t plain_unmap(uint64_t base)
+/* Goes to the entry of the page at a base, or to the first that leads no further. */
+static void find(const struct nrvs_target *of, uint64_t base, struct way *way)
 {
-	uint64_t tables[5], *at;
-	uint32_t status = plain_find(base, tables, &at);
+	way->tables[of->levels] = of->root;
+	way->rights = 7;
+	for (way->level = of->levels;; way->level--) {
+		way->at = entry(way->tables[way->level], way->level, base);
+		if (way->level == 1 || !(*way->at & 1) || (way->level < 4 && *way->at & 128))
+			return;
+		way->rights &= rights_of(*way->at);
+		way->tables[way->level - 1] = *way->at >> 12 & ((UINT64_C(1) << 40) - 1);
+	}
+}
+
+static void begin_answer(struct answer *to)
+{
+	to->bits = to->flush_base = to->unlinked_count = 0;
+	to->flush = to->flush_size = NRVS_FLUSH_NOTHING;
+}
+
+static uint32_t plain_map(const struct nrvs_target *of, uint64_t base, uint64_t physical, uint32_t rights, uint64_t bits, struct answer *to)
+{
+	struct way way;
+	uint32_t status = rights > 7 ? NRVS_BAD_RIGHTS : test_target(of, base);
+	uint64_t word = physical | 1 | bits_of(rights) | bits;
+	if (status != NRVS_OK)
+		return status;
+	if (physical % 4096)
+		return NRVS_PHYS_UNALIGNED;
+	if (physical >> of->phys_bits || physical >> 51)
+		return NRVS_PHYS_RANGE;
+	if (bits & ~NRVS_ATTRIBUTES)
+		return NRVS_BAD_BITS;
+	begin_answer(to);
+	find(of, base, &way);
+	if (*way.at & 1) {
+		answers(to, NRVS_OVERLAP, base & ~((UINT64_C(4096) << 9 * (way.level - 1)) - 1));
+		return NRVS_OK;
+	}
+	if (rights & ~way.rights) {
+		answers(to, NRVS_NARROW, 0);
+		return NRVS_OK;
+	}
+	for (unsigned level = 1; level < way.level; level++) {
+		const uint64_t table = none[--none_count];
+		__atomic_store_n(entry(table, level, base), word, __ATOMIC_RELAXED);
+		word = table << 12 | 7;
+	}
+	__atomic_store_n(way.at, word, __ATOMIC_RELAXED);
+	answers(to, NRVS_DONE, 0);
+	return NRVS_OK;
+}
+
+/* The page that begins at the base, of 4 KiB or larger; or what is answered. */
+static int has_page(const struct way *way, uint64_t base, struct answer *to)
+{
+	const uint64_t bytes = UINT64_C(4096) << 9 * (way->level - 1);
+	if (!(*way->at & 1)) {
+		answers(to, NRVS_NOT_MAPPED, 0);
+		return 0;
+	}
+	if (base & (bytes - 1)) {
+		answers(to, NRVS_INSIDE, base & ~(bytes - 1));
+		return 0;
+	}
+	return 1;
+}
+
+/* What is said of the page's entry, and what is flushed. */
+static void tell(const struct way *way, uint64_t base, struct answer *to)
+{
+	to->bits = way->level == 1 ? *way->at & NRVS_ATTRIBUTES : (*way->at & NRVS_ATTRIBUTES & ~UINT64_C(128)) | (*way->at >> 5 & 128);
+	to->reply.rights = (uint8_t)(way->rights & rights_of(*way->at));
+	to->flush = NRVS_FLUSH_PAGE;
+	to->flush_base = base;
+	to->flush_size = way->level - 1;
+}
+
+static uint32_t plain_unmap(const struct nrvs_target *of, uint64_t base, struct answer *to)
+{
+	struct way way;
+	const uint32_t status = test_target(of, base);
 	unsigned level;
 	if (status != NRVS_OK)
 		return status;
-	__atomic_store_n(at, 0, __ATOMIC_RELAXED);
-	for (level = 1; level < 4 && is_empty(tables[level]); level++) {
-		__atomic_store_n(entry(tables[level + 1], level + 1, base), 0, __ATOMIC_RELAXED);
-		none[none_count++] = tables[level];
+	begin_answer(to);
+	find(of, base, &way);
+	if (!has_page(&way, base, to))
+		return NRVS_OK;
+	answers(to, NRVS_REMOVED, *way.at & UINT64_C(0xffffffffff000) & ~((UINT64_C(4096) << 9 * (way.level - 1)) - 1));
+	tell(&way, base, to);
+	to->reply.size = (uint8_t)(way.level - 1);
+	__atomic_store_n(way.at, 0, __ATOMIC_RELAXED);
+	for (level = way.level; level < of->levels - (of->pinned != 0) && is_empty(way.tables[level]); level++) {
+		__atomic_store_n(entry(way.tables[level + 1], level + 1, base), 0, __ATOMIC_RELAXED);
+		to->unlinked[to->unlinked_count++] = way.tables[level];
+		to->flush = NRVS_FLUSH_PAGE_AND_TABLES;
 	}
-	return NRVS_REMOVED;
+	return NRVS_OK;
 }
 
-static uint32_t plain_protect(uint64_t base, uint32_t rights)
+static uint32_t plain_protect(const struct nrvs_target *of, uint64_t base, uint32_t rights, struct answer *to)
 {
-	uint64_t tables[5], *at;
-	uint32_t status = plain_find(base, tables, &at);
+	struct way way;
+	const uint32_t status = rights > 7 ? NRVS_BAD_RIGHTS : test_target(of, base);
 	if (status != NRVS_OK)
 		return status;
-	__atomic_store_n(at, word_of(*at & UINT64_C(0x7ffffffffffffff8), rights), __ATOMIC_RELAXED);
-	return NRVS_CHANGED;
+	begin_answer(to);
+	find(of, base, &way);
+	if (!has_page(&way, base, to))
+		return NRVS_OK;
+	if (rights & ~way.rights) {
+		answers(to, NRVS_NARROW, 0);
+		return NRVS_OK;
+	}
+	answers(to, NRVS_CHANGED, 0);
+	tell(&way, base, to);
+	__atomic_store_n(way.at, (*way.at & UINT64_C(0x7ffffffffffffff9)) | bits_of(rights), __ATOMIC_RELAXED);
+	return NRVS_OK;
 }
 
 static uint32_t in_plain_c(unsigned kind, uint64_t base, uint32_t rights)
 {
-	return kind == 0 ? plain_map(base, rights) : kind == 1 ? plain_protect(base, rights) : plain_unmap(base);
+	struct answer answer;
+	uint32_t status;
+	if (kind == 0)
+		status = plain_map(&target, base, base, rights, 0, &answer);
+	else
+		status = kind == 1 ? plain_protect(&target, base, rights, &answer) : plain_unmap(&target, base, &answer);
+	if (status != NRVS_OK)
+		return status;
+	for (uint64_t i = 0; i < answer.unlinked_count; i++)
+		none[none_count++] = answer.unlinked[i];
+	return answer.reply.code;
 }
 
 /* ---- by the page table of nrvs.h ---- */

@@ -14,39 +14,52 @@
  *             step = empty_frame(&number) ? nrvs_plan_give(&plan, number) : nrvs_plan_give_none(&plan);
  *     if (step != NRVS_PLANNED)
  *             return step;                                                     // a refusal: the request is not well formed
+ *     if (plan.fills)
+ *             fill(&plan);                                                     // word i of plan.fill.frame: first_word + i * step
  *     for (i = 0; i < plan.store_count; i++)
  *             carry_out(&plan, i);                                             // below
  *     if (plan.flush != NRVS_FLUSH_NOTHING)
  *             shoot_down(plan.flush, plan.flush_base, plan.flush_size);        // on every processor that uses this table
  *     for (i = 0; i < plan.unlinked_count; i++)
- *             free_frame(plan.unlinked[i]);                                    // only now; and where no store is planned, those given
+ *             free_frame(plan.unlinked[i]);                                    // only now; and where no store is planned, those given.
+ *                                                                              // By a join its words aren't 0: clear them first
  *     return plan.reply.code == NRVS_DONE ? 0 : ..;
  *
  * Between the words that are shown and the store a processor may set flags of its own in the word (accessed and dirty, bits 5 and 6). So a
  * store is carried out by compare-exchanges, and where one finds another word, that is put in the plan:
  *
  *     uint64_t *at = &words_of(plan.stores[i].frame)[plan.stores[i].index];
- *     while (!compare_exchange(at, plan.stores[i].old_word, plan.stores[i].new_word, &found))
+ *     while (!compare_exchange(at, plan.stores[i].old_word, plan.stores[i].new_word, &found)) {
  *             if (nrvs_plan_again(&plan, i, found) != NRVS_OK)
  *                     panic();                                                 // somebody else wrote: the lock doesn't hold
+ *             if (plan.fills)
+ *                     fill(&plan);                                             // once more, with these flags, before it is linked
+ *     }
  *
  * What is promised of a plan, where the caller keeps what is listed below; in brackets are the clauses, of `IsRight` in crates/vs_plan
  * where nothing else is said. It is given to C by the clause `next` of each call (crates/nrvs_plan_c/README.md):
  *   - the answer is that of one sequential address space, as which the memory translates; where it changes nothing, no store is planned
  *     [reply, nothing];
- *   - the old word of each store is the one that is there [found]. One of the stores is the switch: after each one before it the memory
- *     translates every canonical address as before, and from it on as after the call [safe]. So a processor that walks at any moment finds
- *     the old translation or the new one, never a missing frame, a reserved bit, or a page that was in neither, whatever flags are set
- *     meanwhile [the law flags_keep_plans_safe];
- *   - a store writes the page's entry, clears a link to a table that is unlinked, or writes a word of a frame that was given: no other
- *     present entry changes [meant], and each store changes its word [changing]. A protect keeps all bits of the page's entry but 1, 2 and
- *     63; a map writes just the bits that it was given, and links to new tables that allow everything [written]. The bits that are answered
- *     are those of the page's entry [`told`]; no flag is lost where a store is made again [flags_keep_plans_safe: protects, bits];
+ *   - the old word of each store is the one that is there [found]. One of the stores is the switch: after each one before it the memory,
+ *     with the table that was filled, translates every canonical address as before, and from it on as after the call [safe]. So a processor
+ *     that walks at any moment finds the old translation or the new one, never a missing frame, a reserved bit, or a page that was in
+ *     neither, whatever flags are set meanwhile [the law flags_keep_plans_safe];
+ *   - a store writes the page's entry, clears a link to a table that is unlinked, or writes a word of a frame that was given; by a join it
+ *     writes the page's entry in the place of such a link. No other present entry changes [meant], and each store changes its word
+ *     [changing]. A protect keeps all bits of the page's entry but 1, 2 and 63; a map writes just the bits that it was given, and links to
+ *     new tables that allow everything [written]. The bits that are answered are those of the page's entry [`told`];
+ *   - a remap is one store, which keeps all bits of the page's entry but its address and its rights. A split fills a frame that was given
+ *     with the entries of 512 pages of the next smaller size, which have the page's rights, its flags and its other bits, and then links it
+ *     by one store; no other plan fills a frame. A join is one store, of an entry with the address, the rights and the bits of the first
+ *     page and with both flags set, so that no processor sets one that could be lost [put: IsRemapped, IsSplit, IsJoined];
+ *   - no flag is lost where a store is made again: it is in what is stored, or by a split in what the frame is filled with, and in the bits
+ *     that are answered [nrvs_plan_again: again; flags_keep_plans_safe: protects, bits];
  *   - a processor that was up to date is so again after the flush that is named: it keeps nothing that leads elsewhere than a walk of the
  *     memory, and nothing that leads into an unlinked frame [flushed; the law flushes_of_right_plans_suffice]. An invlpg of the base does
- *     it, for NRVS_FLUSH_PAGE and NRVS_FLUSH_PAGE_AND_TABLES (SDM volume 3A, 4.10.4.1). Pages that are global or of other PCIDs are the
- *     caller's;
- *   - an unlinked frame was a table on the way of the address, is none now, is named once, and its words are all 0 [unlinked, named_once];
+ *     it, for NRVS_FLUSH_PAGE and NRVS_FLUSH_PAGE_AND_TABLES (SDM volume 3A, 4.10.4.1). NRVS_FLUSH_RANGE, after a split or a join, takes an
+ *     invlpg for each of the 512 smaller pages, or a load of CR3. Pages that are global or of other PCIDs are the caller's;
+ *   - an unlinked frame was a table on the way of the address, is none now, and is named once. Its words are all 0, but by a join, where
+ *     they stay as they were: clear them before the frame is given again [unlinked, named_once];
  *   - what the caller has to keep of the memory holds again after the stores [whole, own];
  *   - the words of a frame are asked for once a level at most, and a frame once for each level [nrvs_plan_see, nrvs_plan_give: fewer].
  *
@@ -61,8 +74,9 @@
  *     common are changed through one root at a time, and `pinned` where the root's own entries are in common;
  *   - a frame that is given has words that are all 0, no table leads to it, and it isn't given twice [IsSpareFor; given]. It has to be seen
  *     by the other processors as 0 before the stores, as it is where it was cleared by this processor;
- *   - the stores are carried out in their order, each whole, as an aligned store of 64 bits of x86-64 is; then the flush, on each processor
- *     that may have used the table; then the unlinked frames may be freed, or given again;
+ *   - the frame that is to be filled is filled before the stores, and again after an nrvs_plan_again; the stores are carried out in their
+ *     order, each whole, as an aligned store of 64 bits of x86-64 is; then the flush, on each processor that may have used the table; then
+ *     the unlinked frames may be freed, or given again;
  *   - the processor: CR0.WP and EFER.NXE are 1; where NXE is 0, bit 63 is reserved, so map with NRVS_EXEC. CR4.SMEP, SMAP, PKE and PKS are
  *     0, or it refuses more than the rights say. CR4.LA57 is 1 where there are five levels, and 0 where there are four. `phys_bits` is how
  *     many bits its physical addresses have (CPUID 80000008H). Attributes PWT, PCD and PAT, and memory types, are the caller's;
@@ -94,6 +108,13 @@ struct nrvs_store {
 	uint64_t new_word;
 };
 
+/* A table that is written before the stores: word i of a frame, 0 to 511, becomes `first_word` + i * `step`. */
+struct nrvs_fill {
+	uint64_t frame;
+	uint64_t first_word;
+	uint64_t step;
+};
+
 enum { NRVS_MOST_STORES = 5, NRVS_MOST_UNLINKED = 4 };
 
 /* A plan, and how far it is. */
@@ -101,10 +122,12 @@ struct nrvs_plan {
 	uint64_t frame;           /* after NRVS_SEE: the frame whose words are to be shown */
 	struct nrvs_reply reply;  /* after NRVS_PLANNED: what the call answers; it and all that follows */
 	uint64_t bits;            /* of NRVS_REMOVED, NRVS_CHANGED, NRVS_MAPPED: the page's attributes, flags 5 and 6 among them */
+	uint64_t fills;           /* 1 where a frame is filled before the stores, else 0 */
+	struct nrvs_fill fill;    /* that frame, and its words */
 	uint64_t store_count;
 	struct nrvs_store stores[NRVS_MOST_STORES];
 	uint32_t flush;           /* NRVS_FLUSH_NOTHING .. */
-	uint32_t flush_size;      /* of the page: NRVS_4K .. */
+	uint32_t flush_size;      /* of the page, or of the range: NRVS_4K .. */
 	uint64_t flush_base;      /* its first address */
 	uint64_t unlinked_count;
 	uint64_t unlinked[NRVS_MOST_UNLINKED];
@@ -134,14 +157,21 @@ enum {
 	NRVS_FRAME_RANGE = 11, /* number: a frame that was given, and lies beyond phys_bits; all that were given are free */
 	NRVS_NARROW = 12,      /* the entries that lead to the page's table allow less than the page is to allow */
 	NRVS_EMPTY = 13,       /* number: the frame of a table with no present entry, which is where the page would be mapped */
-	NRVS_RESERVED = 14     /* number: the frame of a word with a reserved bit set; bits: the word's index */
+	NRVS_RESERVED = 14,    /* number: the frame of a word with a reserved bit set; bits: the word's index */
+	NRVS_MISPLACED = 15,   /* the physical address is no multiple of the size of the page that is there, or that is to be there */
+	NRVS_BEYOND = 16,      /* the page would not lie below physical 2^51 and 2^phys_bits */
+	NRVS_SMALLEST = 17,    /* the page has 4 KiB: it can't be split */
+	NRVS_LARGEST = 18,     /* the page has 1 GiB: it can't be joined with others */
+	NRVS_NOT_FIRST = 19,   /* the base is no multiple of the next larger size than that of the page that begins there */
+	NRVS_APART = 20        /* number: the least index, 0 to 511, of an entry of the table that is no page that follows on from the first */
 };
 
 /* What the processors that use this table have to forget once the last store is carried out. */
 enum {
 	NRVS_FLUSH_NOTHING = 0,
 	NRVS_FLUSH_PAGE = 1,           /* the translations of a page */
-	NRVS_FLUSH_PAGE_AND_TABLES = 2 /* and what they keep of the tables on the way to it, some of which were unlinked */
+	NRVS_FLUSH_PAGE_AND_TABLES = 2, /* and what they keep of the tables on the way to it, some of which were unlinked */
+	NRVS_FLUSH_RANGE = 3           /* all translations from the base on for as many bytes as this size, and what they keep of tables */
 };
 
 /* Attributes of a page, at the places of an entry of 4 KiB, whatever the size: PWT 3, PCD 4, accessed 5, dirty 6, PAT 7, global 8, for
@@ -159,6 +189,22 @@ uint32_t nrvs_plan_unmap(struct nrvs_plan *plan, const struct nrvs_target *targe
 /* Gives the page that begins at an address these rights and no others: NRVS_CHANGED, NRVS_INSIDE, NRVS_NOT_MAPPED, NRVS_NARROW. */
 uint32_t nrvs_plan_protect(struct nrvs_plan *plan, const struct nrvs_target *target, uint64_t base, uint32_t rights);
 
+/* Lets the page that begins at an address lead to another physical address, with these rights; its size stays: NRVS_CHANGED, NRVS_INSIDE,
+ * NRVS_NOT_MAPPED, NRVS_MISPLACED, NRVS_BEYOND, NRVS_NARROW.
+ */
+uint32_t nrvs_plan_remap(struct nrvs_plan *plan, const struct nrvs_target *target, uint64_t base, uint64_t physical, uint32_t rights);
+
+/* Puts 512 pages of the next smaller size in the place of the page that begins at an address; they translate as it does, and an empty frame
+ * is asked for: NRVS_CHANGED (with the rights, which stay), NRVS_INSIDE, NRVS_NOT_MAPPED, NRVS_SMALLEST.
+ */
+uint32_t nrvs_plan_split(struct nrvs_plan *plan, const struct nrvs_target *target, uint64_t base);
+
+/* Puts one page in the place of 512, the first of which begins at an address, where they follow on from each other in memory and are alike
+ * but for flags 5 and 6: NRVS_CHANGED (with the rights, which stay), NRVS_INSIDE, NRVS_NOT_MAPPED, NRVS_LARGEST, NRVS_NOT_FIRST,
+ * NRVS_MISPLACED, NRVS_APART.
+ */
+uint32_t nrvs_plan_join(struct nrvs_plan *plan, const struct nrvs_target *target, uint64_t base);
+
 /* Looks at an address: NRVS_MAPPED, with the physical address of this very address, or NRVS_NOT_MAPPED. No store is planned. */
 uint32_t nrvs_plan_ask(struct nrvs_plan *plan, const struct nrvs_target *target, uint64_t address);
 
@@ -169,7 +215,9 @@ uint32_t nrvs_plan_see(struct nrvs_plan *plan, const uint64_t words[512]);
 uint32_t nrvs_plan_give(struct nrvs_plan *plan, uint64_t frame);
 uint32_t nrvs_plan_give_none(struct nrvs_plan *plan);
 
-/* Store `index` finds `found` in place of `old_word`, which differs by flags that a processor set: the plan with that word in its place. */
+/* Store `index` finds `found` in place of `old_word`, which differs by flags that a processor set: the plan with that word in its place.
+ * Where it fills a frame, that has to be filled again.
+ */
 uint32_t nrvs_plan_again(struct nrvs_plan *plan, uint64_t index, uint64_t found);
 
 #ifdef __cplusplus

@@ -1,5 +1,6 @@
 /* From QEMU's -kernel to C: on the first processor over an address space of 4 GiB that is left behind, on the others by a trampoline at
- * 0x8000, over the address space that the kernel has made by then. Then accesses that may fault, and the two handlers.
+ * 0x8000, over the address space that the kernel has made by then. The levels are the first letter of the command line, since CR4.LA57
+ * can't change while paging is on. Then accesses that may fault, and the two handlers.
  */
 #include "../kernel/machine.h"
 
@@ -14,7 +15,9 @@
 
 	.section .bss
 	.align	4096
-boot_root:
+boot_root_of_five:
+	.skip	4096
+boot_root_of_four:
 	.skip	4096
 boot_pointers:
 	.skip	4096
@@ -40,7 +43,8 @@ start:
 	cld
 	mov	$stacks + STACK_BYTES, %esp
 	mov	24(%ebx), %ebp		/* the command line */
-	movl	$boot_pointers + 3, boot_root
+	movl	$boot_root_of_four + 3, boot_root_of_five
+	movl	$boot_pointers + 3, boot_root_of_four
 	mov	$boot_pointers, %edi
 	mov	$0x83, %eax		/* four pages of 1 GiB, each for itself */
 	mov	$4, %ecx
@@ -49,9 +53,13 @@ start:
 	add	$8, %edi
 	loop	1b
 	mov	$CR4_PAE | CR4_OSFXSR | CR4_OSXMMEXCPT, %eax
-	mov	%eax, %cr4
-	mov	$boot_root, %eax
-	mov	%eax, %cr3
+	mov	$boot_root_of_four, %edx
+	cmpb	$'5', (%ebp)
+	jne	2f
+	or	$CR4_LA57, %eax
+	mov	$boot_root_of_five, %edx
+2:	mov	%eax, %cr4
+	mov	%edx, %cr3
 	mov	$MSR_EFER, %ecx
 	rdmsr
 	or	$EFER_LME | EFER_NXE, %eax
@@ -77,14 +85,14 @@ start_long:
 
 	/* Copied to 0x8000; what it needs is written behind it. */
 	.code16
-	.globl	trampoline, trampoline_end, trampoline_root
+	.globl	trampoline, trampoline_end, trampoline_root, trampoline_cr4
 trampoline:
 	cli
 	cld
 	xor	%ax, %ax
 	mov	%ax, %ds
 	lgdtl	AT(trampoline_gdt_pointer)
-	mov	$CR4_PAE | CR4_OSFXSR | CR4_OSXMMEXCPT, %eax
+	mov	AT(trampoline_cr4), %eax
 	mov	%eax, %cr4
 	mov	AT(trampoline_root), %eax
 	mov	%eax, %cr3
@@ -117,9 +125,11 @@ trampoline_gdt_pointer:
 	.long	boot_gdt
 trampoline_root:
 	.long	0
+trampoline_cr4:
+	.long	0
 trampoline_end:
 
-	/* int try_read(address, uint64_t *word), int try_write(address, word): 0 where it faults */
+	/* try_read(address, uint64_t *word), try_write(address, word): 1, or twice the fault's error code */
 	.globl	try_read, try_write
 try_read:
 	mov	(%rdi), %rax
@@ -131,7 +141,7 @@ try_write:
 	mov	$1, %eax
 	ret
 try_failed:
-	xor	%eax, %eax
+	lea	(%rdi,%rdi), %eax
 	ret
 
 	/* A page fault of an access goes on at try_failed; another stops all. The stack has code, RIP, CS, RFLAGS, RSP, SS. */
@@ -141,8 +151,8 @@ page_fault:
 	je	1f
 	cmpq	$try_write, 8(%rsp)
 	jne	other_fault
-1:	movq	$try_failed, 8(%rsp)
-	add	$8, %rsp
+1:	pop	%rdi
+	movq	$try_failed, (%rsp)
 	iretq
 other_fault:
 	pop	%rdi

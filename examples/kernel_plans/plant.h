@@ -1,4 +1,6 @@
-/* A mistake put in on purpose, by -DPLANT=...: each has to be seen, or the accesses show nothing. */
+/* A mistake put in on purpose, by -DPLANT=...: each has to be seen, or the accesses show nothing. Where one shows only to accesses that are
+ * made in time, it waits for these.
+ */
 #ifndef PLANT_H
 #define PLANT_H
 
@@ -8,6 +10,9 @@ enum plant {
 	PLANT_EARLY,     /* tables are freed before they are unlinked and flushed */
 	PLANT_FLAG,      /* a plain store, over flags that a processor has set since the words were shown */
 	PLANT_GARBAGE,   /* frames that are given aren't empty */
+	PLANT_EXCHANGED, /* of a split, the new table is filled after the store that links it */
+	PLANT_SWAPPED,   /* of two stores each writes the word of the other */
+	PLANT_UNFILLED,  /* of a split, the new table isn't filled */
 };
 
 #ifndef PLANT

@@ -10,18 +10,18 @@
 #endif
 
 const struct planner REFERENCE = {
-	reference_map, reference_unmap, reference_protect, reference_ask,
+	reference_map, reference_unmap, reference_protect, reference_ask, reference_remap, reference_split, reference_join,
 	reference_see, reference_give, reference_give_none, reference_again,
 };
 
 #ifdef REFERENCE_ALONE
 const struct planner LIBRARY = {
-	reference_map, reference_unmap, reference_protect, reference_ask,
+	reference_map, reference_unmap, reference_protect, reference_ask, reference_remap, reference_split, reference_join,
 	reference_see, reference_give, reference_give_none, reference_again,
 };
 #else
 const struct planner LIBRARY = {
-	nrvs_plan_map, nrvs_plan_unmap, nrvs_plan_protect, nrvs_plan_ask,
+	nrvs_plan_map, nrvs_plan_unmap, nrvs_plan_protect, nrvs_plan_ask, nrvs_plan_remap, nrvs_plan_split, nrvs_plan_join,
 	nrvs_plan_see, nrvs_plan_give, nrvs_plan_give_none, nrvs_plan_again,
 };
 #endif
@@ -39,12 +39,19 @@ static void spoil(struct nrvs_plan *plan)
 	plan->flush = NRVS_FLUSH_NOTHING;
 #elif PLANT == 3 /* too little is flushed */
 	plan->flush = plan->flush ? NRVS_FLUSH_PAGE : NRVS_FLUSH_NOTHING;
+	plan->flush_size = NRVS_4K;
 #elif PLANT == 4 /* an unlinked frame isn't named */
 	plan->unlinked_count -= plan->unlinked_count != 0;
 #elif PLANT == 5 /* attributes are lost */
 	plan->stores[0].new_word &= plan->store_count ? ~NRVS_ATTRIBUTES | 0x80 : UINT64_MAX;
 #elif PLANT == 6 /* the last store is left out */
 	plan->store_count -= plan->store_count != 0;
+#elif PLANT == 8 /* a new table isn't filled */
+	plan->fills = 0;
+#elif PLANT == 9 /* a new table is filled with the entries of other pages */
+	plan->fill.step <<= 1;
+#elif PLANT == 10 /* pages are joined without their flags */
+	plan->stores[0].new_word &= plan->flush == NRVS_FLUSH_RANGE && !plan->fills ? ~UINT64_C(0x60) : UINT64_MAX;
 #else
 	(void)plan;
 #endif
@@ -58,6 +65,12 @@ uint32_t begin(const struct planner *planner, struct nrvs_plan *plan, const stru
 		return planner->unmap(plan, target, r.address);
 	if (r.kind == PROTECTS)
 		return planner->protect(plan, target, r.address, r.rights);
+	if (r.kind == REMAPS)
+		return planner->remap(plan, target, r.address, r.physical, r.rights);
+	if (r.kind == SPLITS)
+		return planner->split(plan, target, r.address);
+	if (r.kind == JOINS)
+		return planner->join(plan, target, r.address);
 	return planner->ask(plan, target, r.address);
 }
 
@@ -80,7 +93,17 @@ uint32_t again(const struct planner *planner, struct nrvs_plan *plan, unsigned i
 	uint32_t status = planner->again(plan, i, found);
 	if (planner == &LIBRARY && PLANT == 7) /* a flag is lost */
 		plan->stores[i].new_word &= ~UINT64_C(0x60);
+	if (planner == &LIBRARY && PLANT == 11) /* the parts of a page lose one */
+		plan->fill.first_word &= ~UINT64_C(0x60);
 	return status;
+}
+
+int fill(const struct nrvs_plan *plan, const struct memory *memory)
+{
+	uint64_t *words = plan->fills ? memory_words(memory, plan->fill.frame) : NULL, i;
+	for (i = 0; words && i < 512; i++)
+		__atomic_store_n(&words[i], plan->fill.first_word + i * plan->fill.step, __ATOMIC_RELAXED);
+	return words || !plan->fills;
 }
 
 int same_plans(const struct nrvs_plan *a, const struct nrvs_plan *b)
@@ -88,7 +111,8 @@ int same_plans(const struct nrvs_plan *a, const struct nrvs_plan *b)
 	uint64_t i;
 	int same = a->reply.code == b->reply.code && a->reply.size == b->reply.size && a->reply.rights == b->reply.rights &&
 		   a->reply.number == b->reply.number && a->bits == b->bits && a->store_count == b->store_count && a->flush == b->flush &&
-		   a->flush_size == b->flush_size && a->flush_base == b->flush_base && a->unlinked_count == b->unlinked_count;
+		   a->flush_size == b->flush_size && a->flush_base == b->flush_base && a->unlinked_count == b->unlinked_count &&
+		   a->fills == b->fills && (!a->fills || memcmp(&a->fill, &b->fill, sizeof a->fill) == 0);
 	for (i = 0; same && i < a->store_count; i++)
 		same = memcmp(&a->stores[i], &b->stores[i], sizeof a->stores[i]) == 0;
 	for (i = 0; same && i < a->unlinked_count; i++)

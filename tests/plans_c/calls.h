@@ -5,7 +5,7 @@
 #include "memory.h"
 #include "nrvs_plan.h"
 
-enum { MAPS = 0, UNMAPS = 1, PROTECTS = 2, ASKS = 3 };
+enum { MAPS = 0, UNMAPS = 1, PROTECTS = 2, ASKS = 3, REMAPS = 4, SPLITS = 5, JOINS = 6 };
 
 struct request {
 	unsigned kind, size, rights;
@@ -17,6 +17,9 @@ struct planner {
 	uint32_t (*unmap)(struct nrvs_plan *, const struct nrvs_target *, uint64_t);
 	uint32_t (*protect)(struct nrvs_plan *, const struct nrvs_target *, uint64_t, uint32_t);
 	uint32_t (*ask)(struct nrvs_plan *, const struct nrvs_target *, uint64_t);
+	uint32_t (*remap)(struct nrvs_plan *, const struct nrvs_target *, uint64_t, uint64_t, uint32_t);
+	uint32_t (*split)(struct nrvs_plan *, const struct nrvs_target *, uint64_t);
+	uint32_t (*join)(struct nrvs_plan *, const struct nrvs_target *, uint64_t);
 	uint32_t (*see)(struct nrvs_plan *, const uint64_t *);
 	uint32_t (*give)(struct nrvs_plan *, uint64_t);
 	uint32_t (*give_none)(struct nrvs_plan *);
@@ -38,6 +41,9 @@ uint32_t drive(const struct planner *planner, struct nrvs_plan *plan, uint32_t s
 
 /* Store number i finds this word in place of the one that was shown. */
 uint32_t again(const struct planner *planner, struct nrvs_plan *plan, unsigned i, uint64_t found);
+
+/* Fills the frame that is to be filled, if there is one: 0 where that isn't there. */
+int fill(const struct nrvs_plan *plan, const struct memory *memory);
 
 /* Whether two plans say the same. */
 int same_plans(const struct nrvs_plan *a, const struct nrvs_plan *b);

@@ -33,7 +33,7 @@ static struct nrvs_plan planned(struct request r, struct stock stock)
 	CHECK(drive(&LIBRARY, &plan, step, &memory, &stock) == NRVS_PLANNED);
 	CHECK(drive(&REFERENCE, &second, step, &memory, &stock) == NRVS_PLANNED);
 	CHECK(same_plans(&plan, &second));
-	CHECK(plan.reply.code < NRVS_NO_FRAME || plan.store_count + plan.unlinked_count + plan.flush == 0);
+	CHECK(plan.reply.code < NRVS_NO_FRAME || plan.store_count + plan.unlinked_count + plan.flush + plan.fills == 0);
 	return plan;
 }
 
@@ -70,13 +70,20 @@ static void refusals(void)
 	CHECK(p->protect(&plan, &target, 0, 256) == NRVS_BAD_RIGHTS);
 	CHECK(p->protect(&plan, &target, 8, 0) == NRVS_UNALIGNED);
 	CHECK(p->ask(&plan, &target, UINT64_C(1) << 47) == NRVS_NOT_CANONICAL);
+	CHECK(p->remap(&plan, &target, 0, 0, 8) == NRVS_BAD_RIGHTS);
+	CHECK(p->remap(&plan, &target, 1, 0, 0) == NRVS_UNALIGNED);
+	CHECK(p->split(&plan, &target, UINT64_C(1) << 47) == NRVS_NOT_CANONICAL);
+	CHECK(p->join(&plan, &target, 2048) == NRVS_UNALIGNED);
 	bad.levels = 3;
 	CHECK(p->ask(&plan, &bad, 0) == NRVS_BAD_LEVELS);
 	bad.levels = 4, bad.phys_bits = 35;
 	CHECK(p->unmap(&plan, &bad, 0) == NRVS_PHYS_BITS);
+	CHECK(p->join(&plan, &bad, 0) == NRVS_PHYS_BITS);
 	bad.phys_bits = 53;
 	CHECK(p->protect(&plan, &bad, 0, 0) == NRVS_PHYS_BITS);
+	CHECK(p->split(&plan, &bad, 0) == NRVS_PHYS_BITS);
 	bad.phys_bits = 40, bad.root = UINT64_C(1) << 28;
+	CHECK(p->remap(&plan, &bad, 0, 0, 0) == NRVS_BAD_ROOT);
 	CHECK(p->map(&plan, &bad, 0, NRVS_4K, 0, 0, 0) == NRVS_BAD_ROOT);
 	CHECK(memcmp(&plan, &before, sizeof plan) == 0);
 }
@@ -164,6 +171,107 @@ static void attributes(void)
 	}
 }
 
+static struct nrvs_plan asked(unsigned kind, uint64_t address, uint64_t physical, unsigned rights)
+{
+	struct request r = {kind, 0, rights, address, physical, 0};
+	struct stock none = {{0, 0, 0, 0}, 0, 0};
+	return planned(r, none);
+}
+
+/* All entries of a table: pages from a physical address on. */
+static void run_of(unsigned level, uint64_t word_of_first)
+{
+	uint64_t i;
+	for (i = 0; i < 512; i++)
+		*word(level, i) = word_of_first + (i << (3 + 9 * level));
+}
+
+static void check_join(uint64_t base, unsigned level, unsigned rights, uint64_t new_word)
+{
+	struct nrvs_plan plan = asked(JOINS, base, 0, 0);
+	CHECK(plan.reply.code == NRVS_CHANGED && plan.reply.rights == rights);
+	CHECK(plan.store_count == 1 && plan.stores[0].frame == tables[4 - (level + 1)] && plan.stores[0].index == 0);
+	CHECK(plan.stores[0].old_word == *word(level + 1, 0) && plan.stores[0].new_word == new_word);
+	CHECK(plan.unlinked_count == 1 && plan.unlinked[0] == tables[4 - level] && !plan.fills);
+	CHECK(plan.flush == NRVS_FLUSH_RANGE && plan.flush_base == base && plan.flush_size == level);
+	CHECK(again(&LIBRARY, &plan, 0, plan.stores[0].old_word | 0x20) == NRVS_OK); /* the link was used: both flags stay */
+	CHECK(plan.stores[0].new_word == new_word && plan.stores[0].old_word == (*word(level + 1, 0) | 0x20));
+}
+
+/* What a join asks of a table, and what it writes. */
+static void joins(void)
+{
+	tables_for(0);
+	run_of(1, GIB | NX | 3);
+	check_join(0, 1, NRVS_WRITE, GIB | NX | 0xe3);
+	CHECK(asked(JOINS, 0x1000, 0, 0).reply.code == NRVS_NOT_FIRST);
+	*word(1, 7) |= 0x60;
+	*word(2, 0) &= ~UINT64_C(2);
+	check_join(0, 1, 0, GIB | NX | 0xe1);
+	*word(1, 7) ^= 8;
+	CHECK(asked(JOINS, 0, 0, 0).reply.code == NRVS_APART && asked(JOINS, 0, 0, 0).reply.number == 7);
+	*word(1, 7) ^= 8;
+	*word(1, 511) = 0;
+	CHECK(asked(JOINS, 0, 0, 0).reply.code == NRVS_APART && asked(JOINS, 0, 0, 0).reply.number == 511);
+	run_of(1, GIB | 0x1003);
+	CHECK(asked(JOINS, 0, 0, 0).reply.code == NRVS_MISPLACED);
+	*word(1, 0) = 0;
+	CHECK(asked(JOINS, 0, 0, 0).reply.code == NRVS_NOT_MAPPED);
+	run_of(2, GIB | 0x1107 | 0x80);
+	check_join(0, 2, 7, GIB | 0x11e7);
+	CHECK(asked(JOINS, 0x200000, 0, 0).reply.code == NRVS_NOT_FIRST);
+	CHECK(asked(JOINS, 0x201000, 0, 0).reply.code == NRVS_INSIDE);
+	*word(3, 1) = GIB | 0x83;
+	CHECK(asked(JOINS, GIB, 0, 0).reply.code == NRVS_LARGEST);
+	CHECK(asked(JOINS, GIB + 0x1000, 0, 0).reply.code == NRVS_INSIDE);
+}
+
+static void check_split(uint64_t base, unsigned level, uint64_t first_word)
+{
+	struct request r = {SPLITS, 0, 0, base, 0, 0};
+	struct stock one = {{77, 0, 0, 0}, 1, 0}, far = {{UINT64_C(1) << 28, 0, 0, 0}, 1, 0};
+	struct nrvs_plan plan = planned(r, one);
+	uint64_t old_word = plan.stores[0].old_word;
+	CHECK(plan.reply.code == NRVS_CHANGED && plan.store_count == 1 && plan.stores[0].new_word == (77 << 12 | 7) && !plan.unlinked_count);
+	CHECK(plan.fills == 1 && plan.fill.frame == 77 && plan.fill.first_word == first_word);
+	CHECK(plan.fill.step == UINT64_C(1) << (3 + 9 * (level - 1)));
+	CHECK(plan.flush == NRVS_FLUSH_RANGE && plan.flush_base == base && plan.flush_size == level - 1);
+	CHECK(again(&LIBRARY, &plan, 0, old_word ^ 8) == NRVS_NOT_ASKED);
+	CHECK(again(&LIBRARY, &plan, 0, old_word | 0x60) == NRVS_OK);
+	CHECK(plan.stores[0].new_word == (77 << 12 | 7) && plan.stores[0].old_word == (old_word | 0x60));
+	CHECK(plan.fill.first_word == (first_word | 0x60) && (plan.bits & 0x60) == 0x60);
+	plan = planned(r, far);
+	CHECK(plan.reply.code == NRVS_FRAME_RANGE && plan.reply.number == UINT64_C(1) << 28);
+	CHECK(asked(SPLITS, base, 0, 0).reply.code == NRVS_NO_FRAME);
+}
+
+/* Splits at both sizes, with PAT at its places; remaps. */
+static void splits_and_remaps(void)
+{
+	struct nrvs_plan plan;
+	tables_for(0);
+	*word(1, 1) = 0x5003;
+	*word(2, 1) = GIB | NX | 0x1183;
+	*word(3, 1) = 2 * GIB | 0x1187;
+	check_split(0x200000, 2, GIB | NX | 0x183);
+	check_split(GIB, 3, 2 * GIB | 0x1187);
+	CHECK(asked(SPLITS, 0x1000, 0, 0).reply.code == NRVS_SMALLEST);
+	CHECK(asked(SPLITS, 0x201000, 0, 0).reply.code == NRVS_INSIDE);
+	CHECK(asked(SPLITS, 0x400000, 0, 0).reply.code == NRVS_NOT_MAPPED);
+	CHECK(asked(REMAPS, GIB, 0x200000, 0).reply.code == NRVS_MISPLACED);
+	CHECK(asked(REMAPS, GIB, UINT64_C(1) << 40, 0).reply.code == NRVS_BEYOND);
+	CHECK(asked(REMAPS, 0x1000, UINT64_C(1) << 51, 0).reply.code == NRVS_BEYOND);
+	CHECK(asked(REMAPS, 0x1000, 1, 0).reply.code == NRVS_MISPLACED);
+	CHECK(asked(REMAPS, GIB + 0x200000, 0, 0).reply.code == NRVS_INSIDE);
+	plan = asked(REMAPS, 0x200000, 4 * GIB, NRVS_EXEC | NRVS_USER);
+	CHECK(plan.reply.code == NRVS_CHANGED && plan.reply.rights == NRVS_WRITE && plan.stores[0].new_word == (4 * GIB | 0x1185));
+	CHECK(plan.flush == NRVS_FLUSH_PAGE && plan.flush_size == NRVS_2M && plan.flush_base == 0x200000);
+	plan = asked(REMAPS, 0x200000, GIB, NRVS_WRITE);
+	CHECK(plan.reply.code == NRVS_CHANGED && plan.store_count == 0 && plan.flush == NRVS_FLUSH_NOTHING);
+	*word(3, 0) &= ~UINT64_C(2);
+	CHECK(asked(REMAPS, 0x200000, 4 * GIB, NRVS_WRITE).reply.code == NRVS_NARROW);
+}
+
 int main(void)
 {
 	memory_begin(&memory, 40, 3);
@@ -172,6 +280,8 @@ int main(void)
 	not_asked();
 	odd_tables();
 	attributes();
+	joins();
+	splits_and_remaps();
 	memory_end(&memory);
 	return counts();
 }

@@ -1,6 +1,6 @@
 /* Drawn calls. Each plan is that of the second planner, is answered as a plain list of pages is, and is carried out in a memory whose
  * frames lie anywhere; before and after each of its stores a processor walks at drawn addresses, sets flags, and keeps what it found; after
- * the flush nothing that is kept leads elsewhere than the memory.
+ * the flush nothing that is kept leads elsewhere than the memory. Where pages were split, it is tried to join them again.
  */
 #include "calls.h"
 #include "kept.h"
@@ -10,22 +10,40 @@
 #include <stdlib.h>
 #include <string.h>
 
-enum { PROBES = 12, FLAGS = 0x60 };
+enum { PROBES = 12, FLAGS = 0x60, MANY_PAGES = 1600 };
 
 static struct memory memory;
 static struct space space, after;
 static struct kept kept;
 static struct nrvs_target target;
-static uint64_t seed;
-static unsigned done, refused, flagged, unlinked;
+static uint64_t seed, split;
+static unsigned done, refused, flagged, unlinked, of_kind[7];
 
 /* An address of few, in both halves, so that pages meet. */
 static uint64_t any_address(void)
 {
-	uint64_t address = (draw(&seed, 2) << 39) + (draw(&seed, 3) << 30) + (draw(&seed, 3) << 21) + (draw(&seed, 4) << 12);
+	uint64_t address = (draw(&seed, 2) << 39) + (draw(&seed, 3) << 30) + (draw(&seed, 3) << 21), page = draw(&seed, 5);
+	address += (page == 4 ? 511 : page) << 12;
 	if (target.levels == 5)
 		address += draw(&seed, 2) << 48;
 	return draw(&seed, 2) ? address : address - (UINT64_C(1) << (11 + 9 * target.levels));
+}
+
+static unsigned any_kind(void)
+{
+	static const unsigned KINDS[] = {MAPS, MAPS, UNMAPS, UNMAPS, PROTECTS, ASKS, REMAPS, SPLITS, SPLITS, JOINS};
+	return KINDS[draw(&seed, sizeof KINDS / sizeof KINDS[0])];
+}
+
+/* What is joined is mostly what was split last. */
+static uint64_t base_of(unsigned kind)
+{
+	uint64_t base = any_address();
+	if (kind == JOINS && draw(&seed, 4))
+		return split;
+	if (kind >= REMAPS && draw(&seed, 2))
+		base &= ~((UINT64_C(4096) << 9 * (1 + draw(&seed, 2))) - 1);
+	return base;
 }
 
 /* A request that is well formed. */
@@ -33,17 +51,19 @@ static struct request any_request(void)
 {
 	struct request r;
 	uint64_t bytes;
-	r.kind = (unsigned)draw(&seed, 6) % 4;
+	r.kind = any_kind();
 	r.size = (unsigned)draw(&seed, 5) % 3;
 	bytes = UINT64_C(4096) << 9 * r.size;
 	r.rights = (unsigned)draw(&seed, 8);
-	r.address = any_address();
+	r.address = base_of(r.kind);
 	r.physical = draw(&seed, (UINT64_C(1) << (target.phys_bits > 51 ? 51 : target.phys_bits)) / bytes) * bytes;
 	r.bits = (draw(&seed, UINT64_C(1) << 31) << 33 | draw(&seed, UINT64_C(1) << 31) << 2) & NRVS_ATTRIBUTES;
 	if (r.kind == MAPS)
 		r.address &= ~(bytes - 1);
 	if (r.kind == ASKS)
 		r.address += draw(&seed, 4096);
+	if (r.kind == REMAPS && draw(&seed, 8) == 0)
+		r.physical |= draw(&seed, 2) ? UINT64_C(1) << 51 : draw(&seed, 4096);
 	return r;
 }
 
@@ -54,15 +74,20 @@ static struct answered answer(struct space *of, struct request r)
 		return space_map(of, page);
 	if (r.kind == UNMAPS)
 		return space_unmap(of, r.address);
+	if (r.kind == REMAPS)
+		return space_remap(of, r.address, r.physical, r.rights, target.phys_bits);
+	if (r.kind == SPLITS)
+		return space_split(of, r.address);
+	if (r.kind == JOINS)
+		return space_join(of, r.address);
 	return r.kind == PROTECTS ? space_protect(of, r.address, r.rights) : space_ask(of, r.address);
 }
 
 static void flags_in_space(struct space *of, uint64_t address, uint64_t flags)
 {
-	unsigned i;
-	for (i = 0; i < of->count; i++)
-		if (address - of->pages[i].base < UINT64_C(4096) << 9 * of->pages[i].size)
-			of->pages[i].bits |= flags;
+	const struct page *page = space_page(of, address);
+	if (page)
+		of->pages[page - of->pages].bits |= flags;
 }
 
 /* A processor goes to an address: it sets the accessed flag of each entry, and in one of two goes the dirty flag of the page's. */
@@ -100,12 +125,15 @@ static int translates(const struct space *as, const uint64_t probes[PROBES])
 	return 1;
 }
 
+/* At the ends of the page and in it, beside it, and elsewhere. */
 static void draw_probes(uint64_t probes[PROBES], struct request r)
 {
 	uint64_t bytes = UINT64_C(4096) << 9 * r.size, base = r.address & ~UINT64_C(4095);
 	unsigned i;
 	for (i = 0; i < PROBES; i++)
 		probes[i] = any_address() + draw(&seed, 4096);
+	for (i = 4; i < 7; i++)
+		probes[i] = (base & ~(bytes - 1)) + draw(&seed, bytes);
 	probes[0] = base;
 	probes[1] = base + bytes - 1;
 	probes[2] = base ^ bytes;
@@ -122,6 +150,7 @@ static void carry_out(struct nrvs_plan *plan, struct nrvs_plan *second, unsigned
 		CHECK(again(&LIBRARY, plan, i, *at) == NRVS_OK);
 		CHECK(again(&REFERENCE, second, i, plan->stores[i].old_word) == NRVS_OK);
 		CHECK(same_plans(plan, second));
+		CHECK(fill(plan, &memory));
 		if (*at != plan->stores[i].old_word)
 			return;
 	}
@@ -140,6 +169,12 @@ static void check_store(const struct nrvs_plan *plan, const struct stock *stock,
 		CHECK(s->new_word & 1 && s->index == (r->address >> (3 + 9 * above) & 511));
 	} else if (r->kind == PROTECTS) {
 		CHECK(i == 0 && ((s->old_word ^ s->new_word) & ~(UINT64_C(1) << 63 | 6)) == 0 && s->old_word & 1);
+	} else if (r->kind == REMAPS) {
+		CHECK(i == 0 && ((s->old_word ^ s->new_word) & (UINT64_C(0x7ff0000000000ff9) | (r->size ? 4096 : 0))) == 0 && s->old_word & 1);
+	} else if (r->kind == SPLITS) {
+		CHECK(i == 0 && given == 0 && stock->frames[0] == plan->fill.frame && s->new_word == (plan->fill.frame << 12 | 7));
+	} else if (r->kind == JOINS) {
+		CHECK(i == 0 && (s->old_word >> 12 & ((UINT64_C(1) << 40) - 1)) == plan->unlinked[0] && (s->new_word & FLAGS) == FLAGS);
 	} else {
 		CHECK(r->kind == UNMAPS && s->new_word == 0 && s->old_word & 1);
 		CHECK(i == 0 || (s->old_word >> 12 & ((UINT64_C(1) << 40) - 1)) == plan->unlinked[i - 1]);
@@ -153,10 +188,17 @@ static void carry_out_all(struct nrvs_plan *plan, struct nrvs_plan *second, cons
 	unsigned i, switched = 0;
 	draw_probes(probes, *r);
 	CHECK(translates(&space, probes));
+	CHECK(plan->fills == (r->kind == SPLITS && plan->store_count));
+	CHECK(fill(plan, &memory));
+	CHECK(translates(&space, probes));
 	for (i = 0; i < plan->store_count; i++) {
 		if (draw(&seed, 2))
 			touch(draw(&seed, 2) ? r->address : any_address());
 		keep_walk(&kept, &memory, target.levels, target.root, draw(&seed, 2) ? r->address : any_address());
+		if (r->kind == SPLITS) { /* the parts have the flags of this moment */
+			space_copy(&after, &space);
+			answer(&after, *r);
+		}
 		carry_out(plan, second, i);
 		check_store(plan, stock, r, i);
 		draw_probes(probes, *r);
@@ -175,21 +217,47 @@ static void flush_and_free(const struct nrvs_plan *plan, const struct request *r
 		CHECK(agrees(&kept, &memory, target.levels, target.root, i ? any_address() : r->address));
 	for (i = 0; i < plan->unlinked_count; i++) {
 		const uint64_t *words = memory_words(&memory, plan->unlinked[i]);
-		CHECK(!leads_to(&kept, plan->unlinked[i]));
+		CHECK(words && !leads_to(&kept, plan->unlinked[i]));
 		for (k = 0; words && k < 512 && !words[k]; k++)
 			;
-		CHECK(k == 512);
+		CHECK(k == 512 || r->kind == JOINS);
 		memory_free(&memory, plan->unlinked[i]);
 		unlinked++;
 	}
 }
 
-/* A plan's answer beside that of the list; the flags of its page are those at the moment of the store. */
+/* A plan's answer beside that of the list; the flags of its page are those at the moment of the store, but by a join as they were shown. */
 static void check_answer(const struct nrvs_plan *plan, const struct request *r, struct answered a)
 {
 	CHECK(plan->reply.code == a.reply.code && plan->reply.number == a.reply.number);
 	CHECK(plan->reply.size == a.reply.size && plan->reply.rights == a.reply.rights);
-	CHECK(plan->bits == (r->kind != MAPS && plan->store_count ? space_ask(&space, r->address).bits : a.bits));
+	if (r->kind == JOINS)
+		CHECK(((plan->bits ^ a.bits) & ~(uint64_t)FLAGS) == 0);
+	else
+		CHECK(plan->bits == (r->kind != MAPS && plan->store_count ? space_ask(&space, r->address).bits : a.bits));
+}
+
+/* The plan is carried out, and the space after it is there. */
+static void planned(struct nrvs_plan *plan, struct nrvs_plan *second, struct request *r, const struct stock *stock)
+{
+	const struct page *page = space_page(&space, r->address);
+	struct answered a = answer(&after, *r);
+	if (r->kind == MAPS && plan->reply.code != NRVS_DONE)
+		CHECK(plan->store_count == 0);
+	if (r->kind != MAPS)
+		r->size = page ? page->size : 0;
+	if (r->kind == JOINS && plan->store_count) {
+		r->size++;
+		for (unsigned k = 0; k < 512; k++) /* a processor that keeps one of them */
+			if (draw(&seed, 64) == 0)
+				keep_walk(&kept, &memory, target.levels, target.root, r->address + k * (UINT64_C(4096) << 9 * (r->size - 1)));
+	}
+	carry_out_all(plan, second, stock, r);
+	check_answer(plan, r, a);
+	done += plan->store_count != 0;
+	of_kind[r->kind] += plan->store_count != 0;
+	if (r->kind == SPLITS && plan->store_count)
+		split = r->address;
 }
 
 static void one_call(void)
@@ -197,7 +265,6 @@ static void one_call(void)
 	struct request r = any_request();
 	struct nrvs_plan plan, second;
 	struct stock stock;
-	struct answered a;
 	unsigned i;
 	stock.count = draw(&seed, 8) ? 4 : (unsigned)draw(&seed, 4);
 	for (i = 0; i < stock.count; i++)
@@ -208,46 +275,48 @@ static void one_call(void)
 	CHECK(drive(&LIBRARY, &plan, NRVS_SEE, &memory, &stock) == NRVS_PLANNED);
 	CHECK(drive(&REFERENCE, &second, NRVS_SEE, &memory, &stock) == NRVS_PLANNED);
 	CHECK(same_plans(&plan, &second));
-	after = space;
+	space_copy(&after, &space);
 	if (plan.reply.code == NRVS_NO_FRAME) {
 		refused++;
-		CHECK(plan.store_count == 0 && stock.given == stock.count && answer(&after, r).reply.code == NRVS_DONE);
-		after = space;
+		CHECK(plan.store_count == 0 && stock.given == stock.count);
+		CHECK(answer(&after, r).reply.code == (r.kind == MAPS ? NRVS_DONE : NRVS_CHANGED));
+		space_copy(&after, &space);
 		stock.given = 0;
 	} else {
-		a = answer(&after, r);
-		if (r.kind == MAPS && plan.reply.code != NRVS_DONE)
-			CHECK(plan.store_count == 0);
-		if (r.kind == UNMAPS)
-			r.size = plan.reply.code == NRVS_REMOVED ? plan.reply.size : 0;
-		carry_out_all(&plan, &second, &stock, &r);
-		check_answer(&plan, &r, a);
-		done += plan.store_count != 0;
+		planned(&plan, &second, &r, &stock);
 	}
 	flush_and_free(&plan, &r);
-	for (i = plan.reply.code == NRVS_DONE ? stock.given : 0; i < stock.count; i++)
+	for (i = plan.store_count ? stock.given : 0; i < stock.count; i++)
 		memory_free(&memory, stock.frames[i]);
-	space = after;
+	space_copy(&space, &after);
+}
+
+static void begin_again(void)
+{
+	space.count = 0;
+	memset(&kept, 0, sizeof kept);
+	memory_begin(&memory, target.phys_bits, seed);
+	target.root = memory_take(&memory);
 }
 
 static void run(uint32_t levels, uint32_t phys_bits, unsigned calls)
 {
 	unsigned i;
-	memset(&space, 0, sizeof space);
-	memset(&kept, 0, sizeof kept);
-	memory_begin(&memory, phys_bits, seed);
 	target.levels = levels;
 	target.phys_bits = phys_bits;
-	target.root = memory_take(&memory);
+	begin_again();
 	for (i = 0; i < calls; i++) {
 		one_call();
 		keep_walk(&kept, &memory, target.levels, target.root, any_address());
 		if (i % 64 == 0)
 			CHECK(memory_reached(&memory, levels, target.root) == memory.count);
 		if (draw(&seed, 4) == 0) {
-			after = space;
+			space_copy(&after, &space);
 			touch(any_address());
-			space = after;
+		}
+		if (space.count > MANY_PAGES) {
+			memory_end(&memory);
+			begin_again();
 		}
 	}
 	memory_end(&memory);
@@ -255,12 +324,14 @@ static void run(uint32_t levels, uint32_t phys_bits, unsigned calls)
 
 int main(int count, char **words)
 {
-	unsigned calls = count > 1 ? (unsigned)atoi(words[1]) : 20000;
+	unsigned calls = count > 1 ? (unsigned)atoi(words[1]) : 25000;
 	seed = count > 2 ? (uint64_t)atoll(words[2]) : 1;
 	run(4, 36, calls);
 	run(4, 52, calls);
 	run(5, 52, calls);
 	run(5, 46, calls);
 	printf("%u changes, %u without a frame, %u flags met, %u tables unlinked\n", done, refused, flagged, unlinked);
+	printf("%u remaps, %u splits, %u joins\n", of_kind[REMAPS], of_kind[SPLITS], of_kind[JOINS]);
+	CHECK(calls < 1000 || (of_kind[REMAPS] && of_kind[SPLITS] && of_kind[JOINS]));
 	return counts();
 }

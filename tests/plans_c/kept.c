@@ -72,8 +72,9 @@ void forget(struct kept *kept, unsigned flush, uint64_t base, unsigned size)
 			kept->pages[i] = kept->pages[--kept->page_count];
 		else
 			i++;
-	for (i = 0; flush == NRVS_FLUSH_PAGE_AND_TABLES && i < kept->link_count;)
-		if (covers(kept->links[i].base, table_bytes(kept->links[i].level), base))
+	for (i = 0; flush >= NRVS_FLUSH_PAGE_AND_TABLES && i < kept->link_count;)
+		if (covers(kept->links[i].base, table_bytes(kept->links[i].level), base) ||
+		    (flush == NRVS_FLUSH_RANGE && covers(base, bytes_of(size), kept->links[i].base)))
 			kept->links[i] = kept->links[--kept->link_count];
 		else
 			i++;

@@ -3,7 +3,7 @@
 
 #include <string.h>
 
-enum { MAP = 1, UNMAP = 2, PROTECT = 3, ASK = 4 };
+enum { MAP = 1, UNMAP = 2, PROTECT = 3, ASK = 4, REMAP = 5, SPLIT = 6, JOIN = 7 };
 #define PRESENT UINT64_C(1)
 #define WRITE UINT64_C(2)
 #define USER UINT64_C(4)
@@ -170,24 +170,6 @@ uint32_t reference_map(struct nrvs_plan *plan, const struct nrvs_target *target,
 	return bits & ~NRVS_ATTRIBUTES ? NRVS_BAD_BITS : begin(plan, target, k);
 }
 
-uint32_t reference_unmap(struct nrvs_plan *plan, const struct nrvs_target *target, uint64_t base)
-{
-	struct kept k = {.kind = UNMAP, .address = base};
-	uint32_t status = levels_fault(target);
-	if (status == NRVS_OK)
-		status = base_fault(target, base, 4096);
-	return status != NRVS_OK ? status : begin(plan, target, k);
-}
-
-uint32_t reference_protect(struct nrvs_plan *plan, const struct nrvs_target *target, uint64_t base, uint32_t rights)
-{
-	struct kept k = {.kind = PROTECT, .address = base, .rights = rights};
-	uint32_t status = levels_fault(target);
-	if (status == NRVS_OK)
-		status = rights > 7 ? NRVS_BAD_RIGHTS : base_fault(target, base, 4096);
-	return status != NRVS_OK ? status : begin(plan, target, k);
-}
-
 uint32_t reference_ask(struct nrvs_plan *plan, const struct nrvs_target *target, uint64_t address)
 {
 	struct kept k = {.kind = ASK, .address = address};
@@ -195,6 +177,44 @@ uint32_t reference_ask(struct nrvs_plan *plan, const struct nrvs_target *target,
 	if (status == NRVS_OK)
 		status = base_fault(target, address, 1);
 	return status != NRVS_OK ? status : begin(plan, target, k);
+}
+
+static uint32_t begin_at(struct nrvs_plan *plan, const struct nrvs_target *target, struct kept k)
+{
+	uint32_t status = levels_fault(target);
+	if (status == NRVS_OK)
+		status = k.rights > 7 ? NRVS_BAD_RIGHTS : base_fault(target, k.address, 4096);
+	return status != NRVS_OK ? status : begin(plan, target, k);
+}
+
+uint32_t reference_unmap(struct nrvs_plan *plan, const struct nrvs_target *target, uint64_t base)
+{
+	struct kept k = {.kind = UNMAP, .address = base};
+	return begin_at(plan, target, k);
+}
+
+uint32_t reference_protect(struct nrvs_plan *plan, const struct nrvs_target *target, uint64_t base, uint32_t rights)
+{
+	struct kept k = {.kind = PROTECT, .address = base, .rights = rights};
+	return begin_at(plan, target, k);
+}
+
+uint32_t reference_remap(struct nrvs_plan *plan, const struct nrvs_target *target, uint64_t base, uint64_t physical, uint32_t rights)
+{
+	struct kept k = {.kind = REMAP, .address = base, .physical = physical, .rights = rights};
+	return begin_at(plan, target, k);
+}
+
+uint32_t reference_split(struct nrvs_plan *plan, const struct nrvs_target *target, uint64_t base)
+{
+	struct kept k = {.kind = SPLIT, .address = base};
+	return begin_at(plan, target, k);
+}
+
+uint32_t reference_join(struct nrvs_plan *plan, const struct nrvs_target *target, uint64_t base)
+{
+	struct kept k = {.kind = JOIN, .address = base};
+	return begin_at(plan, target, k);
 }
 
 /* The end: an answer without a page. */
@@ -244,25 +264,93 @@ static void removes(struct nrvs_plan *plan, const struct kept *k)
 	flushes(plan, plan->unlinked_count ? NRVS_FLUSH_PAGE_AND_TABLES : NRVS_FLUSH_PAGE, k->level, k->address);
 }
 
-/* The page's entry was found on the way of an unmap, a protect or an ask. */
-static uint32_t found(struct nrvs_plan *plan, struct kept *k)
+/* Why the page can't be remapped, split or joined, whatever the entries are; 0: it can. */
+static unsigned refusal(const struct kept *k, uint64_t word)
+{
+	uint64_t bytes = bytes_of(k->level), end = UINT64_C(1) << (k->phys_bits > 51 ? 51 : k->phys_bits);
+	if (k->kind == REMAP)
+		return k->physical % bytes ? NRVS_MISPLACED : k->physical > end - bytes ? NRVS_BEYOND : 0;
+	if (k->kind == SPLIT)
+		return k->level == 1 ? NRVS_SMALLEST : 0;
+	if (k->kind != JOIN)
+		return 0;
+	if (k->level == 3)
+		return NRVS_LARGEST;
+	bytes = bytes_of(k->level + 1);
+	return k->address % bytes ? NRVS_NOT_FIRST : physical_of(k->level, word) % bytes ? NRVS_MISPLACED : 0;
+}
+
+/* The page's entry gets this word, by one store. */
+static uint32_t changes(struct nrvs_plan *plan, struct kept *k, uint64_t word)
+{
+	const struct shown *at = &k->shown[k->level - 1];
+	plan->bits = attributes(k->level, at->word);
+	plan->reply.rights = (uint8_t)rights_down_to(k, k->level);
+	if (word != at->word) {
+		stores(plan, at->frame, index_at(k->level, k->address), at->word, word);
+		flushes(plan, NRVS_FLUSH_PAGE, k->level, k->address);
+	}
+	return answers(plan, k, NRVS_CHANGED, 0);
+}
+
+/* A split that has its frame: the entries of the parts, then the link. */
+static uint32_t splits(struct nrvs_plan *plan, struct kept *k, uint64_t frame)
+{
+	const struct shown *at = &k->shown[k->level - 1];
+	uint64_t low = k->level - 1;
+	plan->fills = 1;
+	plan->fill.frame = frame;
+	plan->fill.first_word = physical_of(k->level, at->word) | PRESENT | bits_of_rights(rights_of(at->word)) |
+				placed(low, attributes(k->level, at->word));
+	plan->fill.step = bytes_of(low);
+	plan->bits = attributes(k->level, at->word);
+	plan->reply.rights = (uint8_t)rights_down_to(k, k->level);
+	stores(plan, at->frame, index_at(k->level, k->address), at->word, frame << 12 | PRESENT | WRITE | USER);
+	flushes(plan, NRVS_FLUSH_RANGE, k->level, k->address);
+	return answers(plan, k, NRVS_CHANGED, 0);
+}
+
+/* The pages of a table are joined, where each follows on from the first one. */
+static uint32_t joins(struct nrvs_plan *plan, struct kept *k, const uint64_t words[512])
+{
+	const struct shown *at = &k->shown[k->level - 1], *above = &k->shown[k->level];
+	uint64_t i, rights = rights_of(at->word) & rights_of(above->word);
+	for (i = 0; i < 512; i++)
+		if ((words[i] & ~FLAGS) != (at->word & ~FLAGS) + i * bytes_of(k->level))
+			return answers(plan, k, NRVS_APART, i);
+	plan->bits = attributes(k->level, at->word);
+	plan->reply.rights = (uint8_t)rights_down_to(k, k->level);
+	stores(plan, above->frame, index_at(k->level + 1, k->address), above->word,
+	       physical_of(k->level, at->word) | PRESENT | bits_of_rights(rights) | placed(k->level + 1, plan->bits | FLAGS));
+	plan->unlinked[plan->unlinked_count++] = at->frame;
+	flushes(plan, NRVS_FLUSH_RANGE, k->level + 1, k->address);
+	return answers(plan, k, NRVS_CHANGED, 0);
+}
+
+/* The page's entry was found on the way of all but a map. */
+static uint32_t found(struct nrvs_plan *plan, struct kept *k, const uint64_t words[512])
 {
 	const struct shown *at = &k->shown[k->level - 1];
 	uint64_t bytes = bytes_of(k->level), base = k->address & ~(bytes - 1), word;
 	if (k->kind != ASK && base != k->address)
 		return answers(plan, k, NRVS_INSIDE, base);
-	if (k->kind == PROTECT && k->rights & ~rights_down_to(k, k->level + 1))
+	if (refusal(k, at->word))
+		return answers(plan, k, refusal(k, at->word), 0);
+	if ((k->kind == PROTECT || k->kind == REMAP) && k->rights & ~rights_down_to(k, k->level + 1))
 		return answers(plan, k, NRVS_NARROW, 0);
+	word = (at->word & ~(WRITE | USER | NX)) | bits_of_rights(k->rights);
+	if (k->kind == PROTECT)
+		return changes(plan, k, word);
+	if (k->kind == REMAP)
+		return changes(plan, k, (word & ~(ADDRESS & ~(bytes - 1))) | k->physical);
+	if (k->kind == JOIN)
+		return joins(plan, k, words);
+	if (k->kind == SPLIT) {
+		k->step = NRVS_GIVE;
+		return keep(plan, k);
+	}
 	plan->bits = attributes(k->level, at->word);
 	plan->reply.rights = (uint8_t)rights_down_to(k, k->level);
-	if (k->kind == PROTECT) {
-		word = (at->word & ~(WRITE | USER | NX)) | bits_of_rights(k->rights);
-		if (word != at->word) {
-			stores(plan, at->frame, index_at(k->level, base), at->word, word);
-			flushes(plan, NRVS_FLUSH_PAGE, k->level, base);
-		}
-		return answers(plan, k, NRVS_CHANGED, 0);
-	}
 	plan->reply.size = (uint8_t)(k->level - 1);
 	if (k->kind == UNMAP) {
 		removes(plan, k);
@@ -348,7 +436,7 @@ uint32_t reference_see(struct nrvs_plan *plan, const uint64_t words[512])
 		return answers(plan, &k, NRVS_RESERVED, plan->frame);
 	}
 	if (is_leaf(k.level, word))
-		return k.kind == MAP ? answers(plan, &k, NRVS_OVERLAP, k.address & ~(bytes_of(k.level) - 1)) : found(plan, &k);
+		return k.kind == MAP ? answers(plan, &k, NRVS_OVERLAP, k.address & ~(bytes_of(k.level) - 1)) : found(plan, &k, words);
 	if (k.kind == MAP && k.level == k.size + 1) {
 		k.searching = 1;
 		k.base = k.address;
@@ -363,6 +451,8 @@ uint32_t reference_give(struct nrvs_plan *plan, uint64_t frame)
 		return NRVS_NOT_ASKED;
 	if (frame >> (k.phys_bits - 12))
 		return answers(plan, &k, NRVS_FRAME_RANGE, frame);
+	if (k.kind == SPLIT)
+		return splits(plan, &k, frame);
 	k.given[k.given_count++] = frame;
 	return k.given_count == k.missing - (k.size + 1) ? maps(plan, &k) : keep(plan, &k);
 }
@@ -383,9 +473,11 @@ uint32_t reference_again(struct nrvs_plan *plan, uint64_t index, uint64_t now)
 	if ((store->old_word ^ now) & ~FLAGS || !(now & PRESENT))
 		return NRVS_NOT_ASKED;
 	store->old_word = now;
-	if (k.kind == PROTECT)
+	if (k.kind == PROTECT || k.kind == REMAP)
 		store->new_word = (store->new_word & ~FLAGS) | (now & FLAGS);
-	if (index == 0 && k.kind != MAP)
+	if (k.kind == SPLIT)
+		plan->fill.first_word = (plan->fill.first_word & ~FLAGS) | (now & FLAGS);
+	if (index == 0 && k.kind != MAP && k.kind != JOIN)
 		plan->bits = (plan->bits & ~FLAGS) | (now & FLAGS);
 	return NRVS_OK;
 }

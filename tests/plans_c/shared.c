@@ -11,7 +11,7 @@ enum { ROOTS = 3, LINKS = 2, PROBES = 24 };
 static struct memory memory;
 static struct space upper, lower[ROOTS];
 static struct nrvs_target targets[ROOTS];
-static uint64_t seed = 5;
+static uint64_t seed = 5, split[2];
 
 static uint64_t any_address(int high)
 {
@@ -35,11 +35,30 @@ static void check_all(uint64_t address)
 		}
 }
 
+static struct answered answer(struct space *space, const struct request *r, struct page page)
+{
+	switch (r->kind) {
+	case MAPS:
+		return space_map(space, page);
+	case UNMAPS:
+		return space_unmap(space, r->address);
+	case PROTECTS:
+		return space_protect(space, r->address, r->rights);
+	case REMAPS:
+		return space_remap(space, r->address, r->physical, r->rights, 46);
+	case SPLITS:
+		return space_split(space, r->address);
+	default:
+		return space_join(space, r->address);
+	}
+}
+
 static void one_call(void)
 {
 	unsigned which = (unsigned)draw(&seed, ROOTS), i;
 	int high = draw(&seed, 2) != 0;
-	struct request r = {(unsigned)draw(&seed, 3), (unsigned)draw(&seed, 4) % 3, (unsigned)draw(&seed, 8), any_address(high), 0, 0};
+	static const unsigned KINDS[] = {MAPS, MAPS, UNMAPS, PROTECTS, REMAPS, SPLITS, JOINS};
+	struct request r = {KINDS[draw(&seed, 7)], (unsigned)draw(&seed, 4) % 3, (unsigned)draw(&seed, 8), any_address(high), 0, 0};
 	uint64_t bytes = UINT64_C(4096) << 9 * r.size;
 	struct space *space = high ? &upper : &lower[which];
 	struct nrvs_target target = targets[which];
@@ -49,17 +68,19 @@ static void one_call(void)
 	struct page page;
 	target.pinned = (uint32_t)high;
 	r.physical = draw(&seed, 1 << 10) * bytes;
-	if (r.kind == MAPS)
+	if (r.kind == MAPS || r.kind == SPLITS)
 		r.address &= ~(bytes - 1);
+	if (r.kind == JOINS)
+		r.address = split[high];
 	for (i = 0; i < 4; i++)
 		stock.frames[i] = memory_take(&memory);
 	CHECK(drive(&LIBRARY, &plan, begin(&LIBRARY, &plan, &target, r), &memory, &stock) == NRVS_PLANNED);
 	page.base = r.address, page.physical = r.physical, page.bits = 0, page.size = r.size, page.rights = r.rights;
-	if (r.kind == MAPS)
-		a = space_map(space, page);
-	else
-		a = r.kind == UNMAPS ? space_unmap(space, r.address) : space_protect(space, r.address, r.rights);
+	a = answer(space, &r, page);
+	if (r.kind == SPLITS)
+		split[high] = r.address;
 	CHECK(plan.reply.code == a.reply.code && plan.reply.number == a.reply.number);
+	CHECK(fill(&plan, &memory));
 	for (i = 0; i < plan.store_count; i++) {
 		uint64_t *words = memory_words(&memory, plan.stores[i].frame);
 		CHECK(words[plan.stores[i].index] == plan.stores[i].old_word);
@@ -69,7 +90,7 @@ static void one_call(void)
 	check_all(r.address);
 	for (i = 0; i < plan.unlinked_count; i++)
 		memory_free(&memory, plan.unlinked[i]);
-	for (i = plan.reply.code == NRVS_DONE ? stock.given : 0; i < 4; i++)
+	for (i = plan.store_count ? stock.given : 0; i < 4; i++)
 		memory_free(&memory, stock.frames[i]);
 }
 

@@ -1,15 +1,22 @@
 -- A planner is kept whole: its codes read back as they were.
-use Rattle.std.specs.Prelude.{IfSome}
-use Rattle.std.proofs.Common.{◌≡◌, ℕ, Bool, true, false, Option, Some, None, List, ◌++◌, length, take, refl, sym, ap, ◌∙◌}
+use Rattle.std.specs.Prelude.{IfSome, nat_eq, if◌then◌else◌}
+use Rattle.std.proofs.Common.{◌≡◌, ℕ, subst, Bool, true, false, Option, Some, None, List, ◌++◌, length, take, refl, sym, ap, ◌∙◌}
 use Rattle.std.proofs.Math.Seq.{take-append_seam}
 use Rattle.vs_types.specs.Codes.{rights_code}
+use Rattle.vs_types.specs.Space.{Space}
 use Rattle.vs_types.specs.declared.page.Rights.{Rights}
+use Rattle.vs_walk.specs.Memory.{Memory}
+use Rattle.vs_plan.specs.declared.plan.Plan as plans
 use Rattle.vs_plan.specs.declared.plan.Store.{Store}
 use Rattle.vs_plan.specs.declared.planner.Phase.{Phase}
 use Rattle.vs_plan.specs.declared.planner.Planner.{Planner}
 use Rattle.vs_plan.specs.declared.request.Request.{Request}
 use Rattle.vs_plan.specs.declared.target.Target.{Target}
-use Rattle.nrvs_plan_c.specs.Kept.{rights_in}
+use Rattle.vs_plan.specs.Premise.{IsPremise}
+use Rattle.vs_plan.specs.Request.{address_of}
+use Rattle.vs_plan.specs.Right.{IsRight}
+use Rattle.nrvs_plan_c.specs.declared.kept.Call.{Call}
+use Rattle.nrvs_plan_c.specs.Kept.{request_in, rights_in}
 
 bits_back : (w u x : Bool) → rights_in (rights_code (record { write = w; user = u; exec = x })) ≡ record { write = w; user = u; exec = x }
 bits_back true true true = refl
@@ -45,3 +52,28 @@ front_back items copied rest n same count =
 pub some_more : (o : Option ℕ) (P Q : ℕ → Type 0) → ((n : ℕ) → P n → Q n) → IfSome o P → IfSome o Q
 some_more None P Q more is = tt
 some_more (Some n) P Q more is = more n is
+
+-- a plan is right for a request on a page table, whatever space the memory translates as
+abbrev pub RightFor : Memory → List (Option ℕ) → plans.Plan → Target → Request → Type 0
+RightFor memory offered made target request = (space : Space) → IsPremise target.depth memory target.root (address_of request) space
+    → IsRight target request memory space offered made
+
+pub right_as : (memory : Memory) (offered : List (Option ℕ)) (made : plans.Plan) (t u : Target) (r s : Request) → t ≡ u → r ≡ s
+    → RightFor memory offered made t r → RightFor memory offered made u s
+right_as memory offered made t u r s e f is =
+    subst (λ (x : Target). RightFor memory offered made x s) e (subst (λ (x : Request). RightFor memory offered made t x) f is)
+
+-- the address of a kept request is the kept one
+address_if : (b : Bool) (r s : Request) (address : ℕ) → address_of r ≡ address → address_of s ≡ address
+    → address_of (if b then r else s) ≡ address
+address_if true r s address first second = first
+address_if false r s address first second = second
+
+pub address_in : (call : Call) → address_of (request_in call) ≡ call.address
+address_in call =
+    address_if (nat_eq call.kind 0) _ _ call.address refl
+    (address_if (nat_eq call.kind 1) _ _ call.address refl
+    (address_if (nat_eq call.kind 2) _ _ call.address refl
+    (address_if (nat_eq call.kind 3) _ _ call.address refl
+    (address_if (nat_eq call.kind 4) _ _ call.address refl
+    (address_if (nat_eq call.kind 5) _ _ call.address refl refl)))))

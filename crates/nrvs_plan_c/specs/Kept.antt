@@ -1,5 +1,5 @@
 -- The planner that is kept in C's struct between two calls.
-use Rattle.std.specs.Prelude.{ℕ, ◌/◌, ◌%◌, ◌≤◌, nat_eq, not, take, if◌then◌else◌}
+use Rattle.std.specs.Prelude.{ℕ, ◌/◌, ◌%◌, ◌≤◌, ◌||◌, Bool, nat_eq, not, take, if◌then◌else◌}
 use Rattle.vs_types.specs.declared.depth.Depth.{Depth}
 use Rattle.vs_types.specs.declared.depth.Depth.TheVariants.{Four, Five}
 use Rattle.vs_types.specs.declared.page.Page.{Page}
@@ -8,10 +8,10 @@ use Rattle.vs_types.specs.declared.page.Size.{Size}
 use Rattle.vs_types.specs.declared.page.Size.TheVariants.{K4, M2, G1}
 use Rattle.vs_plan.specs.declared.plan.TheConstants.{MOST_STORES}
 use Rattle.vs_plan.specs.declared.planner.Phase.{Phase}
-use Rattle.vs_plan.specs.declared.planner.Phase.TheVariants.{Descent, Search, Growth, Ended}
+use Rattle.vs_plan.specs.declared.planner.Phase.TheVariants.{Descent, Search, Growth, Division, Ended}
 use Rattle.vs_plan.specs.declared.planner.Planner.{Planner}
 use Rattle.vs_plan.specs.declared.request.Request.{Request}
-use Rattle.vs_plan.specs.declared.request.Request.TheVariants.{Map, Unmap, Protect, Ask}
+use Rattle.vs_plan.specs.declared.request.Request.TheVariants.{Map, Unmap, Protect, Ask, Remap, Split, Join}
 use Rattle.vs_plan.specs.declared.target.Target as targets
 use Rattle.vs_plan.specs.Planner.{AwaitsWords, AwaitsFrame}
 use Rattle.nrvs_plan_c.specs.declared.kept.Call.{Call}
@@ -32,7 +32,16 @@ rights_in code = record { write = nat_eq (code % 2) 1; user = nat_eq (code / 2 %
 
 -- how far a planner is, by its code
 abbrev pub phase_in : ℕ → Phase
-phase_in code = if nat_eq code 0 then Descent else if nat_eq code 1 then Search else if nat_eq code 2 then Growth else Ended
+phase_in code =
+    if nat_eq code 0 then Descent
+    else if nat_eq code 1 then Search
+    else if nat_eq code 2 then Growth
+    else if nat_eq code 3 then Division
+    else Ended
+
+-- whether a frame is waited for in the phase of a code
+abbrev pub takes_frame : ℕ → Bool
+takes_frame code = nat_eq code 2 || nat_eq code 3
 
 -- the page table of C's target
 abbrev pub target_of : Target → targets.Target
@@ -53,7 +62,10 @@ request_in call =
     if nat_eq call.kind 0 then Map (page_in call.address call.size call.physical call.rights) call.bits
     else if nat_eq call.kind 1 then Unmap call.address
     else if nat_eq call.kind 2 then Protect call.address (rights_in call.rights)
-    else Ask call.address
+    else if nat_eq call.kind 3 then Ask call.address
+    else if nat_eq call.kind 4 then Remap call.address call.physical (rights_in call.rights)
+    else if nat_eq call.kind 5 then Split call.address
+    else Join call.address
 
 -- the planner
 abbrev pub planner_in : Plan → Planner
@@ -78,6 +90,7 @@ abbrev pub IsWaiting : Phase → Planner → Type 0
 IsWaiting Descent planner = AwaitsWords planner
 IsWaiting Search planner = AwaitsWords planner
 IsWaiting Growth planner = AwaitsFrame planner
+IsWaiting Division planner = AwaitsFrame planner
 IsWaiting Ended planner = Unit {0}
 
 -- the plan is as a call left it

@@ -1,8 +1,9 @@
 -- A plan in numbers.
-use Rattle.std.specs.Prelude.{◌≡◌, ℕ, nat_eq, length, take, slice_index_or, if◌then◌else◌}
+use Rattle.std.specs.Prelude.{◌≡◌, ℕ, ◌&&◌, ◌||◌, Bool, not, Option, Some, None, nat_eq, length, take, slice_index_or, if◌then◌else◌}
 use Rattle.vs_types.specs.Codes.{size_code, rights_code}
 use Rattle.vs_types.specs.declared.answer.Answer.{Answer}
 use Rattle.vs_types.specs.declared.answer.Answer.TheVariants as answers
+use Rattle.vs_plan.specs.declared.plan.Fill.{Fill}
 use Rattle.vs_plan.specs.declared.plan.Flush.{Flush}
 use Rattle.vs_plan.specs.declared.plan.Flush.TheVariants as flushes
 use Rattle.vs_plan.specs.Again.{flags_into, with_flags_of}
@@ -37,6 +38,12 @@ reply_numbers (replies.FrameRange number) = numbered 11 number
 reply_numbers replies.Rights = numbered 12 0
 reply_numbers (replies.Empty number) = numbered 13 number
 reply_numbers (replies.Reserved number index) = numbered 14 number
+reply_numbers replies.PhysUnaligned = numbered 15 0
+reply_numbers replies.PhysRange = numbered 16 0
+reply_numbers replies.Smallest = numbered 17 0
+reply_numbers replies.Largest = numbered 18 0
+reply_numbers replies.Unaligned = numbered 19 0
+reply_numbers (replies.Apart index) = numbered 20 index
 
 -- the bits of the page's entry; or the index of the word with a reserved bit
 abbrev pub bits_told : outcomes.Reply → ℕ → ℕ
@@ -48,11 +55,18 @@ abbrev pub flush_numbers : Flush → ℕ × ℕ × ℕ
 flush_numbers flushes.Nothing = (0, 0, 0)
 flush_numbers (flushes.Page base size) = (1, base, size_code size)
 flush_numbers (flushes.PageAndTables base size) = (2, base, size_code size)
+flush_numbers (flushes.Range base size) = (3, base, size_code size)
+
+-- whether a frame is filled, and how
+abbrev pub fill_numbers : Option Fill → ℕ × Fill
+fill_numbers None = (0, record { frame = 0; first = 0; step = 0 })
+fill_numbers (Some fill) = (1, fill)
 
 -- the numbers of the plan are those of this one
 pub record IsTold (plan : Plan) (made : plans.Plan) : Type 0 where
   pub reply : plan.reply ≡ reply_numbers made.reply
   pub bits : plan.bits ≡ bits_told made.reply made.bits
+  pub fill : (plan.fills, plan.fill) ≡ fill_numbers made.fill
   pub store_count : plan.store_count ≡ length made.stores.items
   pub stores : take plan.store_count plan.stores ≡ made.stores.items
   pub flush : (plan.flush, plan.flush_base, plan.flush_size) ≡ flush_numbers made.flush
@@ -63,13 +77,21 @@ pub record IsTold (plan : Plan) (made : plans.Plan) : Type 0 where
 abbrev pub store_at : Plan → ℕ → Store
 store_at plan index = slice_index_or plan.stores index (record { frame = 0; index = 0; old = 0; new = 0 })
 
--- a store that found another word
-abbrev pub store_again : Store → ℕ → Store
-store_again store found = record store { old = found; new = with_flags_of found store.new }
+-- whether a store writes a link to the table that is filled, or in the place of the link to a table that is unlinked: what it writes stays
+-- as it is, whatever flags are found
+abbrev pub is_linking : Plan → Bool
+is_linking plan = not (nat_eq plan.fills 0) || not (nat_eq plan.unlinked_count 0)
 
--- the bits that are said of the page's entry, which the first store of all but a map changes: with the flags that were found there
-abbrev pub bits_again : ℕ → ℕ → ℕ → ℕ → ℕ
-bits_again kind index bits found =
-    if nat_eq kind 0 then bits
-    else if nat_eq index 0 then flags_into found bits
-    else bits
+-- a store that found another word
+abbrev pub store_again : Plan → Store → ℕ → Store
+store_again plan store found = record store { old = found; new = if is_linking plan then store.new else with_flags_of found store.new }
+
+-- what a frame is filled with then: entries with the flags that were found
+abbrev pub fill_again : Plan → ℕ → Fill
+fill_again plan found = if nat_eq plan.fills 0 then plan.fill else record plan.fill { first = flags_into found plan.fill.first }
+
+-- the bits that are said of the page's entry, which the first store changes, but not where it writes an entry in the place of a link
+abbrev pub bits_again : Plan → ℕ → Store → ℕ → ℕ
+bits_again plan index store found =
+    if nat_eq index 0 && (nat_eq plan.unlinked_count 0 || nat_eq store.new 0) then flags_into found plan.bits
+    else plan.bits

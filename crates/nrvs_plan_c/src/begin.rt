@@ -54,7 +54,7 @@ pub(crate) fn begin(plan: &mut Plan, call: Call) -> u32
     match Planner::new(call.target(), call.request()) {
         Ok(planner) => {
             plan.call = call;
-            keep(plan, planner);
+            keep(plan, &planner);
             SEE
         }
         Err(fault) => status_of(fault),

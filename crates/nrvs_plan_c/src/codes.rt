@@ -1,18 +1,25 @@
 //! What the numbers mean that are kept.
 ghost use Rattle.std.specs.Prelude.{◌≡◌};
-ghost use Rattle.nrvs_plan_c.specs.Kept.{depth_in, size_in, rights_in, phase_in};
+ghost use Rattle.nrvs_plan_c.specs.Kept.{depth_in, size_in, rights_in, phase_in, takes_frame};
 
 use vs_plan::Phase;
 use vs_types::{Depth, Rights, Size};
 
+/// The code of the phase on the way down.
+pub(crate) const DESCENT: u8 = 0;
+
 /// The greatest code of a phase in which words are waited for.
 pub(crate) const SEARCH: u8 = 1;
 
-/// The code of the phase in which a frame is.
-pub(crate) const GROWTH: u8 = 2;
-
 /// The code of the phase in which the plan is there.
-pub(crate) const ENDED: u8 = 3;
+pub(crate) const ENDED: u8 = 4;
+
+/// Whether a frame is waited for in the phase of a code.
+pub(crate) fn takes_frame(code: u8) -> bool
+    ensures { result ≡ takes_frame code }
+{
+    code == 2 || code == 3
+}
 
 /// The depth with so many levels.
 pub(crate) fn depth_in(levels: u8) -> Depth
@@ -47,7 +54,7 @@ pub(crate) fn rights_in(code: u8) -> Rights
     }
 }
 
-/// How far a planner is by a code below 4.
+/// How far a planner is by a code below 5.
 pub(crate) fn phase_in(code: u8) -> Phase
     ensures { result ≡ phase_in code }
 {
@@ -55,6 +62,7 @@ pub(crate) fn phase_in(code: u8) -> Phase
         0 => Phase::Descent,
         1 => Phase::Search,
         2 => Phase::Growth,
+        3 => Phase::Division,
         _ => Phase::Ended,
     }
 }
@@ -67,6 +75,7 @@ pub(crate) fn code_of(phase: Phase) -> u8
         Phase::Descent => 0,
         Phase::Search => 1,
         Phase::Growth => 2,
-        Phase::Ended => 3,
+        Phase::Division => 3,
+        Phase::Ended => 4,
     }
 }

@@ -1,5 +1,5 @@
 //! The calls for C.
-ghost use Rattle.std.specs.Prelude.{◌≡◌, ◌≢◌, ◌↔◌, ◌<◌, ◌-◌, ◌⊎◌, ℕ, [], ◌∷◌, ◌++◌, Some, None, IfSome, nat_lt, slice_set, if◌then◌else◌};
+ghost use Rattle.std.specs.Prelude.{◌≡◌, ◌≢◌, ◌↔◌, ◌<◌, ◌-◌, ◌⊎◌, ◌≤◌, ℕ, [], ◌∷◌, ◌++◌, Some, None, IfSome, IsFalse, nat_lt, slice_set, if◌then◌else◌};
 ghost use Rattle.std.specs.FinMap as finite;
 ghost use Rattle.vs_walk.specs.Memory.{Memory};
 ghost use Rattle.vs_plan.specs.declared.request.Request.{Request};
@@ -7,17 +7,19 @@ ghost use Rattle.vs_plan.specs.Again.{HasFlagsSet};
 ghost use Rattle.vs_plan.specs.Planner.{IsSpareFor, frames_given};
 ghost use Rattle.vs_plan.specs.Request.{request_fault};
 ghost use Rattle.vs_plan.specs.Shown.{IsShown};
-ghost use Rattle.nrvs_plan_c.specs.declared.codes.TheConstants.{ENDED, GROWTH, SEARCH};
-ghost use Rattle.nrvs_plan_c.specs.Kept.{IsSound, page_in, planner_in, request_in, rights_in, target_in, target_of};
+ghost use Rattle.nrvs_plan_c.specs.declared.codes.TheConstants.{ENDED, SEARCH};
+ghost use Rattle.nrvs_plan_c.specs.Kept.{IsSound, page_in, planner_in, request_in, rights_in, takes_frame, target_in, target_of};
 ghost use Rattle.nrvs_plan_c.specs.Next.{IsNextOf};
-ghost use Rattle.nrvs_plan_c.specs.Told.{bits_again, store_again, store_at};
+ghost use Rattle.nrvs_plan_c.specs.Told.{bits_again, fill_again, store_again, store_at};
 ghost use Rattle.nrvs_plan_c.specs.Status.{begun_status, target_status};
 
 use crate::begin::{begin, call_of};
-use crate::codes::{ENDED, GROWTH, SEARCH};
+use crate::codes::{DESCENT, ENDED, SEARCH, takes_frame};
+use crate::down::go_down;
 use crate::kept::{Call, Plan, Target, Words, open};
 use crate::next::go_on;
-use crate::status::{BAD_RIGHTS, BAD_SIZE, NOT_ASKED, PLANNED};
+use crate::status::{BAD_RIGHTS, BAD_SIZE, NOT_ASKED, PLANNED, SEE};
+use crate::told::{bits_again, store_again};
 
 /// Begins the plan of a map.
 #[unsafe(no_mangle)]
@@ -105,6 +107,74 @@ pub extern "C" fn nrvs_plan_protect(plan: &mut Plan, target: &Target, base: u64,
     begin(plan, call)
 }
 
+/// Begins the plan of a remap.
+#[unsafe(no_mangle)]
+pub extern "C" fn nrvs_plan_remap(
+    plan: &mut Plan,
+    target: &Target,
+    base: u64,
+    physical: u64,
+    rights: u32,
+) -> u32
+    ensures status { result ≡ target_status target.now.levels target.now.phys_bits
+        (if nat_lt 7 rights then 7 else begun_status (request_fault (target_of target.now)
+        (Request.Remap base physical (rights_in rights)))) }
+    ensures target { result ≡ 32 → target_in plan.new.call ≡ target_of target.now }
+    ensures request { result ≡ 32 → request_in plan.new.call
+        ≡ Request.Remap base physical (rights_in rights) }
+    ensures sound { result ≡ 32 → IsSound plan.new }
+    ensures shown { result ≡ 32 → (memory : Memory) → IsShown memory (planner_in plan.new) }
+    ensures refused { result ≢ 32 → plan.new ≡ plan.old }
+{
+    let call = match call_of(target, 4, base) {
+        Ok(call) => call,
+        Err(status) => return status,
+    };
+    if rights > 7 {
+        return BAD_RIGHTS;
+    }
+    let call = Call {
+        physical,
+        rights: rights as u8,
+        ..call
+    };
+    begin(plan, call)
+}
+
+/// Begins the plan of a split.
+#[unsafe(no_mangle)]
+pub extern "C" fn nrvs_plan_split(plan: &mut Plan, target: &Target, base: u64) -> u32
+    ensures status { result ≡ target_status target.now.levels target.now.phys_bits
+        (begun_status (request_fault (target_of target.now) (Request.Split base))) }
+    ensures target { result ≡ 32 → target_in plan.new.call ≡ target_of target.now }
+    ensures request { result ≡ 32 → request_in plan.new.call ≡ Request.Split base }
+    ensures sound { result ≡ 32 → IsSound plan.new }
+    ensures shown { result ≡ 32 → (memory : Memory) → IsShown memory (planner_in plan.new) }
+    ensures refused { result ≢ 32 → plan.new ≡ plan.old }
+{
+    match call_of(target, 5, base) {
+        Ok(call) => begin(plan, call),
+        Err(status) => status,
+    }
+}
+
+/// Begins the plan of a join.
+#[unsafe(no_mangle)]
+pub extern "C" fn nrvs_plan_join(plan: &mut Plan, target: &Target, base: u64) -> u32
+    ensures status { result ≡ target_status target.now.levels target.now.phys_bits
+        (begun_status (request_fault (target_of target.now) (Request.Join base))) }
+    ensures target { result ≡ 32 → target_in plan.new.call ≡ target_of target.now }
+    ensures request { result ≡ 32 → request_in plan.new.call ≡ Request.Join base }
+    ensures sound { result ≡ 32 → IsSound plan.new }
+    ensures shown { result ≡ 32 → (memory : Memory) → IsShown memory (planner_in plan.new) }
+    ensures refused { result ≢ 32 → plan.new ≡ plan.old }
+{
+    match call_of(target, 6, base) {
+        Ok(call) => begin(plan, call),
+        Err(status) => status,
+    }
+}
+
 /// Begins to look at an address.
 #[unsafe(no_mangle)]
 pub extern "C" fn nrvs_plan_ask(plan: &mut Plan, target: &Target, address: u64) -> u32
@@ -139,16 +209,17 @@ pub extern "C" fn nrvs_plan_see(plan: &mut Plan, words: &Words) -> u32
     if plan.way.phase > SEARCH {
         return NOT_ASKED;
     }
-    let mut planner = open(plan);
-    let step = planner.see(&words.word);
-    go_on(plan, planner, step)
+    if plan.way.phase == DESCENT && go_down(plan, words) {
+        return SEE;
+    }
+    see(plan, words)
 }
 
 /// Takes a frame whose words are all 0: `Planner::give`.
 #[unsafe(no_mangle)]
 pub extern "C" fn nrvs_plan_give(plan: &mut Plan, frame: u64) -> u32
     requires { IsSound plan.old }
-    ensures asked { (result ≡ 17) ↔ (plan.old.way.phase ≢ GROWTH) }
+    ensures asked { (result ≡ 17) ↔ (IsFalse (takes_frame plan.old.way.phase)) }
     ensures sound { IsSound plan.new }
     ensures call { plan.new.call ≡ plan.old.call }
     ensures refused { result ≡ 17 → plan.new ≡ plan.old }
@@ -167,7 +238,7 @@ pub extern "C" fn nrvs_plan_give(plan: &mut Plan, frame: u64) -> u32
 #[unsafe(no_mangle)]
 pub extern "C" fn nrvs_plan_give_none(plan: &mut Plan) -> u32
     requires { IsSound plan.old }
-    ensures asked { (result ≡ 17) ↔ (plan.old.way.phase ≢ GROWTH) }
+    ensures asked { (result ≡ 17) ↔ (IsFalse (takes_frame plan.old.way.phase)) }
     ensures sound { IsSound plan.new }
     ensures call { plan.new.call ≡ plan.old.call }
     ensures refused { result ≡ 17 → plan.new ≡ plan.old }
@@ -178,7 +249,8 @@ pub extern "C" fn nrvs_plan_give_none(plan: &mut Plan) -> u32
 }
 
 /// Where the store at an index finds a word in place of its `old` that has other flags and is the same else: the plan with that word in
-/// its place (`Store::again`), and its flags in the bits that are said of the page's entry.
+/// its place (`Store::again`), and its flags in the bits that are said of the page's entry, or by a split in what the frame is filled
+/// with (`Fill::again`); as `Plan::again` has it.
 #[unsafe(no_mangle)]
 pub extern "C" fn nrvs_plan_again(plan: &mut Plan, index: usize, found: u64) -> u32
     requires { IsSound plan.old }
@@ -187,8 +259,10 @@ pub extern "C" fn nrvs_plan_again(plan: &mut Plan, index: usize, found: u64) -> 
     ensures refused { result ≡ 17 → plan.new ≡ plan.old }
     ensures flags { result ≡ 0 → HasFlagsSet (store_at plan.old index).old found }
     ensures again { result ≡ 0 → plan.new ≡ record plan.old {
-      stores = slice_set plan.old.stores index (store_again (store_at plan.old index) found);
-      bits = bits_again plan.old.call.kind index plan.old.bits found;
+      stores = slice_set plan.old.stores index
+          (store_again plan.old (store_at plan.old index) found);
+      fill = fill_again plan.old found;
+      bits = bits_again plan.old index (store_at plan.old index) found;
     } }
     ensures done { plan.old.way.phase ≡ ENDED → index < plan.old.store_count
         → HasFlagsSet (store_at plan.old index).old found → result ≡ 0 }
@@ -196,28 +270,40 @@ pub extern "C" fn nrvs_plan_again(plan: &mut Plan, index: usize, found: u64) -> 
     if plan.way.phase != ENDED || index >= plan.store_count {
         return NOT_ASKED;
     }
-    let Some(store) = plan.stores[index].again(found) else {
+    let store = plan.stores[index];
+    let Some(again) = store.again(found) else {
         return NOT_ASKED;
     };
-    plan.stores[index] = store;
-    plan.bits = bits_again(plan.call.kind, index, plan.bits, found);
+    plan.stores[index] = store_again(plan, store, again);
+    plan.bits = bits_again(plan, index, store, found);
+    if plan.fills != 0 {
+        plan.fill = plan.fill.again(found);
+    }
     PLANNED
 }
 
-/// The bits that are said of a page's entry, which the first store of all but a map changes, once it was found with other flags.
-fn bits_again(kind: u8, index: usize, bits: u64, found: u64) -> u64
-    ensures { result ≡ bits_again kind index bits found }
+/// Takes the words of the frame that is asked for, by the planner that is kept.
+fn see(plan: &mut Plan, words: &Words) -> u32
+    requires sound { IsSound plan.old }
+    requires waits { plan.old.way.phase ≤ SEARCH }
+    ensures asked { result ≢ 17 }
+    ensures sound { IsSound plan.new }
+    ensures call { plan.new.call ≡ plan.old.call }
+    ensures fewer { result ≡ 32 → plan.new.way.level < plan.old.way.level }
+    ensures given { result ≡ 33 → frames_given (planner_in plan.new) ≡ [] }
+    ensures next { (memory : Memory) → IsShown memory (planner_in plan.old)
+        → finite.get memory plan.old.frame ≡ Some words.now.word
+        → IsNextOf memory plan.new [] result }
 {
-    if kind == 0 || index != 0 {
-        return bits;
-    }
-    bits % (1 << 5) + found % (1 << 7) / (1 << 5) * (1 << 5) + bits / (1 << 7) * (1 << 7)
+    let mut planner = open(plan);
+    let step = planner.see(&words.word);
+    go_on(plan, &planner, &step)
 }
 
 /// Takes a frame, or none.
 fn give(plan: &mut Plan, frame: Option<u64>) -> u32
     requires { IsSound plan.old }
-    ensures asked { (result ≡ 17) ↔ (plan.old.way.phase ≢ GROWTH) }
+    ensures asked { (result ≡ 17) ↔ (IsFalse (takes_frame plan.old.way.phase)) }
     ensures sound { IsSound plan.new }
     ensures call { plan.new.call ≡ plan.old.call }
     ensures refused { result ≡ 17 → plan.new ≡ plan.old }
@@ -229,10 +315,10 @@ fn give(plan: &mut Plan, frame: Option<u64>) -> u32
         → IfSome frame (λ number. IsSpareFor memory (planner_in plan.old) number)
         → IsNextOf memory plan.new (frame ∷ []) result }
 {
-    if plan.way.phase != GROWTH {
+    if !takes_frame(plan.way.phase) {
         return NOT_ASKED;
     }
     let mut planner = open(plan);
     let step = planner.give(frame);
-    go_on(plan, planner, step)
+    go_on(plan, &planner, &step)
 }

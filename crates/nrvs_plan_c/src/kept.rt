@@ -6,7 +6,7 @@ ghost use Rattle.nrvs_plan_c.specs.Kept.{planner_in, request_in, target_in};
 use crate::codes::{code_of, depth_in, phase_in, rights_in, size_in};
 use crate::told::Reply;
 use arrayvec::ArrayVec;
-use vs_plan::{MOST_STORES, MOST_UNLINKED, Planner, Request, Store};
+use vs_plan::{Fill, MOST_STORES, MOST_UNLINKED, Planner, Request, Store};
 use vs_types::{FRAME_WORDS, Page};
 
 /// The page table that a plan is for, as C has it.
@@ -38,7 +38,7 @@ pub struct Call {
     pub root: u64,
     /// The address.
     pub address: u64,
-    /// Of a map: the physical address.
+    /// Of a map and a remap: the physical address.
     pub physical: u64,
     /// Of a map: the bits of the page's entry beside its address and its rights.
     pub bits: u64,
@@ -48,11 +48,11 @@ pub struct Call {
     pub phys_bits: u8,
     /// 1 where the tables that the root leads to stay linked.
     pub pinned: u8,
-    /// 0 a map, 1 an unmap, 2 a protect, 3 what only asks.
+    /// 0 a map, 1 an unmap, 2 a protect, 3 what only asks, 4 a remap, 5 a split, 6 a join.
     pub kind: u8,
     /// Of a map: the code of the size.
     pub size: u8,
-    /// Of a map and a protect: the code of the rights.
+    /// Of a map, a protect and a remap: the code of the rights.
     pub rights: u8,
 }
 
@@ -64,7 +64,7 @@ pub struct Way {
     pub below: u64,
     pub numbers: [u64; 6],
     pub words: [u64; 6],
-    /// 0 and 1: words are waited for; 2: a frame; 3: nothing, since the plan is there.
+    /// 0 and 1: words are waited for; 2 and 3: a frame; 4: nothing, since the plan is there.
     pub phase: u8,
     pub level: u8,
     /// The code of the rights that the entries on the way allow.
@@ -83,12 +83,16 @@ pub struct Plan {
     pub reply: Reply,
     /// The bits of the page's entry beside its address and its rights; of a reserved bit the index of the word.
     pub bits: u64,
+    /// 1 where a frame is filled before the stores, else 0.
+    pub fills: u64,
+    /// That frame, and its words.
+    pub fill: Fill,
     /// How many stores there are.
     pub store_count: usize,
     pub stores: [Store; MOST_STORES],
-    /// 0 nothing, 1 the page, 2 the page and the tables of its range.
+    /// 0 nothing, 1 the page, 2 the page and the tables of its range, 3 all that is kept of a range.
     pub flush: u32,
-    /// The code of the page's size.
+    /// The code of the size of the page, or of the range.
     pub flush_size: u32,
     /// Its first address.
     pub flush_base: u64,
@@ -130,7 +134,10 @@ impl Call {
             ),
             1 => Request::Unmap(self.address),
             2 => Request::Protect(self.address, rights_in(self.rights)),
-            _ => Request::Ask(self.address),
+            3 => Request::Ask(self.address),
+            4 => Request::Remap(self.address, self.physical, rights_in(self.rights)),
+            5 => Request::Split(self.address),
+            _ => Request::Join(self.address),
         }
     }
 }
@@ -162,40 +169,24 @@ pub(crate) fn open(plan: &Plan) -> Planner
 }
 
 /// Keeps a planner of the same request.
-pub(crate) fn keep(plan: &mut Plan, planner: Planner)
-    requires target { planner.target ≡ target_in plan.old.call }
-    requires request { planner.request ≡ request_in plan.old.call }
-    ensures kept { planner_in plan.new ≡ planner }
+pub(crate) fn keep(plan: &mut Plan, planner: &Planner)
+    requires target { planner.now.target ≡ target_in plan.old.call }
+    requires request { planner.now.request ≡ request_in plan.old.call }
+    ensures kept { planner_in plan.new ≡ planner.now }
     ensures same { plan.new.call ≡ plan.old.call }
     ensures count { plan.new.store_count ≤ MOST_STORES }
 {
-    let Planner {
-        target: _,
-        request: _,
-        phase,
-        level,
-        number,
-        rights,
-        numbers,
-        words,
-        stop,
-        base,
-        height,
-        below,
-        stores,
-    } = planner;
-    plan.frame = number;
-    plan.way = Way {
-        base,
-        below,
-        numbers,
-        words,
-        phase: code_of(phase),
-        level,
-        allowed: rights.code(),
-        stop,
-        height,
-    };
-    plan.store_count = stores.len();
-    plan.stores[..stores.len()].copy_from_slice(stores.as_slice());
+    plan.frame = planner.number;
+    plan.way.base = planner.base;
+    plan.way.below = planner.below;
+    plan.way.numbers = planner.numbers;
+    plan.way.words = planner.words;
+    plan.way.phase = code_of(planner.phase);
+    plan.way.level = planner.level;
+    plan.way.allowed = planner.rights.code();
+    plan.way.stop = planner.stop;
+    plan.way.height = planner.height;
+    let count = planner.stores.len();
+    plan.store_count = count;
+    plan.stores[..count].copy_from_slice(planner.stores.as_slice());
 }

@@ -6,6 +6,7 @@
 
 mod begin;
 mod codes;
+mod down;
 mod exports;
 mod kept;
 mod next;

@@ -13,19 +13,19 @@ use crate::told::write;
 use vs_plan::{Phase, Planner, Step};
 
 /// Keeps the planner, or writes its plan.
-pub(crate) fn go_on(plan: &mut Plan, planner: Planner, step: Step) -> u32
-    requires target { planner.target ≡ target_in plan.old.call }
-    requires request { planner.request ≡ request_in plan.old.call }
-    requires awaits { Awaits planner step }
+pub(crate) fn go_on(plan: &mut Plan, planner: &Planner, step: &Step) -> u32
+    requires target { planner.now.target ≡ target_in plan.old.call }
+    requires request { planner.now.request ≡ request_in plan.old.call }
+    requires awaits { Awaits planner.now step.now }
     ensures sound { IsSound plan.new }
     ensures call { plan.new.call ≡ plan.old.call }
     ensures status { result ≢ 17 }
-    ensures level { result ≡ 32 → plan.new.way.level ≡ sees_left planner step }
+    ensures level { result ≡ 32 → plan.new.way.level ≡ sees_left planner.now step.now }
     ensures height { result ≡ 33 → plan.new.way.level - plan.new.way.height
-        ≡ gives_left planner step }
-    ensures given { (frames : List ℕ) → result ≡ 33 → HasGiven planner frames step
+        ≡ gives_left planner.now step.now }
+    ensures given { (frames : List ℕ) → result ≡ 33 → HasGiven planner.now frames step.now
         → frames_given (planner_in plan.new) ≡ frames }
-    ensures next { (memory : Memory) (offered : List (Option ℕ)) → IsNext memory planner offered step
+    ensures next { (memory : Memory) (offered : List (Option ℕ)) → IsNext memory planner.now offered step.now
         → IsNextOf memory plan.new offered result }
 {
     match step {

@@ -1,22 +1,25 @@
 //! A plan in numbers.
-ghost use Rattle.std.specs.Prelude.{◌≡◌};
-ghost use Rattle.nrvs_plan_c.specs.Told.{IsTold, answer_numbers, bits_told, flush_numbers, reply_numbers};
+ghost use Rattle.std.specs.Prelude.{◌≡◌, ◌≤◌};
+ghost use Rattle.vs_plan.specs.declared.plan.TheConstants.{MOST_STORES};
+ghost use Rattle.vs_plan.specs.Again.{with_flags_of};
+ghost use Rattle.nrvs_plan_c.specs.Told.{IsTold, answer_numbers, bits_again, bits_told, fill_numbers, flush_numbers, reply_numbers, store_again};
 
 use crate::kept::Plan;
-use vs_plan::{Flush, Reply as Outcome};
+use vs_plan::{Fill, Flush, Reply as Outcome, Store};
 use vs_types::Answer;
 
 /// What came out in numbers: its code, and what it has; what it doesn't have is 0.
 #[repr(C)]
 #[derive(Clone, Copy, Debug, PartialEq, Eq)]
 pub struct Reply {
-    /// 0 to 9 as an answer; 10 no frame, 11 a frame out of range, 12 too few rights, 13 an empty table, 14 a reserved bit.
+    /// 0 to 9 as an answer; 10 no frame, 11 a frame out of range, 12 too few rights, 13 an empty table, 14 a reserved bit, 15 a physical
+    /// address that isn't aligned, 16 one out of range, 17 the smallest page, 18 the largest, 19 no first page, 20 an entry apart.
     pub code: u8,
     /// The code of a page's size.
     pub size: u8,
     /// The code of a page's rights.
     pub rights: u8,
-    /// An address in bytes, or the number of a frame.
+    /// An address in bytes, the number of a frame, or an index.
     pub number: u64,
 }
 
@@ -32,6 +35,12 @@ impl Reply {
             Outcome::Rights => Reply::with(12, 0),
             Outcome::Empty(number) => Reply::with(13, number),
             Outcome::Reserved(number, _) => Reply::with(14, number),
+            Outcome::PhysUnaligned => Reply::with(15, 0),
+            Outcome::PhysRange => Reply::with(16, 0),
+            Outcome::Smallest => Reply::with(17, 0),
+            Outcome::Largest => Reply::with(18, 0),
+            Outcome::Unaligned => Reply::with(19, 0),
+            Outcome::Apart(index) => Reply::with(20, index as u64),
         }
     }
 
@@ -88,20 +97,58 @@ fn flush_numbers(flush: Flush) -> (u32, u64, u32)
         Flush::Nothing => (0, 0, 0),
         Flush::Page(base, size) => (1, base, u32::from(size.code())),
         Flush::PageAndTables(base, size) => (2, base, u32::from(size.code())),
+        Flush::Range(base, size) => (3, base, u32::from(size.code())),
+    }
+}
+
+/// Whether a frame is filled, as a number, and how.
+fn fill_numbers(fill: Option<Fill>) -> (u64, Fill)
+    ensures { result ≡ fill_numbers fill }
+{
+    match fill {
+        Some(fill) => (1, fill),
+        None => (0, Fill::default()),
     }
 }
 
 /// Writes what a plan says.
-pub(crate) fn write(plan: &mut Plan, made: vs_plan::Plan)
-    ensures says { IsTold plan.new made }
+pub(crate) fn write(plan: &mut Plan, made: &vs_plan::Plan)
+    ensures says { IsTold plan.new made.now }
     ensures call { plan.new.call ≡ plan.old.call }
     ensures way { plan.new.way ≡ plan.old.way }
+    ensures room { plan.new.store_count ≤ MOST_STORES }
 {
     plan.reply = Reply::of(made.reply);
     plan.bits = bits_told(made.reply, made.bits);
+    (plan.fills, plan.fill) = fill_numbers(made.fill);
     plan.store_count = made.stores.len();
     plan.stores[..made.stores.len()].copy_from_slice(made.stores.as_slice());
     (plan.flush, plan.flush_base, plan.flush_size) = flush_numbers(made.flush);
     plan.unlinked_count = made.unlinked.len();
     plan.unlinked[..made.unlinked.len()].copy_from_slice(made.unlinked.as_slice());
+}
+
+/// What a store becomes that found other flags, where it becomes this one by itself: what it links, or writes in the place of a link,
+/// stays.
+pub(crate) fn store_again(plan: &Plan, store: Store, again: Store) -> Store
+    requires { again ≡ record store { old = again.old; new = with_flags_of again.old store.new } }
+    ensures { result ≡ store_again plan.now store again.old }
+{
+    if plan.fills != 0 || plan.unlinked_count != 0 {
+        return Store {
+            old: again.old,
+            ..store
+        };
+    }
+    again
+}
+
+/// The bits that are said of a page's entry, once the store at an index found it with other flags.
+pub(crate) fn bits_again(plan: &Plan, index: usize, store: Store, found: u64) -> u64
+    ensures { result ≡ bits_again plan.now index store found }
+{
+    if index != 0 || (plan.unlinked_count != 0 && store.new != 0) {
+        return plan.bits;
+    }
+    plan.bits % (1 << 5) + found % (1 << 7) / (1 << 5) * (1 << 5) + plan.bits / (1 << 7) * (1 << 7)
 }

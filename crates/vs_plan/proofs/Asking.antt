@@ -24,16 +24,17 @@ use Rattle.vs_plan.specs.declared.plan.Plan.{Plan}
 use Rattle.vs_plan.specs.declared.plan.Reply.TheVariants as replies
 use Rattle.vs_plan.specs.declared.planner.Planner.{Planner}
 use Rattle.vs_plan.specs.declared.request.Request.{Request}
-use Rattle.vs_plan.specs.declared.request.Request.TheVariants.{Map, Unmap, Protect, Ask}
+use Rattle.vs_plan.specs.declared.request.Request.TheVariants.{Map, Unmap, Protect, Ask, Remap, Split, Join}
 use Rattle.vs_plan.specs.declared.target.Target.{Target}
 use Rattle.vs_plan.specs.Bits.{bits_in}
 use Rattle.vs_plan.specs.Premise.{IsPremise}
-use Rattle.vs_plan.specs.Request.{address_of, lowest_of, stepped}
+use Rattle.vs_plan.specs.Request.{address_of, lowest_of, stepped, refusal}
 use Rattle.vs_plan.specs.Right.{IsEntryOf}
 use Rattle.vs_plan.specs.Way.{IsWay}
 use Rattle.vs_plan.specs.inside.Ended.{IsAtEnd, IsNoMap, HasEnded, IsRightAt, ChangesNothing}
+use Rattle.vs_plan.proofs.Changing.{change_none, change_inside, why_none}
 use Rattle.vs_plan.proofs.Pages.{absent_here, reserved_never, page_here}
-use Rattle.vs_plan.proofs.Parts.{nothing_right}
+use Rattle.vs_plan.proofs.Parts.{nothing_right, due_as}
 use Rattle.vs_plan.proofs.Ways.{way_table}
 
 -- ---- no page covers the address
@@ -44,12 +45,29 @@ stepped_none target space (Map page bits) no_map none = absurd no_map
 stepped_none target space (Unmap base) no_map none = unmap_none target.depth 0 space base none
 stepped_none target space (Protect base rights) no_map none = protect_none target.depth 0 space base rights none
 stepped_none target space (Ask address) no_map none = ap (λ a. let s : Stepped = record { space = space; answer = a } in s) (look_of_none space address none)
+stepped_none target space (Remap base phys rights) no_map none = change_none space base _ none
+stepped_none target space (Split base) no_map none = change_none space base _ none
+stepped_none target space (Join base) no_map none = change_none space base _ none
+
+-- no refusal is due where no page begins at the address
+pub no_refusal : (target : Target) (space : Space) (request : Request)
+    → ((q : Page) → page_at space (address_of request) ≡ Some q → q.base ≢ address_of request) → refusal target space request ≡ None
+no_refusal target space (Map page bits) begins = refl
+no_refusal target space (Unmap base) begins = refl
+no_refusal target space (Protect base rights) begins = refl
+no_refusal target space (Ask address) begins = refl
+no_refusal target space (Remap base phys rights) begins = why_none base _ (page_at space base) begins
+no_refusal target space (Split base) begins = why_none base _ (page_at space base) begins
+no_refusal target space (Join base) begins = why_none base _ (page_at space base) begins
 
 lowest_no_map : (request : Request) → IsNoMap request → lowest_of request ≡ 1
 lowest_no_map (Map page bits) no_map = absurd no_map
 lowest_no_map (Unmap base) no_map = refl
 lowest_no_map (Protect base rights) no_map = refl
 lowest_no_map (Ask address) no_map = refl
+lowest_no_map (Remap base phys rights) no_map = refl
+lowest_no_map (Split base) no_map = refl
+lowest_no_map (Join base) no_map = refl
 
 module _ {p : Planner} {word : ℕ} (end : IsAtEnd p) where
   module _ {memory : Memory} {space : Space} (ended : HasEnded memory p word)
@@ -78,7 +96,8 @@ module _ {p : Planner} {word : ℕ} (end : IsAtEnd p) where
       let absent = absent_end ended premise no_map (meaning p.level word) refl other in
       let nothing = absent_here ended.way end.some ended.word_is premise.is_space premise.translates end.request.canonical absent in
       let stays = stepped_none p.target space p.request no_map nothing in
-      nothing_right premise plan none (sym (ap (λ (s : Stepped). s.answer) stays))
+      nothing_right premise (no_refusal p.target space p.request (λ q here. let both : Some q ≡ None = sym here ∙ nothing in absurd (cc))) plan none
+      (sym (ap (λ (s : Stepped). s.answer) stays))
       (subst (λ (s : Space). TranslatesAs p.target.depth memory p.target.root s) (sym (ap (λ (s : Stepped). s.space) stays)) premise.translates) refl
 
   pub reserved_right : meaning p.level word ≡ entry.Reserved → (plan : Plan) → IsRightAt p word plan
@@ -87,7 +106,7 @@ module _ {p : Planner} {word : ℕ} (end : IsAtEnd p) where
 -- ---- a page covers the address
 
 -- the entry at the end of the way
-pub entry_of : {target : Target} {memory : Memory} {address level number word phys : ℕ} {rights own : Rights}
+abbrev pub entry_of : {target : Target} {memory : Memory} {address level number word phys : ℕ} {rights own : Rights}
     → IsWay target.depth memory target.root address level number rights → word_at memory number (index_at level address) ≡ Some word
     → meaning level word ≡ entry.Leaf phys own → IsEntryOf target memory address (size_at level) word
 entry_of {level = level} {number} {phys = phys} {rights} {own} way word_is says = record {
@@ -117,7 +136,7 @@ module _ {p : Planner} {word : ℕ} (end : IsAtEnd p) {phys : ℕ} {own : Rights
   ask_right {address} is plan none memory ended space premise =
       let here = page_here ended.way end.some ended.word_is premise.is_space premise.translates end.request.canonical says in
       let place : address_of p.request ≡ address = ap address_of is in
-      nothing_right premise plan none
+      nothing_right premise (due_as p.target space is refl) plan none
       (subst (λ r. answers.Mapped (phys + address % bytes_of (size_at p.level)) (size_at p.level) (intersection p.rights own)
       ≡ (stepped p.target.depth space r).answer) (sym is)
       (subst (λ a. answers.Mapped (phys + a % bytes_of (size_at p.level)) (size_at p.level) (intersection p.rights own) ≡ look space a) place
@@ -147,7 +166,9 @@ module _ {p : Planner} {word : ℕ} (end : IsAtEnd p) {phys : ℕ} {own : Rights
       let is : stepped p.target.depth space p.request ≡ record { space = space; answer = answers.Inside q.base } =
       steps base space q place (subst (λ a. page_at space a ≡ Some q) place here.1.here) (λ e. inside (omega (arith, begins, e))) in
       let base_is : q.base ≡ base - base % bytes_of (size_at p.level) = omega (arith, begins) in
-      nothing_right premise plan none
+      let other : (z : Page) → page_at space (address_of p.request) ≡ Some z → z.base ≢ address_of p.request = λ z at same.
+      let one : z ≡ q = cc (at, here.1.here) in inside (omega (arith, begins, place, same, ap (λ (x : Page). x.base) one)) in
+      nothing_right premise (no_refusal p.target space p.request other) plan none
       (sym (ap (λ (s : Stepped). s.answer) is ∙ ap answers.Inside base_is))
       (subst (λ (s : Space). TranslatesAs p.target.depth memory p.target.root s) (sym (ap (λ (s : Stepped). s.space) is)) premise.translates) refl
 
@@ -162,4 +183,23 @@ module _ {p : Planner} {word : ℕ} (end : IsAtEnd p) {phys : ℕ} {own : Rights
   protect_in {base} {rights} is = inside_right (λ b space q place here apart.
       ap (stepped p.target.depth space) (is ∙ ap (λ x. Protect x rights) (sym (ap address_of is) ∙ place))
       ∙ protect_inside p.target.depth 0 space b rights q here apart)
+      (ap address_of is)
+
+  pub remap_in : {base other : ℕ} {rights : Rights} → p.request ≡ Remap base other rights → base % bytes_of (size_at p.level) ≢ 0 → (plan : Plan)
+      → ChangesNothing (replies.Answer (answers.Inside (base - base % bytes_of (size_at p.level)))) 0 plan → IsRightAt p word plan
+  remap_in {base} {other} {rights} is = inside_right (λ b space q place here apart.
+      ap (stepped p.target.depth space) (is ∙ ap (λ x. Remap x other rights) (sym (ap address_of is) ∙ place))
+      ∙ change_inside space b _ q here apart)
+      (ap address_of is)
+
+  pub split_in : {base : ℕ} → p.request ≡ Split base → base % bytes_of (size_at p.level) ≢ 0 → (plan : Plan)
+      → ChangesNothing (replies.Answer (answers.Inside (base - base % bytes_of (size_at p.level)))) 0 plan → IsRightAt p word plan
+  split_in {base} is = inside_right (λ b space q place here apart.
+      ap (stepped p.target.depth space) (is ∙ ap Split (sym (ap address_of is) ∙ place)) ∙ change_inside space b _ q here apart)
+      (ap address_of is)
+
+  pub join_in : {base : ℕ} → p.request ≡ Join base → base % bytes_of (size_at p.level) ≢ 0 → (plan : Plan)
+      → ChangesNothing (replies.Answer (answers.Inside (base - base % bytes_of (size_at p.level)))) 0 plan → IsRightAt p word plan
+  join_in {base} is = inside_right (λ b space q place here apart.
+      ap (stepped p.target.depth space) (is ∙ ap Join (sym (ap address_of is) ∙ place)) ∙ change_inside space b _ q here apart)
       (ap address_of is)

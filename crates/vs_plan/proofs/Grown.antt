@@ -1,5 +1,5 @@
 -- The growth of new tables, as the code has it.
-use Rattle.std.proofs.Common.{◌≡◌, ◌≢◌, ℕ, ◌+◌, ◌-◌, ◌%◌, ◌<◌, ◌≤◌, List, [], ◌∷◌, ◌++◌, length, Option, Some, refl, sym, ap, subst, ◌∙◌, arith}
+use Rattle.std.proofs.Common.{◌≡◌, ◌≢◌, ℕ, ◌+◌, ◌-◌, ◌%◌, ◌<◌, ◌≤◌, List, [], ◌∷◌, ◌++◌, length, Option, Some, None, refl, sym, ap, subst, ◌∙◌, arith}
 use Rattle.std.specs.Prelude.{slice_index}
 use Rattle.std.proofs.lemmas.List.Elements.{All-nil}
 use Rattle.arrayvec.specs.ArrayVec.{ArrayVec}
@@ -36,7 +36,7 @@ use Rattle.vs_plan.specs.inside.Ended.{IsAtEnd, HasEnded, IsRightAt, ChangesNoth
 use Rattle.vs_plan.proofs.Asking.{page_met, offset_met}
 use Rattle.vs_plan.proofs.Growing.{filled_more}
 use Rattle.vs_plan.proofs.Mapping.{would_add, alone_parts, link_parts}
-use Rattle.vs_plan.proofs.Parts.{right_as, nothing_right, store_at, EndAt, end_at}
+use Rattle.vs_plan.proofs.Parts.{right_as, nothing_right, due_as, store_at, EndAt, end_at}
 use Rattle.vs_plan.proofs.Steps.{map_overlaps}
 
 -- the growth, by the page and the bits that are asked for
@@ -107,18 +107,18 @@ module _ (p : Planner) {page : Page} {bits : ℕ} (request : IsRequest p.target 
     }
 
     pub alone_right : intersection p.rights page.rights ≡ page.rights → p.level ≡ level_of page.size → {w : ℕ} → w ≡ page_word page bits
-        → meaning (level_of page.size) w ≡ entry.Leaf page.phys page.rights → {plan : Plan} → plan.reply ≡ replies.Answer answers.Done → plan.bits ≡ 0
+        → meaning (level_of page.size) w ≡ entry.Leaf page.phys page.rights → {plan : Plan} → plan.reply ≡ replies.Answer answers.Done → plan.bits ≡ 0 → plan.fill ≡ None
         → plan.stores.items ≡ store_at p.number (index_at p.level page.base) word w ∷ [] → plan.flush ≡ flushes.Nothing → plan.unlinked.items ≡ []
         → IsRightAt p word plan
-    alone_right allows at {w} is_word leads {plan} reply told stores flush unlinked memory ended space premise =
+    alone_right allows at {w} is_word leads {plan} reply told fill stores flush unlinked memory ended space premise =
         subst (λ r. IsRight p.target r memory space [] plan) (sym is)
-        (right_as plan reply told stores flush unlinked
+        (right_as plan reply told fill stores flush unlinked
         (alone_parts p.target bits (end_at end ended premise (ap address_of is)) end.some mapped.good says lowest allows [] at w is_word leads))
 
     -- the entries above allow less
     pub wants_more : intersection p.rights page.rights ≢ page.rights → (plan : Plan) → ChangesNothing replies.Rights 0 plan → IsRightAt p word plan
     wants_more less plan none memory ended space premise =
-        nothing_right premise plan none (
+        nothing_right premise (due_as p.target space is refl) plan none (
           subst (WantsMore p.target memory) (sym is) (record {
             level = p.level;
             number = p.number;
@@ -151,18 +151,18 @@ module _ (p : Planner) {page : Page} {bits : ℕ} (request : IsRequest p.target 
       ap (stepped p.target.depth space) is
       ∙ map_overlaps p.target.depth (table_count p.target.depth (finite.insert space page.base page)) space page (page.base - page.base % bytes)
       (least ∙ ap Some base_is) in
-      nothing_right premise plan none (sym (ap (λ (s : Stepped). s.answer) stays))
+      nothing_right premise (due_as p.target space is refl) plan none (sym (ap (λ (s : Stepped). s.answer) stays))
       (subst (λ (s : Space). TranslatesAs p.target.depth memory p.target.root s) (sym (ap (λ (s : Stepped). s.space) stays)) premise.translates) refl
 
   -- ---- the new tables are linked
 
   pub link_right : {memory : Memory} → IsGrown memory p → 1 ≤ p.level → level_of page.size < p.level → p.height ≡ p.level → (w : ℕ) → w ≡ table_word p.below
       → meaning p.level w ≡ entry.Table p.below all_rights → {plan : Plan} {offered : List (Option ℕ)}
-      → plan.reply ≡ replies.Answer answers.Done → plan.bits ≡ 0
+      → plan.reply ≡ replies.Answer answers.Done → plan.bits ≡ 0 → plan.fill ≡ None
       → plan.stores.items ≡ p.stores.items ++ store_at p.number (index_at p.level page.base) (slice_index p.words p.level) w ∷ []
       → plan.flush ≡ flushes.Nothing → plan.unlinked.items ≡ []
       → (space : Space) → IsPremise p.target.depth memory p.target.root (address_of p.request) space → IsRight p.target p.request memory space offered plan
-  link_right {memory} grown some deep height_is w link_is leads {plan} {offered} reply told stores flush unlinked space premise =
+  link_right {memory} grown some deep height_is w link_is leads {plan} {offered} reply told fill stores flush unlinked space premise =
       let here = grown_at grown is in
       let end : EndAt p.target memory space p.level p.number p.rights (slice_index p.words p.level) page.base =
       record {
@@ -172,6 +172,6 @@ module _ (p : Planner) {page : Page} {bits : ℕ} (request : IsRequest p.target 
         canonical = mapped.good.canonical;
       } in
       subst (λ r. IsRight p.target r memory space offered plan) (sym is)
-      (right_as plan reply told stores flush unlinked
+      (right_as plan reply told fill stores flush unlinked
       (link_parts p.target bits end some mapped.good here.absent (omega (arith, deep)) here.allows
       (subst (λ h. AreFilled p.target.depth memory p.target.root page bits h p.below p.stores.items) height_is here.filled) deep w link_is leads offered))

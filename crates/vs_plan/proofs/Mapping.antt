@@ -1,5 +1,5 @@
 -- A plan that adds a page.
-use Rattle.std.proofs.Common.{◌≡◌, ℕ, suc, ◌+◌, ◌-◌, ◌%◌, ◌<◌, ◌≤◌, List, [], ◌∷◌, ◌++◌, take, Option, Some, Contains, ⊎_elim, refl, sym, ap, subst, ◌∙◌, arith, ◌≢◌}
+use Rattle.std.proofs.Common.{◌≡◌, ℕ, suc, ◌+◌, ◌-◌, ◌%◌, ◌<◌, ◌≤◌, List, [], ◌∷◌, ◌++◌, take, Option, Some, None, Contains, ⊎_elim, refl, sym, ap, subst, ◌∙◌, arith, ◌≢◌}
 use Rattle.std.specs.Prelude.{IsSome, option_map, slice_index}
 use Rattle.std.proofs.lemmas.Bool.{cases_lt}
 use Rattle.std.proofs.lemmas.List.Elements.{All-nil, All-cons, All-push, All-take, All-weaker}
@@ -31,7 +31,7 @@ use Rattle.vs_plan.specs.declared.request.Request.TheVariants.{Map}
 use Rattle.vs_plan.specs.declared.target.Target.{Target}
 use Rattle.vs_plan.specs.Bits.{page_word}
 use Rattle.vs_plan.specs.Premise.{HasOwnWay, IsSpare}
-use Rattle.vs_plan.specs.Right.{IsMeant, OfPage, OfSpare, IsWritten, IsFlushed, IsPruned}
+use Rattle.vs_plan.specs.Right.{IsMeant, OfPage, OfSpare, IsWritten, IsPut, Fits, IsFlushed, IsPruned}
 use Rattle.vs_plan.specs.Shown.{EndsAt, frames_of, LeadsToPage, AreFilled}
 use Rattle.vs_plan.specs.Stores.{stored, stored_all}
 use Rattle.vs_plan.specs.Way.{IsWay}
@@ -88,15 +88,26 @@ module _ (target : Target) (bits : ℕ) {memory : Memory} {space : Space} {page 
     flushed_map [] = refl
     flushed_map (s ∷ stores) = refl
 
+    put_map : (offered : List (Option ℕ)) (stores : List Store) → IsPut target (Map page bits) memory offered None stores []
+    put_map offered [] = refl
+    put_map offered (s ∷ stores) = refl
+
+    fits_map : (stores : List Store) → Fits (Map page bits) space stores
+    fits_map [] = tt
+    fits_map (s ∷ stores) = tt
+
     -- ---- the page's entry alone is written
 
     pub alone_parts : (offered : List (Option ℕ)) → level ≡ level_of page.size → (w : ℕ) → w ≡ page_word page bits → meaning (level_of page.size) w ≡ entry.Leaf page.phys page.rights
-        → Parts target (Map page bits) memory space offered (replies.Answer answers.Done) 0 (store_at number (index_at level page.base) word w ∷ [])
+        → Parts target (Map page bits) memory space offered (replies.Answer answers.Done) 0 None (store_at number (index_at level page.base) word w ∷ [])
         flushes.Nothing []
     alone_parts offered at w is leads =
         let says_new : meaning level w ≡ entry.Leaf page.phys page.rights = ap (λ l. meaning l w) at ∙ leads in
         record {
           reply_is = sym (added_answer table good nothing);
+          due = refl;
+          put = refl;
+          fits = tt;
           safe = safe_one (store_at number (index_at level page.base) word w) end.premise.translates (added_translates table good nothing
               (stored memory (store_at number (index_at level page.base) word w))
               (λ b canonical path.
@@ -208,9 +219,12 @@ module _ (target : Target) (bits : ℕ) {memory : Memory} {space : Space} {page 
           (λ q among j b r. not_spare stores filled.spare j b q (sym (table_filled stores filled.spare j b) ∙ r) among) a (own_filled a has))
 
       pub link_parts : (offered : List (Option ℕ))
-          → Parts target (Map page bits) memory space offered (replies.Answer answers.Done) 0 (stores ++ s ∷ []) flushes.Nothing []
+          → Parts target (Map page bits) memory space offered (replies.Answer answers.Done) 0 None (stores ++ s ∷ []) flushes.Nothing []
       link_parts offered = record {
         reply_is = sym (added_answer table good nothing);
+        due = refl;
+        put = put_map offered (stores ++ s ∷ []);
+        fits = fits_map (stores ++ s ∷ []);
         safe = safe_last stores s
             (λ n le b canonical. walk_filled (take n stores)
             (All-take (λ (t : Store). IsSpare target.depth memory target.root t.frame) n stores filled.spare) b

@@ -32,7 +32,7 @@ use Rattle.vs_plan.proofs.Ways.{way_walk}
 abbrev pub table_from : Depth → Memory → ℕ → PageTable
 table_from depth memory root = record { depth = depth; base = 0; limit = 0; root = root; memory = memory; lenders = [] }
 
-level_back : (level : ℕ) → 0 < level → level ≤ 3 → level_of (size_at level) ≡ level
+pub level_back : (level : ℕ) → 0 < level → level ≤ 3 → level_of (size_at level) ≡ level
 level_back zero some few = absurd (omega arith)
 level_back (suc zero) some few = refl
 level_back (suc (suc zero)) some few = refl

@@ -1,5 +1,5 @@
 -- A plan is right by its parts.
-use Rattle.std.proofs.Common.{AllPairs, ◌≡◌, ◌≢◌, ℕ, zero, suc, ◌<◌, ◌≤◌, List, [], ◌∷◌, ◌++◌, length, take, Option, Some, All, refl, sym, ap, subst, ◌∙◌, arith}
+use Rattle.std.proofs.Common.{AllPairs, ◌≡◌, ◌≢◌, ℕ, zero, suc, ◌<◌, ◌≤◌, List, [], ◌∷◌, ◌++◌, length, take, Option, Some, None, All, refl, sym, ap, subst, ◌∙◌, arith}
 use Rattle.std.proofs.lemmas.List.{length-append, take-append-le}
 use Rattle.std.proofs.lemmas.List.Elements.{All-nil}
 use Rattle.std.proofs.Math.Seq.{take-length}
@@ -11,6 +11,7 @@ use Rattle.vs_space.specs.Held.{word_at}
 use Rattle.vs_types.specs.declared.depth.Depth.{Depth}
 use Rattle.vs_walk.specs.Memory.{Memory, AreWhole}
 use Rattle.vs_walk.specs.Walk.{TranslatesAs}
+use Rattle.vs_plan.specs.declared.plan.Fill.{Fill}
 use Rattle.vs_plan.specs.declared.plan.Flush.{Flush}
 use Rattle.vs_plan.specs.declared.plan.Flush.TheVariants as flushes
 use Rattle.vs_plan.specs.declared.plan.Plan.{Plan}
@@ -20,14 +21,14 @@ use Rattle.vs_plan.specs.declared.plan.Step.TheVariants as steps
 use Rattle.vs_plan.specs.declared.plan.Store.{Store}
 use Rattle.vs_plan.specs.Shown.{IsNext}
 use Rattle.vs_plan.specs.declared.request.Request.{Request}
-use Rattle.vs_plan.specs.declared.request.Request.TheVariants.{Map, Unmap, Protect, Ask}
+use Rattle.vs_plan.specs.declared.request.Request.TheVariants.{Map, Unmap, Protect, Ask, Remap, Split, Join}
 use Rattle.vs_plan.specs.declared.target.Target.{Target}
 use Rattle.vs_plan.specs.Planner.{Awaits, HasGiven}
 use Rattle.vs_plan.specs.declared.planner.Phase.TheVariants as phases
 use Rattle.vs_plan.specs.Premise.{HasOwnWay, IsPremise}
-use Rattle.vs_plan.specs.Request.{address_of}
-use Rattle.vs_plan.specs.Right.{IsReply, space_after, Changes, IsMeant, IsWritten, IsOneWay, IsPruned, IsTold, IsFlushed, IsUnlinked, IsRight}
-use Rattle.vs_plan.specs.Stores.{stored, stored_all, FindTheirWords, AreSafe}
+use Rattle.vs_plan.specs.Request.{address_of, refusal}
+use Rattle.vs_plan.specs.Right.{IsReply, refusal_in, space_after, Changes, IsMeantBy, IsWritten, IsOneWay, IsPruned, IsTold, IsPut, Fits, IsFlushed, IsUnlinkedBy, IsRight}
+use Rattle.vs_plan.specs.Stores.{stored, stored_all, filled, FindTheirWords, AreSafe}
 use Rattle.vs_plan.specs.Way.{IsWay}
 use Rattle.vs_plan.specs.declared.planner.Planner.{Planner}
 use Rattle.vs_plan.specs.inside.Ended.{IsEnd, IsAtEnd, HasEnded, ChangesNothing, IsPlanned}
@@ -41,28 +42,36 @@ pub words_apart : (level old new : ℕ) → (meaning level old ≡ meaning level
 words_apart level old new apart same = apart (ap (meaning level) same)
 
 pub record Parts (target : Target) (request : Request) (memory : Memory) (space : Space) (offered : List (Option ℕ)) (reply : Reply) (bits : ℕ)
-    (stores : List Store) (flush : Flush) (unlinked : List ℕ) : Type 0 where
+    (fill : Option Fill) (stores : List Store) (flush : Flush) (unlinked : List ℕ) : Type 0 where
   pub reply_is : IsReply target request memory space offered reply
-  pub safe : AreSafe target.depth memory target.root space (space_after target request space reply) stores
-  pub found : FindTheirWords memory stores
-  pub meant : All (IsMeant target memory (address_of request) unlinked) stores
+  pub due : refusal target space request ≡ refusal_in reply
+  pub put : IsPut target request memory offered fill stores unlinked
+  pub fits : Fits request space stores
+  pub safe : AreSafe target.depth (filled memory fill) target.root space (space_after target request space reply) stores
+  pub found : FindTheirWords (filled memory fill) stores
+  pub meant : All (IsMeantBy target memory request unlinked) stores
   pub nothing : (Changes reply → ⊥) → stores ≡ []
   pub written : IsWritten request stores
   pub changing : All (λ (store : Store). store.old ≢ store.new) stores
   pub one_way : IsOneWay request stores
   pub told : IsTold target memory (address_of request) bits reply
   pub flushed : IsFlushed target memory request stores unlinked flush
-  pub gone : All (IsUnlinked target memory (stored_all memory stores) (address_of request)) unlinked
-  pub pruned : IsPruned target (stored_all memory stores) request stores
+  pub gone : All (IsUnlinkedBy target memory (stored_all (filled memory fill) stores) request) unlinked
+  pub pruned : IsPruned target (stored_all (filled memory fill) stores) request stores
   pub named_once : AllPairs (λ number other. number ≢ other) unlinked
-  pub whole : AreWhole (stored_all memory stores)
-  pub own : (a : ℕ) → HasOwnWay target.depth memory target.root a → HasOwnWay target.depth (stored_all memory stores) target.root a
+  pub whole : AreWhole (stored_all (filled memory fill) stores)
+  pub own : (a : ℕ) → HasOwnWay target.depth memory target.root a
+      → HasOwnWay target.depth (stored_all (filled memory fill) stores) target.root a
 
 module _ {target : Target} {request : Request} {memory : Memory} {space : Space} {offered : List (Option ℕ)} where
-  right_of : (plan : Plan) → Parts target request memory space offered plan.reply plan.bits plan.stores.items plan.flush plan.unlinked.items
+  right_of : (plan : Plan)
+      → Parts target request memory space offered plan.reply plan.bits plan.fill plan.stores.items plan.flush plan.unlinked.items
       → IsRight target request memory space offered plan
   right_of plan parts = record {
     reply = parts.reply_is;
+    due = parts.due;
+    put = parts.put;
+    fits = parts.fits;
     safe = parts.safe;
     found = parts.found;
     meant = parts.meant;
@@ -79,15 +88,21 @@ module _ {target : Target} {request : Request} {memory : Memory} {space : Space}
     own = parts.own;
   }
 
-  pub right_as : (plan : Plan) {reply : Reply} {bits : ℕ} {stores : List Store} {flush : Flush} {unlinked : List ℕ}
-      → plan.reply ≡ reply → plan.bits ≡ bits → plan.stores.items ≡ stores → plan.flush ≡ flush → plan.unlinked.items ≡ unlinked
-      → Parts target request memory space offered reply bits stores flush unlinked → IsRight target request memory space offered plan
-  right_as plan {reply} {bits} {stores} {flush} {unlinked} e1 e2 e3 e4 e5 parts = right_of plan
-      (subst (λ r. Parts target request memory space offered r plan.bits plan.stores.items plan.flush plan.unlinked.items) (sym e1)
-      (subst (λ b. Parts target request memory space offered reply b plan.stores.items plan.flush plan.unlinked.items) (sym e2)
-      (subst (λ s. Parts target request memory space offered reply bits s plan.flush plan.unlinked.items) (sym e3)
-      (subst (λ f. Parts target request memory space offered reply bits stores f plan.unlinked.items) (sym e4)
-      (subst (λ u. Parts target request memory space offered reply bits stores flush u) (sym e5) parts)))))
+  pub right_as : (plan : Plan) {reply : Reply} {bits : ℕ} {fill : Option Fill} {stores : List Store} {flush : Flush} {unlinked : List ℕ}
+      → plan.reply ≡ reply → plan.bits ≡ bits → plan.fill ≡ fill → plan.stores.items ≡ stores → plan.flush ≡ flush → plan.unlinked.items ≡ unlinked
+      → Parts target request memory space offered reply bits fill stores flush unlinked → IsRight target request memory space offered plan
+  right_as plan {reply} {bits} {fill} {stores} {flush} {unlinked} e1 e2 e3 e4 e5 e6 parts = right_of plan
+      (subst (λ r. Parts target request memory space offered r plan.bits plan.fill plan.stores.items plan.flush plan.unlinked.items) (sym e1)
+      (subst (λ b. Parts target request memory space offered reply b plan.fill plan.stores.items plan.flush plan.unlinked.items) (sym e2)
+      (subst (λ f. Parts target request memory space offered reply bits f plan.stores.items plan.flush plan.unlinked.items) (sym e3)
+      (subst (λ s. Parts target request memory space offered reply bits fill s plan.flush plan.unlinked.items) (sym e4)
+      (subst (λ f. Parts target request memory space offered reply bits fill stores f plan.unlinked.items) (sym e5)
+      (subst (λ u. Parts target request memory space offered reply bits fill stores flush u) (sym e6) parts))))))
+
+-- a refusal that is due of a request, where the request is written otherwise
+pub due_as : (target : Target) (space : Space) {request other : Request} {due : Option Reply} → request ≡ other → refusal target space other ≡ due
+    → refusal target space request ≡ due
+due_as target space same is = ap (refusal target space) same ∙ is
 
 -- ---- when stores are safe
 
@@ -134,11 +149,15 @@ module _ {depth : Depth} {m : Memory} {root : ℕ} {before after : Space} where
 -- ---- a plan that changes nothing
 
 module _ {target : Target} {request : Request} {memory : Memory} {space : Space} {offered : List (Option ℕ)}
-    (premise : IsPremise target.depth memory target.root (address_of request) space) {reply : Reply} {bits : ℕ} where
+    (premise : IsPremise target.depth memory target.root (address_of request) space) {reply : Reply} {bits : ℕ}
+    (due : refusal target space request ≡ refusal_in reply) where
   nothing_parts : IsReply target request memory space offered reply → TranslatesAs target.depth memory target.root (space_after target request space reply)
-      → IsTold target memory (address_of request) bits reply → Parts target request memory space offered reply bits [] flushes.Nothing []
+      → IsTold target memory (address_of request) bits reply → Parts target request memory space offered reply bits None [] flushes.Nothing []
   nothing_parts is then told = record {
     reply_is = is;
+    due = due;
+    put = put_none request;
+    fits = tt;
     safe = safe_none premise.translates then;
     found = tt;
     meant = All-nil _;
@@ -157,11 +176,17 @@ module _ {target : Target} {request : Request} {memory : Memory} {space : Space}
     written_none : (request : Request) → IsWritten request []
     written_none request = tt
 
+    put_none : (request : Request) → IsPut target request memory offered None [] []
+    put_none request = refl
+
     one_way_none : (request : Request) → IsOneWay request []
     one_way_none (Map page bits) = All-nil _
     one_way_none (Unmap base) = All-nil _
     one_way_none (Protect base rights) = tt
     one_way_none (Ask address) = tt
+    one_way_none (Remap base phys rights) = tt
+    one_way_none (Split base) = tt
+    one_way_none (Join base) = tt
 
     flushed_none : (request : Request) → IsFlushed target memory request [] [] flushes.Nothing
     flushed_none request = refl
@@ -170,7 +195,7 @@ module _ {target : Target} {request : Request} {memory : Memory} {space : Space}
       → TranslatesAs target.depth memory target.root (space_after target request space reply)
       → IsTold target memory (address_of request) bits reply → IsRight target request memory space offered plan
   nothing_right plan none is then told =
-      right_as plan none.reply_is none.bits_are none.stores none.flush none.unlinked (nothing_parts is then told)
+      right_as plan none.reply_is none.bits_are none.fill none.stores none.flush none.unlinked (nothing_parts is then told)
 
 -- ---- one store
 
@@ -204,6 +229,7 @@ pub nothing_as : {reply reply' : Reply} {bits bits' : ℕ} {plan : Plan} → Cha
 nothing_as none same alike = record {
   reply_is = none.reply_is ∙ same;
   bits_are = none.bits_are ∙ alike;
+  fill = none.fill;
   stores = none.stores;
   flush = none.flush;
   unlinked = none.unlinked;

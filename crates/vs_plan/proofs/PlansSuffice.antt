@@ -1,38 +1,48 @@
 -- The flush of a right plan suffices.
-use Rattle.std.proofs.Common.{◌≡◌, ◌≢◌, ℕ, suc, ◌+◌, ◌%◌, ◌<◌, ◌≤◌, List, [], ◌∷◌, All, Option, Some, None, ◌⊎◌, inl, inr, ⊎_elim, refl, sym, ap, subst, ◌∙◌, arith}
+use Rattle.std.proofs.Common.{◌≡◌, ◌≢◌, ℕ, zero, suc, ◌+◌, ◌-◌, ◌%◌, ◌<◌, ◌≤◌, List, [], ◌∷◌, All, Option, Some, None, ◌⊎◌, inl, inr, ⊎_elim, refl, sym, ap, subst, ◌∙◌, arith}
+use Rattle.std.specs.Prelude.{slice_index}
 use Rattle.std.proofs.lemmas.Bool.{cases_lt}
-use Rattle.std.proofs.lemmas.List.Elements.{All-head, All-tail, All-contains}
-use Rattle.vs_types.specs.Depth.{levels}
-use Rattle.vs_types.specs.Entry.{meaning}
-use Rattle.vs_types.specs.Space.{Space, IsSpace}
+use Rattle.std.proofs.lemmas.List.Elements.{All-head, All-tail, All-cons, All-nil, All-weaker}
+use Rattle.vs_types.specs.Depth.{levels, index_at, IsCanonical}
+use Rattle.vs_types.specs.Entry.{meaning, size_at}
+use Rattle.vs_types.specs.Page.{level_of}
+use Rattle.vs_types.specs.Space.{Space}
+use Rattle.vs_types.specs.declared.depth.Depth.{Depth}
 use Rattle.vs_types.specs.declared.page.Rights.{Rights}
+use Rattle.vs_types.specs.declared.page.Size.{Size}
 use Rattle.vs_types.specs.declared.entry.Meaning.TheVariants as entry
 use Rattle.vs_walk.specs.Memory.{Memory}
-use Rattle.vs_walk.specs.Walk.{TranslatesAs}
-use Rattle.vs_space.specs.Held.{word_at, with_word}
+use Rattle.vs_walk.proofs.Walks.{leaf_level}
+use Rattle.vs_space.specs.Held.{word_at}
 use Rattle.vs_space.specs.Path.{found_at, table_in, table_at}
+use Rattle.vs_types.proofs.Pages.{three_levels}
+use Rattle.vs_walk.proofs.TranslatedBits.{no_table_below}
+use Rattle.vs_space.proofs.Paths.{none_past, reached_within, table_before, table_below, words_found}
+use Rattle.vs_plan.specs.declared.plan.Fill.{Fill}
 use Rattle.vs_plan.specs.declared.plan.Flush.{Flush}
-use Rattle.vs_plan.specs.declared.plan.Flush.TheVariants.{Nothing, Page, PageAndTables}
+use Rattle.vs_plan.specs.declared.plan.Flush.TheVariants.{Nothing, Page, Range}
 use Rattle.vs_plan.specs.declared.plan.Plan.{Plan}
 use Rattle.vs_plan.specs.declared.plan.Reply.{Reply}
 use Rattle.vs_plan.specs.declared.plan.Reply.TheVariants as replies
 use Rattle.vs_plan.specs.declared.plan.Store.{Store}
 use Rattle.vs_plan.specs.declared.request.Request.{Request}
-use Rattle.vs_plan.specs.declared.request.Request.TheVariants.{Map, Unmap, Protect, Ask}
+use Rattle.vs_plan.specs.declared.request.Request.TheVariants.{Map, Unmap, Protect, Ask, Remap, Split, Join}
 use Rattle.vs_plan.specs.declared.target.Target.{Target}
 use Rattle.vs_plan.specs.Bits.{with_rights}
+use Rattle.vs_plan.specs.Changes.{larger}
 use Rattle.vs_plan.specs.Premise.{IsPremise, HasOwnWay}
-use Rattle.vs_plan.specs.Processor.{region_number, PagingEntry}
-use Rattle.vs_plan.specs.Request.{address_of}
-use Rattle.vs_plan.specs.Right.{IsRight, IsMeant, OfPage, OfLink, OfSpare, IsFlushed, IsWritten, IsUnlinked, IsOneWay, space_after}
-use Rattle.vs_plan.specs.Stores.{stored, stored_all, FindTheirWords, AreSafe}
+use Rattle.vs_plan.specs.Request.{address_of, stepped}
+use Rattle.vs_plan.specs.Right.{IsRight, IsMeant, OfPage, OfLink, OfSpare, IsEntryOf, space_after, begun}
+use Rattle.vs_plan.specs.Stores.{stored, stored_all, FindTheirWords}
 use Rattle.vs_plan.specs.Flushed.{Suffices}
-use Rattle.vs_plan.proofs.Kept.{Reads}
-use Rattle.vs_plan.proofs.Orders.{IsLess, less_refl, less_trans, less_reads, AllAdd, AllTake}
-use Rattle.vs_plan.proofs.Stays.{KeepsLinks, ChangesPageAlone, entry_stays, entry_reached}
-use Rattle.vs_plan.proofs.Replaced.{IsCalm, word_calm}
-use Rattle.vs_plan.proofs.WordOrders.{even_absent, elsewhere_or_here, found_word, told_used, fill_is_more, clear_is_less}
-use Rattle.vs_plan.proofs.Sufficing.{IsSwitched, AreUnreached, adding_suffices, taking_suffices, passes_page, passes_tables, switched_once, replacing_suffices}
+use Rattle.vs_plan.proofs.Orders.{AllAdd}
+use Rattle.vs_plan.proofs.Stays.{ChangesPageAlone, level_back}
+use Rattle.vs_plan.proofs.WordOrders.{even_absent, fill_is_more, found_word, told_used}
+use Rattle.vs_plan.proofs.Sufficing.{IsSwitched}
+use Rattle.vs_plan.proofs.Unread.{unread_table}
+use Rattle.vs_plan.proofs.Given.{IsGiven, parts_of, begins_as, begins_own, all_unreached, change_canonical}
+use Rattle.vs_plan.proofs.OneEntry.{IsAt, page_alone, range_alone}
+use Rattle.vs_plan.proofs.Forms.{HasForm, Adds, Clears, Unlinks, Replaces, Resizes, IsOnceFor, IsEndFor, AreFor, form_suffices}
 use Rattle.vs_plan.proofs.Apart.{LooksApart, unmap_apart, protect_apart, changes_alone}
 
 -- ---- what the stores are
@@ -42,17 +52,6 @@ adds memory [] found all = tt
 adds memory (s ∷ later) found all = (
   fill_is_more memory s.frame s.index s.old s.new found.0 (All-head (λ (s : Store). s.old % 2 ≡ 0) s later all),
   adds (stored memory s) later found.1 (All-tail (λ (s : Store). s.old % 2 ≡ 0) s later all),
-)
-
-store_takes : (memory : Memory) (s : Store) → word_at memory s.frame s.index ≡ Some s.old → s.new ≡ 0 → IsLess (stored memory s) memory
-store_takes memory s told clear = subst (λ w. IsLess (with_word memory s.frame s.index w) memory) (sym clear)
-    (clear_is_less memory s.frame s.index (told_used memory s.frame s.index s.old told))
-
-takes : (memory : Memory) (stores : List Store) → FindTheirWords memory stores → All (λ (s : Store). s.new ≡ 0) stores → AllTake memory stores
-takes memory [] found all = tt
-takes memory (s ∷ later) found all = (
-  store_takes memory s found.0 (All-head (λ (s : Store). s.new ≡ 0) s later all),
-  takes (stored memory s) later found.1 (All-tail (λ (s : Store). s.new ≡ 0) s later all),
 )
 
 -- a store changes an entry on the way of the address that leads to no table, or a frame to which no path leads
@@ -80,190 +79,303 @@ new_rights rights is (OfPage on ends) = inl (on.level, on.reached, ends)
 new_rights {s = s} rights is (OfLink on below leads named high new) = absurd (not_cleared on.level s.old below rights (sym is ∙ new) leads)
 new_rights rights is (OfSpare spare) = inr spare.unreached
 
--- ---- the frame of such a store is the table of one level, if of any
+-- ---- the frame of such a store is the table of one level
 
-one_level : (target : Target) (memory : Memory) (address : ℕ) (s : Store) → HasOwnWay target.depth memory target.root address
-    → (end : IsEnd target memory address s) → (height : ℕ) × ((level region : ℕ) (rights : Rights)
-    → Reads target.depth target.root memory (PagingEntry level region s.frame rights) → (level ≡ height) × (table_in (Some (meaning level s.old)) ≡ None))
-one_level target memory address s own (inl on) = (
-  on.0,
-  λ level region rights reads.
-      let reached = entry_reached target.depth target.root memory level region s.frame rights reads in
-      let same : level ≡ on.0 = (own.once on.0 s.frame level reached.0 on.1 reached.1).0 in
-      (same, subst (λ l. table_in (Some (meaning l s.old)) ≡ None) (sym same) on.2),
-)
-one_level target memory address s own (inr unreached) = (
-  0,
-  λ level region rights reads.
-      let reached = entry_reached target.depth target.root memory level region s.frame rights reads in
-      absurd (unreached level reached.0 reached.1),
-)
+once_on_way : (target : Target) (memory : Memory) (address level frame : ℕ) → HasOwnWay target.depth memory target.root address
+    → table_at (levels target.depth) memory target.root level address ≡ Some frame → (other b : ℕ)
+    → table_at (levels target.depth) memory target.root other b ≡ Some frame → other ≡ level
+once_on_way target memory address level frame own at other b reached = (own.once level frame other b at reached).0
 
--- it leaves the links, where what is read is no more than what was read at first
-keeps_links : (target : Target) (first memory : Memory) (address : ℕ) (s : Store) → HasOwnWay target.depth first target.root address
-    → IsLess memory first → IsEnd target first address s → word_at memory s.frame s.index ≡ Some s.old
-    → KeepsLinks target.depth target.root memory (stored memory s)
-keeps_links target first memory address s own less end told a below number next rights allows canonical reads found = ⊎_elim
-    (λ same. same ∙ found)
-    (λ here.
-    let at : Reads target.depth target.root memory (PagingEntry (suc below) (region_number (suc below) a) s.frame rights) =
-    subst (λ n. Reads target.depth target.root memory (PagingEntry (suc below) (region_number (suc below) a) n rights)) here.0 reads in
-    let none = ((one_level target first address s own end).1 (suc below) (region_number (suc below) a) rights
-    (less_reads target.depth target.root memory first less (PagingEntry (suc below) (region_number (suc below) a) s.frame rights) at)).1 in
-    let word : found_at (suc below) memory s.frame a ≡ Some (meaning (suc below) s.old) = found_word (suc below) memory s.frame s.index s.old a told here.1 in
-    let leads : found_at (suc below) memory s.frame a ≡ Some (entry.Table next allows) =
-    subst (λ n. found_at (suc below) memory n a ≡ Some (entry.Table next allows)) here.0 found in
-    let both : table_in (Some (entry.Table next allows)) ≡ None = ap table_in (sym leads ∙ word) ∙ none in
+-- ---- what a right plan says of its own root
+
+pub switched : {target : Target} {request : Request} {memory start : Memory} {space : Space} {offered : List (Option ℕ)} {reply : Reply}
+    {fill : Option Fill} {stores : List Store} {unlinked : List ℕ} {flush : Flush}
+    → IsGiven target request memory start space offered reply fill stores unlinked flush → IsSwitched target.depth target.root start stores
+switched {target} {request} {memory} {start} {space} given done address low canonical = ⊎_elim
+    (λ (later : given.safe.switch < done). inr (given.safe.since done later low address canonical ∙ sym (given.safe.done address canonical)))
+    (λ (sooner : done ≤ given.safe.switch). inl (given.safe.until done sooner low address canonical
+    ∙ sym (begins_as target.depth target.root memory start given.same space given.premise.translates address canonical)))
+    (cases_lt given.safe.switch done)
+
+-- the space after the stores is that of the step, or the one before
+after_cases : (P : Space → Type 0) (target : Target) (request : Request) (space : Space) (reply : Reply) → P space
+    → P (stepped target.depth space request).space → P (space_after target request space reply)
+after_cases P target request space (replies.Answer answer) same step = step
+after_cases P target request space replies.NoFrame same step = same
+after_cases P target request space (replies.FrameRange number) same step = same
+after_cases P target request space replies.Rights same step = same
+after_cases P target request space (replies.Empty number) same step = same
+after_cases P target request space (replies.Reserved number index) same step = same
+after_cases P target request space replies.PhysUnaligned same step = same
+after_cases P target request space replies.PhysRange same step = same
+after_cases P target request space replies.Smallest same step = same
+after_cases P target request space replies.Largest same step = same
+after_cases P target request space replies.Unaligned same step = same
+after_cases P target request space (replies.Apart index) same step = same
+
+-- ---- the entry of a page
+
+-- the level of a table that is reached is no less than 1
+some_level : (depth : Depth) (m : Memory) (root level base number : ℕ) → table_at (levels depth) m root level base ≡ Some number → 1 ≤ level
+some_level depth m root zero base number at =
+    let above = table_before (levels depth) root m 0 base number (omega (arith, three_levels depth)) at in
+    let words = words_found 1 m above.0 base _ above.3 in
+    absurd (no_table_below (slice_index words.0 (index_at 1 base)) number above.1 words.2)
+some_level depth m root (suc level) base number at = omega arith
+
+-- two entries of pages on one way are of one level
+not_below : (depth : Depth) (m : Memory) (root base low number other level : ℕ) → table_at (levels depth) m root (suc low) base ≡ Some number
+    → table_in (found_at (suc low) m number base) ≡ None → table_at (levels depth) m root level base ≡ Some other → suc low ≤ level
+not_below depth m root base low number other level at ends there = ⊎_elim
+    (λ (below : level < suc low).
+    let none = none_past (levels depth) root m low level base (omega (arith, reached_within (levels depth) root m (suc low) base number at)) (omega arith)
+    (table_below (levels depth) root m (suc low) low base number refl at ∙ ends) in
     absurd (cc))
-    (elsewhere_or_here (suc below) memory s.frame s.index s.new number a (told_used memory s.frame s.index s.old told))
+    (λ (high : suc low ≤ level). high)
+    (cases_lt level (suc low))
 
--- so entries stay through stores of 0 that unlink nothing
-entries_stay : (target : Target) (first memory : Memory) (address : ℕ) (stores : List Store) → HasOwnWay target.depth first target.root address
-    → IsLess memory first → FindTheirWords memory stores → All (λ (s : Store). s.new ≡ 0) stores → All (IsMeant target first address []) stores
-    → (level region number : ℕ) (rights : Rights) → Reads target.depth target.root memory (PagingEntry level region number rights)
-    → Reads target.depth target.root (stored_all memory stores) (PagingEntry level region number rights)
-entries_stay target first memory address [] own less found clear meant level region number rights reads = reads
-entries_stay target first memory address (s ∷ later) own less found clear meant level region number rights reads =
-    entries_stay target first (stored memory s) address later own
-    (less_trans (stored memory s) memory first (store_takes memory s found.0 (All-head (λ (s : Store). s.new ≡ 0) s later clear)) less)
-    found.1 (All-tail (λ (s : Store). s.new ≡ 0) s later clear) (All-tail (IsMeant target first address []) s later meant)
-    level region number rights
-    (entry_stays target.depth target.root memory (stored memory s)
-    (keeps_links target first memory address s own less (nothing_unlinked (All-head (IsMeant target first address []) s later meant)) found.0)
-    level region number rights reads)
+entry_lowest : (target : Target) (m : Memory) (base : ℕ) (size : Size) (word : ℕ) (is : IsEntryOf target m base size word) (other level : ℕ)
+    → table_at (levels target.depth) m target.root level base ≡ Some other → is.level ≤ level
+entry_lowest target m base size word is other level there = by is.level is.reached is.word_is is.leaf.2 where
+  by : (l : ℕ) → table_at (levels target.depth) m target.root l base ≡ Some is.number → word_at m is.number (index_at l base) ≡ Some word
+      → meaning l word ≡ entry.Leaf is.leaf.0 is.leaf.1 → l ≤ level
+  by zero at told says = omega arith
+  by (suc low) at told says = not_below target.depth m target.root base low is.number other level at
+      (ap table_in (found_word (suc low) m is.number (index_at (suc low) base) word base told refl ∙ ap Some says)) there
 
--- ---- what a right plan says
+entry_sizes : (target : Target) (m : Memory) (base : ℕ) (size other : Size) (word second : ℕ) → IsEntryOf target m base size word
+    → IsEntryOf target m base other second → size ≡ other
+entry_sizes target m base size other word second a b =
+    let up = entry_lowest target m base size word a b.number b.level b.reached in
+    let down = entry_lowest target m base other second b a.number a.level a.reached in
+    a.size_is ∙ ap size_at (omega arith) ∙ sym b.size_is
 
-switched : (target : Target) {memory : Memory} {before after : Space} (stores : List Store) → TranslatesAs target.depth memory target.root before
-    → AreSafe target.depth memory target.root before after stores → IsSwitched target.depth target.root memory stores
-switched target stores is safe done address low canonical = ⊎_elim
-    (λ (later : safe.switch < done). inr (safe.since done later low address canonical ∙ sym (safe.done address canonical)))
-    (λ (sooner : done ≤ safe.switch). inl (safe.until done sooner low address canonical ∙ sym (is address canonical)))
-    (cases_lt safe.switch done)
+larger_level : (level : ℕ) → 1 ≤ level → level < 3 → level_of (larger (size_at level)) ≡ suc level
+larger_level zero some few = absurd (omega arith)
+larger_level (suc zero) some few = refl
+larger_level (suc (suc zero)) some few = refl
+larger_level (suc (suc (suc level))) some few = absurd (omega arith)
 
-unreached : (target : Target) (first memory : Memory) (address : ℕ) (unlinked : List ℕ)
-    → All (IsUnlinked target first memory address) unlinked
-    → AreUnreached target.depth target.root memory unlinked
-unreached target first memory address unlinked all number named =
-    (All-contains (IsUnlinked target first memory address) unlinked number all named).unreached
-
-same_apart : (space : Space) (base address : ℕ) → LooksApart space space base address
-same_apart space base address page at = inl refl
-
-unmap_looks : (target : Target) {space : Space} → IsSpace target.depth space → (base : ℕ) (reply : Reply) (address : ℕ)
-    → LooksApart space (space_after target (Unmap base) space reply) base address
-unmap_looks target {space} is base (replies.Answer answer) address = unmap_apart is 0 base address
-unmap_looks target {space} is base replies.NoFrame address = same_apart space base address
-unmap_looks target {space} is base (replies.FrameRange number) address = same_apart space base address
-unmap_looks target {space} is base replies.Rights address = same_apart space base address
-unmap_looks target {space} is base (replies.Empty number) address = same_apart space base address
-unmap_looks target {space} is base (replies.Reserved number index) address = same_apart space base address
-
-protect_looks : (target : Target) {space : Space} → IsSpace target.depth space → (base : ℕ) (rights : Rights) (reply : Reply) (address : ℕ)
-    → LooksApart space (space_after target (Protect base rights) space reply) base address
-protect_looks target {space} is base rights (replies.Answer answer) address = protect_apart is 0 base rights address
-protect_looks target {space} is base rights replies.NoFrame address = same_apart space base address
-protect_looks target {space} is base rights (replies.FrameRange number) address = same_apart space base address
-protect_looks target {space} is base rights replies.Rights address = same_apart space base address
-protect_looks target {space} is base rights (replies.Empty number) address = same_apart space base address
-protect_looks target {space} is base rights (replies.Reserved number index) address = same_apart space base address
+some_stores : (s : Store) → s ∷ [] ≡ [] → ⊥
+some_stores s none = cc
 
 -- ---- by the request
 
--- what a right plan gives
-pub record IsGiven (target : Target) (request : Request) (memory : Memory) (space : Space) (reply : Reply) (stores : List Store) (unlinked : List ℕ)
-    (flush : Flush) : Type 0 where
-  pub premise : IsPremise target.depth memory target.root (address_of request) space
-  pub safe : AreSafe target.depth memory target.root space (space_after target request space reply) stores
-  pub found : FindTheirWords memory stores
-  pub meant : All (IsMeant target memory (address_of request) unlinked) stores
-  pub written : IsWritten request stores
-  pub flushed : IsFlushed target memory request stores unlinked flush
-  pub unreached : AreUnreached target.depth target.root (stored_all memory stores) unlinked
-  pub one_way : IsOneWay request stores
+module _ (target : Target) (memory start : Memory) (space : Space) (offered : List (Option ℕ)) (reply : Reply) (fill : Option Fill) where
+  -- what a request says, for these stores
+  abbrev Says : Request → List Store → List ℕ → Flush → Type 0
+  Says request stores unlinked flush = IsGiven target request memory start space offered reply fill stores unlinked flush
 
-module _ (target : Target) (memory : Memory) (space : Space) (reply : Reply) where
-  nothing_suffices : (request : Request) (unlinked : List ℕ) (flush : Flush) → flush ≡ Nothing → IsGiven target request memory space reply [] unlinked flush
-      → Suffices target.depth target.root memory [] flush unlinked
-  nothing_suffices request unlinked flush is given = subst (λ f. Suffices target.depth target.root memory [] f unlinked) (sym is)
-      (adding_suffices target.depth target.root memory [] unlinked (switched target [] given.premise.translates given.safe) given.unreached tt)
+  abbrev Starts : List Store → Flush → Type 0
+  Starts stores flush = HasForm start stores flush
 
-  unmap_alone : (base : ℕ) (stores : List Store) (unlinked : List ℕ) (flush : Flush) → IsGiven target (Unmap base) memory space reply stores unlinked flush
-      → ChangesPageAlone target.depth target.root memory (stored_all memory stores) base
-  unmap_alone base stores unlinked flush given = changes_alone target.depth memory (stored_all memory stores) target.root space
-      (space_after target (Unmap base) space reply) base given.premise.translates given.safe.done (unmap_looks target given.premise.is_space base reply)
+  abbrev ForRoot : List Store → Flush → Type 0
+  ForRoot stores flush = AreFor target.depth start target.root stores flush
 
-  unmap_suffices : (base : ℕ) (stores : List Store) (unlinked : List ℕ) (flush : Flush) → IsGiven target (Unmap base) memory space reply stores unlinked flush
-      → Suffices target.depth target.root memory stores flush unlinked
-  unmap_suffices base [] unlinked flush given = nothing_suffices (Unmap base) unlinked flush given.flushed given
-  unmap_suffices base (s ∷ later) [] flush given =
-      subst (λ f. Suffices target.depth target.root memory (s ∷ later) f []) (sym given.flushed.2)
-      (taking_suffices target.depth target.root memory (s ∷ later) [] (switched target (s ∷ later) given.premise.translates given.safe) given.unreached
-      (Page base given.flushed.0) (takes memory (s ∷ later) given.found given.one_way)
-      (passes_page target.depth target.root memory (s ∷ later) [] (switched target (s ∷ later) given.premise.translates given.safe) given.unreached base
-      given.flushed.0 (unmap_alone base (s ∷ later) [] flush given)
-      (entries_stay target memory memory base (s ∷ later) given.premise.own (less_refl memory) given.found given.one_way
-      given.meant)))
-  unmap_suffices base (s ∷ later) (number ∷ numbers) flush given =
-      subst (λ f. Suffices target.depth target.root memory (s ∷ later) f (number ∷ numbers)) (sym given.flushed.2)
-      (taking_suffices target.depth target.root memory (s ∷ later) (number ∷ numbers) (switched target (s ∷ later) given.premise.translates given.safe)
-      given.unreached (PageAndTables base given.flushed.0) (takes memory (s ∷ later) given.found given.one_way)
-      (passes_tables target.depth target.root memory (s ∷ later) (number ∷ numbers) (switched target (s ∷ later) given.premise.translates given.safe)
-      given.unreached base given.flushed.0 (unmap_alone base (s ∷ later) (number ∷ numbers) flush given)))
+  -- ---- what the stores are
 
-  map_suffices : (request : Request) (stores : List Store) (unlinked : List ℕ) (flush : Flush) → flush ≡ Nothing
-      → All (λ (s : Store). s.old % 2 ≡ 0) stores → IsGiven target request memory space reply stores unlinked flush
-      → Suffices target.depth target.root memory stores flush unlinked
-  map_suffices request stores unlinked flush is absent given = subst (λ f. Suffices target.depth target.root memory stores f unlinked) (sym is)
-      (adding_suffices target.depth target.root memory stores unlinked (switched target stores given.premise.translates given.safe) given.unreached
-      (adds memory stores given.found absent))
+  form_of_none : (flush : Flush) → flush ≡ Nothing → Starts [] flush
+  form_of_none flush is = subst (Starts []) (sym is) (Adds [] tt)
 
-  protect_one : (base : ℕ) (rights : Rights) (s : Store) (unlinked : List ℕ) (flush : Flush)
-      → IsGiven target (Protect base rights) memory space reply (s ∷ []) unlinked flush
-      → Suffices target.depth target.root memory (s ∷ []) flush unlinked
-  protect_one base rights s unlinked flush given =
-      let end = new_rights rights given.written.0
-      (All-head (IsMeant target memory base unlinked) s [] given.meant) in
-      let height = one_level target memory base s given.premise.own end in
-      let calm : IsCalm target.depth target.root memory (stored memory s) =
-      word_calm target.depth target.root memory s.frame s.index s.new height.0 (told_used memory s.frame s.index s.old given.found.0)
-      (λ level region r reads. (height.1 level region r reads).0) in
-      subst (λ f. Suffices target.depth target.root memory (s ∷ []) f unlinked) (sym given.flushed.2)
-      (replacing_suffices target.depth target.root memory s unlinked calm given.unreached (Page base given.flushed.0)
-      (passes_page target.depth target.root memory (s ∷ []) unlinked (switched_once target.depth target.root memory s unlinked calm given.unreached)
-      given.unreached base given.flushed.0
-      (changes_alone target.depth memory (stored memory s) target.root space (space_after target (Protect base rights) space reply) base
-      given.premise.translates given.safe.done (protect_looks target given.premise.is_space base rights reply))
-      (entry_stays target.depth target.root memory (stored memory s)
-      (keeps_links target memory memory base s given.premise.own (less_refl memory) end given.found.0))))
+  pub form_of : (request : Request) (stores : List Store) (unlinked : List ℕ) (flush : Flush) → Says request stores unlinked flush → Starts stores flush
+  form_of (Map page bits) [] unlinked flush given = form_of_none flush given.flushed
+  form_of (Map page bits) (s ∷ later) unlinked flush given = subst (Starts (s ∷ later)) (sym given.flushed)
+      (Adds (s ∷ later) (adds start (s ∷ later) given.found given.one_way))
+  form_of (Unmap base) [] unlinked flush given = form_of_none flush given.flushed
+  form_of (Unmap base) (s ∷ later) [] flush given = subst (Starts (s ∷ later)) (sym given.flushed.2)
+      (Clears (s ∷ later) base given.flushed.0 given.found given.one_way)
+  form_of (Unmap base) (s ∷ later) (number ∷ numbers) flush given = subst (Starts (s ∷ later)) (sym given.flushed.2)
+      (Unlinks (s ∷ later) base given.flushed.0 given.found given.one_way)
+  form_of (Protect base rights) [] unlinked flush given = form_of_none flush given.flushed
+  form_of (Protect base rights) (s ∷ []) unlinked flush given = subst (Starts (s ∷ [])) (sym given.flushed.2) (Replaces s base given.flushed.0 given.found)
+  form_of (Protect base rights) (s ∷ (t ∷ later)) unlinked flush given = let alone = given.written.1 in absurd (cc)
+  form_of (Ask address) [] unlinked flush given = form_of_none flush given.flushed
+  form_of (Ask address) (s ∷ later) unlinked flush given = absurd given.flushed
+  form_of (Remap base phys rights) [] unlinked flush given = form_of_none flush given.flushed
+  form_of (Remap base phys rights) (s ∷ []) unlinked flush given = subst (Starts (s ∷ [])) (sym given.flushed.2) (Replaces s base given.flushed.0 given.found)
+  form_of (Remap base phys rights) (s ∷ (t ∷ later)) unlinked flush given = let alone = given.written in absurd (cc)
+  form_of (Split base) [] unlinked flush given = form_of_none flush given.flushed
+  form_of (Split base) (s ∷ []) unlinked flush given = subst (Starts (s ∷ [])) (sym given.flushed.2) (Resizes s base given.flushed.0 given.found)
+  form_of (Split base) (s ∷ (t ∷ later)) unlinked flush given = let alone = given.written in absurd (cc)
+  form_of (Join base) [] unlinked flush given = form_of_none flush given.flushed
+  form_of (Join base) (s ∷ []) unlinked flush given = subst (Starts (s ∷ [])) (sym given.flushed.3) (Resizes s base (larger given.flushed.0) given.found)
+  form_of (Join base) (s ∷ (t ∷ later)) unlinked flush given = let alone = given.written in absurd (cc)
 
-  protect_suffices : (base : ℕ) (rights : Rights) (stores : List Store) (unlinked : List ℕ) (flush : Flush)
-      → IsGiven target (Protect base rights) memory space reply stores unlinked flush
-      → Suffices target.depth target.root memory stores flush unlinked
-  protect_suffices base rights [] unlinked flush given = nothing_suffices (Protect base rights) unlinked flush given.flushed given
-  protect_suffices base rights (s ∷ []) unlinked flush given = protect_one base rights s unlinked flush given
-  protect_suffices base rights (s ∷ (t ∷ later)) unlinked flush given = let alone = given.written.1 in absurd (cc)
+  -- ---- what they are for the root
 
-  all_suffice : (request : Request) (stores : List Store) (unlinked : List ℕ) (flush : Flush) → IsGiven target request memory space reply stores unlinked flush
-      → Suffices target.depth target.root memory stores flush unlinked
-  all_suffice (Map page bits) [] unlinked flush given = nothing_suffices (Map page bits) unlinked flush given.flushed given
-  all_suffice (Map page bits) (s ∷ later) unlinked flush given = map_suffices (Map page bits) (s ∷ later) unlinked flush given.flushed given.one_way given
-  all_suffice (Unmap base) stores unlinked flush given = unmap_suffices base stores unlinked flush given
-  all_suffice (Protect base rights) stores unlinked flush given = protect_suffices base rights stores unlinked flush given
-  all_suffice (Ask address) [] unlinked flush given = nothing_suffices (Ask address) unlinked flush given.flushed given
-  all_suffice (Ask address) (s ∷ later) unlinked flush given = absurd given.flushed
+  for_none : (flush : Flush) → flush ≡ Nothing → ForRoot [] flush
+  for_none flush is = subst (ForRoot []) (sym is) tt
+
+  -- a store at an end of the way
+  is_end : {request : Request} {stores : List Store} {unlinked : List ℕ} {flush : Flush} (s : Store) → Says request stores unlinked flush
+      → IsEnd target memory (address_of request) s → IsEndFor target.depth start target.root s
+  is_end {request} s given (inl on) = record {
+    once = (on.0, level_is);
+    ends = λ level b reached. subst (λ l. table_in (Some (meaning l s.old)) ≡ None) (sym (level_is level b reached)) on.2;
+  } where
+    level_is : (level b : ℕ) → table_at (levels target.depth) start target.root level b ≡ Some s.frame → level ≡ on.0
+    level_is level b reached = once_on_way target memory (address_of request) on.0 s.frame given.premise.own on.1 level b
+        (sym (unread_table target.depth target.root memory start given.same level b) ∙ reached)
+  is_end s given (inr unreached) = record {
+    once = (0, λ level b reached. absurd (unreached level b (sym (unread_table target.depth target.root memory start given.same level b) ∙ reached)));
+    ends = λ level b reached. absurd (unreached level b (sym (unread_table target.depth target.root memory start given.same level b) ∙ reached));
+  }
+
+  unmap_alone : (base : ℕ) (stores : List Store) (unlinked : List ℕ) (flush : Flush) → Says (Unmap base) stores unlinked flush
+      → ChangesPageAlone target.depth target.root start (stored_all start stores) base
+  unmap_alone base stores unlinked flush given = changes_alone target.depth start (stored_all start stores) target.root space
+      (space_after target (Unmap base) space reply) base (begins_as target.depth target.root memory start given.same space given.premise.translates) given.safe.done
+      (λ address. after_cases (λ after. LooksApart space after base address) target (Unmap base) space reply (λ page at. inl refl)
+      (unmap_apart given.premise.is_space 0 base address))
+
+  protect_alone : (base : ℕ) (rights : Rights) (stores : List Store) (unlinked : List ℕ) (flush : Flush) → Says (Protect base rights) stores unlinked flush
+      → ChangesPageAlone target.depth target.root start (stored_all start stores) base
+  protect_alone base rights stores unlinked flush given = changes_alone target.depth start (stored_all start stores) target.root space
+      (space_after target (Protect base rights) space reply) base (begins_as target.depth target.root memory start given.same space given.premise.translates) given.safe.done
+      (λ address. after_cases (λ after. LooksApart space after base address) target (Protect base rights) space reply (λ page at. inl refl)
+      (protect_apart given.premise.is_space 0 base rights address))
+
+  -- the store at a level of the base's way, with the words of the memory in which it is made
+  at_level : {request : Request} {s : Store} {unlinked : List ℕ} {flush : Flush} (low : ℕ) → Says request (s ∷ []) unlinked flush
+      → IsCanonical target.depth (address_of request) → table_at (levels target.depth) memory target.root (suc low) (address_of request) ≡ Some s.frame
+      → s.index ≡ index_at (suc low) (address_of request) → IsAt target.depth start target.root (address_of request) low s
+  at_level {request} {s} low given canonical reached index = record {
+    own = begins_own target.depth target.root memory start given.same (address_of request) given.premise.own;
+    reached = unread_table target.depth target.root memory start given.same (suc low) (address_of request) ∙ reached;
+    index = index;
+    used = told_used start s.frame s.index s.old given.found.0;
+    canonical = canonical;
+  }
+
+  only_level : {base : ℕ} {s : Store} {low : ℕ} → IsAt target.depth start target.root base low s → (level b : ℕ)
+      → table_at (levels target.depth) start target.root level b ≡ Some s.frame → level ≡ suc low
+  only_level {base} {s} {low} at level b reached = (at.own.once (suc low) s.frame level b at.reached reached).0
+
+  at_once : {base : ℕ} {s : Store} {low : ℕ} → IsAt target.depth start target.root base low s → IsOnceFor target.depth start target.root s
+  at_once {base} {s} {low} at = (suc low, only_level at)
+
+  -- the entry of a page, where it is that of the store
+  pub record IsEntry (base : ℕ) (size : Size) (s : Store) : Type 0 where
+    pub entry_is : IsEntryOf target memory base size s.old
+    pub frame : s.frame ≡ entry_is.number
+    pub at : s.index ≡ index_at entry_is.level base
+    pub low : ℕ
+    pub level_is : entry_is.level ≡ suc low
+
+  entry_at : {base : ℕ} {size : Size} (s : Store) (entry_is : IsEntryOf target memory base size s.old) → s.frame ≡ entry_is.number
+      → s.index ≡ index_at entry_is.level base → IsEntry base size s
+  entry_at {base} {size} s is frame at =
+      let some = some_level target.depth memory target.root is.level base is.number is.reached in
+      record { entry_is = is; frame = frame; at = at; low = is.level - 1; level_is = omega (arith, some) }
+
+  module _ {base : ℕ} {size : Size} {s : Store} (is : IsEntry base size s) where
+    entry_reached : table_at (levels target.depth) memory target.root (suc is.low) base ≡ Some s.frame
+    entry_reached = subst (λ l. table_at (levels target.depth) memory target.root l base ≡ Some s.frame) is.level_is
+        (is.entry_is.reached ∙ ap Some (sym is.frame))
+
+    entry_index : s.index ≡ index_at (suc is.low) base
+    entry_index = is.at ∙ ap (λ l. index_at l base) is.level_is
+
+    entry_says : meaning (suc is.low) s.old ≡ entry.Leaf is.entry_is.leaf.0 is.entry_is.leaf.1
+    entry_says = subst (λ l. meaning l s.old ≡ entry.Leaf is.entry_is.leaf.0 is.entry_is.leaf.1) is.level_is is.entry_is.leaf.2
+
+    entry_few : suc is.low ≤ 3
+    entry_few = (leaf_level (suc is.low) s.old is.entry_is.leaf.0 is.entry_is.leaf.1 entry_says).0
+
+    entry_size : level_of size ≡ suc is.low
+    entry_size = ap level_of (is.entry_is.size_is ∙ ap size_at is.level_is) ∙ level_back (suc is.low) (omega arith) entry_few
+
+  remap_for : (base phys : ℕ) (rights : Rights) (s : Store) (unlinked : List ℕ) (flush : Flush) (size : Size)
+      → Says (Remap base phys rights) (s ∷ []) unlinked flush → ForRoot (s ∷ []) (Page base size)
+  remap_for base phys rights s unlinked flush size given =
+      let put = given.put.1 in
+      let is = entry_at s put.entry_is put.frame put.at in
+      let at = at_level is.low given (change_canonical given refl (some_stores s)) (entry_reached is) (entry_index is) in
+      let found : found_at (suc is.low) start s.frame base ≡ Some (entry.Leaf is.entry_is.leaf.0 is.entry_is.leaf.1) =
+      found_word (suc is.low) start s.frame s.index s.old base given.found.0 (sym (entry_index is)) ∙ ap Some (entry_says is) in (
+        page_alone at is.entry_is.leaf.0 is.entry_is.leaf.1 found (entry_few is),
+        All-cons (IsEndFor target.depth start target.root) s []
+            (record {
+              once = at_once at;
+              ends = λ level b reached. subst (λ l. table_in (Some (meaning l s.old)) ≡ None) (sym (only_level at level b reached))
+                  (ap (λ e. table_in (Some e)) (entry_says is));
+            })
+            (All-nil (IsEndFor target.depth start target.root)),
+      )
+
+  split_for : (base : ℕ) (s : Store) (unlinked : List ℕ) (flush : Flush) (size : Size) (word : ℕ) → IsEntryOf target memory base size word
+      → Says (Split base) (s ∷ []) unlinked flush → ForRoot (s ∷ []) (Range base size)
+  split_for base s unlinked flush size word other given =
+      let put = given.put.2 in
+      let is = entry_at s put.entry_is put.frame put.at in
+      let at = at_level is.low given (change_canonical given refl (some_stores s)) (entry_reached is) (entry_index is) in
+      let same : size ≡ put.size = entry_sizes target memory base size put.size word s.old other put.entry_is in
+      subst (λ z. ForRoot (s ∷ []) (Range base z)) (sym same) (
+        range_alone at put.size (entry_size is) put.aligned,
+        All-cons (IsOnceFor target.depth start target.root) s [] (at_once at) (All-nil (IsOnceFor target.depth start target.root)),
+      )
+
+  join_for : (base : ℕ) (s : Store) (unlinked : List ℕ) (flush : Flush) (size : Size) (word : ℕ) → IsEntryOf target memory base size word
+      → Says (Join base) (s ∷ []) unlinked flush → ForRoot (s ∷ []) (Range base (larger size))
+  join_for base s unlinked flush size word other given =
+      let put = given.put.1 in
+      let at = at_level put.level given (change_canonical given refl (some_stores s)) put.above put.index_is in
+      let small : IsEntryOf target memory base (size_at put.level) put.first = record {
+        level = put.level;
+        number = put.number;
+        reached = put.reached;
+        word_is = put.first_is;
+        leaf = (put.phys, put.own, put.says);
+        size_is = refl;
+      } in
+      let same : size ≡ size_at put.level = entry_sizes target memory base size (size_at put.level) word put.first other small in
+      let some = some_level target.depth memory target.root put.level base put.number put.reached in
+      subst (λ z. ForRoot (s ∷ []) (Range base (larger z))) (sym same) (
+        range_alone at (larger (size_at put.level)) (larger_level put.level some put.few) put.aligned,
+        All-cons (IsOnceFor target.depth start target.root) s [] (at_once at) (All-nil (IsOnceFor target.depth start target.root)),
+      )
+
+  pub are_for : (request : Request) (stores : List Store) (unlinked : List ℕ) (flush : Flush) → Says request stores unlinked flush → ForRoot stores flush
+  are_for (Map page bits) [] unlinked flush given = for_none flush given.flushed
+  are_for (Map page bits) (s ∷ later) unlinked flush given = subst (ForRoot (s ∷ later)) (sym given.flushed) tt
+  are_for (Unmap base) [] unlinked flush given = for_none flush given.flushed
+  are_for (Unmap base) (s ∷ later) [] flush given = subst (ForRoot (s ∷ later)) (sym given.flushed.2) (
+    unmap_alone base (s ∷ later) [] flush given,
+    All-weaker (IsMeant target memory base []) (IsEndFor target.depth start target.root) (λ t meant. is_end t given (nothing_unlinked meant))
+        (s ∷ later) given.meant,
+  )
+  are_for (Unmap base) (s ∷ later) (number ∷ numbers) flush given = subst (ForRoot (s ∷ later)) (sym given.flushed.2)
+      (unmap_alone base (s ∷ later) (number ∷ numbers) flush given)
+  are_for (Protect base rights) [] unlinked flush given = for_none flush given.flushed
+  are_for (Protect base rights) (s ∷ []) unlinked flush given = subst (ForRoot (s ∷ [])) (sym given.flushed.2) (
+    protect_alone base rights (s ∷ []) unlinked flush given,
+    All-cons (IsEndFor target.depth start target.root) s []
+        (is_end s given (new_rights rights given.written.0 (All-head (IsMeant target memory base unlinked) s [] given.meant)))
+        (All-nil (IsEndFor target.depth start target.root)),
+  )
+  are_for (Protect base rights) (s ∷ (t ∷ later)) unlinked flush given = let alone = given.written.1 in absurd (cc)
+  are_for (Ask address) [] unlinked flush given = for_none flush given.flushed
+  are_for (Ask address) (s ∷ later) unlinked flush given = absurd given.flushed
+  are_for (Remap base phys rights) [] unlinked flush given = for_none flush given.flushed
+  are_for (Remap base phys rights) (s ∷ []) unlinked flush given = subst (ForRoot (s ∷ [])) (sym given.flushed.2)
+      (remap_for base phys rights s unlinked flush given.flushed.0 given)
+  are_for (Remap base phys rights) (s ∷ (t ∷ later)) unlinked flush given = let alone = given.written in absurd (cc)
+  are_for (Split base) [] unlinked flush given = for_none flush given.flushed
+  are_for (Split base) (s ∷ []) unlinked flush given = subst (ForRoot (s ∷ [])) (sym given.flushed.2)
+      (split_for base s unlinked flush given.flushed.0 s.old given.flushed.1 given)
+  are_for (Split base) (s ∷ (t ∷ later)) unlinked flush given = let alone = given.written in absurd (cc)
+  are_for (Join base) [] unlinked flush given = for_none flush given.flushed
+  are_for (Join base) (s ∷ []) unlinked flush given = subst (ForRoot (s ∷ [])) (sym given.flushed.3)
+      (join_for base s unlinked flush given.flushed.0 given.flushed.1 given.flushed.2 given)
+  are_for (Join base) (s ∷ (t ∷ later)) unlinked flush given = let alone = given.written in absurd (cc)
 
 pub plan_suffices : (target : Target) (request : Request) (memory : Memory) (space : Space) (offered : List (Option ℕ)) (plan : Plan)
     → IsPremise target.depth memory target.root (address_of request) space → IsRight target request memory space offered plan
-    → Suffices target.depth target.root memory plan.stores.items plan.flush plan.unlinked.items
+    → Suffices target.depth target.root (begun memory plan) plan.stores.items plan.flush plan.unlinked.items
 plan_suffices target request memory space offered plan premise right =
-    all_suffice target memory space plan.reply request plan.stores.items plan.unlinked.items plan.flush (record {
-      premise = premise;
-      safe = right.safe;
-      found = right.found;
-      meant = right.meant;
-      written = right.written;
-      flushed = right.flushed;
-      unreached = unreached target memory (stored_all memory plan.stores.items) (address_of request) plan.unlinked.items right.unlinked;
-      one_way = right.one_way;
-    })
+    let given = parts_of premise right in
+    form_suffices target.depth target.root (begun memory plan) plan.stores.items plan.flush plan.unlinked.items
+    (form_of target memory (begun memory plan) space offered plan.reply plan.fill request plan.stores.items plan.unlinked.items plan.flush given)
+    (switched given)
+    (all_unreached target memory (stored_all (begun memory plan) plan.stores.items) request plan.unlinked.items given.gone)
+    (are_for target memory (begun memory plan) space offered plan.reply plan.fill request plan.stores.items plan.unlinked.items plan.flush given)

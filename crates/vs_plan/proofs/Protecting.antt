@@ -1,5 +1,5 @@
 -- A plan that changes the rights of a page.
-use Rattle.std.proofs.Common.{◌≡◌, ◌≢◌, ℕ, suc, ◌+◌, ◌-◌, ◌%◌, ◌≤◌, [], ◌∷◌, Some, refl, sym, ap, subst, ◌∙◌, arith}
+use Rattle.std.proofs.Common.{◌≡◌, ◌≢◌, ℕ, suc, ◌+◌, ◌-◌, ◌%◌, ◌≤◌, [], ◌∷◌, Some, None, refl, sym, ap, subst, ◌∙◌, arith}
 use Rattle.std.proofs.lemmas.List.Elements.{All-nil, All-cons}
 use Rattle.vs_types.specs.Depth.{levels, entry_bytes, index_at}
 use Rattle.vs_types.specs.Entry.{meaning, size_at}
@@ -36,7 +36,7 @@ use Rattle.vs_plan.specs.inside.Ended.{IsAtEnd, IsRightAt, ChangesNothing}
 use Rattle.vs_plan.proofs.Asking.{entry_of}
 use Rattle.vs_plan.proofs.OneStore.{walk_off, walk_leaf, own_on}
 use Rattle.vs_plan.proofs.Pages.{table_from, found_word, page_here}
-use Rattle.vs_plan.proofs.Parts.{none_named, Parts, right_as, safe_none, safe_one, nothing_right, store_at, EndAt, end_at}
+use Rattle.vs_plan.proofs.Parts.{none_named, Parts, right_as, safe_none, safe_one, nothing_right, due_as, store_at, EndAt, end_at}
 use Rattle.vs_plan.proofs.Stored.{used_word, whole_stored}
 use Rattle.vs_plan.proofs.Steps.{changed_answer, changed_translates}
 use Rattle.vs_plan.proofs.Words.{with_rights_reads}
@@ -74,12 +74,15 @@ module _ (target : Target) {memory : Memory} {space : Space} {base level number 
   -- the entry has these rights already
   pub same_parts : word ≡ with_rights word rights → meaning level (with_rights word rights) ≡ entry.Leaf phys rights
       → Parts target (Protect base rights) memory space [] (replies.Answer (answers.Changed (intersection given own))) (bits_in (size_at level) word)
-      [] flushes.Nothing []
+      None [] flushes.Nothing []
   same_parts same leads =
       let rights_are : intersection given own ≡ rights =
       ap (intersection given) (one_leaf phys own phys rights (sym says ∙ ap (meaning level) same ∙ leads)) ∙ allows in
       record {
         reply_is = sym (changed_answer table page.1 aligned rights);
+        due = refl;
+        put = refl;
+        fits = tt;
         safe = safe_none end.premise.translates (changed_translates table page.1 aligned rights memory
             (λ b path. way_walk level number given way b (λ i from to. path i (omega arith) to) ∙ walks b path rights_are)
             (λ b apart. refl));
@@ -111,12 +114,15 @@ module _ (target : Target) {memory : Memory} {space : Space} {base level number 
   -- the entry is written with them
   pub written_parts : word ≢ with_rights word rights → meaning level (with_rights word rights) ≡ entry.Leaf phys rights
       → Parts target (Protect base rights) memory space [] (replies.Answer (answers.Changed (intersection given own))) (bits_in (size_at level) word)
-      (store_at number (index_at level base) word (with_rights word rights) ∷ []) (flushes.Page base (size_at level)) []
+      None (store_at number (index_at level base) word (with_rights word rights) ∷ []) (flushes.Page base (size_at level)) []
   written_parts new leads =
       let used = used_word memory number (index_at level base) word end.word_is in
       let own = end.premise.own in
       record {
         reply_is = sym (changed_answer table page.1 aligned rights);
+        due = refl;
+        put = refl;
+        fits = tt;
         safe = safe_one (store_at number (index_at level base) word (with_rights word rights)) end.premise.translates (changed_translates table page.1 aligned rights
             (stored memory (store_at number (index_at level base) word (with_rights word rights)))
             (λ b path. walk_leaf way own used (with_rights word rights) end.premise.whole leads some b path
@@ -145,7 +151,7 @@ module _ {p : Planner} {word : ℕ} (end : IsAtEnd p) {phys : ℕ} {own : Rights
   -- the entries above allow less
   pub less_right : intersection p.rights rights ≢ rights → (plan : Plan) → ChangesNothing replies.Rights 0 plan → IsRightAt p word plan
   less_right less plan none memory ended space premise =
-      nothing_right premise plan none (
+      nothing_right premise (due_as p.target space is refl) plan none (
         subst (WantsMore p.target memory) (sym is) (record {
           level = p.level;
           number = p.number;
@@ -160,18 +166,18 @@ module _ {p : Planner} {word : ℕ} (end : IsAtEnd p) {phys : ℕ} {own : Rights
 
   module _ (allows : intersection p.rights rights ≡ rights) {answer : Rights} (answer_is : answer ≡ intersection p.rights own) {bits : ℕ}
       (bits_are : bits ≡ bits_in (size_at p.level) word) {plan : Plan} (reply : plan.reply ≡ replies.Answer (answers.Changed answer)) (told : plan.bits ≡ bits) where
-    pub same_right : plan.stores.items ≡ [] → plan.flush ≡ flushes.Nothing → plan.unlinked.items ≡ [] → word ≡ with_rights word rights
+    pub same_right : plan.fill ≡ None → plan.stores.items ≡ [] → plan.flush ≡ flushes.Nothing → plan.unlinked.items ≡ [] → word ≡ with_rights word rights
         → IsRightAt p word plan
-    same_right stores flush unlinked same memory ended space premise =
+    same_right fill stores flush unlinked same memory ended space premise =
         subst (λ r. IsRight p.target r memory space [] plan) (sym is)
-        (right_as plan (reply ∙ ap (λ r. replies.Answer (answers.Changed r)) answer_is) (told ∙ bits_are) stores flush unlinked
+        (right_as plan (reply ∙ ap (λ r. replies.Answer (answers.Changed r)) answer_is) (told ∙ bits_are) fill stores flush unlinked
         (same_parts p.target (end_at end ended premise (ap address_of is)) end.some says aligned allows same
         (with_rights_reads p.level word rights phys own end.some says)))
 
-    pub written_right : plan.stores.items ≡ store_at p.number (index_at p.level base) word (with_rights word rights) ∷ []
+    pub written_right : plan.fill ≡ None → plan.stores.items ≡ store_at p.number (index_at p.level base) word (with_rights word rights) ∷ []
         → plan.flush ≡ flushes.Page base (size_at p.level) → plan.unlinked.items ≡ [] → word ≢ with_rights word rights → IsRightAt p word plan
-    written_right stores flush unlinked new memory ended space premise =
+    written_right fill stores flush unlinked new memory ended space premise =
         subst (λ r. IsRight p.target r memory space [] plan) (sym is)
-        (right_as plan (reply ∙ ap (λ r. replies.Answer (answers.Changed r)) answer_is) (told ∙ bits_are) stores flush unlinked
+        (right_as plan (reply ∙ ap (λ r. replies.Answer (answers.Changed r)) answer_is) (told ∙ bits_are) fill stores flush unlinked
         (written_parts p.target (end_at end ended premise (ap address_of is)) end.some says aligned allows new
         (with_rights_reads p.level word rights phys own end.some says)))

@@ -9,7 +9,7 @@ use Rattle.vs_types.specs.declared.page.Page.{Page}
 use Rattle.vs_types.proofs.Pages.{level_at_most}
 use Rattle.vs_plan.specs.declared.request.BadRequest.{BadRequest}
 use Rattle.vs_plan.specs.declared.request.Request.{Request}
-use Rattle.vs_plan.specs.declared.request.Request.TheVariants.{Map, Unmap, Protect, Ask}
+use Rattle.vs_plan.specs.declared.request.Request.TheVariants.{Map, Unmap, Protect, Ask, Remap, Split, Join}
 use Rattle.vs_plan.specs.declared.target.Target.{Target}
 use Rattle.vs_plan.specs.Bits.{AreBits}
 use Rattle.vs_plan.specs.Request.{IsRequest, IsMapped, IsWhole, address_of, lowest_of, are_bits, request_fault, page_fault, base_fault, whole_fault}
@@ -75,6 +75,9 @@ whole_good target (Map page bits) canonical is = page_good target page bits cano
 whole_good target (Unmap base) canonical is = base_good base is
 whole_good target (Protect base rights) canonical is = base_good base is
 whole_good target (Ask address) canonical is = tt
+whole_good target (Remap base phys rights) canonical is = base_good base is
+whole_good target (Split base) canonical is = base_good base is
+whole_good target (Join base) canonical is = base_good base is
 
 pub request_good : (target : Target) (request : Request) → request_fault target request ≡ None → IsRequest target request
 request_good target request is =
@@ -96,3 +99,6 @@ low_request (Map page bits) = level_at_most page.size
 low_request (Unmap base) = omega arith
 low_request (Protect base rights) = omega arith
 low_request (Ask address) = omega arith
+low_request (Remap base phys rights) = omega arith
+low_request (Split base) = omega arith
+low_request (Join base) = omega arith

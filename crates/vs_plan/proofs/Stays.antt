@@ -1,5 +1,5 @@
 -- What may still be kept where a memory has changed.
-use Rattle.std.proofs.Common.{◌≡◌, ℕ, zero, suc, ◌+◌, ◌/◌, ◌%◌, ◌≤◌, Option, Some, None, ◌⊎◌, inl, inr, ⊎_elim, refl, sym, ap, subst, ◌∙◌, arith}
+use Rattle.std.proofs.Common.{◌≡◌, ℕ, zero, suc, ◌+◌, ◌/◌, ◌%◌, ◌<◌, ◌≤◌, Option, Some, None, ◌⊎◌, inl, inr, ⊎_elim, refl, sym, ap, subst, ◌∙◌, arith}
 use Rattle.vs_types.specs.Depth.{levels, entry_bytes, IsCanonical}
 use Rattle.vs_types.specs.Entry.{size_at, all_rights}
 use Rattle.vs_types.specs.Page.{intersection, level_of, bytes_of}
@@ -141,6 +141,26 @@ translation_or_page depth root old new base alone level page frame rights reads 
     (translation_stays depth root old new level frame address rights some.1 same
     (subst (λ p. Reads depth root old (Translation level p frame rights)) (sym some.2) reads))))
     (λ there. inr (sym some.2 ∙ subst (λ l. address / entry_bytes l ≡ base / entry_bytes l) (level_back level some.3 some.4) there))
+    (alone address _ (size_at level) rights some.1 (translation_walk depth root old level page frame rights reads address some.2))
+
+-- what is mapped is walked as before, but in the range of this size from this base on
+abbrev pub ChangesRangeAlone : Depth → ℕ → Memory → Memory → ℕ → Size → Type 0
+ChangesRangeAlone depth root old new base range = (address phys : ℕ) (size : Size) (rights : Rights) → IsCanonical depth address
+    → walk depth old root address ≡ Mapped phys size rights
+    → (walk depth new root address ≡ walk depth old root address) ⊎ ((base ≤ address) × (address < base + bytes_of range))
+
+pub translation_or_range : (depth : Depth) (root : ℕ) (old new : Memory) (base : ℕ) (range : Size) → ChangesRangeAlone depth root old new base range
+    → (level page frame : ℕ) (rights : Rights) → Reads depth root old (Translation level page frame rights)
+    → Reads depth root new (Translation level page frame rights)
+    ⊎ ((address : ℕ) × (base ≤ address) × (address < base + bytes_of range) × (page ≡ page_number level address))
+translation_or_range depth root old new base range alone level page frame rights reads =
+    let some = of_some depth root old (Translation level page frame rights) reads in
+    let address = some.0 in
+    ⊎_elim
+    (λ same. inl (subst (λ p. Reads depth root new (Translation level p frame rights)) some.2
+    (translation_stays depth root old new level frame address rights some.1 same
+    (subst (λ p. Reads depth root old (Translation level p frame rights)) (sym some.2) reads))))
+    (λ there. inr (address, there.0, there.1, sym some.2))
     (alone address _ (size_at level) rights some.1 (translation_walk depth root old level page frame rights reads address some.2))
 
 -- ---- where entries that lead to tables stay

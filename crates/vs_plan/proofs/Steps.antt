@@ -57,7 +57,7 @@ map_overlaps depth limit space page base least = map_cases (λ s. s ≡ record {
 
 module _ {depth : Depth} {m : Memory} {root : ℕ} {space : Space} (of : IsTableOf (table_from depth m root) space) {base level phys : ℕ} {given : Rights}
     {q : Page} (leaf : IsLeafPage depth space base level phys given q) (aligned : base % bytes_of (size_at level) ≡ 0) where
-  begins : q.base ≡ base
+  pub begins : q.base ≡ base
   begins = let offset : base % bytes_of q.size ≡ base % bytes_of (size_at level) = ap (λ n. base % n) (ap bytes_of leaf.size) in
       omega (arith, leaf.base, offset, aligned)
 

@@ -9,14 +9,14 @@ use Rattle.vs_walk.specs.Walk.{walk}
 use Rattle.vs_walk.specs.declared.walk.Walk.{Walk}
 use Rattle.vs_space.specs.Path.{table_at}
 use Rattle.vs_plan.specs.declared.plan.Flush.{Flush}
-use Rattle.vs_plan.specs.declared.plan.Flush.TheVariants.{Nothing, Page, PageAndTables}
+use Rattle.vs_plan.specs.declared.plan.Flush.TheVariants.{Nothing, Page, PageAndTables, Range}
 use Rattle.vs_plan.specs.declared.plan.Store.{Store}
 use Rattle.vs_plan.specs.Processor.{Kept, Translation, PagingEntry, Moment, Is, IsDropped, MayKeep, MayFind, IsUpToDate}
 use Rattle.vs_plan.specs.Stores.{stored, stored_all}
 use Rattle.vs_plan.specs.Flushed.{while_stored, Suffices}
 use Rattle.vs_plan.proofs.Kept.{Reads, finds_walk, stays_up_to_date}
 use Rattle.vs_plan.proofs.Orders.{less_refl, AllAdd, AllTake, added, taken, taken_find}
-use Rattle.vs_plan.proofs.Stays.{ChangesPageAlone, translation_or_page, entry_reached}
+use Rattle.vs_plan.proofs.Stays.{ChangesPageAlone, ChangesRangeAlone, translation_or_page, translation_or_range, entry_reached}
 use Rattle.vs_plan.proofs.Replaced.{IsCalm, replaced_keeps, replaced_find}
 
 -- after each number of stores, walks end as before all of them or as after all of them
@@ -91,6 +91,11 @@ module _ (depth : Depth) (root : ℕ) (memory : Memory) (stores : List Store) (u
   passes_tables base size alone (Translation level page frame rights) reads held = ⊎_elim (λ r. r) (λ there. absurd (held there))
       (translation_or_page depth root memory (stored_all memory stores) base alone level page frame rights reads)
   passes_tables base size alone (PagingEntry level region number rights) reads held = absurd (held tt)
+
+  pub passes_range : (base : ℕ) (size : Size) → ChangesRangeAlone depth root memory (stored_all memory stores) base size → Passes (Range base size)
+  passes_range base size alone (Translation level page frame rights) reads held = ⊎_elim (λ r. r) (λ there. absurd (held there))
+      (translation_or_range depth root memory (stored_all memory stores) base size alone level page frame rights reads)
+  passes_range base size alone (PagingEntry level region number rights) reads held = absurd (held tt)
 
 -- ---- one store
 

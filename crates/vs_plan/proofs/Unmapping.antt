@@ -278,9 +278,12 @@ module _ {target : Target} {memory : Memory} {space : Space} {base level number 
       (cuts numbers words base level count) cut.cut
 
   pub unmap_parts : Parts target (Unmap base) memory space [] (replies.Answer (answers.Removed phys (size_at level) (intersection rights own)))
-      (bits_in (size_at level) word) (first ∷ cuts numbers words base level count) (flush_of count base (size_at level)) (cut_off numbers level count)
+      (bits_in (size_at level) word) None (first ∷ cuts numbers words base level count) (flush_of count base (size_at level)) (cut_off numbers level count)
   unmap_parts = record {
     reply_is = sym (removes ∙ removed_same found.0 phys (size_at level) (intersection rights own) found.1.phys_is found.1.size found.1.rights);
+    due = refl;
+    put = refl;
+    fits = tt;
     safe = safe_first first (cuts numbers words base level count) is.premise.translates (λ n le. translates n);
     found = (is.word_is, cut.found);
     meant = All-cons (IsMeant target memory base (cut_off numbers level count)) first (cuts numbers words base level count) first_meant cuts_meant;
@@ -343,13 +346,13 @@ module _ {p : Planner} {word : ℕ} (end : IsAtEnd p) {phys base : ℕ} {own : R
 
   pub unmap_right : (plan : Plan) (count : ℕ) → count ≡ p.stop - p.level
       → plan.reply ≡ replies.Answer (answers.Removed phys (size_at p.level) (intersection p.rights own))
-      → plan.bits ≡ bits_in (size_at p.level) word
+      → plan.bits ≡ bits_in (size_at p.level) word → plan.fill ≡ None
       → plan.stores.items ≡ (let s : Store = record { frame = p.number; index = index_at p.level base; old = word; new = 0 } in s)
       ∷ cuts (slice_index p.numbers) (slice_index p.words) base p.level count
       → plan.flush ≡ flush_of count base (size_at p.level) → plan.unlinked.items ≡ cut_off (slice_index p.numbers) p.level count → IsRightAt p word plan
-  unmap_right plan many all reply bits stores flush unlinked memory ended space premise =
+  unmap_right plan many all reply bits fill stores flush unlinked memory ended space premise =
       subst (λ r. IsRight p.target r memory space [] plan) (sym is)
-      (right_as plan reply bits
+      (right_as plan reply bits fill
       (stores ∙ ap (λ n. (let s : Store = record { frame = p.number; index = index_at p.level base; old = word; new = 0 } in s)
       ∷ cuts (slice_index p.numbers) (slice_index p.words) base p.level n) all)
       (flush ∙ ap (λ n. flush_of n base (size_at p.level)) all)

@@ -65,7 +65,7 @@ leads_as : (level : ℕ) {word phys other : ℕ} {word' : ℕ} {rights : Rights}
     → meaning level word ≡ entry.Leaf phys rights
 leads_as level {rights = rights} same place says = ap (meaning level) same ∙ says ∙ ap (λ p. entry.Leaf p rights) place
 
-pub page_reads : (size : Size) (phys bits : ℕ) (w u x : Bool) → phys % bytes_of size ≡ 0 → phys < 2 ^ 51 → AreBits bits
+pub page_reads : (size : Size) (phys bits : ℕ) (w u x : Bool) → phys % bytes_of size ≡ 0 → phys < 2 ^ 52 → AreBits bits
     → meaning (level_of size) (leaf_word size phys (record { write = w; user = u; exec = x }) + placed size bits)
     ≡ entry.Leaf phys (record { write = w; user = u; exec = x })
 page_reads K4 phys bits w u x aligned few are =
@@ -144,11 +144,11 @@ parts_of old w u x new a b c is = record {
   between = omega (arith, is, a, b, c);
 }
 
-abbrev said : Bool → Bool → Bool → Rights → ℕ → ℕ → Meaning
+abbrev pub said : Bool → Bool → Bool → Rights → ℕ → ℕ → Meaning
 said present reserved leaf rights address number =
     if not present then entry.Absent else if reserved then entry.Reserved else if leaf then entry.Leaf address rights else entry.Table number rights
 
-said_same : (p p' r r' l l' : Bool) (x x' : Rights) (a a' n n' : ℕ) → p ≡ p' → r ≡ r' → l ≡ l' → x ≡ x' → a ≡ a' → n ≡ n'
+pub said_same : (p p' r r' l l' : Bool) (x x' : Rights) (a a' n n' : ℕ) → p ≡ p' → r ≡ r' → l ≡ l' → x ≡ x' → a ≡ a' → n ≡ n'
     → said p r l x a n ≡ said p' r' l' x' a' n'
 said_same p p' r r' l l' x x' a a' n n' same_p same_r same_l same_x same_a same_n = rw (same_p, same_r, same_l, same_x, same_a, same_n) refl
 
@@ -163,7 +163,7 @@ said_leaf false r l x y a n phys own e = absurd (cc)
 reserved_deep : (level word : ℕ) → 3 < level → has_reserved level word ≡ (bit_at word 7 == 1)
 reserved_deep level word deep = grind arith
 
-reserved_from : (offset offset' : ℕ) → offset ≡ offset' → (b b' : ℕ) → b ≡ b'
+pub reserved_from : (offset offset' : ℕ) → offset ≡ offset' → (b b' : ℕ) → b ≡ b'
     → ◌≡◌ {A = Bool} (if b == 1 then not (offset == 0) else b == 1) (if b' == 1 then not (offset' == 0) else b' == 1)
 reserved_from offset offset' same b b' alike = rw (same, alike) refl
 
@@ -206,7 +206,7 @@ module _ {old new w u x : ℕ} (is : HasParts old new w u x) where
       ∙ said_leaf (bit_at old 0 == 1) (has_reserved (suc below) old) (is_leaf (suc below) old) (rights_of old) rights
       (old % 2 ^ 52 / entry_bytes (suc below) * entry_bytes (suc below)) (old % 2 ^ 52 / 2 ^ 12) phys own says
 
-rights_from : (w u x : ℕ) (rights : Rights) → (w == 1) ≡ rights.write → (u == 1) ≡ rights.user → not (x == 1) ≡ rights.exec
+pub rights_from : (w u x : ℕ) (rights : Rights) → (w == 1) ≡ rights.write → (u == 1) ≡ rights.user → not (x == 1) ≡ rights.exec
     → ◌≡◌ {A = Rights} (record { write = w == 1; user = u == 1; exec = not (x == 1) }) rights
 rights_from w u x rights a b c = rw (a, b, c) refl
 

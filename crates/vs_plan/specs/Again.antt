@@ -1,7 +1,9 @@
 -- Flags that a processor sets in an entry between the moment when its table is shown and the store: bits 5 and 6, accessed and dirty (Intel
 -- SDM volume 3A, chapter "Paging": accessed and dirty flags).
-use Rattle.std.specs.Prelude.{◌≡◌, ℕ, ◌+◌, ◌*◌, ◌/◌, ◌%◌, ◌^◌, nat_eq, if◌then◌else◌}
+use Rattle.std.specs.Prelude.{◌≡◌, ℕ, zero, suc, ◌+◌, ◌*◌, ◌/◌, ◌%◌, ◌^◌, ◌<◌, List, [], ◌∷◌, length, slice_index_or, slice_set, Option, Some, None, nat_eq, if◌then◌else◌}
 use Rattle.vs_space.specs.Flags.{IsSameButFlags}
+use Rattle.vs_plan.specs.declared.plan.Fill.{Fill}
+use Rattle.vs_plan.specs.declared.plan.Plan.{Plan}
 use Rattle.vs_plan.specs.declared.plan.Store.{Store}
 
 -- the word was an entry that is present, and but for the two flags it is as it was
@@ -23,3 +25,38 @@ pub record IsAgain (store again : Store) : Type 0 where
   pub frame : again.frame ≡ store.frame
   pub index : again.index ≡ store.index
   pub new : IsSameButFlags store.new again.new
+
+-- ---- a whole plan
+
+-- a fill with the flags of a word, if there is one
+abbrev pub fill_again : ℕ → Option Fill → Option Fill
+fill_again word None = None
+fill_again word (Some fill) = Some (record fill { first = flags_into word fill.first })
+
+-- what a store writes that found this word: an entry with its flags; but the link to a table that is filled, and what is written in the
+-- place of the link to a table, stay
+abbrev pub new_again : Option Fill → List ℕ → ℕ → ℕ → ℕ
+new_again None [] word new = with_flags_of word new
+new_again None (number ∷ numbers) word new = new
+new_again (Some fill) unlinked word new = new
+
+-- the bits of the page's entry, once the store at an index found this word: those of the first store, but not where it writes
+-- an entry in the place of the link to a table
+abbrev pub bits_again : ℕ → List ℕ → ℕ → ℕ → ℕ → ℕ
+bits_again zero [] word new bits = flags_into word bits
+bits_again zero (number ∷ numbers) word new bits = if nat_eq new 0 then flags_into word bits else bits
+bits_again (suc index) unlinked word new bits = bits
+
+-- a plan whose store at an index found this word, which differs from the one that was shown in flags alone
+pub record IsPlanAgain (plan : Plan) (index word : ℕ) (again : Plan) : Type 0 where
+  pub store : Store
+  pub within : index < length plan.stores.items
+  pub there : store ≡ slice_index_or plan.stores.items index store
+  pub flags : HasFlagsSet store.old word
+  pub stores : again.stores.items ≡ slice_set plan.stores.items index
+      (record store { old = word; new = new_again plan.fill plan.unlinked.items word store.new })
+  pub fill : again.fill ≡ fill_again word plan.fill
+  pub bits : again.bits ≡ bits_again index plan.unlinked.items word store.new plan.bits
+  pub reply : again.reply ≡ plan.reply
+  pub flush : again.flush ≡ plan.flush
+  pub unlinked : again.unlinked ≡ plan.unlinked

@@ -4,6 +4,7 @@
 use Rattle.std.specs.Prelude.{◌≡◌, ℕ, ◌+◌, ◌-◌, ◌*◌, ◌/◌, ◌%◌, ◌^◌, ◌<◌, cond}
 use Rattle.std.specs.Int.{bit_at}
 use Rattle.vs_types.specs.Entry.{leaf_word}
+use Rattle.vs_types.specs.Page.{bytes_of}
 use Rattle.vs_types.specs.declared.page.Page.{Page}
 use Rattle.vs_types.specs.declared.page.Rights.{Rights}
 use Rattle.vs_types.specs.declared.page.Size.{Size}
@@ -35,3 +36,14 @@ bits_in G1 word = word % 2 ^ 7 / 2 ^ 3 * 2 ^ 3 + bit_at word 12 * 2 ^ 7 + word %
 abbrev pub with_rights : ℕ → Rights → ℕ
 with_rights word rights =
     word % 2 + cond rights.write (2 ^ 1) 0 + cond rights.user (2 ^ 2) 0 + word % 2 ^ 63 / 2 ^ 3 * 2 ^ 3 + cond rights.exec 0 (2 ^ 63)
+
+-- the entry of a page of this size with this physical address, in its bits 51:12 (above 4 KiB 51:21, 51:30); its other bits are as they were
+abbrev pub with_address : Size → ℕ → ℕ → ℕ
+with_address size word phys = word % bytes_of size + phys + word / 2 ^ 52 * 2 ^ 52
+
+-- a word without its accessed and its dirty flag, and with both
+abbrev pub unflagged : ℕ → ℕ
+unflagged word = word % 2 ^ 5 + word / 2 ^ 7 * 2 ^ 7
+
+abbrev pub flagged : ℕ → ℕ
+flagged word = unflagged word + 3 * 2 ^ 5

@@ -2,6 +2,7 @@ pub mod Target
 pub mod Bits
 pub mod Way
 pub mod Premise
+pub mod Changes
 pub mod Request
 pub mod Stores
 pub mod Right
@@ -10,6 +11,7 @@ pub mod Planner
 pub mod Shown
 pub mod Processor
 pub mod Flushed
+pub mod Other
 pub mod inside
 pub use Rattle.vs_types.specs.Depth
 pub use Rattle.vs_types.specs.Page

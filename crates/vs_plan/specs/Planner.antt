@@ -11,7 +11,7 @@ use Rattle.vs_plan.specs.declared.planner.Phase.{Phase}
 use Rattle.vs_plan.specs.declared.planner.Phase.TheVariants as phases
 use Rattle.vs_plan.specs.declared.planner.Planner.{Planner}
 use Rattle.vs_types.specs.declared.page.Page.{Page}
-use Rattle.vs_plan.specs.declared.request.Request.TheVariants.{Map}
+use Rattle.vs_plan.specs.declared.request.Request.TheVariants.{Map, Split}
 use Rattle.vs_plan.specs.Request.{IsRequest, lowest_of}
 use Rattle.vs_plan.specs.Premise.{IsSpare}
 
@@ -20,6 +20,7 @@ abbrev pub Sees : Phase → Type 0
 Sees phases.Descent = Unit {0}
 Sees phases.Search = Unit {0}
 Sees phases.Growth = ⊥
+Sees phases.Division = ⊥
 Sees phases.Ended = ⊥
 
 -- the planner waits for the words of its frame
@@ -31,8 +32,8 @@ pub record AwaitsWords (planner : Planner) : Type 0 where
   pub lowest : planner.phase ≡ phases.Descent → lowest_of planner.request ≤ planner.level
   pub stop : planner.stop ≤ levels planner.target.depth
 
--- the planner waits for a frame whose words are all 0
-pub record AwaitsFrame (planner : Planner) : Type 0 where
+-- the planner of a map waits for the frame of a new table
+pub record AwaitsGrowth (planner : Planner) : Type 0 where
   pub request : IsRequest planner.target planner.request
   pub phase : planner.phase ≡ phases.Growth
   pub lowest : lowest_of planner.request ≤ planner.height
@@ -41,6 +42,26 @@ pub record AwaitsFrame (planner : Planner) : Type 0 where
   pub stores : length planner.stores.items + lowest_of planner.request ≡ planner.height
   pub below : planner.below < 2 ^ 40
   pub is_map : (page : Page) × (bits : ℕ) × (planner.request ≡ Map page bits)
+
+-- the planner of a split waits for the frame of the table of the page's parts
+pub record AwaitsDivision (planner : Planner) : Type 0 where
+  pub request : IsRequest planner.target planner.request
+  pub phase : planner.phase ≡ phases.Division
+  pub some : 1 ≤ planner.level
+  pub few : planner.level ≤ levels planner.target.depth
+  pub room : planner.height < planner.level
+  pub is_split : (base : ℕ) × (planner.request ≡ Split base)
+
+abbrev pub AwaitsFrameIn : Phase → Planner → Type 0
+AwaitsFrameIn phases.Descent planner = ⊥
+AwaitsFrameIn phases.Search planner = ⊥
+AwaitsFrameIn phases.Growth planner = AwaitsGrowth planner
+AwaitsFrameIn phases.Division planner = AwaitsDivision planner
+AwaitsFrameIn phases.Ended planner = ⊥
+
+-- the planner waits for a frame whose words are all 0
+abbrev pub AwaitsFrame : Planner → Type 0
+AwaitsFrame planner = AwaitsFrameIn planner.phase planner
 
 -- the planner waits for what the step says
 abbrev pub Awaits : Planner → Step → Type 0
@@ -63,6 +84,7 @@ abbrev asked_in : Phase → ℕ → Asks
 asked_in phases.Descent number = asks.Words number
 asked_in phases.Search number = asks.Words number
 asked_in phases.Growth number = asks.Frame
+asked_in phases.Division number = asks.Frame
 asked_in phases.Ended number = asks.Nothing
 
 abbrev pub asked_by : Planner → Asks

@@ -2,10 +2,10 @@
 -- section "Caching translation information"), for one root, whose frame CR3 names. Left out: process-context identifiers, global
 -- pages and other address spaces. A large page that is kept in parts is kept as a whole here, since the section promises the same of both.
 -- An access that is under way has kept what it read so far. What is read ahead is what may be kept of any address.
-use Rattle.std.specs.Prelude.{◌≡◌, ℕ, suc, ◌+◌, ◌/◌, ◌%◌, List, [], ◌∷◌, Some}
+use Rattle.std.specs.Prelude.{◌≡◌, ℕ, suc, ◌+◌, ◌/◌, ◌%◌, ◌<◌, ◌≤◌, List, [], ◌∷◌, Some}
 use Rattle.vs_types.specs.Depth.{levels, entry_bytes, table_bytes, IsCanonical}
 use Rattle.vs_types.specs.Entry.{size_at, all_rights}
-use Rattle.vs_types.specs.Page.{intersection}
+use Rattle.vs_types.specs.Page.{bytes_of, intersection}
 use Rattle.vs_types.specs.declared.depth.Depth.{Depth}
 use Rattle.vs_types.specs.declared.page.Rights.{Rights}
 use Rattle.vs_types.specs.declared.entry.Meaning.TheVariants as entry
@@ -15,7 +15,7 @@ use Rattle.vs_walk.specs.declared.walk.Walk.{Walk}
 use Rattle.vs_walk.specs.declared.walk.Walk.TheVariants.{Mapped}
 use Rattle.vs_space.specs.Path.{found_at}
 use Rattle.vs_plan.specs.declared.plan.Flush.{Flush}
-use Rattle.vs_plan.specs.declared.plan.Flush.TheVariants.{Nothing, Page, PageAndTables}
+use Rattle.vs_plan.specs.declared.plan.Flush.TheVariants.{Nothing, Page, PageAndTables, Range}
 
 -- "Page Numbers, Page Frames, and Page Offsets": the upper bits of an address, down to those that select an entry of this level
 abbrev pub page_number : ℕ → ℕ → ℕ
@@ -47,13 +47,17 @@ pub data MayKeepBy (depth : Depth) (root : ℕ) (memory : Memory) (before : Kept
       → MayKeepBy depth root memory before (Translation (suc below) (page_number (suc below) address) phys (intersection rights own))
 
 -- "Operations that Invalidate TLBs and Paging-Structure Caches": INVLPG of an address of the page drops each translation for a page number
--- of the address, and each entry in the paging-structure caches. A flush of a page alone drops no more than the first.
+-- of the address, and each entry in the paging-structure caches. A flush of a page alone drops no more than the first. A flush of a range
+-- drops the translations for the page numbers of each of its addresses.
 abbrev pub IsDropped : Flush → Kept → Type 0
 IsDropped Nothing kept = ⊥
 IsDropped (Page base size) (Translation level page frame rights) = page ≡ page_number level base
 IsDropped (Page base size) (PagingEntry level region number rights) = ⊥
 IsDropped (PageAndTables base size) (Translation level page frame rights) = page ≡ page_number level base
 IsDropped (PageAndTables base size) (PagingEntry level region number rights) = Unit
+IsDropped (Range base size) (Translation level page frame rights) =
+    (address : ℕ) × (base ≤ address) × (address < base + bytes_of size) × (page ≡ page_number level address)
+IsDropped (Range base size) (PagingEntry level region number rights) = Unit
 
 -- what a processor lives through
 pub data Moment : Type 0 where

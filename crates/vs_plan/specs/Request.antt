@@ -10,10 +10,12 @@ use Rattle.vs_types.specs.declared.page.Page.{Page}
 use Rattle.vs_types.specs.declared.op.Action.TheVariants as actions
 use Rattle.vs_plan.specs.declared.target.Target.{Target}
 use Rattle.vs_plan.specs.declared.request.Request.{Request}
-use Rattle.vs_plan.specs.declared.request.Request.TheVariants.{Map, Unmap, Protect, Ask}
+use Rattle.vs_plan.specs.declared.request.Request.TheVariants.{Map, Unmap, Protect, Ask, Remap, Split, Join}
 use Rattle.vs_plan.specs.declared.request.BadRequest.{BadRequest}
 use Rattle.vs_plan.specs.declared.request.BadRequest.TheVariants.{PhysBits, RootRange, NotCanonical, Unaligned, PhysUnaligned, PhysRange, Bits}
+use Rattle.vs_plan.specs.declared.plan.Reply.{Reply}
 use Rattle.vs_plan.specs.Bits.{AreBits}
+use Rattle.vs_plan.specs.Changes.{remap, split, join, remap_refusal, split_refusal, join_refusal}
 use Rattle.vs_plan.specs.Target.{HasPhysBits, frames_end}
 
 -- the address whose way is gone
@@ -22,6 +24,9 @@ address_of (Map page bits) = page.base
 address_of (Unmap base) = base
 address_of (Protect base rights) = base
 address_of (Ask address) = address
+address_of (Remap base phys rights) = base
+address_of (Split base) = base
+address_of (Join base) = base
 
 -- the level at which its way ends at the latest
 abbrev pub lowest_of : Request → ℕ
@@ -29,6 +34,9 @@ lowest_of (Map page bits) = level_of page.size
 lowest_of (Unmap base) = 1
 lowest_of (Protect base rights) = 1
 lowest_of (Ask address) = 1
+lowest_of (Remap base phys rights) = 1
+lowest_of (Split base) = 1
+lowest_of (Join base) = 1
 
 -- a page that may be mapped where physical addresses have this many bits
 pub record IsMapped (target : Target) (page : Page) (word : ℕ) : Type 0 where
@@ -42,6 +50,9 @@ IsWhole target (Map page bits) = IsMapped target page bits
 IsWhole target (Unmap base) = base % 4096 ≡ 0
 IsWhole target (Protect base rights) = base % 4096 ≡ 0
 IsWhole target (Ask address) = Unit {0}
+IsWhole target (Remap base phys rights) = base % 4096 ≡ 0
+IsWhole target (Split base) = base % 4096 ≡ 0
+IsWhole target (Join base) = base % 4096 ≡ 0
 
 -- a request for which there can be a plan
 pub record IsRequest (target : Target) (request : Request) : Type 0 where
@@ -73,6 +84,9 @@ whole_fault target (Map page bits) = page_fault page bits target.phys_bits
 whole_fault target (Unmap base) = base_fault base
 whole_fault target (Protect base rights) = base_fault base
 whole_fault target (Ask address) = None
+whole_fault target (Remap base phys rights) = base_fault base
+whole_fault target (Split base) = base_fault base
+whole_fault target (Join base) = base_fault base
 
 -- the first thing that is wrong with a request
 abbrev pub request_fault : Target → Request → Option BadRequest
@@ -88,3 +102,16 @@ stepped depth space (Map page bits) = step depth (table_count depth (finite.inse
 stepped depth space (Unmap base) = step depth 0 space (actions.Unmap base)
 stepped depth space (Protect base rights) = step depth 0 space (actions.Protect base rights)
 stepped depth space (Ask address) = record { space = space; answer = look space address }
+stepped depth space (Remap base phys rights) = remap space base phys rights
+stepped depth space (Split base) = split space base
+stepped depth space (Join base) = join space base
+
+-- why the page that begins at the address of a request can't be changed so, whatever the tables: the first reason that holds
+abbrev pub refusal : Target → Space → Request → Option Reply
+refusal target space (Map page bits) = None
+refusal target space (Unmap base) = None
+refusal target space (Protect base rights) = None
+refusal target space (Ask address) = None
+refusal target space (Remap base phys rights) = remap_refusal space base phys target.phys_bits
+refusal target space (Split base) = split_refusal space base
+refusal target space (Join base) = join_refusal space base

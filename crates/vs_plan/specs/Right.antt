@@ -1,33 +1,36 @@
 -- When a plan is right: its answer, its stores, what is flushed, and what is unlinked.
-use Rattle.std.specs.Prelude.{◌≡◌, ◌≢◌, ℕ, ◌<◌, ◌≤◌, List, [], ◌∷◌, All, Contains, Option, Some, None, IsTrue, IsFalse, ◌%◌, AllPairs}
+use Rattle.std.specs.Prelude.{◌≡◌, ◌≢◌, ℕ, suc, ◌+◌, ◌*◌, ◌<◌, ◌≤◌, List, [], ◌∷◌, All, Contains, Option, Some, None, IsTrue, IsFalse, ◌%◌, AllPairs}
 use Rattle.std.specs.FinMap as finite
 use Rattle.vs_types.specs.Depth.{levels, index_at}
 use Rattle.vs_types.specs.Entry.{meaning, size_at, table_word}
 use Rattle.vs_types.specs.Laws.{changes}
-use Rattle.vs_types.specs.Page.{level_of, covers, intersection}
+use Rattle.vs_types.specs.Page.{level_of, bytes_of, covers, intersection}
 use Rattle.vs_types.specs.Space.{Space}
 use Rattle.vs_types.specs.declared.answer.Answer.TheVariants as answers
 use Rattle.vs_types.specs.declared.entry.Meaning.TheVariants as entry
 use Rattle.vs_types.specs.declared.page.Page.{Page}
 use Rattle.vs_types.specs.declared.page.Rights.{Rights}
 use Rattle.vs_types.specs.declared.page.Size.{Size}
+use Rattle.vs_types.specs.declared.page.Size.TheVariants.{K4}
 use Rattle.vs_arena.specs.Store.{zeros}
 use Rattle.vs_walk.specs.Memory.{Memory, AreWhole}
 use Rattle.vs_space.specs.Held.{word_at}
 use Rattle.vs_space.specs.Path.{entry_in, table_at, table_in}
 use Rattle.vs_plan.specs.declared.target.Target.{Target}
 use Rattle.vs_plan.specs.declared.request.Request.{Request}
-use Rattle.vs_plan.specs.declared.request.Request.TheVariants.{Map, Unmap, Protect, Ask}
+use Rattle.vs_plan.specs.declared.request.Request.TheVariants.{Map, Unmap, Protect, Ask, Remap, Split, Join}
+use Rattle.vs_plan.specs.declared.plan.Fill.{Fill}
 use Rattle.vs_plan.specs.declared.plan.Store.{Store}
 use Rattle.vs_plan.specs.declared.plan.Flush.{Flush}
 use Rattle.vs_plan.specs.declared.plan.Flush.TheVariants as flushes
 use Rattle.vs_plan.specs.declared.plan.Reply.{Reply}
 use Rattle.vs_plan.specs.declared.plan.Reply.TheVariants as replies
 use Rattle.vs_plan.specs.declared.plan.Plan.{Plan}
-use Rattle.vs_plan.specs.Bits.{page_word, bits_in, with_rights}
+use Rattle.vs_plan.specs.Bits.{page_word, bits_in, with_rights, with_address, unflagged, flagged}
+use Rattle.vs_plan.specs.Changes.{smaller, larger, HasParts}
 use Rattle.vs_plan.specs.Premise.{HasOwnWay, IsSpare}
-use Rattle.vs_plan.specs.Request.{address_of, stepped}
-use Rattle.vs_plan.specs.Stores.{stored_all, FindTheirWords, AreSafe}
+use Rattle.vs_plan.specs.Request.{address_of, stepped, refusal}
+use Rattle.vs_plan.specs.Stores.{stored_all, filled, FindTheirWords, AreSafe}
 use Rattle.vs_plan.specs.Target.{frames_end, highest_link}
 use Rattle.vs_plan.specs.Way.{IsWay}
 
@@ -49,6 +52,9 @@ LiesOverEmpty target memory (Map page bits) number = HasEmptyTable target memory
 LiesOverEmpty target memory (Unmap base) number = ⊥
 LiesOverEmpty target memory (Protect base rights) number = ⊥
 LiesOverEmpty target memory (Ask address) number = ⊥
+LiesOverEmpty target memory (Remap base phys rights) number = ⊥
+LiesOverEmpty target memory (Split base) number = ⊥
+LiesOverEmpty target memory (Join base) number = ⊥
 
 -- the entries that lead to a table on the way allow less than these rights
 pub record AllowsLess (target : Target) (memory : Memory) (address : ℕ) (wanted : Rights) : Type 0 where
@@ -58,12 +64,48 @@ pub record AllowsLess (target : Target) (memory : Memory) (address : ℕ) (wante
   pub way : IsWay target.depth memory target.root address level number rights
   pub less : intersection rights wanted ≢ wanted
 
--- that a map's page is to allow more than the entries above it
+-- that a page is to allow more than the entries above it
 abbrev pub WantsMore : Target → Memory → Request → Type 0
 WantsMore target memory (Map page bits) = AllowsLess target memory page.base page.rights
 WantsMore target memory (Unmap base) = ⊥
 WantsMore target memory (Protect base rights) = AllowsLess target memory base rights
 WantsMore target memory (Ask address) = ⊥
+WantsMore target memory (Remap base phys rights) = AllowsLess target memory base rights
+WantsMore target memory (Split base) = ⊥
+WantsMore target memory (Join base) = ⊥
+
+-- the entry at an index of a table follows on from its first one, of a page of this size: as many pages on, with the same other bits but
+-- for the flags
+abbrev pub Follows : Size → ℕ → ℕ → ℕ → Type 0
+Follows size first index word = unflagged word ≡ unflagged first + index * bytes_of size
+
+-- the entries of a table below an index follow on from its first one
+abbrev pub FollowBelow : Memory → ℕ → Size → ℕ → ℕ → Type 0
+FollowBelow memory number size first index = (i : ℕ) → i < index → (word : ℕ) × (word_at memory number i ≡ Some word) × Follows size first i word
+
+-- the first entry of a table that doesn't follow on from the entry of the page that begins at the base
+pub record IsApart (target : Target) (memory : Memory) (base index : ℕ) : Type 0 where
+  pub level : ℕ
+  pub number : ℕ
+  pub first : ℕ
+  pub word : ℕ
+  pub reached : table_at (levels target.depth) memory target.root level base ≡ Some number
+  pub first_is : word_at memory number (index_at level base) ≡ Some first
+  pub leaf : (phys : ℕ) × (own : Rights) × (meaning level first ≡ entry.Leaf phys own)
+  pub within : index < 512
+  pub word_is : word_at memory number index ≡ Some word
+  pub apart : Follows (size_at level) first index word → ⊥
+  pub before : FollowBelow memory number (size_at level) first index
+
+-- that an entry keeps the pages of a table from being joined
+abbrev pub KeepsApart : Target → Memory → Request → ℕ → Type 0
+KeepsApart target memory (Map page bits) index = ⊥
+KeepsApart target memory (Unmap base) index = ⊥
+KeepsApart target memory (Protect base rights) index = ⊥
+KeepsApart target memory (Ask address) index = ⊥
+KeepsApart target memory (Remap base phys rights) index = ⊥
+KeepsApart target memory (Split base) index = ⊥
+KeepsApart target memory (Join base) index = IsApart target memory base index
 
 -- the answer is that of the step, or there is a reason for none; the frames were offered
 abbrev pub IsReply : Target → Request → Memory → Space → List (Option ℕ) → Reply → Type 0
@@ -74,6 +116,27 @@ IsReply target request memory space offered replies.Rights =
     WantsMore target memory request × IsTrue (changes (stepped target.depth space request).answer)
 IsReply target request memory space offered (replies.Empty number) = LiesOverEmpty target memory request number
 IsReply target request memory space offered (replies.Reserved number index) = ⊥
+IsReply target request memory space offered replies.PhysUnaligned = refusal target space request ≡ Some replies.PhysUnaligned
+IsReply target request memory space offered replies.PhysRange = refusal target space request ≡ Some replies.PhysRange
+IsReply target request memory space offered replies.Smallest = refusal target space request ≡ Some replies.Smallest
+IsReply target request memory space offered replies.Largest = refusal target space request ≡ Some replies.Largest
+IsReply target request memory space offered replies.Unaligned = refusal target space request ≡ Some replies.Unaligned
+IsReply target request memory space offered (replies.Apart index) = KeepsApart target memory request index
+
+-- the refusal that a reply is, if it is one
+abbrev pub refusal_in : Reply → Option Reply
+refusal_in (replies.Answer answer) = None
+refusal_in replies.NoFrame = None
+refusal_in (replies.FrameRange number) = None
+refusal_in replies.Rights = None
+refusal_in (replies.Empty number) = None
+refusal_in (replies.Reserved number index) = None
+refusal_in replies.PhysUnaligned = Some replies.PhysUnaligned
+refusal_in replies.PhysRange = Some replies.PhysRange
+refusal_in replies.Smallest = Some replies.Smallest
+refusal_in replies.Largest = Some replies.Largest
+refusal_in replies.Unaligned = Some replies.Unaligned
+refusal_in (replies.Apart index) = None
 
 -- the space after the stores
 abbrev pub space_after : Target → Request → Space → Reply → Space
@@ -83,6 +146,12 @@ space_after target request space (replies.FrameRange number) = space
 space_after target request space replies.Rights = space
 space_after target request space (replies.Empty number) = space
 space_after target request space (replies.Reserved number index) = space
+space_after target request space replies.PhysUnaligned = space
+space_after target request space replies.PhysRange = space
+space_after target request space replies.Smallest = space
+space_after target request space replies.Largest = space
+space_after target request space replies.Unaligned = space
+space_after target request space (replies.Apart index) = space
 
 -- whether something is changed
 abbrev pub Changes : Reply → Type 0
@@ -92,6 +161,12 @@ Changes (replies.FrameRange number) = ⊥
 Changes replies.Rights = ⊥
 Changes (replies.Empty number) = ⊥
 Changes (replies.Reserved number index) = ⊥
+Changes replies.PhysUnaligned = ⊥
+Changes replies.PhysRange = ⊥
+Changes replies.Smallest = ⊥
+Changes replies.Largest = ⊥
+Changes replies.Unaligned = ⊥
+Changes (replies.Apart index) = ⊥
 
 -- ---- the stores
 
@@ -109,6 +184,24 @@ pub data IsMeant (target : Target) (memory : Memory) (address : ℕ) (unlinked :
       → Contains unlinked below → on.level ≤ highest_link target → store.new ≡ 0 → IsMeant target memory address unlinked store
   OfSpare : IsSpare target.depth memory target.root store.frame → IsMeant target memory address unlinked store
 
+-- a join's store: of the link to the table that is unlinked, on the way
+pub record IsMeantByJoin (target : Target) (memory : Memory) (base : ℕ) (unlinked : List ℕ) (store : Store) : Type 0 where
+  pub on : IsOnWay target memory base store
+  pub below : ℕ
+  pub leads : table_in (Some (meaning on.level store.old)) ≡ Some below
+  pub named : Contains unlinked below
+  pub may : on.level ≤ highest_link target
+
+-- what a store of a request may change
+abbrev pub IsMeantBy : Target → Memory → Request → List ℕ → Store → Type 0
+IsMeantBy target memory (Map page bits) unlinked store = IsMeant target memory page.base unlinked store
+IsMeantBy target memory (Unmap base) unlinked store = IsMeant target memory base unlinked store
+IsMeantBy target memory (Protect base rights) unlinked store = IsMeant target memory base unlinked store
+IsMeantBy target memory (Ask address) unlinked store = IsMeant target memory address unlinked store
+IsMeantBy target memory (Remap base phys rights) unlinked store = IsMeant target memory base unlinked store
+IsMeantBy target memory (Split base) unlinked store = IsMeant target memory base unlinked store
+IsMeantBy target memory (Join base) unlinked store = IsMeantByJoin target memory base unlinked store
+
 -- a table that is unlinked: it was on the way of the address, below the root; now its words are all 0, and no way leads to it
 pub record IsUnlinked (target : Target) (memory after : Memory) (address number : ℕ) : Type 0 where
   pub level : ℕ
@@ -116,6 +209,23 @@ pub record IsUnlinked (target : Target) (memory after : Memory) (address number 
   pub lower : level < levels target.depth
   pub clear : finite.get after number ≡ Some zeros
   pub unreached : (level b : ℕ) → table_at (levels target.depth) after target.root level b ≢ Some number
+
+-- a table that a join unlinks: the same, but that its words are as they were
+pub record IsLeft (target : Target) (memory after : Memory) (base number : ℕ) : Type 0 where
+  pub level : ℕ
+  pub was : table_at (levels target.depth) memory target.root level base ≡ Some number
+  pub lower : level < levels target.depth
+  pub same : finite.get after number ≡ finite.get memory number
+  pub unreached : (level b : ℕ) → table_at (levels target.depth) after target.root level b ≢ Some number
+
+abbrev pub IsUnlinkedBy : Target → Memory → Memory → Request → ℕ → Type 0
+IsUnlinkedBy target memory after (Map page bits) number = IsUnlinked target memory after page.base number
+IsUnlinkedBy target memory after (Unmap base) number = IsUnlinked target memory after base number
+IsUnlinkedBy target memory after (Protect base rights) number = IsUnlinked target memory after base number
+IsUnlinkedBy target memory after (Ask address) number = IsUnlinked target memory after address number
+IsUnlinkedBy target memory after (Remap base phys rights) number = IsUnlinked target memory after base number
+IsUnlinkedBy target memory after (Split base) number = IsUnlinked target memory after base number
+IsUnlinkedBy target memory after (Join base) number = IsLeft target memory after base number
 
 -- a frame has a word that isn't 0
 pub record HasWord (memory : Memory) (number : ℕ) : Type 0 where
@@ -132,6 +242,9 @@ IsPruned target after (Unmap base) (store ∷ stores) = (level number : ℕ) →
     → table_at (levels target.depth) after target.root level base ≡ Some number → HasWord after number
 IsPruned target after (Protect base rights) (store ∷ stores) = Unit {0}
 IsPruned target after (Ask address) (store ∷ stores) = Unit {0}
+IsPruned target after (Remap base phys rights) (store ∷ stores) = Unit {0}
+IsPruned target after (Split base) (store ∷ stores) = Unit {0}
+IsPruned target after (Join base) (store ∷ stores) = Unit {0}
 
 -- ---- the bits of the page's entry
 
@@ -140,13 +253,17 @@ abbrev pub AreLinks : ℕ → List Store → Type 0
 AreLinks below [] = Unit {0}
 AreLinks below (store ∷ stores) = (store.new ≡ table_word below) × AreLinks store.frame stores
 
--- the first store writes the page's entry: with its bits, and the later ones link new tables; none; with other rights
+-- the first store writes the page's entry: with its bits, and the later ones link new tables; none; with other rights. What a remap, a
+-- split or a join writes, `IsPut` says.
 abbrev pub IsWritten : Request → List Store → Type 0
 IsWritten request [] = Unit {0}
 IsWritten (Map page bits) (store ∷ stores) = (store.new ≡ page_word page bits) × AreLinks store.frame stores
 IsWritten (Unmap base) (store ∷ stores) = store.new ≡ 0
 IsWritten (Protect base rights) (store ∷ stores) = (store.new ≡ with_rights store.old rights) × (stores ≡ [])
 IsWritten (Ask address) (store ∷ stores) = ⊥
+IsWritten (Remap base phys rights) (store ∷ stores) = stores ≡ []
+IsWritten (Split base) (store ∷ stores) = stores ≡ []
+IsWritten (Join base) (store ∷ stores) = stores ≡ []
 
 -- a map changes no word that is present (bit 0), and an unmap leaves only 0
 abbrev pub IsOneWay : Request → List Store → Type 0
@@ -154,6 +271,9 @@ IsOneWay (Map page bits) stores = All (λ store. store.old % 2 ≡ 0) stores
 IsOneWay (Unmap base) stores = All (λ store. store.new ≡ 0) stores
 IsOneWay (Protect base rights) stores = Unit {0}
 IsOneWay (Ask address) stores = Unit {0}
+IsOneWay (Remap base phys rights) stores = Unit {0}
+IsOneWay (Split base) stores = Unit {0}
+IsOneWay (Join base) stores = Unit {0}
 
 -- the entry of the page at an address, of this size
 pub record IsEntryOf (target : Target) (memory : Memory) (address : ℕ) (size : Size) (word : ℕ) : Type 0 where
@@ -174,9 +294,81 @@ IsTold target memory address bits (replies.Answer (answers.Changed rights)) =
     (size : Size) × (word : ℕ) × IsEntryOf target memory address size word × (bits ≡ bits_in size word)
 IsTold target memory address bits reply = bits ≡ 0
 
+-- ---- what a remap, a split or a join writes
+
+-- a remap writes the page's entry with another physical address and other rights
+pub record IsRemapped (target : Target) (memory : Memory) (base phys : ℕ) (rights : Rights) (store : Store) : Type 0 where
+  pub size : Size
+  pub entry_is : IsEntryOf target memory base size store.old
+  pub frame : store.frame ≡ entry_is.number
+  pub at : store.index ≡ index_at entry_is.level base
+  pub new : store.new ≡ with_rights (with_address size store.old phys) rights
+
+-- a split fills a spare frame that was offered with the entries of the page's parts, which have the page's rights and bits, and links it
+pub record IsSplit (target : Target) (memory : Memory) (base : ℕ) (offered : List (Option ℕ)) (fill : Fill) (store : Store) : Type 0 where
+  pub size : Size
+  pub phys : ℕ
+  pub own : Rights
+  pub entry_is : IsEntryOf target memory base size store.old
+  pub frame : store.frame ≡ entry_is.number
+  pub at : store.index ≡ index_at entry_is.level base
+  pub aligned : base % bytes_of size ≡ 0
+  pub says : meaning (level_of size) store.old ≡ entry.Leaf phys own
+  pub given : Contains offered (Some fill.frame)
+  pub within : fill.frame < frames_end target
+  pub spare : IsSpare target.depth memory target.root fill.frame
+  pub first : fill.first ≡ page_word (record { base = base; size = smaller size; rights = own; phys = phys }) (bits_in size store.old)
+  pub step : fill.step ≡ bytes_of (smaller size)
+  pub link : store.new ≡ table_word fill.frame
+
+-- a join writes one page's entry in the place of the link to a table, whose entries follow on from its first one: with the rights and the
+-- bits of that one, as far as the link allows, and with both flags set
+pub record IsJoined (target : Target) (memory : Memory) (base : ℕ) (unlinked : List ℕ) (store : Store) : Type 0 where
+  pub level : ℕ
+  pub number : ℕ
+  pub first : ℕ
+  pub phys : ℕ
+  pub own : Rights
+  pub allowed : Rights
+  pub few : level < 3
+  pub reached : table_at (levels target.depth) memory target.root level base ≡ Some number
+  pub first_is : word_at memory number (index_at level base) ≡ Some first
+  pub says : meaning level first ≡ entry.Leaf phys own
+  pub aligned : base % bytes_of (larger (size_at level)) ≡ 0
+  pub follow : FollowBelow memory number (size_at level) first 512
+  pub above : table_at (levels target.depth) memory target.root (suc level) base ≡ Some store.frame
+  pub index_is : store.index ≡ index_at (suc level) base
+  pub leads : meaning (suc level) store.old ≡ entry.Table number allowed
+  pub new : store.new ≡ page_word (record { base = base; size = larger (size_at level); rights = intersection allowed own; phys = phys })
+      (flagged (bits_in (size_at level) first))
+  pub unlinked_is : unlinked ≡ number ∷ []
+
+-- which table is filled, and what is written, by one store: a split alone fills one
+abbrev pub IsPut : Target → Request → Memory → List (Option ℕ) → Option Fill → List Store → List ℕ → Type 0
+IsPut target request memory offered fill [] unlinked = fill ≡ None
+IsPut target (Map page bits) memory offered fill (store ∷ stores) unlinked = fill ≡ None
+IsPut target (Unmap base) memory offered fill (store ∷ stores) unlinked = fill ≡ None
+IsPut target (Protect base rights) memory offered fill (store ∷ stores) unlinked = fill ≡ None
+IsPut target (Ask address) memory offered fill (store ∷ stores) unlinked = fill ≡ None
+IsPut target (Remap base phys rights) memory offered fill (store ∷ stores) unlinked = (fill ≡ None) × IsRemapped target memory base phys rights store
+IsPut target (Split base) memory offered fill (store ∷ stores) unlinked = (table : Fill) × (fill ≡ Some table) × IsSplit target memory base offered table store
+IsPut target (Join base) memory offered fill (store ∷ stores) unlinked = (fill ≡ None) × IsJoined target memory base unlinked store
+
+-- where pages are joined, the space has each part of the page that takes their place
+abbrev pub Fits : Request → Space → List Store → Type 0
+Fits request space [] = Unit {0}
+Fits (Map page bits) space (store ∷ stores) = Unit {0}
+Fits (Unmap base) space (store ∷ stores) = Unit {0}
+Fits (Protect base rights) space (store ∷ stores) = Unit {0}
+Fits (Ask address) space (store ∷ stores) = Unit {0}
+Fits (Remap base phys rights) space (store ∷ stores) = Unit {0}
+Fits (Split base) space (store ∷ stores) = Unit {0}
+Fits (Join base) space (store ∷ stores) = (page : Page) × (page.base ≡ base) × (page.size ≢ K4) × HasParts space page
+
 -- ---- what is flushed
 
--- nothing where nothing was stored, and after a map; else the page at the base, with the tables where one was unlinked
+-- nothing where nothing was stored, and after a map; else the page at the base, with the tables where one was unlinked; where pages of
+-- another size take a page's place, all that was kept for their addresses
 abbrev pub IsFlushed : Target → Memory → Request → List Store → List ℕ → Flush → Type 0
 IsFlushed target memory request [] unlinked flush = flush ≡ flushes.Nothing
 IsFlushed target memory (Map page bits) (store ∷ stores) unlinked flush = flush ≡ flushes.Nothing
@@ -187,22 +379,39 @@ IsFlushed target memory (Unmap base) (store ∷ stores) (number ∷ numbers) flu
 IsFlushed target memory (Protect base rights) (store ∷ stores) unlinked flush =
     (size : Size) × IsEntryOf target memory base size store.old × (flush ≡ flushes.Page base size)
 IsFlushed target memory (Ask address) (store ∷ stores) unlinked flush = ⊥
+IsFlushed target memory (Remap base phys rights) (store ∷ stores) unlinked flush =
+    (size : Size) × IsEntryOf target memory base size store.old × (flush ≡ flushes.Page base size)
+IsFlushed target memory (Split base) (store ∷ stores) unlinked flush =
+    (size : Size) × IsEntryOf target memory base size store.old × (flush ≡ flushes.Range base size)
+IsFlushed target memory (Join base) (store ∷ stores) unlinked flush =
+    (size : Size) × (first : ℕ) × IsEntryOf target memory base size first × (flush ≡ flushes.Range base (larger size))
 
 -- ---- all of it
 
+-- the memory in which the stores are made: with the table that is filled before them
+abbrev pub begun : Memory → Plan → Memory
+begun memory plan = filled memory plan.fill
+
+-- the memory after them
+abbrev pub ended : Memory → Plan → Memory
+ended memory plan = stored_all (begun memory plan) plan.stores.items
+
 pub record IsRight (target : Target) (request : Request) (memory : Memory) (space : Space) (offered : List (Option ℕ)) (plan : Plan) : Type 0 where
   pub reply : IsReply target request memory space offered plan.reply
-  pub safe : AreSafe target.depth memory target.root space (space_after target request space plan.reply) plan.stores.items
-  pub found : FindTheirWords memory plan.stores.items
-  pub meant : All (IsMeant target memory (address_of request) plan.unlinked.items) plan.stores.items
+  pub due : refusal target space request ≡ refusal_in plan.reply
+  pub put : IsPut target request memory offered plan.fill plan.stores.items plan.unlinked.items
+  pub fits : Fits request space plan.stores.items
+  pub safe : AreSafe target.depth (begun memory plan) target.root space (space_after target request space plan.reply) plan.stores.items
+  pub found : FindTheirWords (begun memory plan) plan.stores.items
+  pub meant : All (IsMeantBy target memory request plan.unlinked.items) plan.stores.items
   pub nothing : (Changes plan.reply → ⊥) → plan.stores.items ≡ []
   pub written : IsWritten request plan.stores.items
   pub changing : All (λ store. store.old ≢ store.new) plan.stores.items
   pub one_way : IsOneWay request plan.stores.items
   pub told : IsTold target memory (address_of request) plan.bits plan.reply
   pub flushed : IsFlushed target memory request plan.stores.items plan.unlinked.items plan.flush
-  pub unlinked : All (IsUnlinked target memory (stored_all memory plan.stores.items) (address_of request)) plan.unlinked.items
-  pub pruned : IsPruned target (stored_all memory plan.stores.items) request plan.stores.items
+  pub unlinked : All (IsUnlinkedBy target memory (ended memory plan) request) plan.unlinked.items
+  pub pruned : IsPruned target (ended memory plan) request plan.stores.items
   pub named_once : AllPairs (λ number other. number ≢ other) plan.unlinked.items
-  pub whole : AreWhole (stored_all memory plan.stores.items)
-  pub own : (a : ℕ) → HasOwnWay target.depth memory target.root a → HasOwnWay target.depth (stored_all memory plan.stores.items) target.root a
+  pub whole : AreWhole (ended memory plan)
+  pub own : (a : ℕ) → HasOwnWay target.depth memory target.root a → HasOwnWay target.depth (ended memory plan) target.root a

@@ -2,7 +2,7 @@
 use Rattle.std.specs.Prelude.{◌≡◌, ◌≢◌, ℕ, suc, ◌+◌, ◌-◌, ◌%◌, ◌<◌, ◌≤◌, List, All, Option, Some, Contains, map, slice_index, [], ◌∷◌}
 use Rattle.std.specs.FinMap as finite
 use Rattle.vs_types.specs.Depth.{levels, table_bytes, index_at, IsCanonical}
-use Rattle.vs_types.specs.Entry.{meaning}
+use Rattle.vs_types.specs.Entry.{meaning, size_at}
 use Rattle.vs_types.specs.Page.{level_of, bytes_of, intersection}
 use Rattle.vs_types.specs.Space.{Space}
 use Rattle.vs_types.specs.declared.depth.Depth.{Depth}
@@ -20,7 +20,7 @@ use Rattle.vs_plan.specs.declared.plan.Store.{Store}
 use Rattle.vs_plan.specs.declared.planner.Phase.{Phase}
 use Rattle.vs_plan.specs.declared.planner.Phase.TheVariants as phases
 use Rattle.vs_plan.specs.declared.planner.Planner.{Planner}
-use Rattle.vs_plan.specs.declared.request.Request.TheVariants.{Map, Unmap}
+use Rattle.vs_plan.specs.declared.request.Request.TheVariants.{Map, Unmap, Split}
 use Rattle.vs_plan.specs.Premise.{IsPremise, IsSpare}
 use Rattle.vs_plan.specs.Request.{address_of}
 use Rattle.vs_plan.specs.Right.{IsRight, IsWritten}
@@ -134,12 +134,24 @@ pub record IsGrown (memory : Memory) (planner : Planner) : Type 0 where
   pub allows : intersection planner.rights page.rights ≡ page.rights
   pub filled : AreFilled planner.target.depth memory planner.target.root page bits planner.height planner.below planner.stores.items
 
+-- ---- at the entry of a page that is to be split
+
+pub record IsDivided (memory : Memory) (planner : Planner) : Type 0 where
+  pub base : ℕ
+  pub request : planner.request ≡ Split base
+  pub way : IsWay planner.target.depth memory planner.target.root base planner.level planner.number planner.rights
+  pub word_is : word_at memory planner.number (index_at planner.level base) ≡ Some (slice_index planner.words planner.level)
+  pub page : (phys : ℕ) × (own : Rights) × (meaning planner.level (slice_index planner.words planner.level) ≡ entry.Leaf phys own)
+  pub aligned : base % bytes_of (size_at planner.level) ≡ 0
+  pub large : 1 < planner.level
+
 -- ---- all of it
 
 abbrev pub IsShownIn : Phase → Memory → Planner → Type 0
 IsShownIn phases.Descent memory planner = IsDescended memory planner
 IsShownIn phases.Search memory planner = IsSearched memory planner
 IsShownIn phases.Growth memory planner = IsGrown memory planner
+IsShownIn phases.Division memory planner = IsDivided memory planner
 IsShownIn phases.Ended memory planner = Unit {0}
 
 -- what the planner keeps is so in the memory

@@ -1,10 +1,12 @@
--- Stores, one after another.
-use Rattle.std.specs.Prelude.{◌≡◌, ℕ, ◌<◌, ◌≤◌, List, [], ◌∷◌, length, take, Some}
+-- Stores, one after another, and the fill of a table before them.
+use Rattle.std.specs.Prelude.{◌≡◌, ℕ, zero, suc, ◌+◌, ◌<◌, ◌≤◌, List, [], ◌∷◌, length, take, Option, Some, None}
+use Rattle.std.specs.FinMap as finite
 use Rattle.vs_types.specs.Space.{Space}
 use Rattle.vs_types.specs.declared.depth.Depth.{Depth}
 use Rattle.vs_walk.specs.Memory.{Memory}
 use Rattle.vs_walk.specs.Walk.{TranslatesAs}
 use Rattle.vs_space.specs.Held.{word_at, with_word}
+use Rattle.vs_plan.specs.declared.plan.Fill.{Fill}
 use Rattle.vs_plan.specs.declared.plan.Store.{Store}
 
 -- the memory after a store
@@ -27,3 +29,13 @@ pub record AreSafe (depth : Depth) (memory : Memory) (root : ℕ) (before after 
   pub until : (n : ℕ) → n ≤ switch → n ≤ length stores → TranslatesAs depth (stored_all memory (take n stores)) root before
   pub since : (n : ℕ) → switch < n → n ≤ length stores → TranslatesAs depth (stored_all memory (take n stores)) root after
   pub done : TranslatesAs depth (stored_all memory stores) root after
+
+-- numbers from the first on, each this step above the one before, so many
+unfoldable pub stepping : ℕ → ℕ → ℕ → List ℕ
+stepping first step zero = []
+stepping first step (suc count) = first ∷ stepping (first + step) step count
+
+-- the memory once a table is filled
+abbrev pub filled : Memory → Option Fill → Memory
+filled memory None = memory
+filled memory (Some fill) = finite.insert memory fill.frame (stepping fill.first fill.step 512)

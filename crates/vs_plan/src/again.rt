@@ -1,7 +1,8 @@
-ghost use Rattle.std.specs.Prelude.{◌≡◌, ◌/◌, ◌%◌, ◌^◌, IfNone, IfSome};
-ghost use Rattle.vs_plan.specs.Again.{HasFlagsSet, with_flags_of};
+ghost use Rattle.std.specs.Prelude.{◌≡◌, ◌<◌, ◌/◌, ◌%◌, ◌^◌, IfNone, IfSome, IsTrue, IsFalse, length, slice_index_or};
+ghost use Rattle.vs_plan.specs.declared.plan.Store.{Store};
+ghost use Rattle.vs_plan.specs.Again.{HasFlagsSet, IsPlanAgain, bits_again, fill_again, flags_into, new_again, with_flags_of};
 
-use crate::plan::Store;
+use crate::plan::{Fill, Plan, Store};
 
 /// The words that differ in bits 5 and 6 alone have the same rest and the same quotient.
 const BELOW_FLAGS: u64 = 1 << 5;
@@ -16,10 +17,7 @@ impl Store {
             × (store ≡ record self { old = word; new = with_flags_of word self.new })) }
         ensures none { IfNone result (HasFlagsSet self.old word → ⊥) }
     {
-        let same = self.old % 2 == 1
-            && self.old % BELOW_FLAGS == word % BELOW_FLAGS
-            && self.old / ABOVE_FLAGS == word / ABOVE_FLAGS;
-        if !same {
+        if !has_flags_set(self.old, word) {
             return None;
         }
         Some(Store {
@@ -30,6 +28,99 @@ impl Store {
     }
 }
 
+impl Fill {
+    /// The fill, where a processor has set its flags in the word of the page that is split since it was shown: with these flags in
+    /// each entry.
+    pub fn again(self, word: u64) -> Fill
+        ensures { result ≡ record self { first = flags_into word self.first } }
+    {
+        Fill {
+            first: flags_into(word, self.first),
+            ..self
+        }
+    }
+}
+
+impl Plan {
+    /// Where the store at this index finds this word, in which a processor has set its flags since it was shown: makes the plan one for
+    /// it, so that no flag is lost. The store has the word as `old`; its flags are in `new`, or by a split in the fill, which is to be
+    /// made again; and they are in the bits of the page's entry. Whether it did: else anything else differs, the word is no entry,
+    /// or there is no such store, and the plan stays.
+    pub fn again(&mut self, index: usize, word: u64) -> bool
+        ensures done { IsTrue result → IsPlanAgain self.old index word self.new }
+        ensures stays { IsFalse result → self.new ≡ self.old }
+        ensures none { IsFalse result → (store : Store) → index < length self.old.stores.items
+            → store ≡ slice_index_or self.old.stores.items index store
+            → HasFlagsSet store.old word → ⊥ }
+    {
+        if index >= self.stores.len() {
+            return false;
+        }
+        let store = self.stores.as_slice()[index];
+        if !has_flags_set(store.old, word) {
+            return false;
+        }
+        let new = self.new_again(word, store.new);
+        self.bits = self.bits_again(index, word, store.new);
+        self.fill = fill_again(word, self.fill);
+        self.stores.as_mut_slice()[index] = Store {
+            old: word,
+            new,
+            ..store
+        };
+        true
+    }
+
+    /// What a store writes that found this word.
+    fn new_again(&self, word: u64, new: u64) -> u64
+        ensures { result ≡ new_again self.now.fill self.now.unlinked.items word new }
+    {
+        if self.fill.is_some() || !self.unlinked.is_empty() {
+            return new;
+        }
+        with_flags_of(word, new)
+    }
+
+    /// The bits of the page's entry, once the store at this index found this word.
+    fn bits_again(&self, index: usize, word: u64, new: u64) -> u64
+        ensures { result ≡ bits_again index self.now.unlinked.items word new self.now.bits }
+    {
+        if index != 0 || (!self.unlinked.is_empty() && new != 0) {
+            return self.bits;
+        }
+        flags_into(word, self.bits)
+    }
+}
+
+/// A fill with the flags of a word, if there is one.
+fn fill_again(word: u64, fill: Option<Fill>) -> Option<Fill>
+    ensures { result ≡ fill_again word fill }
+{
+    match fill {
+        Some(fill) => Some(fill.again(word)),
+        None => None,
+    }
+}
+
+/// Whether a word is an entry, and another one is as it is but for the flags.
+fn has_flags_set(old: u64, word: u64) -> bool
+    ensures yes { IsTrue result → HasFlagsSet old word }
+    ensures no { IsFalse result → HasFlagsSet old word → ⊥ }
+{
+    old % 2 == 1
+        && old % BELOW_FLAGS == word % BELOW_FLAGS
+        && old / ABOVE_FLAGS == word / ABOVE_FLAGS
+}
+
+/// A number with the flags of a word.
+fn flags_into(word: u64, number: u64) -> u64
+    ensures { result ≡ flags_into word number }
+{
+    number % BELOW_FLAGS
+        + word % ABOVE_FLAGS / BELOW_FLAGS * BELOW_FLAGS
+        + number / ABOVE_FLAGS * ABOVE_FLAGS
+}
+
 /// An entry with the flags of a word; what is no entry stays.
 fn with_flags_of(word: u64, entry: u64) -> u64
     ensures { result ≡ with_flags_of word entry }
@@ -37,7 +128,5 @@ fn with_flags_of(word: u64, entry: u64) -> u64
     if entry % 2 == 0 {
         return entry;
     }
-    entry % BELOW_FLAGS
-        + word % ABOVE_FLAGS / BELOW_FLAGS * BELOW_FLAGS
-        + entry / ABOVE_FLAGS * ABOVE_FLAGS
+    flags_into(word, entry)
 }

@@ -7,7 +7,7 @@ ghost use Rattle.vs_types.specs.declared.page.Page.{Page};
 ghost use Rattle.vs_walk.specs.Memory.{Memory};
 ghost use Rattle.vs_plan.specs.declared.planner.Phase.{Phase};
 ghost use Rattle.vs_plan.specs.declared.request.Request.{Request};
-ghost use Rattle.vs_plan.specs.Planner.{HasGiven, frames_given, AwaitsFrame, Awaits, IsSpareFor, sees_left, gives_left};
+ghost use Rattle.vs_plan.specs.Planner.{HasGiven, frames_given, AwaitsFrame, AwaitsGrowth, Awaits, IsSpareFor, sees_left, gives_left};
 ghost use Rattle.vs_plan.specs.Shown.{IsShown, IsGrown, IsNext};
 ghost use Rattle.vs_plan.specs.inside.Ended.{IsAtEnd, HasEnded, IsEnd, IsPlanned, IsFilledUp};
 
@@ -40,9 +40,26 @@ impl Planner {
         if number >= self.target.frames_end() {
             return self.refuse(Reply::FrameRange(number));
         }
-        let Request::Map(page, bits) = self.request else {
-            unreachable!();
-        };
+        match self.request {
+            Request::Map(page, bits) => self.grow_on(page, bits, number),
+            Request::Split(base) => self.divide(base, number),
+            _ => unreachable!(),
+        }
+    }
+
+    /// Fills the next new table, in this frame, and links them all if it was the last.
+    fn grow_on(&mut self, page: Page, bits: u64, number: u64) -> Step
+        requires awaits { AwaitsGrowth self.old }
+        requires request { self.old.request ≡ Request.Map page bits }
+        requires in_range { number < 2 ^ 40 }
+        ensures same { (self.new.target ≡ self.old.target)
+            × (self.new.request ≡ self.old.request) }
+        ensures awaits { Awaits self.new result }
+        ensures fewer { gives_left self.new result < self.old.level - self.old.height }
+        ensures given { HasGiven self.new (frames_given self.old ++ number ∷ []) result }
+        ensures next { (memory : Memory) (offered : List (Option ℕ)) → IsGrown memory self.old
+            → IsSpareFor memory self.old number → IsNext memory self.new offered result }
+    {
         self.fill(page, bits, number);
         if self.height < self.level {
             return Step::Give;
@@ -127,7 +144,7 @@ impl Planner {
 
     /// Fills the next new table, in this frame: with the entry of the page, or with the link to the table below.
     fn fill(&mut self, page: Page, bits: u64, number: u64)
-        requires awaits { AwaitsFrame self.old }
+        requires awaits { AwaitsGrowth self.old }
         requires request { self.old.request ≡ Request.Map page bits }
         requires in_range { number < 2 ^ 40 }
         ensures same { self.new ≡ record self.old {

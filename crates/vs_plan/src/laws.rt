@@ -1,20 +1,23 @@
 //! Laws of the definitions in `specs/`. Each function does nothing: its clauses say what holds of all processors and plans.
 
-ghost use Rattle.std.specs.Prelude.{◌≡◌, ℕ, List, ◌∷◌, Option};
+ghost use Rattle.std.specs.Prelude.{◌≡◌, ℕ, List, Option, Some, true, ◌∷◌};
+ghost use Rattle.std.specs.FinMap as finite;
 ghost use Rattle.vs_types.specs.Depth.{IsCanonical};
-ghost use Rattle.vs_types.specs.Space.{Space};
+ghost use Rattle.vs_types.specs.Space.{Space, no_pages};
 ghost use Rattle.vs_types.specs.declared.depth.Depth.{Depth};
-ghost use Rattle.vs_walk.specs.Memory.{Memory};
+ghost use Rattle.vs_arena.specs.Store.{zeros};
+ghost use Rattle.vs_walk.specs.Memory.{Memory, AreWhole};
 ghost use Rattle.vs_walk.specs.Walk.{walk};
 ghost use Rattle.vs_walk.specs.declared.walk.Walk.{Walk};
 ghost use Rattle.vs_plan.specs.declared.plan.Plan.{Plan};
 ghost use Rattle.vs_plan.specs.declared.request.Request.{Request};
 ghost use Rattle.vs_plan.specs.declared.target.Target.{Target};
 ghost use Rattle.vs_plan.specs.Flushed.{Suffices};
-ghost use Rattle.vs_plan.specs.Premise.{IsPremise};
+ghost use Rattle.vs_plan.specs.Other.{HasSameTables, IsBeside, IsRightBeside};
+ghost use Rattle.vs_plan.specs.Premise.{IsPremise, HasOwnWay};
 ghost use Rattle.vs_plan.specs.Processor.{Moment, Is, MayFind, IsUpToDate};
-ghost use Rattle.vs_plan.specs.Request.{address_of};
-ghost use Rattle.vs_plan.specs.Right.{IsRight};
+ghost use Rattle.vs_plan.specs.Request.{IsRequest, address_of};
+ghost use Rattle.vs_plan.specs.Right.{IsRight, space_after, begun, ended};
 
 /// An access of a processor that is up to date finds what a walk of the memory finds. It stays up to date while the memory stays.
 pub fn up_to_date_processors_find_walks()
@@ -26,14 +29,58 @@ pub fn up_to_date_processors_find_walks()
         → IsUpToDate depth root memory (Is memory ∷ moments) }
 {}
 
-/// The flush of a right plan suffices for each processor that was up to date before its stores: while they are made, an access
-/// finds what a walk finds before or after them all; after them and the flush the processor is up to date; and then it keeps
-/// nothing that leads into a frame that was unlinked.
+/// The fill of a right plan changes no table that is reached, so that no processor reads it (`unreached_frames_are_unread`). And its flush
+/// suffices for each processor that was up to date before its stores: while they are made, an access finds what a walk finds before or
+/// after them all; after them and the flush the processor is up to date; and then it keeps nothing that leads into a frame that
+/// was unlinked.
 pub fn flushes_of_right_plans_suffice()
-    ensures { (target : Target) (request : Request) (memory : Memory) (space : Space)
+    ensures filled { (target : Target) (request : Request) (memory : Memory) (space : Space)
+        (offered : List (Option ℕ)) (plan : Plan)
+        → IsRight target request memory space offered plan
+        → HasSameTables target.depth target.root memory (begun memory plan) }
+    ensures suffice { (target : Target) (request : Request) (memory : Memory) (space : Space)
         (offered : List (Option ℕ)) (plan : Plan)
         → IsPremise target.depth memory target.root (address_of request) space
         → IsRight target request memory space offered plan
-        → Suffices target.depth target.root memory plan.stores.items plan.flush
+        → Suffices target.depth target.root (begun memory plan) plan.stores.items plan.flush
         plan.unlinked.items }
+{}
+
+/// What is written into a frame to which no way leads is read by no processor: each stays up to date, and each walk is as before.
+pub fn unreached_frames_are_unread()
+    ensures keep { (depth : Depth) (root : ℕ) (old new : Memory) (moments : List Moment)
+        → HasSameTables depth root old new → IsUpToDate depth root old moments
+        → IsUpToDate depth root new (Is new ∷ moments) }
+    ensures walks { (depth : Depth) (root : ℕ) (old new : Memory) (address : ℕ)
+        → HasSameTables depth root old new
+        → walk depth new root address ≡ walk depth old root address }
+{}
+
+/// A plan for one root is right for each other root beside it that may share the tables below: after any number of
+/// the stores, an address whose root entries lead to one table is walked alike from both, and one that meets no table on the
+/// way of the plan's base is walked as before; no frame that was unlinked is reached; and the flush suffices for processors that walk
+/// from the other root.
+pub fn plans_are_right_beside_their_root()
+    ensures { (target : Target) (request : Request) (memory : Memory) (space : Space)
+        (offered : List (Option ℕ)) (plan : Plan) (other : ℕ)
+        → IsPremise target.depth memory target.root (address_of request) space
+        → IsRight target request memory space offered plan
+        → IsBeside target memory (address_of request) plan other
+        → IsRightBeside target memory (address_of request) plan other }
+{}
+
+/// Plans follow one another: a frame whose words are all 0 is the root of the empty space, and after a right plan what the next one asks of
+/// the memory holds with the space after it, for each address for which no other way led to the tables on its way.
+pub fn premises_hold_again()
+    ensures first { (depth : Depth) (memory : Memory) (root address : ℕ) → AreWhole memory
+        → finite.get memory root ≡ Some zeros
+        → IsPremise depth memory root address no_pages }
+    ensures next { (target : Target) (request : Request) (memory : Memory) (space : Space)
+        (offered : List (Option ℕ)) (plan : Plan) (address : ℕ)
+        → IsRequest target request
+        → IsPremise target.depth memory target.root (address_of request) space
+        → IsRight target request memory space offered plan
+        → HasOwnWay target.depth memory target.root address
+        → IsPremise target.depth (ended memory plan) target.root address
+        (space_after target request space plan.reply) }
 {}

@@ -32,6 +32,21 @@ pub enum Flush {
     Page(u64, Size),
     /// These, and all entries of paging-structure caches: tables were unlinked.
     PageAndTables(u64, Size),
+    /// The translations of all addresses from this base on for as many bytes as this size has, whatever pages they were kept for,
+    /// and all entries of paging-structure caches: pages of another size lie there.
+    Range(u64, Size),
+}
+
+/// A table that is filled before the stores: the word of this frame at index i, from 0 to 511, becomes `first + i * step`.
+#[repr(C)]
+#[derive(Clone, Copy, Debug, Default, PartialEq, Eq)]
+pub struct Fill {
+    /// The frame's number. No way leads to it before the stores.
+    pub frame: u64,
+    /// The word at index 0.
+    pub first: u64,
+    /// What a word has above the one before it.
+    pub step: u64,
 }
 
 /// What came out.
@@ -49,9 +64,23 @@ pub enum Reply {
     Empty(u64),
     /// A reserved bit is set in the word of this frame at this index, from 0 to 511.
     Reserved(u64, usize),
+    /// By a remap the physical address is no multiple of the size of the page that is there; by a join that of the page that is to take
+    /// the place of the others would be none.
+    PhysUnaligned,
+    /// By a remap the page would not lie below physical 2^51, or not within the physical addresses.
+    PhysRange,
+    /// The page that is to be split has 4 KiB.
+    Smallest,
+    /// The page that begins at the address of a join has 1 GiB.
+    Largest,
+    /// The address of a join is no multiple of the next larger size than that of the page that begins there.
+    Unaligned,
+    /// By a join the entry at this index, from 0 to 511, is the first in its table that is no page that follows on: with another physical
+    /// address, other rights or other bits, but for the accessed and the dirty flag.
+    Apart(usize),
 }
 
-/// What a caller has to do: the stores in their order, then the flush; then the frames that are no longer linked are its own.
+/// What a caller has to do: the fill, then the stores in their order, then the flush; then the frames that are no longer linked are its own.
 #[derive(Drop)]
 pub struct Plan {
     /// What came out.
@@ -59,11 +88,14 @@ pub struct Plan {
     /// The bits of the entry of the page that is removed, changed or asked for, as it was shown, beside its address and its rights:
     /// at the places that `Request::Map` has. 0 where there is no such page.
     pub bits: u64,
+    /// The table that has to be filled before the stores: by a split alone.
+    pub fill: Option<Fill>,
     /// The stores. None where nothing is changed.
     pub stores: ArrayVec<Store, MOST_STORES>,
     /// What has to be forgotten.
     pub flush: Flush,
-    /// The frame numbers of the tables that the stores unlink, in whose frames all words are 0 then.
+    /// The frame numbers of the tables that the stores unlink, in whose frames all words are 0 then. By a join their entries stay: the
+    /// frame has to be cleared before it is given again.
     pub unlinked: ArrayVec<u64, MOST_UNLINKED>,
 }
 
@@ -86,6 +118,7 @@ impl Plan {
         Plan {
             reply,
             bits,
+            fill: None,
             stores: ArrayVec::new(),
             flush: Flush::Nothing,
             unlinked: ArrayVec::new(),

@@ -45,6 +45,8 @@ pub enum Phase {
     Search,
     /// At an absent entry, below which new tables are filled, from the lowest up.
     Growth,
+    /// At the entry of a page that is to be split, whose parts' table is filled next.
+    Division,
     /// Its plan was made.
     Ended,
 }
@@ -113,7 +115,7 @@ impl Planner {
     {
         match self.phase {
             Phase::Descent | Phase::Search => Asks::Words(self.number),
-            Phase::Growth => Asks::Frame,
+            Phase::Growth | Phase::Division => Asks::Frame,
             Phase::Ended => Asks::Nothing,
         }
     }
@@ -133,7 +135,7 @@ impl Planner {
         match self.phase {
             Phase::Descent => self.descend(words),
             Phase::Search => self.search(words),
-            Phase::Growth | Phase::Ended => unreachable!(),
+            Phase::Growth | Phase::Division | Phase::Ended => unreachable!(),
         }
     }
 
@@ -162,7 +164,7 @@ impl Planner {
             self.level = level - 1;
             return Step::See(next);
         }
-        self.end(word)
+        self.end(word, words)
     }
 
     /// The table to which a word leads, and what it allows, where the way goes on below its level.
@@ -208,7 +210,7 @@ impl Planner {
     }
 
     /// Does what the request asks at the end of the way, at this word.
-    fn end(&mut self, word: u64) -> Step
+    fn end(&mut self, word: u64, words: &[u64; FRAME_WORDS]) -> Step
         requires { IsAtEnd self.old }
         ensures same { (self.new.target ≡ self.old.target)
             × (self.new.request ≡ self.old.request) }
@@ -216,13 +218,17 @@ impl Planner {
         ensures fewer { sees_left self.new result < self.old.level }
         ensures given { HasGiven self.new [] result }
         ensures next { (memory : Memory) → HasEnded memory self.old word
+            → finite.get memory self.old.number ≡ Some words.now
             → IsNext memory self.new [] result }
     {
         let plan = match self.request {
             Request::Map(page, bits) => return self.end_map(page, bits, word),
+            Request::Split(base) => return self.end_split(base, word),
             Request::Unmap(base) => self.plan_unmap(base, word),
             Request::Protect(base, rights) => self.plan_protect(base, rights, word),
             Request::Ask(address) => self.plan_ask(address, word),
+            Request::Remap(base, phys, rights) => self.plan_remap(base, phys, rights, word),
+            Request::Join(base) => self.plan_join(base, word, words),
         };
         self.phase = Phase::Ended;
         Step::Planned(plan)
@@ -244,7 +250,7 @@ impl Planner {
     }
 
     /// Where no page covers the address.
-    fn plan_absent(&self, address: u64, word: u64) -> Plan
+    pub(crate) fn plan_absent(&self, address: u64, word: u64) -> Plan
         requires end { IsAtEnd self.now }
         requires no_map { IsNoMap self.now.request }
         requires request { address_of self.now.request ≡ address }

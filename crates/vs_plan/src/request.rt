@@ -19,6 +19,15 @@ pub enum Request {
     Protect(u64, Rights),
     /// Translates this address.
     Ask(u64),
+    /// Lets the page that begins at this address lead to this physical address, with these rights. Its size stays, and so do the other
+    /// bits of its entry.
+    Remap(u64, u64, Rights),
+    /// Puts 512 pages of the next smaller size in the place of the page of 2 MiB or 1 GiB that begins at this address. They translate
+    /// as it does, and their entries have its bits.
+    Split(u64),
+    /// Puts one page of the next larger size in the place of the 512 pages of a table, the first of which begins at this address.
+    /// It translates as they do, and its entry has their bits, with both flags set.
+    Join(u64),
 }
 
 /// Why there is no plan for a request: the first reason that holds.
@@ -65,9 +74,12 @@ impl Request {
     {
         match self {
             Request::Map(page, _) => page.base,
-            Request::Unmap(address) | Request::Protect(address, _) | Request::Ask(address) => {
-                address
-            }
+            Request::Unmap(address)
+            | Request::Protect(address, _)
+            | Request::Ask(address)
+            | Request::Remap(address, _, _)
+            | Request::Split(address)
+            | Request::Join(address) => address,
         }
     }
 
@@ -77,7 +89,12 @@ impl Request {
     {
         match self {
             Request::Map(page, _) => page.size.level(),
-            Request::Unmap(_) | Request::Protect(_, _) | Request::Ask(_) => 1,
+            Request::Unmap(_)
+            | Request::Protect(_, _)
+            | Request::Ask(_)
+            | Request::Remap(_, _, _)
+            | Request::Split(_)
+            | Request::Join(_) => 1,
         }
     }
 
@@ -108,7 +125,11 @@ impl Request {
         }
         match self {
             Request::Map(page, bits) => test_page(page, bits, target.phys_bits),
-            Request::Unmap(base) | Request::Protect(base, _) => test_base(base),
+            Request::Unmap(base)
+            | Request::Protect(base, _)
+            | Request::Remap(base, _, _)
+            | Request::Split(base)
+            | Request::Join(base) => test_base(base),
             Request::Ask(_) => Ok(()),
         }
     }

@@ -1,9 +1,10 @@
-ghost use Rattle.std.specs.Prelude.{◌≡◌, ◌≢◌, ◌↔◌, ◌<◌, ◌≤◌, ◌%◌, ◌^◌, ℕ, IsTrue, IsFalse, slice_index};
+ghost use Rattle.std.specs.Prelude.{◌≡◌, ◌≢◌, ◌↔◌, ◌+◌, ◌<◌, ◌≤◌, ◌%◌, ◌^◌, ℕ, IsTrue, IsFalse, slice_index};
 ghost use Rattle.vs_types.specs.declared.frame.TheConstants.{FRAME_WORDS};
 ghost use Rattle.vs_types.specs.declared.entry.Meaning.{Meaning};
 ghost use Rattle.vs_types.specs.Entry.{meaning, leaf_word};
 ghost use Rattle.vs_types.specs.Page.{level_of, bytes_of, intersection};
-ghost use Rattle.vs_plan.specs.Bits.{AreBits, placed, page_word, bits_in, with_rights};
+ghost use Rattle.vs_plan.specs.Bits.{AreBits, placed, page_word, bits_in, with_rights, with_address, unflagged, flagged};
+ghost use Rattle.vs_plan.specs.Changes.{larger, smaller};
 
 use vs_types::{Entry, FRAME_WORDS, Page, Rights, Size};
 
@@ -29,7 +30,7 @@ fn placed(size: Size, bits: u64) -> u64
 pub(crate) fn page_word(page: Page, bits: u64) -> u64
     requires bits { AreBits bits }
     requires aligned { page.phys % bytes_of page.size ≡ 0 }
-    requires in_range { page.phys < 2 ^ 51 }
+    requires in_range { page.phys < 2 ^ 52 }
     ensures written { result ≡ page_word page bits }
     ensures read_back { meaning (level_of page.size) result ≡ Meaning.Leaf page.phys page.rights }
 {
@@ -38,7 +39,8 @@ pub(crate) fn page_word(page: Page, bits: u64) -> u64
 
 /// The bits of the entry of a page of this size.
 pub(crate) fn bits_in(size: Size, word: u64) -> u64
-    ensures { result ≡ bits_in size word }
+    ensures is { result ≡ bits_in size word }
+    ensures are_bits { AreBits result }
 {
     let high = (word >> 52) % (1 << 11) << 52;
     match size {
@@ -61,6 +63,50 @@ pub(crate) fn with_rights(word: u64, rights: Rights) -> u64
     word % 2 + write + user + word % (1 << 63) / (1 << 3) * (1 << 3) + no_fetch
 }
 
+/// The entry of a page of this size with this physical address, and its other bits as they were.
+pub(crate) fn with_address(size: Size, word: u64, phys: u64) -> u64
+    requires in_range { phys + bytes_of size ≤ 2 ^ 52 }
+    ensures { result ≡ with_address size word phys }
+{
+    word % size.bytes() + phys + (word >> 52 << 52)
+}
+
+/// A word without its accessed and its dirty flag.
+pub(crate) fn unflagged(word: u64) -> u64
+    ensures { result ≡ unflagged word }
+{
+    word % (1 << 5) + (word >> 7 << 7)
+}
+
+/// Bits of an entry with both flags.
+pub(crate) fn flagged(bits: u64) -> u64
+    requires { AreBits bits }
+    ensures is { result ≡ flagged bits }
+    ensures are_bits { AreBits result }
+{
+    unflagged(bits) + (3 << 5)
+}
+
+/// The next smaller size.
+pub(crate) fn smaller(size: Size) -> Size
+    ensures { result ≡ smaller size }
+{
+    match size {
+        Size::K4 | Size::M2 => Size::K4,
+        Size::G1 => Size::M2,
+    }
+}
+
+/// The next larger size.
+pub(crate) fn larger(size: Size) -> Size
+    ensures { result ≡ larger size }
+{
+    match size {
+        Size::K4 => Size::M2,
+        Size::M2 | Size::G1 => Size::G1,
+    }
+}
+
 /// Whether entries that allow these rights together allow all that is wanted.
 pub(crate) fn permits(above: Rights, wanted: Rights) -> bool
     ensures all { IsTrue result → intersection above wanted ≡ wanted }
@@ -69,13 +115,17 @@ pub(crate) fn permits(above: Rights, wanted: Rights) -> bool
     above.intersection(wanted) == wanted
 }
 
-/// Whether each word of a frame but that at the index is 0.
+/// Whether each word of a frame but that at the index is 0. The one beside it is looked at first.
 pub(crate) fn is_alone(words: &[u64; FRAME_WORDS], index: usize) -> bool
     requires { index < FRAME_WORDS }
     ensures alone { IsTrue result → (i : ℕ) → i ≢ index → slice_index words.now i ≡ 0 }
     ensures other { IsFalse result
         → (i : ℕ) × (i ≢ index) × (slice_index words.now i ≢ 0) }
 {
+    let beside = if index % 2 == 0 { index + 1 } else { index - 1 };
+    if words[beside] != 0 {
+        return false;
+    }
     for i in 0..FRAME_WORDS {
         if i != index && words[i] != 0 {
             return false;

@@ -1,8 +1,13 @@
 -- Where a way ends. No public clause cites it.
-use Rattle.std.specs.Prelude.{◌≡◌, ◌≢◌, ℕ, ◌^◌, ◌%◌, ◌<◌, ◌≤◌, List, [], Some, None, slice_index, length}
+use Rattle.std.specs.Prelude.{◌≡◌, ◌≢◌, ℕ, ◌+◌, ◌^◌, ◌%◌, ◌<◌, ◌≤◌, List, [], Some, None, slice_index, length}
+use Rattle.std.specs.FinMap as finite
 use Rattle.vs_types.specs.Depth.{levels, index_at}
-use Rattle.vs_types.specs.Entry.{meaning}
+use Rattle.vs_types.specs.Entry.{meaning, size_at}
+use Rattle.vs_types.specs.Page.{intersection}
+use Rattle.vs_types.specs.declared.page.Rights.{Rights}
+use Rattle.vs_types.specs.declared.entry.Meaning.TheVariants as entry
 use Rattle.vs_types.specs.Space.{Space}
+use Rattle.vs_types.specs.declared.page.Size.{Size}
 use Rattle.vs_walk.specs.Memory.{Memory}
 use Rattle.vs_space.specs.Held.{word_at}
 use Rattle.vs_space.specs.Path.{table_in}
@@ -11,12 +16,15 @@ use Rattle.vs_plan.specs.declared.plan.Reply.{Reply}
 use Rattle.vs_plan.specs.declared.plan.Step.{Step}
 use Rattle.vs_plan.specs.declared.plan.Step.TheVariants as steps
 use Rattle.vs_plan.specs.declared.plan.Flush.TheVariants as flushes
+use Rattle.vs_plan.specs.declared.plan.Store.{Store}
 use Rattle.vs_plan.specs.declared.planner.Planner.{Planner}
 use Rattle.vs_plan.specs.declared.request.Request.{Request}
-use Rattle.vs_plan.specs.declared.request.Request.TheVariants.{Map, Unmap, Protect, Ask}
+use Rattle.vs_plan.specs.declared.request.Request.TheVariants.{Map, Unmap, Protect, Ask, Remap, Split, Join}
+use Rattle.vs_plan.specs.Bits.{page_word, bits_in, flagged}
+use Rattle.vs_plan.specs.Changes.{larger}
 use Rattle.vs_plan.specs.Premise.{IsPremise}
 use Rattle.vs_plan.specs.Request.{IsRequest, address_of, lowest_of}
-use Rattle.vs_plan.specs.Right.{IsRight}
+use Rattle.vs_plan.specs.Right.{IsRight, Follows}
 use Rattle.vs_plan.specs.Shown.{HasMet}
 use Rattle.vs_plan.specs.Way.{IsWay}
 
@@ -42,12 +50,21 @@ IsRightAt planner word plan = (memory : Memory) → HasEnded memory planner word
     → IsPremise planner.target.depth memory planner.target.root (address_of planner.request) space
     → IsRight planner.target planner.request memory space [] plan
 
+-- the same, where the words of the table are shown too
+abbrev pub IsRightWith : Planner → ℕ → List ℕ → Plan → Type 0
+IsRightWith planner word words plan = (memory : Memory) → HasEnded memory planner word → finite.get memory planner.number ≡ Some words
+    → (space : Space) → IsPremise planner.target.depth memory planner.target.root (address_of planner.request) space
+    → IsRight planner.target planner.request memory space [] plan
+
 -- a request of a page that is there
 abbrev pub IsNoMap : Request → Type 0
 IsNoMap (Map page bits) = ⊥
 IsNoMap (Unmap base) = Unit {0}
 IsNoMap (Protect base rights) = Unit {0}
 IsNoMap (Ask address) = Unit {0}
+IsNoMap (Remap base phys rights) = Unit {0}
+IsNoMap (Split base) = Unit {0}
+IsNoMap (Join base) = Unit {0}
 
 -- the end, with a plan
 abbrev pub IsEnd : Step → Type 0
@@ -59,6 +76,7 @@ IsEnd (steps.Planned plan) = Unit {0}
 pub record ChangesNothing (reply : Reply) (bits : ℕ) (plan : Plan) : Type 0 where
   pub reply_is : plan.reply ≡ reply
   pub bits_are : plan.bits ≡ bits
+  pub fill : plan.fill ≡ None
   pub stores : plan.stores.items ≡ []
   pub flush : plan.flush ≡ flushes.Nothing
   pub unlinked : plan.unlinked.items ≡ []
@@ -84,3 +102,23 @@ pub record IsFirstPresent (words : List ℕ) (index : ℕ) : Type 0 where
   pub within : index < 512
   pub present : slice_index words index % 2 ≢ 0
   pub before : (i : ℕ) → i < index → slice_index words i % 2 ≡ 0
+
+-- the first entry of a table that doesn't follow on from its first one
+pub record IsFirstApart (words : List ℕ) (size : Size) (index : ℕ) : Type 0 where
+  pub within : index < 512
+  pub apart : Follows size (slice_index words 0) index (slice_index words index) → ⊥
+  pub before : (i : ℕ) → i < index → Follows size (slice_index words 0) i (slice_index words i)
+
+-- the store of one page's entry in the place of the link to the table at the end of the way, whose first entry is this word; where the link
+-- is none, its rights are any
+pub record IsWholeStore (planner : Planner) (base phys : ℕ) (own : Rights) (word : ℕ) (store : Store) : Type 0 where
+  pub allowed : Rights
+  pub leads : (number : ℕ) (other : Rights) → meaning (planner.level + 1) (slice_index planner.words (planner.level + 1)) ≡ entry.Table number other
+      → allowed ≡ other
+  pub store_is : store ≡ record {
+    frame = slice_index planner.numbers (planner.level + 1);
+    index = index_at (planner.level + 1) base;
+    old = slice_index planner.words (planner.level + 1);
+    new = page_word (record { base = base; size = larger (size_at planner.level); rights = intersection allowed own; phys = phys })
+        (flagged (bits_in (size_at planner.level) word));
+  }

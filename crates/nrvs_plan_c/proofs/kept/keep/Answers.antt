@@ -5,6 +5,6 @@ use Rattle.nrvs_plan_c.proofs.kept.keep.Goals as goal
 
 pub returns-clause-kept : goal.returns-clause-kept
 returns-clause-kept c =
-    parts_back c.args.planner _ _ _ _ _ (sym c.requires.target) (sym c.requires.request) c.code_of.ensures
-    (ap rights_in c.code.ensures.is ∙ rights_back c.args.planner.rights)
-    (front_back _ _ _ _ (c.copy_from_slice.ensures.after ∙ c.as_slice.ensures.value) c.len-plan.ensures.value)
+    parts_back c.args.planner.now _ _ _ _ _ (sym c.requires.target) (sym c.requires.request) c.code_of-plan.ensures
+    (ap rights_in c.code-plan.ensures.is ∙ rights_back c.args.planner.now.rights)
+    (front_back _ _ _ _ (c.copy_from_slice.ensures.after ∙ c.as_slice.ensures.value) c.len-count.ensures.value)

@@ -1,6 +1,7 @@
 use Rattle.std.proofs.Common.{ℕ, sym, subst, refl}
 use Rattle.vs_space.specs.Flags.{AreSameButFlags}
 use Rattle.vs_space.specs.Held.{with_word}
+use Rattle.vs_plan.proofs.FillsAgain.{same_fills, split_again}
 use Rattle.vs_plan.proofs.OtherFlags.{bits_after, flags_kept, protect_again, same_stored, same_translations}
 use Rattle.vs_plan.proofs.flags.flags_keep_plans_safe.Goals as goal
 
@@ -22,3 +23,9 @@ returns-clause-protects c = λ old word rights is. protect_again word old rights
 
 pub returns-clause-bits : goal.returns-clause-bits
 returns-clause-bits c = λ size old word is. bits_after size word old is
+
+pub returns-clause-fills : goal.returns-clause-fills
+returns-clause-fills c = λ old new fill word is odd even. same_fills is fill word odd even
+
+pub returns-clause-splits : goal.returns-clause-splits
+returns-clause-splits c = λ page size old word at is. split_again page size old word at is

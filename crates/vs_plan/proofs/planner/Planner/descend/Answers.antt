@@ -18,3 +18,4 @@ returns-clause-next c = λ memory descended there.
     (ends_at descended.met descended.way there (c.index_at-index.ensures.is ∙ ap (index_at c.args.self.now.level) c.address.ensures)
     c.stop_at-self.ensures.at_most c.stop_at-self.ensures.alone (omega (arith, few, c.requires.awaits.few)) (omega (arith, few, c.requires.awaits.few))
     c.in_default.ensures)
+    there

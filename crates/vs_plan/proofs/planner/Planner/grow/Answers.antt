@@ -35,6 +35,6 @@ returns-clause-next c =
     let lowest : level_of c.args.page.size ≤ p.level = omega (arith, low, c.requires.end.lowest) in
     alone_right p c.requires.end.request is c.requires.end c.requires.absent lowest (c.permits.ensures.all c.if-not-permits.false)
     (omega (arith, lowest, c.if-self-level.false, c.level.ensures)) c.page_word.ensures.written c.page_word.ensures.read_back
-    c.nothing-plan.ensures.reply_is c.nothing-plan.ensures.bits_are
+    c.nothing-plan.ensures.reply_is c.nothing-plan.ensures.bits_are c.nothing-plan.ensures.fill
     (c.push.ensures.items ∙ only_store c.nothing-plan.result.stores.items c.nothing-plan.ensures.stores p.number c.args.word c.index_at.ensures.is refl)
     c.nothing-plan.ensures.flush c.nothing-plan.ensures.unlinked

@@ -20,7 +20,7 @@ returns-clause-next c = λ memory offered grown space premise.
     link_right p c.requires.filled.request is grown c.requires.filled.some deep c.requires.filled.height c.word.result
     (c.word.ensures ∙ c.table.ensures.written)
     (ap (meaning p.level) c.word.ensures ∙ c.table.ensures.read_back p.level (omega (arith, deep, level_some page.size)))
-    c.nothing-plan.ensures.reply_is c.nothing-plan.ensures.bits_are
+    c.nothing-plan.ensures.reply_is c.nothing-plan.ensures.bits_are c.nothing-plan.ensures.fill
     (ap (λ (v : ArrayVec Store). v.items) c.replace-plan.ensures.value ∙ c.push.ensures.items
     ∙ ap (λ i. p.stores.items ++ store_at p.number i (slice_index p.words p.level) c.word.result ∷ []) c.index_at.ensures.is)
     c.nothing-plan.ensures.flush c.nothing-plan.ensures.unlinked space premise

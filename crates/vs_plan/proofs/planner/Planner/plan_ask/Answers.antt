@@ -21,4 +21,4 @@ returns c =
     c.at_level-size.ensures
     ∙ ap (λ r. replies.Answer (answers.Mapped (c.in-Leaf.phys + c.args.address % bytes_of (size_at c.args.self.now.level)) (size_at c.args.self.now.level) r))
     c.intersection-rights.ensures)
-    (c.bits_in.ensures ∙ ap (λ z. bits_in z c.args.word) c.at_level-size.ensures))
+    (c.bits_in.ensures.is ∙ ap (λ z. bits_in z c.args.word) c.at_level-size.ensures))

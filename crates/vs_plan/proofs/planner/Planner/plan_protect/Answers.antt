@@ -36,8 +36,8 @@ returns-then-new-word c =
     ap (meaning level) (sym c.new.ensures) ∙ sym c.read.ensures ∙ c.in-Leaf.is in
     let bytes : c.bytes.result ≡ bytes_of (size_at level) = c.bytes.ensures ∙ ap bytes_of c.at_level-size.ensures in
     written_right c.requires.end says c.requires.request (subst (λ n. c.args.base % n ≡ 0) bytes c.if-offset-ne0.false)
-    (c.permits.ensures.all c.if-not-permits.false) c.intersection.ensures (c.bits_in.ensures ∙ ap (λ z. bits_in z c.args.word) c.at_level-size.ensures)
-    c.nothing-plan.ensures.reply_is c.nothing-plan.ensures.bits_are
+    (c.permits.ensures.all c.if-not-permits.false) c.intersection.ensures (c.bits_in.ensures.is ∙ ap (λ z. bits_in z c.args.word) c.at_level-size.ensures)
+    c.nothing-plan.ensures.reply_is c.nothing-plan.ensures.bits_are c.nothing-plan.ensures.fill
     (c.push.ensures.items ∙ only_store c.nothing-plan.result.stores.items c.nothing-plan.ensures.stores c.args.self.now.number c.args.word
     c.index_at.ensures.is c.with_rights-new.ensures)
     (ap (flushes.Page c.args.base) c.at_level-size.ensures) c.nothing-plan.ensures.unlinked
@@ -50,6 +50,6 @@ returns-else-new-word c =
     ap (meaning level) (sym c.new.ensures) ∙ sym c.read.ensures ∙ c.in-Leaf.is in
     let bytes : c.bytes.result ≡ bytes_of (size_at level) = c.bytes.ensures ∙ ap bytes_of c.at_level-size.ensures in
     same_right c.requires.end says c.requires.request (subst (λ n. c.args.base % n ≡ 0) bytes c.if-offset-ne0.false)
-    (c.permits.ensures.all c.if-not-permits.false) c.intersection.ensures (c.bits_in.ensures ∙ ap (λ z. bits_in z c.args.word) c.at_level-size.ensures)
-    c.nothing-plan.ensures.reply_is c.nothing-plan.ensures.bits_are c.nothing-plan.ensures.stores c.nothing-plan.ensures.flush
+    (c.permits.ensures.all c.if-not-permits.false) c.intersection.ensures (c.bits_in.ensures.is ∙ ap (λ z. bits_in z c.args.word) c.at_level-size.ensures)
+    c.nothing-plan.ensures.reply_is c.nothing-plan.ensures.bits_are c.nothing-plan.ensures.fill c.nothing-plan.ensures.stores c.nothing-plan.ensures.flush
     c.nothing-plan.ensures.unlinked (sym (sym c.with_rights-new.ensures ∙ c.if-new-word.false))

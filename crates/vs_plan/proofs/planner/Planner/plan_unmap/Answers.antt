@@ -51,6 +51,7 @@ loop-level-preserved c =
       flush_more self.level c.loop-level.level c.args.base _ before.0,
       before.5,
       before.6,
+      before.7,
     )
 
 pub returns : goal.returns
@@ -67,5 +68,5 @@ returns c =
     (before.5 ∙ c.nothing-plan.ensures.reply_is
     ∙ ap (λ s. replies.Answer (answers.Removed c.in-Leaf.phys s c.intersection.result)) size
     ∙ ap (λ r. replies.Answer (answers.Removed c.in-Leaf.phys (size_at level) r)) c.intersection.ensures)
-    (before.6 ∙ c.nothing-plan.ensures.bits_are ∙ c.bits_in.ensures ∙ ap (λ s. bits_in s c.args.word) size)
-    before.2 (before.4 ∙ ap (flush_of (c.loop-level.level - level) c.args.base) size) before.3
+    (before.6 ∙ c.nothing-plan.ensures.bits_are ∙ c.bits_in.ensures.is ∙ ap (λ s. bits_in s c.args.word) size)
+    (before.7 ∙ c.nothing-plan.ensures.fill) before.2 (before.4 ∙ ap (flush_of (c.loop-level.level - level) c.args.base) size) before.3

@@ -14,6 +14,7 @@ invariant-loop-level l =
     × (l.plan.unlinked.items ≡ cut_off (slice_index l.self.numbers) l.self.level (l.level - l.self.level))
     × (l.plan.flush ≡ flush_of (l.level - l.self.level) l.base l.size)
     × (l.plan.reply ≡ l.initial.plan.reply) × (l.plan.bits ≡ l.initial.plan.bits)
+    × (l.plan.fill ≡ l.initial.plan.fill)
 
 abbrev pub decreases-loop-level : goal.decreases-loop-level
 decreases-loop-level l = l.self.stop - l.level

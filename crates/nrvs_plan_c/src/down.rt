@@ -1,0 +1,108 @@
+//! How a planner goes down by a link where it is kept, in C's struct: what most calls of `nrvs_plan_see` do.
+ghost use Rattle.std.specs.Prelude.{◌≡◌, ◌≢◌, ◌<◌, ◌≤◌, ◌⊎◌, ℕ, Some, IsTrue, IsFalse, slice_index};
+ghost use Rattle.std.specs.FinMap as finite;
+ghost use Rattle.vs_types.specs.declared.frame.TheConstants.{FRAME_WORDS};
+ghost use Rattle.vs_walk.specs.Memory.{Memory};
+ghost use Rattle.vs_plan.specs.declared.request.Request.{Request};
+ghost use Rattle.vs_plan.specs.Request.{lowest_of};
+ghost use Rattle.vs_plan.specs.Shown.{IsShown};
+ghost use Rattle.nrvs_plan_c.specs.Kept.{IsSound, planner_in, request_in};
+
+use crate::codes::{rights_in, size_in};
+use crate::kept::{Call, Plan, Words};
+use vs_types::{Entry, FRAME_WORDS, Meaning, index_at};
+
+impl Call {
+    /// The level at which the way ends at the latest.
+    fn lowest(self) -> u8
+        ensures { result ≡ lowest_of (request_in self) }
+    {
+        if self.kind == 0 {
+            size_in(self.size).level()
+        } else {
+            1
+        }
+    }
+}
+
+/// Goes on to the table to which these words lead, where the way doesn't end here. Whether it did: else nothing is changed.
+pub(crate) fn go_down(plan: &mut Plan, words: &Words) -> bool
+    requires sound { IsSound plan.old }
+    requires descent { plan.old.way.phase ≡ 0 }
+    ensures stays { IsFalse result → plan.new ≡ plan.old }
+    ensures sound { IsSound plan.new }
+    ensures call { plan.new.call ≡ plan.old.call }
+    ensures fewer { IsTrue result → plan.new.way.level < plan.old.way.level }
+    ensures shown { IsTrue result → (memory : Memory) → IsShown memory (planner_in plan.old)
+        → finite.get memory plan.old.frame ≡ Some words.now.word
+        → IsShown memory (planner_in plan.new) }
+{
+    let level = plan.way.level;
+    if level <= plan.call.lowest() {
+        return false;
+    }
+    let index = index_at(level, plan.call.address);
+    let word = words.word[index];
+    let Meaning::Table(next, own) = Entry::new(word).read(level) else {
+        return false;
+    };
+    plan.way.stop = stop_at(plan, words, index);
+    plan.way.numbers[level as usize] = plan.frame;
+    plan.way.words[level as usize] = word;
+    plan.way.allowed = rights_in(plan.way.allowed).intersection(own).code();
+    plan.frame = next;
+    plan.way.level = level - 1;
+    true
+}
+
+/// The level of the lowest table that stays, where the next one has these words, and its entry this index.
+fn stop_at(plan: &Plan, words: &Words, index: usize) -> u8
+    requires { index < FRAME_WORDS }
+    ensures at_most { result ≤ plan.now.way.stop }
+    ensures alone { ((result ≡ plan.now.way.level)
+        × ((base : ℕ) → request_in plan.now.call ≡ Request.Unmap base
+        → plan.now.way.level < plan.now.way.stop
+        → (i : ℕ) × (i ≢ index) × (slice_index words.now.word i ≢ 0)))
+        ⊎ ((result ≡ plan.now.way.stop)
+        × (plan.now.way.level < plan.now.way.stop
+        → (i : ℕ) → i ≢ index → slice_index words.now.word i ≡ 0)) }
+{
+    if plan.way.level >= plan.way.stop {
+        return plan.way.stop;
+    }
+    if plan.call.kind != 1 {
+        return plan.way.level;
+    }
+    if is_alone(&words.word, index) {
+        return plan.way.stop;
+    }
+    plan.way.level
+}
+
+/// Whether each word of a frame but that at the index is 0. In a filled table the word beside it decides.
+fn is_alone(words: &[u64; FRAME_WORDS], index: usize) -> bool
+    requires { index < FRAME_WORDS }
+    ensures alone { IsTrue result → (i : ℕ) → i ≢ index → slice_index words.now i ≡ 0 }
+    ensures other { IsFalse result
+        → (i : ℕ) × (i ≢ index) × (slice_index words.now i ≢ 0) }
+{
+    let beside = if index % 2 == 0 { index + 1 } else { index - 1 };
+    if words[beside] != 0 {
+        return false;
+    }
+    are_clear(words, 0, index) && are_clear(words, index + 1, FRAME_WORDS)
+}
+
+/// Whether the words of a frame from one index to another are all 0: each is looked at.
+fn are_clear(words: &[u64; FRAME_WORDS], from: usize, to: usize) -> bool
+    requires { to ≤ FRAME_WORDS }
+    ensures clear { IsTrue result → (i : ℕ) → from ≤ i → i < to → slice_index words.now i ≡ 0 }
+    ensures other { IsFalse result
+        → (i : ℕ) × (from ≤ i) × (i < to) × (slice_index words.now i ≢ 0) }
+{
+    let mut clear = true;
+    for i in from..to {
+        clear = clear & (words[i] == 0);
+    }
+    clear
+}

@@ -1,0 +1,103 @@
+use crate::carried::{TARGET, carried};
+use crate::memory::Memory;
+use crate::worked::{A, B, C, Row, Said, WRITE, is_so, page};
+use std::process::Abort;
+use std::test::Fail;
+use vs_plan::{Fill, Flush, Reply, Request};
+use vs_types::{Answer, Rights, Size};
+
+/// PCD, PAT, G and 1 as the protection key, at the places of an entry of 4 KiB.
+const BITS: u64 = 0x0800_0000_0000_0190;
+
+/// The entry of a page of 2 MiB at 6 MiB that can be written alone, with these bits: PAT is bit 12.
+const LARGE: u64 = 0x8800_0000_0060_1193;
+
+/// The entries of its parts begin so: PAT is bit 7.
+const PART: u64 = 0x8800_0000_0060_0193;
+
+/// A memory in which that page lies at 2 MiB: its entry is in frame A.
+fn with_large(rt: &impl Abort, memory: &mut Memory) -> Result<(), Fail> {
+    let large = page(0x200000, Size::M2, 0x600000, WRITE);
+    let plan = carried(rt, memory, TARGET, Request::Map(large, BITS))?;
+    assert!(rt; plan.reply == Reply::Answer(Answer::Done));
+    assert!(rt; memory.word(rt, A, 1) == LARGE);
+    Ok(())
+}
+
+// A page of 2 MiB becomes 512 of 4 KiB, which become one again, with both flags.
+#[test]
+fn split_and_joined(rt: HostRuntime) -> Result<(), Fail> {
+    let mut memory = Memory::new(rt.alloc(), 8)?;
+    with_large(&rt, &mut memory)?;
+    let plan = carried(&rt, &mut memory, TARGET, Request::Split(0x200000))?;
+    let was = Reply::Answer(Answer::Changed(WRITE));
+    let flush = Flush::Range(0x200000, Size::M2);
+    let rows = [Row(A, 1, LARGE, 0x1_0000_3007)];
+    assert!(rt; is_so(&plan, Said(was, BITS, flush, &rows, &[])));
+    let fill = Fill {
+        frame: C,
+        first: PART,
+        step: 0x1000,
+    };
+    assert!(rt; plan.fill == Some(fill));
+    assert!(rt; memory.word(&rt, C, 511) == PART + 0x1FF000);
+    let plan = carried(&rt, &mut memory, TARGET, Request::Ask(0x3FFFFF))?;
+    let last = Reply::Answer(Answer::Mapped(0x7FFFFF, Size::K4, WRITE));
+    assert!(rt; is_so(&plan, Said(last, BITS, Flush::Nothing, &[], &[])));
+    memory.write(&rt, C, 7, PART + 0x7060);
+    let plan = carried(&rt, &mut memory, TARGET, Request::Join(0x200000))?;
+    let rows = [Row(A, 1, 0x1_0000_3007, LARGE + 0x60)];
+    assert!(rt; is_so(&plan, Said(was, BITS, flush, &rows, &[C])));
+    assert!(rt; plan.fill.is_none());
+    Ok(())
+}
+
+// Why pages can't be split, joined or led elsewhere.
+#[test]
+fn refused_by_the_page(rt: HostRuntime) -> Result<(), Fail> {
+    let mut memory = Memory::new(rt.alloc(), 16)?;
+    with_large(&rt, &mut memory)?;
+    let split = carried(&rt, &mut memory, TARGET, Request::Split(0x200000))?;
+    assert!(rt; split.fill.is_some());
+    let small = page(0x400000, Size::K4, 0x1000, Rights::ALL);
+    let gigabyte = page(0x40000000, Size::G1, 0x40000000, Rights::ALL);
+    let maps = [Request::Map(small, 0), Request::Map(gigabyte, 0)];
+    for map in maps {
+        let plan = carried(&rt, &mut memory, TARGET, map)?;
+        assert!(rt; plan.reply == Reply::Answer(Answer::Done));
+    }
+    let narrow = Request::Protect(0x205000, Rights::NONE);
+    let plan = carried(&rt, &mut memory, TARGET, narrow)?;
+    assert!(rt; plan.reply == Reply::Answer(Answer::Changed(WRITE)));
+    let cases = [
+        (Request::Split(0x200000), Reply::Smallest),
+        (Request::Split(0x800000), Reply::Answer(Answer::NotMapped)),
+        (
+            Request::Split(0x40001000),
+            Reply::Answer(Answer::Inside(0x40000000)),
+        ),
+        (Request::Join(0x200000), Reply::Apart(5)),
+        (Request::Join(0x201000), Reply::Unaligned),
+        (Request::Join(0x400000), Reply::PhysUnaligned),
+        (Request::Join(0x40000000), Reply::Largest),
+        (Request::Join(0x800000), Reply::Answer(Answer::NotMapped)),
+        (
+            Request::Remap(0x40000000, 0x200000, WRITE),
+            Reply::PhysUnaligned,
+        ),
+        (Request::Remap(0x200000, 1 << 40, WRITE), Reply::PhysRange),
+        (
+            Request::Remap(0x40001000, 0, WRITE),
+            Reply::Answer(Answer::Inside(0x40000000)),
+        ),
+    ];
+    for (place, (request, reply)) in cases.iter().enumerate() {
+        let plan = carried(&rt, &mut memory, TARGET, *request)?;
+        assert!(rt;
+            is_so(&plan, Said(*reply, 0, Flush::Nothing, &[], &[])),
+            "row {place}"
+        );
+    }
+    assert!(rt; memory.word(&rt, B, 1) == 0x4000_0087);
+    Ok(())
+}

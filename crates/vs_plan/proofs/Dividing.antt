@@ -1,0 +1,207 @@
+-- A plan that splits a page.
+use Rattle.std.proofs.Common.{◌≡◌, ◌≢◌, ℕ, zero, suc, ◌+◌, ◌%◌, ◌^◌, ◌<◌, ◌≤◌, List, [], ◌∷◌, Some, None, refl, sym, ap, subst, ◌∙◌, arith}
+use Rattle.std.proofs.lemmas.List.Elements.{All-nil, All-cons}
+use Rattle.vs_types.specs.Depth.{levels, entry_bytes, index_at}
+use Rattle.vs_types.specs.Entry.{meaning, size_at, table_word, all_rights}
+use Rattle.vs_types.specs.Page.{level_of, bytes_of, intersection}
+use Rattle.vs_types.specs.Space.{Space}
+use Rattle.vs_types.specs.Step.{Stepped}
+use Rattle.vs_types.specs.declared.page.Page.{Page}
+use Rattle.vs_types.specs.declared.page.Rights.{Rights}
+use Rattle.vs_types.specs.declared.page.Size.{Size}
+use Rattle.vs_types.specs.declared.page.Size.TheVariants.{K4, M2, G1}
+use Rattle.vs_types.specs.declared.entry.Meaning.TheVariants as entry
+use Rattle.vs_types.specs.declared.answer.Answer.TheVariants as answers
+use Rattle.vs_types.proofs.Lists.{Contains-head}
+use Rattle.vs_walk.specs.Memory.{Memory}
+use Rattle.vs_walk.proofs.Walks.{leaf_level}
+use Rattle.vs_space.specs.Held.{word_at}
+use Rattle.vs_space.specs.Path.{table_in, table_at}
+use Rattle.vs_space.specs.Table.{IsTableOf}
+use Rattle.vs_space.proofs.Numbered.{get-insert_same}
+use Rattle.vs_space.proofs.Regions.{IsLeafPage}
+use Rattle.vs_plan.specs.declared.plan.Fill.{Fill}
+use Rattle.vs_plan.specs.declared.plan.Flush.TheVariants as flushes
+use Rattle.vs_plan.specs.declared.plan.Reply.TheVariants as replies
+use Rattle.vs_plan.specs.declared.plan.Store.{Store}
+use Rattle.vs_plan.specs.declared.request.Request.TheVariants.{Split}
+use Rattle.vs_plan.specs.declared.target.Target.{Target}
+use Rattle.vs_plan.specs.Bits.{bits_in, page_word}
+use Rattle.vs_plan.specs.Changes.{smaller, smallest, split_refusal}
+use Rattle.vs_plan.specs.Premise.{IsSpare}
+use Rattle.vs_plan.specs.Right.{IsEntryOf, IsMeantBy, OfPage}
+use Rattle.vs_plan.specs.Stores.{stepping, filled, stored}
+use Rattle.vs_plan.specs.Target.{frames_end}
+use Rattle.vs_plan.proofs.Asking.{entry_of}
+use Rattle.vs_plan.proofs.EntryStores.{IsOwnTable, walk_off, whole_store}
+use Rattle.vs_plan.proofs.Filled.{own_as, table_as, translates_as, unreached_as, walk_as, way_as, whole_as, word_as}
+use Rattle.vs_plan.proofs.PartSpaces.{refused_there}
+use Rattle.vs_plan.proofs.Pages.{table_from, level_back, page_here}
+use Rattle.vs_plan.proofs.Parts.{none_named, Parts, safe_one, store_at, words_apart, EndAt}
+use Rattle.vs_plan.proofs.Runs.{IsRun}
+use Rattle.vs_plan.proofs.Splitting.{LiesLarge, are_bits_in, large_at, own_parts, run_filled, smaller_at, split_is, split_translates, stepping_long, walk_parts}
+use Rattle.vs_plan.proofs.Stored.{used_word}
+use Rattle.vs_plan.proofs.Ways.{way_table}
+
+-- the fill of a split: the entries of the parts of the page of this entry
+abbrev pub parts_fill : ℕ → ℕ → ℕ → ℕ → ℕ → Rights → Fill
+parts_fill frame base level word phys own = record {
+  frame = frame;
+  first = page_word (record { base = base; size = smaller (size_at level); rights = own; phys = phys }) (bits_in (size_at level) word);
+  step = bytes_of (smaller (size_at level));
+}
+
+-- at the entry of a page of 2 MiB or 1 GiB, the parts of which have entries of the level below
+module _ (target : Target) {memory : Memory} {space : Space} {base low number word phys : ℕ} {given own : Rights}
+    (end : EndAt target memory space (suc low) number given word base) (some : 1 ≤ low) (says : meaning (suc low) word ≡ entry.Leaf phys own)
+    (aligned : base % bytes_of (size_at (suc low)) ≡ 0) where
+  few : suc low ≤ 3
+  few = (leaf_level (suc low) word phys own says).0
+
+  page : (q : Page) × IsLeafPage target.depth space base (suc low) phys (intersection given own) q
+  page = page_here end.way (omega arith) end.word_is end.premise.is_space end.premise.translates end.canonical says
+
+  table : IsTableOf (table_from target.depth memory target.root) space
+  table = record { is_space = end.premise.is_space; translates = end.premise.translates }
+
+  lies : LiesLarge low phys
+  lies = record {
+    some = some;
+    few = few;
+    aligned = subst (λ p. p % entry_bytes (suc low) ≡ 0) page.1.phys_is (subst (λ l. page.0.phys % entry_bytes l ≡ 0) page.1.level_is page.1.good.phys_aligned);
+    range = subst (λ p. p + entry_bytes (suc low) ≤ 2 ^ 51) page.1.phys_is
+        (subst (λ l. page.0.phys + entry_bytes l ≤ 2 ^ 51) page.1.level_is page.1.good.phys_range);
+  }
+
+  back : level_of (size_at (suc low)) ≡ suc low
+  back = level_back (suc low) (omega arith) few
+
+  step_is : bytes_of (smaller (size_at (suc low))) ≡ entry_bytes low
+  step_is = ap bytes_of (smaller_at low some few) ∙ ap entry_bytes (level_back low (omega (arith, some)) (omega (arith, few)))
+
+  not_refused : split_refusal space base ≡ None
+  not_refused = refused_there space base page.0 page.1.here begins ∙ by page.0.size (λ e. large_at low some (sym page.1.size ∙ e)) where
+    begins : page.0.base ≡ base
+    begins = let offset : base % bytes_of page.0.size ≡ base % bytes_of (size_at (suc low)) = ap (λ n. base % n) (ap bytes_of page.1.size) in
+        omega (arith, page.1.base, offset, aligned)
+
+    by : (size : Size) → size ≢ K4 → smallest size ≡ None
+    by K4 large = absurd (large refl)
+    by M2 large = refl
+    by G1 large = refl
+
+  module _ {frame : ℕ} (within : frame < frames_end target) (spare : IsSpare target.depth memory target.root frame)
+      (leads : meaning (suc low) (table_word frame) ≡ entry.Table frame all_rights) where
+    abbrev fill : Fill
+    fill = parts_fill frame base (suc low) word phys own
+
+    abbrev words : List ℕ
+    words = stepping fill.first fill.step 512
+
+    abbrev m : Memory
+    m = filled memory (Some fill)
+
+    abbrev s : Store
+    s = store_at number (index_at (suc low) base) word (table_word frame)
+
+    reached : table_at (levels target.depth) memory target.root (suc low) base ≡ Some number
+    reached = way_table (suc low) number given end.way
+
+    word_is : word_at m number (index_at (suc low) base) ≡ Some word
+    word_is = word_as target.depth memory target.root frame words spare.unreached (suc low) base number (index_at (suc low) base) reached ∙ end.word_is
+
+    here : IsOwnTable target.depth m target.root (suc low) base number
+    here = record {
+      own = own_as target.depth memory target.root frame words spare.unreached base end.premise.own;
+      whole = whole_as memory frame words end.premise.whole (stepping_long fill.first fill.step 512);
+      used = used_word m number (index_at (suc low) base) word word_is;
+      at = table_as target.depth memory target.root frame words spare.unreached (suc low) base ∙ reached;
+    }
+
+    run : IsRun m low frame phys own
+    run = run_filled m low frame base phys (bits_in (size_at (suc low)) word) fill.first own lies (are_bits_in (size_at (suc low)) word)
+        (ap (λ z. page_word (record { base = base; size = z; rights = own; phys = phys }) (bits_in (size_at (suc low)) word)) (smaller_at low some few))
+        (get-insert_same memory frame words ∙ ap (λ st. Some (stepping fill.first st 512)) step_is)
+
+    entry_here : IsEntryOf target memory base (size_at (suc low)) word
+    entry_here = entry_of end.way end.word_is says
+
+    parts_at : Parts target (Split base) memory space (Some frame ∷ []) (replies.Answer (answers.Changed (intersection given own)))
+        (bits_in (size_at (suc low)) word) (Some fill) (s ∷ []) (flushes.Range base (size_at (suc low))) []
+    unfolding entry_here
+    parts_at = record {
+      reply_is = sym (ap (λ (t : Stepped). t.answer) (split_is table page.1 some few aligned));
+      due = not_refused;
+      fits = tt;
+      put = (
+        fill,
+        refl,
+        record {
+          size = size_at (suc low);
+          phys = phys;
+          own = own;
+          entry_is = entry_here;
+          frame = refl;
+          at = refl;
+          aligned = aligned;
+          says = ap (λ l. meaning l word) back ∙ says;
+          given = Contains-head (Some frame) [];
+          within = within;
+          spare = spare;
+          first = refl;
+          step = refl;
+          link = refl;
+        },
+      );
+      safe = safe_one s (translates_as target.depth memory target.root frame words spare.unreached space end.premise.translates)
+          (split_translates table page.1 some few aligned (stored m s)
+          (λ b path. walk_parts here (way_as target.depth memory target.root frame words spare.unreached end.way) frame low phys (table_word frame) own refl some leads run (unreached_as target.depth memory target.root frame words spare.unreached) b path)
+          (λ b apart. walk_off here (table_word frame) b apart ∙ walk_as target.depth memory target.root frame words spare.unreached b));
+      found = (word_is, tt);
+      meant = All-cons (IsMeantBy target memory (Split base) []) s []
+          (OfPage (record { level = suc low; reached = reached; index = refl }) (ap (λ e. table_in (Some e)) says)) (All-nil _);
+      nothing = λ none. absurd (none (λ e. cc));
+      written = refl;
+      changing = All-cons (λ (t : Store). t.old ≢ t.new) s [] (words_apart (suc low) word (table_word frame) (λ same. let both = sym says ∙ same ∙ leads in cc))
+          (All-nil _);
+      one_way = tt;
+      told = (size_at (suc low), word, entry_here, refl);
+      flushed = (size_at (suc low), entry_here, refl);
+      gone = All-nil _;
+      pruned = tt;
+      named_once = none_named;
+      whole = whole_store here (table_word frame);
+      own = λ a has. own_parts here (way_as target.depth memory target.root frame words spare.unreached end.way) frame low phys (table_word frame) own refl some leads run (unreached_as target.depth memory target.root frame words spare.unreached) a
+          (own_as target.depth memory target.root frame words spare.unreached a has);
+    }
+
+parts_by : (target : Target) (level : ℕ) {memory : Memory} {space : Space} {base number word phys : ℕ} {given own : Rights}
+    → EndAt target memory space level number given word base → 1 < level → meaning level word ≡ entry.Leaf phys own
+    → base % bytes_of (size_at level) ≡ 0 → (frame : ℕ) → frame < frames_end target → IsSpare target.depth memory target.root frame
+    → meaning level (table_word frame) ≡ entry.Table frame all_rights
+    → Parts target (Split base) memory space (Some frame ∷ []) (replies.Answer (answers.Changed (intersection given own))) (bits_in (size_at level) word)
+    (Some (parts_fill frame base level word phys own)) (store_at number (index_at level base) word (table_word frame) ∷ [])
+    (flushes.Range base (size_at level)) []
+parts_by target zero end some says aligned frame within spare leads = absurd (omega arith)
+parts_by target (suc low) end some says aligned frame within spare leads = parts_at target end (omega arith) says aligned within spare leads
+
+pub split_parts : (target : Target) {memory : Memory} {space : Space} {base level number word phys : ℕ} {given own : Rights}
+    (end : EndAt target memory space level number given word base) → 1 < level → meaning level word ≡ entry.Leaf phys own
+    → base % bytes_of (size_at level) ≡ 0 → (frame : ℕ) → frame < frames_end target → IsSpare target.depth memory target.root frame
+    → meaning level (table_word frame) ≡ entry.Table frame all_rights
+    → Parts target (Split base) memory space (Some frame ∷ []) (replies.Answer (answers.Changed (intersection given own))) (bits_in (size_at level) word)
+    (Some (parts_fill frame base level word phys own)) (store_at number (index_at level base) word (table_word frame) ∷ [])
+    (flushes.Range base (size_at level)) []
+split_parts target {level = level} end = parts_by target level end
+
+not_refused_by : (target : Target) (level : ℕ) {memory : Memory} {space : Space} {base number word phys : ℕ} {given own : Rights}
+    → EndAt target memory space level number given word base → 1 < level → meaning level word ≡ entry.Leaf phys own
+    → base % bytes_of (size_at level) ≡ 0 → split_refusal space base ≡ None
+not_refused_by target zero end some says aligned = absurd (omega arith)
+not_refused_by target (suc low) end some says aligned = not_refused target end (omega arith) says aligned
+
+-- a page that begins there and has parts is split
+pub never_refused : (target : Target) {memory : Memory} {space : Space} {base level number word phys : ℕ} {given own : Rights}
+    (end : EndAt target memory space level number given word base) → 1 < level → meaning level word ≡ entry.Leaf phys own
+    → base % bytes_of (size_at level) ≡ 0 → split_refusal space base ≡ None
+never_refused target {level = level} end = not_refused_by target level end

@@ -1,0 +1,96 @@
+-- What a memory is like after one store that writes the entry of a large page in the place of the link to a table of smaller pages.
+use Rattle.std.proofs.Common.{◌≡◌, ◌≢◌, ℕ, suc, ◌+◌, ◌%◌, ◌<◌, ◌≤◌, Some, None, refl, sym, ap, ◌∙◌, arith}
+use Rattle.std.specs.Prelude.{IsSome, Bool, true, false, ◌&&◌}
+use Rattle.std.specs.FinMap as finite
+use Rattle.vs_types.specs.Depth.{levels, entry_bytes, index_at}
+use Rattle.vs_types.specs.Entry.{meaning, size_at}
+use Rattle.vs_types.specs.Page.{intersection}
+use Rattle.vs_types.specs.declared.depth.Depth.{Depth}
+use Rattle.vs_types.specs.declared.page.Rights.{Rights}
+use Rattle.vs_types.specs.declared.entry.Meaning.TheVariants as entry
+use Rattle.vs_walk.specs.Memory.{Memory, AreWhole}
+use Rattle.vs_walk.specs.Walk.{walk}
+use Rattle.vs_walk.specs.declared.walk.Walk.TheVariants.{Mapped}
+use Rattle.vs_space.specs.Held.{word_at, with_word}
+use Rattle.vs_space.specs.Path.{found_at, table_in, table_at, SamePath}
+use Rattle.vs_plan.specs.Premise.{HasOwnWay}
+use Rattle.vs_plan.specs.Way.{IsWay, Begins, Leads}
+use Rattle.vs_plan.proofs.OneStore.{walk_off, walk_leaf, own_on, fewer, ends_here}
+use Rattle.vs_plan.proofs.Runs.{IsRun, run_walk}
+use Rattle.vs_plan.proofs.Stored.{used_word, whole_stored}
+use Rattle.vs_plan.proofs.Ways.{way_table, way_walk}
+
+-- ---- the link to the last table of a way
+
+pub record IsLinkedBy (depth : Depth) (m : Memory) (root a level number above_number : ℕ) (rights above given : Rights) : Type 0 where
+  pub way : IsWay depth m root a (suc level) above_number above
+  pub found : found_at (suc level) m above_number a ≡ Some (entry.Table number given)
+  pub both : rights ≡ intersection above given
+
+pub linked_by : {depth : Depth} {m : Memory} {root a : ℕ} (level number : ℕ) (rights : Rights) → IsWay depth m root a level number rights → level < levels depth
+    → (above_number : ℕ) × (above : Rights) × (given : Rights) × IsLinkedBy depth m root a level number above_number rights above given
+linked_by level number rights Begins low = absurd (omega arith)
+linked_by level number rights (Leads below above_number next above given way found) low =
+    (above_number, above, given, record { way = way; found = found; both = refl })
+
+all_three : (a b c : Bool) → ((a && b) && c) ≡ (a && (b && c))
+all_three true b c = refl
+all_three false b c = refl
+
+both_ways : (a b c : Rights) → intersection (intersection a b) c ≡ intersection a (intersection b c)
+both_ways a b c = λ i. record {
+  write = all_three a.write b.write c.write i;
+  user = all_three a.user b.user c.user i;
+  exec = all_three a.exec b.exec c.exec i;
+}
+
+-- ---- a table of pages that follow on from each other
+
+-- how the addresses of the table are walked
+pub walk_run : {depth : Depth} {m : Memory} {root base level number : ℕ} {rights : Rights} → IsWay depth m root base level number rights
+    → 1 ≤ level → (phys : ℕ) (own : Rights) → IsRun m level number phys own → (b : ℕ) → SamePath (levels depth) (suc level) base b
+    → walk depth m root b ≡ Mapped (phys + b % entry_bytes (suc level)) (size_at level) (intersection rights own)
+walk_run {m = m} {level = level} {number} {rights} way some phys own run b same =
+    way_walk level number rights way b same ∙ run_walk m level number phys own some run rights b
+
+-- ---- the entry of one page is written in the place of the link
+
+module _ (own : Rights) (new : ℕ) {depth : Depth} {m : Memory} {root base level number above_number phys : ℕ} {rights above given : Rights}
+    (own_way : HasOwnWay depth m root base) (whole : AreWhole m) (way : IsWay depth m root base level number rights)
+    (linked : IsLinkedBy depth m root base level number above_number rights above given) {link : ℕ}
+    (link_is : word_at m above_number (index_at (suc level) base) ≡ Some link)
+    (says : meaning (suc level) new ≡ entry.Leaf phys (intersection given own)) where
+  abbrev pub after_join : Memory
+  after_join = with_word m above_number (index_at (suc level) base) new
+
+  used : IsSome (finite.get m above_number)
+  used = used_word m above_number (index_at (suc level) base) link link_is
+
+  ends : table_in (Some (meaning (suc level) new)) ≡ None
+  ends = ap (λ e. table_in (Some e)) says
+
+  -- addresses of the page are walked to the same physical addresses, with the same rights
+  pub walk_joined : (b : ℕ) → SamePath (levels depth) (suc level) base b
+      → walk depth after_join root b ≡ Mapped (phys + b % entry_bytes (suc level)) (size_at (suc level)) (intersection rights own)
+  walk_joined b same =
+      walk_leaf linked.way own_way used new whole says (omega arith) b same
+      ∙ ap (Mapped (phys + b % entry_bytes (suc level)) (size_at (suc level)))
+      (sym (both_ways above given own) ∙ ap (λ r. intersection r own) (sym linked.both))
+
+  -- others as before
+  pub walk_apart : (b : ℕ) → (SamePath (levels depth) (suc level) base b → ⊥) → walk depth after_join root b ≡ walk depth m root b
+  walk_apart b apart = walk_off linked.way own_way used new b apart
+
+  pub whole_joined : AreWhole after_join
+  whole_joined = whole_stored m above_number (index_at (suc level) base) new whole used
+
+  pub own_joined : (a : ℕ) → HasOwnWay depth m root a → HasOwnWay depth after_join root a
+  own_joined a before = own_on linked.way own_way used new whole ends (omega arith) a before
+
+  -- no way leads to the table any more
+  pub unreached : (j b : ℕ) → table_at (levels depth) after_join root j b ≢ Some number
+  unreached j b reached =
+      let was = fewer linked.way own_way used new whole ends (omega arith) j b number reached in
+      let at = own_way.once level number j b (way_table level number rights way) was in
+      let none = ends_here linked.way own_way used new whole ends (omega arith) b at.1 j (omega (arith, at.0)) in
+      cc

@@ -1,0 +1,138 @@
+-- A join that changes something stores something: else its space would have a page of another size at the base than the memory.
+use Rattle.std.proofs.Common.{◌≡◌, ℕ, ◌+◌, ◌-◌, ◌<◌, Bool, true, false, not, cond, T, eqb, nat_cmp, List, [], ◌∷◌, map, Some, None, Contains, ⊎_elim, refl, sym, ap, ◌∙◌, subst, arith}
+use Rattle.std.proofs.lemmas.Bool.{eq-eqb, eqb-true, ne_eqb}
+use Rattle.std.specs.Ordering.{eq_by_cmp, is_lt}
+use Rattle.std.specs.FinMap as finite
+use Rattle.std.specs.FinMap.Entries as entries
+use Rattle.vs_types.specs.Depth.{IsCanonical}
+use Rattle.vs_types.specs.Page.{covers}
+use Rattle.vs_types.specs.Space.{Space, IsSpace, Holds, pages, page_at}
+use Rattle.vs_types.specs.Step.{Stepped, look}
+use Rattle.vs_types.specs.declared.depth.Depth.{Depth}
+use Rattle.vs_types.specs.declared.page.Page.{Page}
+use Rattle.vs_types.specs.declared.page.Rights.{Rights}
+use Rattle.vs_types.specs.declared.page.Size.{Size}
+use Rattle.vs_types.specs.declared.page.Size.TheVariants.{K4, M2, G1}
+use Rattle.vs_types.proofs.Lists.{Contains-head, Contains-tail, Contains-cases, not_in_nil, find_found, find_nothing}
+use Rattle.vs_types.proofs.Pages.{covers_base}
+use Rattle.vs_types.proofs.Spaces.{same_key, is_true, both_true, below_key, insert_cases, get_inserted, page_at_means}
+use Rattle.vs_walk.specs.Walk.{as_walk}
+use Rattle.vs_walk.specs.declared.walk.Walk.TheVariants.{Mapped}
+use Rattle.vs_plan.specs.declared.plan.Reply.TheVariants as replies
+use Rattle.vs_plan.specs.Changes.{larger, whole_of, without_parts, join, join_refusal, not_first}
+use Rattle.vs_plan.proofs.Changing.{change_here, why_here}
+use Rattle.vs_plan.proofs.Given.{BeginsThere, begins_canonical}
+
+-- ---- what a map of pages has at an address, whether its pages lie apart or not
+
+-- a key that is found lies above what all keys lie above
+found_above : (low q : ℕ) (es : List (ℕ × Page)) (v : Page) → T (entries.below_all nat_cmp low es) → entries.find nat_cmp q es ≡ Some v → low < q
+found_above low q [] v h e = cc
+found_above low q (x ∷ es) v h e =
+    let parts = both_true (is_lt (nat_cmp low x.0)) (entries.below_all nat_cmp low es) h in
+    let first = below_key low x.0 (is_true _ parts.0) in
+    elim (eq_by_cmp nat_cmp q x.0) as (λ b. eq_by_cmp nat_cmp q x.0 ≡ b → cond b (Some x.1) (entries.find nat_cmp q es) ≡ Some v → low < q) [
+      | true ↦ λ t is. let same : eqb q x.0 ≡ true = sym (same_key q x.0) ∙ t in omega (arith, eqb-true q x.0 same, first)
+      | false ↦ λ t is. found_above low q es v parts.1 is
+    ] refl e
+
+-- each value is found at some key
+value_found : (es : List (ℕ × Page)) (v : Page) → T (entries.is_sorted nat_cmp es) → Contains (map (λ e. e.1) es) v
+    → (q : ℕ) × (entries.find nat_cmp q es ≡ Some v)
+value_found [] v s h = absurd (not_in_nil v h)
+value_found (x ∷ es) v s h =
+    let parts = both_true (entries.below_all nat_cmp x.0 es) (entries.is_sorted nat_cmp es) s in
+    ⊎_elim
+    (λ same. (x.0, ap (λ b. cond b (Some x.1) (entries.find nat_cmp x.0 es)) (same_key x.0 x.0 ∙ eq-eqb x.0 x.0 refl) ∙ ap Some same))
+    (λ later.
+    let at = value_found es v parts.1 later in
+    let above = found_above x.0 at.0 es v parts.0 at.1 in
+    (at.0, ap (λ b. cond b (Some x.1) (entries.find nat_cmp at.0 es)) (same_key at.0 x.0 ∙ ne_eqb at.0 x.0 (λ e. omega (arith, e))) ∙ at.1))
+    (Contains-cases x.1 (map (λ e. e.1) es) v h)
+
+-- the value that is found at a key is among the values
+found_value : (q : ℕ) (es : List (ℕ × Page)) (v : Page) → entries.find nat_cmp q es ≡ Some v → Contains (map (λ e. e.1) es) v
+found_value q [] v e = cc
+found_value q (x ∷ es) v e =
+    elim (eq_by_cmp nat_cmp q x.0) as (λ b. cond b (Some x.1) (entries.find nat_cmp q es) ≡ Some v → Contains (x.1 ∷ map (λ e. e.1) es) v) [
+      | true ↦ λ is. let same : x.1 ≡ v = cc in subst (Contains (x.1 ∷ map (λ e. e.1) es)) same (Contains-head x.1 (map (λ e. e.1) es))
+      | false ↦ λ is. Contains-tail x.1 (map (λ e. e.1) es) v (found_value q es v is)
+    ] e
+
+-- the one page that covers an address
+one_at : (space : Space) (a k : ℕ) (w : Page) → finite.get space k ≡ Some w → covers w a ≡ true
+    → ((q : ℕ) (p : Page) → finite.get space q ≡ Some p → covers p a ≡ true → p ≡ w) → page_at space a ≡ Some w
+one_at space a k w got covered one =
+    elim (page_at space a) as (λ o. page_at space a ≡ o → o ≡ Some w) [
+      | None ↦ λ e.
+          let listed = found_value k (finite.entries space) w (sym (finite.get-entries space k) ∙ got) in
+          let off = find_nothing (λ p. covers p a) (pages space) w e listed in
+          absurd (cc)
+      | Some p ↦ λ e.
+          let found = find_found (λ p. covers p a) (pages space) p e in
+          let at = value_found (finite.entries space) p (finite.entries_sorted space) found.0 in
+          ap Some (one at.0 p (finite.get-entries space at.0 ∙ at.1) found.1)
+    ] refl
+
+-- ---- the space of a join
+
+off_there : (space : Space) (page : Page) (k : ℕ) (p : Page) → finite.get (without_parts space page) k ≡ Some p
+    → (covers page k ≡ false) × (finite.get space k ≡ Some p)
+off_there space page k p got = by (covers page k) refl (sym (finite.get-retain_keys space (λ x. not (covers page x)) k
+    (λ other tie. ap (λ x. not (covers page x)) (sym (finite.nat_cmp-IsAntisymmetric k other tie)))) ∙ got)
+  where
+    by : (c : Bool) → covers page k ≡ c → cond (not c) (finite.get space k) None ≡ Some p → (covers page k ≡ false) × (finite.get space k ≡ Some p)
+    by true covered is = absurd (cc)
+    by false uncovered is = (uncovered, is)
+
+same_sizes : (size : Size) → size ≡ larger size → size ≡ G1
+same_sizes K4 e = cc
+same_sizes M2 e = cc
+same_sizes G1 e = refl
+
+module _ {depth : Depth} {space : Space} (is : IsSpace depth space) (base : ℕ) (there : BeginsThere space base) where
+  first : Page
+  first = there.0
+
+  after : Space
+  unfolding first
+  after = finite.insert (without_parts space (whole_of first)) first.base (whole_of first)
+
+  begins : covers (whole_of first) first.base ≡ true
+  begins = covers_base (whole_of first)
+
+  whole_there : page_at after base ≡ Some (whole_of first)
+  unfolding first after begins
+  whole_there = one_at after base first.base (whole_of first) (get_inserted (without_parts space (whole_of first)) first.base (whole_of first))
+      (ap (covers (whole_of first)) (sym there.2) ∙ begins) (λ k p got covered. ⊎_elim
+      (λ new. new.1)
+      (λ old.
+      let was = off_there space (whole_of first) k p old.1 in
+      let under : p.base ≡ k = is.under_base k p was.1 in
+      let here = (page_at_means is base first).0 there.1 in
+      let held : Holds space p = ap (finite.get space) under ∙ was.1 in
+      let same : p ≡ first = is.apart p first base held here.0 covered here.1 in
+      let at : k ≡ first.base = sym under ∙ ap (λ (z : Page). z.base) same in
+      let off : covers (whole_of first) first.base ≡ false = ap (covers (whole_of first)) (sym at) ∙ was.0 in
+      absurd (cc begins))
+      (insert_cases (without_parts space (whole_of first)) first.base (whole_of first) k p got))
+
+  -- where all addresses look as before, its size isn't that of the page
+  pub not_unstored : ((address : ℕ) → IsCanonical depth address → as_walk (look (join space base).space address) ≡ as_walk (look space address))
+      → join_refusal space base ≡ None → ⊥
+  unfolding first after
+  not_unstored alike due =
+      let joined : (join space base).space ≡ after = ap (λ (s : Stepped). s.space)
+      (change_here space base (λ page. finite.insert (without_parts space (whole_of page)) page.base (whole_of page)) first there.1 there.2) in
+      let here : as_walk (look space base) ≡ Mapped (first.phys + (base - first.base)) first.size first.rights = rw there.1 refl in
+      let then : as_walk (look after base) ≡ Mapped (first.phys + (base - first.base)) (larger first.size) first.rights = rw whole_there refl in
+      let both : Mapped (first.phys + (base - first.base)) (larger first.size) first.rights ≡ Mapped (first.phys + (base - first.base)) first.size first.rights =
+      sym then ∙ ap (λ (s : Space). as_walk (look s base)) (sym joined) ∙ alike base (begins_canonical is base there) ∙ here in
+      let largest : first.size ≡ G1 = same_sizes first.size (sym (sizes _ _ _ _ both)) in
+      let refused : not_first first.base first.phys first.size ≡ None =
+      sym (why_here base (λ page. not_first page.base page.phys page.size) first there.1 there.2) ∙ due in
+      let shown : Some replies.Largest ≡ None = sym (ap (not_first first.base first.phys) largest) ∙ refused in
+      absurd (cc)
+    where
+      sizes : (a : ℕ) (s t : Size) (r : Rights) → Mapped a s r ≡ Mapped a t r → s ≡ t
+      sizes a s t r e = cc

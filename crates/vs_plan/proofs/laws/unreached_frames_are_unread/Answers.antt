@@ -1,0 +1,8 @@
+use Rattle.vs_plan.proofs.Unread.{unread_keeps, unread_walk}
+use Rattle.vs_plan.proofs.laws.unreached_frames_are_unread.Goals as goal
+
+pub returns : goal.returns
+returns c = record {
+  keep = λ depth root old new moments same is. unread_keeps depth root old new same moments is;
+  walks = λ depth root old new address same. unread_walk depth root old new same address;
+}

@@ -1,0 +1,120 @@
+ghost use Rattle.std.specs.Prelude.{◌≡◌, ◌≢◌, ◌+◌, ◌%◌, ◌≤◌, ◌<◌, ℕ, None, IfNone, IfSome, slice_index};
+ghost use Rattle.vs_types.specs.Entry.{meaning, size_at};
+ghost use Rattle.vs_types.specs.Page.{bytes_of};
+ghost use Rattle.vs_types.specs.declared.entry.Meaning.{Meaning};
+ghost use Rattle.vs_types.specs.declared.frame.TheConstants.{FRAME_WORDS};
+ghost use Rattle.vs_types.specs.declared.limits.TheConstants.{MOST_LEVELS};
+ghost use Rattle.vs_types.specs.declared.page.Rights.{Rights};
+ghost use Rattle.vs_types.specs.declared.page.Size.{Size};
+ghost use Rattle.vs_plan.specs.declared.request.Request.{Request};
+ghost use Rattle.vs_plan.specs.Changes.{larger, not_first};
+ghost use Rattle.vs_plan.specs.Right.{Follows};
+ghost use Rattle.vs_plan.specs.inside.Ended.{IsAtEnd, IsFirstApart, IsRightWith, IsWholeStore};
+
+use crate::plan::{Flush, Plan, Reply, Store};
+use crate::planner::Planner;
+use crate::word::{bits_in, flagged, larger, page_word, unflagged};
+use vs_types::{Answer, Entry, FRAME_WORDS, Meaning, Page, Rights, Size, index_at};
+
+impl Planner {
+    /// Puts one page in the place of those of the table at the end of the way, which has these words, where they follow on from the first.
+    pub(crate) fn plan_join(&self, base: u64, word: u64, words: &[u64; FRAME_WORDS]) -> Plan
+        requires end { IsAtEnd self.now }
+        requires request { self.now.request ≡ Request.Join base }
+        ensures { IsRightWith self.now word words.now result }
+    {
+        let Meaning::Leaf(phys, own) = Entry::new(word).read(self.level) else {
+            return self.plan_absent(base, word);
+        };
+        let size = Size::at_level(self.level);
+        let offset = base % size.bytes();
+        if offset != 0 {
+            return Plan::nothing(Reply::Answer(Answer::Inside(base - offset)), 0);
+        }
+        if let Some(reply) = not_first(base, phys, size) {
+            return Plan::nothing(reply, 0);
+        }
+        if let Some(index) = first_apart(words, size) {
+            return Plan::nothing(Reply::Apart(index), 0);
+        }
+        let answer = Answer::Changed(self.rights.intersection(own));
+        let mut plan = Plan::nothing(Reply::Answer(answer), bits_in(size, word));
+        plan.stores.push(self.whole_store(base, phys, own, word));
+        plan.unlinked.push(self.number);
+        plan.flush = Flush::Range(base, larger(size));
+        plan
+    }
+
+    /// The store of one page's entry in the place of the link to the table at the end of the way, whose first entry is this word.
+    fn whole_store(&self, base: u64, phys: u64, own: Rights, word: u64) -> Store
+        requires end { IsAtEnd self.now }
+        requires leaf { meaning self.now.level word ≡ Meaning.Leaf phys own }
+        requires small { size_at self.now.level ≢ Size.G1 }
+        requires aligned { phys % bytes_of (larger (size_at self.now.level)) ≡ 0 }
+        ensures { IsWholeStore self.now base phys own word result }
+    {
+        let above = self.level + 1;
+        let link = self.words[above as usize];
+        let size = Size::at_level(self.level);
+        let whole = Page {
+            base,
+            size: larger(size),
+            rights: allowed_by(above, link).intersection(own),
+            phys,
+        };
+        Store {
+            frame: self.numbers[above as usize],
+            index: index_at(above, base),
+            old: link,
+            new: page_word(whole, flagged(bits_in(size, word))),
+        }
+    }
+}
+
+/// What the link to a table allows, which is this word of a table of this level. Any other entry allows everything.
+fn allowed_by(level: u8, link: u64) -> Rights
+    requires some { 1 ≤ level }
+    requires few { level ≤ MOST_LEVELS }
+    ensures { (number : ℕ) (own : Rights) → meaning level link ≡ Meaning.Table number own
+        → result ≡ own }
+{
+    match Entry::new(link).read(level) {
+        Meaning::Table(_, own) => own,
+        _ => Rights::ALL,
+    }
+}
+
+/// Why a page at this base, with this physical address, is not the first part of a larger one.
+fn not_first(base: u64, phys: u64, size: Size) -> Option<Reply>
+    ensures is { result ≡ not_first base phys size }
+    ensures small { result ≡ None → size ≢ Size.G1 }
+    ensures aligned { result ≡ None → phys % bytes_of (larger size) ≡ 0 }
+{
+    if size == Size::G1 {
+        return Some(Reply::Largest);
+    }
+    let bytes = larger(size).bytes();
+    if base % bytes != 0 {
+        return Some(Reply::Unaligned);
+    }
+    if phys % bytes != 0 {
+        return Some(Reply::PhysUnaligned);
+    }
+    None
+}
+
+/// The first index at which these words, of entries of pages of this size, don't follow on from the first.
+fn first_apart(words: &[u64; FRAME_WORDS], size: Size) -> Option<usize>
+    ensures none { IfNone result ((i : ℕ) → i < FRAME_WORDS
+        → Follows size (slice_index words.now 0) i (slice_index words.now i)) }
+    ensures first { IfSome result (IsFirstApart words.now size) }
+{
+    let first = unflagged(words[0]);
+    for index in 0..FRAME_WORDS {
+        let here = unflagged(words[index]);
+        if here < first || here - first != index as u64 * size.bytes() {
+            return Some(index);
+        }
+    }
+    None
+}
