@@ -48,12 +48,12 @@
  *     writes the page's entry in the place of such a link. No other present entry changes [meant], and each store changes its word
  *     [changing]. A protect keeps all bits of the page's entry but 1, 2 and 63; a map writes just the bits that it was given, and links to
  *     new tables that allow everything [written]. The bits that are answered are those of the page's entry [`told`];
- *   - a remap is one store, which keeps all bits of the page's entry but its address and its rights. A split fills a frame that was given
- *     with the entries of 512 pages of the next smaller size, which have the page's rights, its flags and its other bits, and then links it
- *     by one store; no other plan fills a frame. A join is one store, of an entry with the address, the rights and the bits of the first
- *     page and with both flags set, so that no processor sets one that could be lost [put: IsRemapped, IsSplit, IsJoined];
- *   - no flag is lost where a store is made again: it is in what is stored, or by a split in what the frame is filled with, and in the bits
- *     that are answered [nrvs_plan_again: again; flags_keep_plans_safe: protects, bits];
+ *   - a remap is at most one store, which keeps all bits of the page's entry but its address and its rights. A split fills a frame that was
+ *     given with the entries of 512 pages of the next smaller size, which have the page's rights, its flags and its other bits, and then
+ *     links it by one store; no other plan fills a frame. A join is one store, of an entry with the address, the rights and the bits of the
+ *     first page and with both flags set, so that no processor sets one that could be lost [put: IsRemapped, IsSplit, IsJoined];
+ *   - no flag of a page is lost where a store is made again: it is in what is stored, or by a split in what the frame is filled with, and in
+ *     the bits that are answered; a join's entry has both already [nrvs_plan_again: again; flags_keep_plans_safe: protects, splits, bits];
  *   - a processor that was up to date is so again after the flush that is named: it keeps nothing that leads elsewhere than a walk of the
  *     memory, and nothing that leads into an unlinked frame [flushed; the law flushes_of_right_plans_suffice]. An invlpg of the base does
  *     it, for NRVS_FLUSH_PAGE and NRVS_FLUSH_PAGE_AND_TABLES (SDM volume 3A, 4.10.4.1). NRVS_FLUSH_RANGE, after a split or a join, takes an
@@ -61,7 +61,8 @@
  *   - an unlinked frame was a table on the way of the address, is none now, and is named once. Its words are all 0, but by a join, where
  *     they stay as they were: clear them before the frame is given again [unlinked, named_once];
  *   - what the caller has to keep of the memory holds again after the stores [whole, own];
- *   - the words of a frame are asked for once a level at most, and a frame once for each level [nrvs_plan_see, nrvs_plan_give: fewer].
+ *   - the words of a frame are asked for once a level at most, and by a map a frame once for each level [nrvs_plan_see, nrvs_plan_give:
+ *     fewer]; by a split one frame (read in the code).
  *
  * What the caller has to keep, which no call can test:
  *   - pointers are not null, aligned as their types are; nobody else reads or writes the plan meanwhile; each call but the first is given
@@ -134,7 +135,7 @@ struct nrvs_plan {
 	uint64_t own[20];         /* the library's */
 };
 
-/* What comes next. Each call but nrvs_plan_again returns one of these, where it isn't refused. */
+/* What comes next. Each call but nrvs_plan_again returns one of these, where it isn't refused (read in the code). */
 enum {
 	NRVS_PLANNED = 0, /* the plan is there */
 	NRVS_SEE = 32,    /* the words of `plan->frame` are to be shown: nrvs_plan_see */
@@ -189,13 +190,13 @@ uint32_t nrvs_plan_unmap(struct nrvs_plan *plan, const struct nrvs_target *targe
 /* Gives the page that begins at an address these rights and no others: NRVS_CHANGED, NRVS_INSIDE, NRVS_NOT_MAPPED, NRVS_NARROW. */
 uint32_t nrvs_plan_protect(struct nrvs_plan *plan, const struct nrvs_target *target, uint64_t base, uint32_t rights);
 
-/* Lets the page that begins at an address lead to another physical address, with these rights; its size stays: NRVS_CHANGED, NRVS_INSIDE,
- * NRVS_NOT_MAPPED, NRVS_MISPLACED, NRVS_BEYOND, NRVS_NARROW.
+/* Lets the page that begins at an address lead to another physical address, with these rights; its size stays: NRVS_CHANGED (with the rights
+ * that it had), NRVS_INSIDE, NRVS_NOT_MAPPED, NRVS_MISPLACED, NRVS_BEYOND, NRVS_NARROW.
  */
 uint32_t nrvs_plan_remap(struct nrvs_plan *plan, const struct nrvs_target *target, uint64_t base, uint64_t physical, uint32_t rights);
 
 /* Puts 512 pages of the next smaller size in the place of the page that begins at an address; they translate as it does, and an empty frame
- * is asked for: NRVS_CHANGED (with the rights, which stay), NRVS_INSIDE, NRVS_NOT_MAPPED, NRVS_SMALLEST.
+ * is asked for: NRVS_CHANGED (with the rights, which stay), NRVS_INSIDE, NRVS_NOT_MAPPED, NRVS_SMALLEST, NRVS_NO_FRAME, NRVS_FRAME_RANGE.
  */
 uint32_t nrvs_plan_split(struct nrvs_plan *plan, const struct nrvs_target *target, uint64_t base);
 

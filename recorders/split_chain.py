@@ -4,9 +4,8 @@
     split_chain.py FOLDER [LEAST] <CHAIN
 
 A part is the file FOLDER/part.K, where K is the number of its first segment, of seven digits at least; it has LEAST segments (1) or more.
-Beside it is part.K.next, the first segment of the part behind it; behind the last part there is none, and that file is empty. FOLDER is
-made. Bytes that are no whole segment go to the last part, of whose end the auditor then says so. It isn't verified, and nothing depends
-on it: examples/judge_in_parts compares the ends of the parts.
+FOLDER is made. Bytes that are no whole segment go to the last part, of whose end the auditor then says so. It isn't verified, and nothing
+depends on it: examples/judge_in_parts compares the ends of the parts.
 """
 import os
 import struct
@@ -23,38 +22,34 @@ class Splitter:
 
     def __init__(self, source, folder):
         self.source, self.folder = source, folder
-        self.part = self.next = None
+        self.part = None
         self.parts = self.begun = 0
 
     def begin(self, number):
-        """The next segment begins a part; it is the one behind the part before, too."""
+        """The next segment begins a part."""
         if self.part:
             self.part.close()
-        before, path = self.next, os.path.join(self.folder, f"part.{number:07}")
-        self.part, self.next = open(path, "wb"), open(path + ".next", "wb")
+        self.part = open(os.path.join(self.folder, f"part.{number:07}"), "wb")
         self.parts, self.begun = self.parts + 1, number
-        return before
 
-    def copy(self, length, outs):
+    def copy(self, length):
         """Copies so many bytes; fewer where the chain ends."""
         while length > 0:
             data = self.source.read(min(length, BLOCK))
             if not data:
                 return
-            for out in outs:
-                out.write(data)
+            self.part.write(data)
             length -= len(data)
 
-    def copy_segment(self, head, outs):
+    def copy_segment(self, head):
         """Copies the rest of the segment that begins with this head."""
         _, _, _, replicas, _, _, places, events, frames = HEAD.unpack(head)
-        self.copy((8 + frames * FRAME_BYTES if frames else 0) + 4 * places + 24 * events, outs)
+        self.copy((8 + frames * FRAME_BYTES if frames else 0) + 4 * places + 24 * events)
         for _ in range(replicas):
             dump = self.source.read(DUMP_HEAD.size)
-            for out in outs:
-                out.write(dump)
+            self.part.write(dump)
             if len(dump) == DUMP_HEAD.size:
-                self.copy(DUMP_HEAD.unpack(dump)[1] * FRAME_BYTES, outs)
+                self.copy(DUMP_HEAD.unpack(dump)[1] * FRAME_BYTES)
 
     def split(self, least):
         """Writes the parts."""
@@ -62,22 +57,16 @@ class Splitter:
         while head := self.source.read(HEAD.size):
             is_segment = len(head) == HEAD.size and head[:4] == b"NRVS"
             has_start = is_segment and HEAD.unpack(head)[-1] > 0
-            before = None
             if self.parts == 0 or (has_start and number - self.begun >= least):
-                before = self.begin(number)
-            outs = [self.part, before] if before else [self.part]
-            for out in outs:
-                out.write(head)
+                self.begin(number)
+            self.part.write(head)
             if is_segment:
-                self.copy_segment(head, outs)
+                self.copy_segment(head)
             else:
-                self.copy(sys.maxsize, outs)
-            if before:
-                before.close()
+                self.copy(sys.maxsize)
             number += 1
         if self.part:
             self.part.close()
-            self.next.close()
 
 
 def main(words):

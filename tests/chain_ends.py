@@ -11,6 +11,8 @@ import tempfile
 import threading
 import time
 
+import model_pages
+
 TESTS = os.path.dirname(os.path.abspath(__file__))
 CHAINS = os.path.join(TESTS, "chains")
 TRACE = os.path.join(TESTS, "..", "examples", "map_then_resolve.trace")
@@ -52,7 +54,7 @@ class Program:
             subprocess.run(["cc", "-O1", "-shared", "-fPIC", "-o", f"{work}/{shim}.so", f"{TESTS}/{shim}.c"], check=True)
 
     def words(self, *more):
-        return [self.path, "audit", *(more or ("--chain",))]
+        return [self.path, *more] if more[:1] == ("pages",) else [self.path, "audit", *(more or ("--chain",))]
 
     def shimmed(self, **how):
         """The environment in which ends fail so."""
@@ -259,7 +261,75 @@ def memory(program):
     yield is_said("a header that promises all that there may be", said, 1, "segment 0\nno 1 Format Truncated\n")
 
 
-PARTS = (in_pieces, interrupted, as_soon_as_whole, reads_no_more, failing_reads, failing_writes, words, refused_growths, memory)
+STARTED = ("begins_with_a_page_and_unmaps_it", "second_begins_where_the_first_ended", "second_begins_elsewhere", "start_with_a_stray_frame", "no_bytes")
+ENDS = {"--start": model_pages.shown_start, "--end": model_pages.shown_end}
+
+
+def pages_asked():
+    """Each chain, with the words that ask for pages of it, what is printed then, and its status."""
+    for name in STARTED:
+        for end, shown in ENDS.items():
+            for more in ((), ("--ranges",)):
+                yield name, ("pages", "--chain", end, *more), *shown(data_of(name), bool(more))
+
+
+def pages_at_failing_ends(program):
+    """The pages at the ends of a chain that comes in pieces, or whose ends fail."""
+    for name, asked, text, status in pages_asked():
+        data, path = data_of(name), f"{CHAINS}/{name}.chain"
+        for ends in ({"SHORT_READ": 7}, {"SHORT_READ": 1000, "INTERRUPTS": 2, "SHORT_WRITE": 5}):
+            yield is_said(f"{name}, {asked}, {ends}", program.run(data, *asked, env=program.shimmed(**ends)), status, text)
+        yield is_said(f"{name} by its name, {asked}", program.run(subprocess.DEVNULL, *asked, path), status, text)
+        for at in (0, 20, len(data) // 2):
+            if at < len(data) or at == 0:
+                seen = program.run(data, *asked, env=program.shimmed(FAIL_AT=at, SHORT_READ=10))
+                yield is_said(f"{name}, {asked}, a read that fails at byte {at}", seen, 2, "", "cannot read\n")
+        if text:
+            yield is_said(f"{name}, {asked}, a write that fails", program.run(data, *asked, env=program.shimmed(FAIL_WRITE=1)), 2, "", "cannot write\n")
+            with open("/dev/full", "wb") as full:
+                yield is_said(f"{name}, {asked}, a full device", program.run(data, *asked, stdout=full), 2, "", "cannot write\n")
+    none = f"{program.work}/none"
+    seen = program.run(subprocess.DEVNULL, "pages", "--chain", "--end", none)
+    yield is_said("pages of a chain in a file that there is not", seen, 2, "", f"{none}: cannot read\n")
+    for more in (("--chain",), ("--start",), ("--end",), ("--chain", "--start", "--end"), ("--chain", "--start", none, none)):
+        status, text, errors = program.run(data_of("two_segments"), "pages", *more)
+        yield f"the words pages {more}", status == 2 and not text and errors, (status, text, errors)
+
+
+def start_reads_no_more(program):
+    """For its start a chain is read to the end of the block with which its first segment is whole."""
+    name = "second_begins_where_the_first_ended"
+    path, data = f"{program.work}/start and more", data_of(name)
+    with open(path, "wb") as file:
+        file.write(data + bytes(5 * BLOCK))
+    ends = model_pages.chains.read_segment(data, 0, None).ends
+    with open(path, "rb", buffering=0) as file:
+        seen = program.run(file, "pages", "--chain", "--start")
+        left = os.lseek(file.fileno(), 0, os.SEEK_CUR)
+    yield is_said("the start of a chain, and more", seen, 0, model_pages.shown_start(data)[0])
+    yield "for the start no more than a segment is read", left == -(-ends // BLOCK) * BLOCK, (left, ends)
+
+
+def pages_and_refused_growths(program):
+    """Each growth of memory refused in turn, as the pages at an end are listed: nothing is said then."""
+    for number, (name, asked, text, wanted_status) in enumerate(pages_asked()):
+        refusals, refused = 0, f"{program.work}/refused pages {number}"
+        for growth in range(1, 2000):
+            if os.path.exists(refused):
+                os.remove(refused)
+            env = os.environ | {"REFUSE_GROWTH": str(growth), "REFUSED": refused, "LD_PRELOAD": f"{program.work}/refuse_growth.so"}
+            seen = program.run(data_of(name), *asked, env=env)
+            if not os.path.exists(refused):
+                break
+            refusals += seen[0] == 3
+            if seen not in ((3, "", "out of memory\n"), (wanted_status, text, "")):
+                yield f"{name}, {asked}, growth {growth}", False, seen
+        yield is_said(f"{name}, {asked}, after its refused growths", seen, wanted_status, text)
+        yield f"{name}, {asked}: growths were refused", refusals > 5, refusals
+
+
+PARTS = (in_pieces, interrupted, as_soon_as_whole, reads_no_more, failing_reads, failing_writes, words, refused_growths, memory,
+         pages_at_failing_ends, start_reads_no_more, pages_and_refused_growths)
 
 
 def results(part, path):

@@ -7,6 +7,7 @@ docs/DEFINITIONS.md alone, to compare with. Nothing here is proved, and nothing 
     model_evidence.py --all [--json] <TRACE     what `nrvs explain --all` prints, in lines or as JSON, with its status
     model_evidence.py resolve A [R] <TRACE      what `nrvs resolve --steps --address A --replica R` prints, with its status
 """
+import collections
 import json
 import struct
 import sys
@@ -14,6 +15,7 @@ import sys
 import model_auditor as model
 from model_auditor import Call, Reply
 
+TOUCH = 5                                           # a kind that only calls of chains have
 FORMAT_LINES = {
     "Truncated": "the bytes end before the last unit does",
     "BadMagic": "bytes 0 to 3 are NRVT",
@@ -34,13 +36,14 @@ def rights_words(rights):
 
 
 def request_words(call):
-    """As a script has it."""
+    """As a script has it; a touch, which no script has, as an access."""
     size, rights = model.SIZE_NAMES[call.size], rights_words(call.rights)
     return {model.MAP: f"map {size} {call.address:#x} {call.phys:#x} {rights}",
             model.UNMAP: f"unmap {call.address:#x}",
             model.PROTECT: f"protect {call.address:#x} {rights}",
             model.RESOLVE: f"resolve {call.address:#x}",
-            model.ACCESS: f"access {'su'[call.rights & 1]} {'rwx'[call.size]} {call.address:#x}"}[call.kind]
+            model.ACCESS: f"access {'su'[call.rights & 1]} {'rwx'[call.size]} {call.address:#x}",
+            TOUCH: f"touch {'su'[call.rights & 1]} {'rwx'[call.size]} {call.address:#x}"}[call.kind]
 
 
 def answer_words(answer):
@@ -78,8 +81,11 @@ def way_lines(way):
     return [step_line(step) for step in way] or ["it is the root"]
 
 
-def changed_words(changed):
-    return f"place {changed['place']}, {event_line(changed['call'])}" if changed else "none"
+def changed_line(shown):
+    """The last change of an address; or where none of the updates is it: nothing, or in a chain what comes before them."""
+    changed = shown["changed"]
+    by = f" place {changed['place']}, {event_line(changed['call'])}" if isinstance(changed, dict) else f": {changed or 'none'}"
+    return f"address {shown['address']}, last changed by{by}"
 
 
 # ---- what is sought in the trace ----
@@ -103,9 +109,14 @@ def apply(trace, space, number):
         space.apply(trace.events[number])
 
 
-def look(trace, address, places):
+def begins_with(trace, start):
+    """The space before the log: with no pages, but for a segment of a chain."""
+    return start.copy() if start else model.Space(trace.levels, trace.tables)
+
+
+def look(trace, address, places, start=None):
     """How an address looks after so many places of the log, and the last that changed it."""
-    space, changed = model.Space(trace.levels, trace.tables), None
+    space, changed = begins_with(trace, start), None
     asked = Call(0, 0, model.RESOLVE, 0, 0, address, 0)
     looks = space.look(asked)
     for place in range(places):
@@ -191,15 +202,15 @@ def of_early(trace, number):
             "answered": event_fact(trace, trace.events[index].call), "own": None if own is None else event_fact(trace, own)}
 
 
-def of_wrong_answer(trace, number):
+def of_wrong_answer(trace, number, start=None):
     index, reply = next((i, reply) for i, reply in replies_of(trace).items() if reply.call == number)
-    space, call = model.Space(trace.levels, trace.tables), trace.events[number]
+    space, call = begins_with(trace, start), trace.events[number]
     for each in trace.log[:reply.at]:
         space.apply(trace.events[each])
     wanted = space.apply(call) if model.is_update(trace, number) else space.look(call)
     address = wanted.value if wanted.code in (model.OVERLAP, model.INSIDE) else call.address
     return {"call": event_fact(trace, number), "reply": event_fact(trace, index), "wanted": answer_words(wanted),
-            "address": f"{address:#x}", "changed": look(trace, address, reply.at)[1]}
+            "address": f"{address:#x}", "changed": look(trace, address, reply.at, start)[1]}
 
 
 def of_prefix_past_log(trace, r):
@@ -243,9 +254,9 @@ def of_stray_frame(trace, r, frame):
     return {"replica": r, "frame": frame}
 
 
-def of_differs(trace, r, address):
+def of_differs(trace, r, address, start=None):
     dump = trace.dumps[r]
-    wanted, changed = look(trace, address, dump.applied)
+    wanted, changed = look(trace, address, dump.applied, start)
     return {"replica": r, "applied": dump.applied, "address": f"{address:#x}", "found": model.walk(trace, dump, address),
             "path": entries_read(trace, dump, address), "wanted": answer_words(wanted), "changed": changed}
 
@@ -261,9 +272,6 @@ def lines_of(fault, shown):
     """The lines after the verdict's."""
     both = [event_line(shown["call"])] if isinstance(shown.get("call"), dict) else []
     both += [event_line(shown["reply"])] if shown.get("reply") else []
-    if "changed" in shown:
-        last = f"address {shown['address']}, last changed by {changed_words(shown['changed'])}"
-        last = last if shown["changed"] else last.replace("changed by ", "changed by: ")
     return {
         "ThreadOpen": lambda: [event_line(shown["first"]), event_line(shown["second"])],
         "NoSuchCall": lambda: both + [event_line(shown["named"], shown["reply"]["call"])],
@@ -276,7 +284,7 @@ def lines_of(fault, shown):
         "Early": lambda: [both[0], event_line(shown["own"]) if shown["own"] else "no reply to it",
                           f"entries before it: {shown['entries']}", f"known when it was made: {shown['floor']}", both[1],
                           event_line(shown["answered"])],
-        "WrongAnswer": lambda: both + [f"the space answers: {shown['wanted']}", last],
+        "WrongAnswer": lambda: both + [f"the space answers: {shown['wanted']}", changed_line(shown)],
         "PrefixPastLog": lambda: [f"applied: {shown['applied']}", f"entries of the log: {shown['places']}"],
         "PrefixShort": lambda: [f"applied: {shown['applied']}", f"known there: {shown['known']}", both[1], both[0]],
         "MissingFrame": lambda: way_lines(shown["path"]) + [f"frame {shown['frame']:#x}, which the dump doesn't have"],
@@ -285,7 +293,7 @@ def lines_of(fault, shown):
             f"bit {shown['bit']} is set: {RESERVED.get(shown['entry']['level'], RESERVED[4]).format(shown['entry']['level'])}"],
         "StrayFrame": lambda: [f"no table leads to frame {shown['frame']:#x}"],
         "Differs": lambda: [f"applied: {shown['applied']}", f"the dump: {shown['found']}", *map(step_line, shown["path"]),
-                            f"the space: {shown['wanted']}", last],
+                            f"the space: {shown['wanted']}", changed_line(shown)],
     }[fault]()
 
 
@@ -295,9 +303,11 @@ def many(count, word):
     return f"{count} {word if count == 1 else word[:-1] + 'ies' if word[-1] == 'y' else word + 's'}"
 
 
-def named_words(named, of_call):
+def named_words(named, of_call, of_touch):
     """What an event is that a number names, where it isn't what it should be."""
-    return "there is no such event" if named is None else of_call if "request" in named else "that event is a reply"
+    if named is None or "request" not in named:
+        return "that event is a reply" if named else "there is no such event"
+    return of_touch if named["request"].startswith("touch ") else of_call
 
 
 def sentence_of(fault, shown, header):
@@ -306,15 +316,15 @@ def sentence_of(fault, shown, header):
     told = {name: fact["answer"] for name, fact in shown.items() if isinstance(fact, dict) and "answer" in fact}
     reply, named = shown.get("reply") or {}, shown.get("named")
     wanted, replica = shown.get("wanted"), f"replica {shown.get('replica')}"
-    dump, frame = f"The dump of {replica}", f"frame {shown.get('frame', 0):#x}"
+    dump, frame, asked = f"The dump of {replica}", f"frame {shown.get('frame', 0):#x}", (named or {}).get("request", "")
     return {
         "ThreadOpen": lambda: f"Thread {shown['second']['thread']} makes call {of['second']} while its call {of['first']} has no reply "
                               "yet.",
         "NoSuchCall": lambda: f"Event {of['reply']} replies to call {reply['call']}, which is no call before it: "
-                              f"{named_words(named, 'that call is made later')}.",
+                              f"{named_words(named, 'that call is made later', 'that touch is made later')}.",
         "AnsweredTwice": lambda: f"Event {of['second']} answers call {of['call']} again: event {of['first']} had answered it.",
         "NotAnUpdate": lambda: f"Place {shown['place']} of the log has the number {shown['call']}, which is no update: "
-                               f"{named_words(named, 'that call only reads, ' + (named or {}).get('request', ''))}.",
+                               f"{named_words(named, f'that call only reads, {asked}', 'that event is a touch')}.",
         "PlacedTwice": lambda: f"Call {of['call']} is in the log twice: at place {shown['first']}, and again at place {shown['second']}.",
         "NotPlaced": lambda: f"Event {of['reply']} says that call {of['call']} is at place {reply['at']} of the log, but the log has "
                              f"{'no such place' if shown['there'] is None else 'call %d there' % shown['there']}.",
@@ -354,18 +364,27 @@ def reason_words(shown, header):
         "BadEvent": "event {0} is no call and no reply, since {field}",
         "BadFrame": "frame {1} of dump {0} has a number that is not above the one before it, or too great",
         "Trailing": "more bytes follow the last unit",
-    }[name].format(*numbers, **shown, field=name == "BadEvent" and next(wrong_fields(header, bytes.fromhex(shown["read"]))))
+    }[name].format(*numbers, **shown, field=name == "BadEvent" and next(wrong_fields(limits_of(header), bytes.fromhex(shown["read"]))))
 
 
-def wrong_fields(header, unit):
-    """Each field of 24 bytes that isn't what it may be after this header, in the order of the bytes."""
+Limits = collections.namedtuple("Limits", "levels replicas threads kinds answers")  # how many there are of each
+
+
+def limits_of(header):
+    """Which fields an event may have after this header."""
     version, levels, replicas, threads = struct.unpack(">HBBH", header[4:10])
+    return Limits(levels, replicas, threads, 3 + version, 6 + 2 * version)
+
+
+def wrong_fields(limits, unit):
+    """Each field of 24 bytes that isn't what it may be, in the order of the bytes."""
+    levels, replicas, threads, kinds, answers = limits
     if unit[0] == 0:
         _, replica, thread, kind, size, rights, unused, address, phys = struct.unpack(">BBHBBBBQQ", unit)
-        is_map, is_access = kind == model.MAP, kind == model.ACCESS
+        is_map, is_access = kind == model.MAP, kind in (model.ACCESS, TOUCH)
         yield from below("replica is", replica, replicas)
         yield from below("thread is", thread, threads)
-        yield from below("kind is", kind, 3 + version)
+        yield from below("kind is", kind, kinds)
         yield from below("access is" if is_access else "size is", size, 3 if is_map or is_access else 1)
         yield from below("mode is" if is_access else "rights are", rights, 2 if is_access else 8 if is_map or kind == model.PROTECT else 1)
         yield from below("unused bytes are", unused, 1)
@@ -382,7 +401,7 @@ def wrong_fields(header, unit):
     elif unit[0] == 1:
         _, code, size, rights, _, _, unused, value = struct.unpack(">BBBBIIIQ", unit)
         uses = model.ANSWER_USES.get(code, "")
-        yield from below("answer is", code, 8 if version == 1 else 10)
+        yield from below("answer is", code, answers)
         yield from below("size is", size, 3 if "size" in uses else 1)
         yield from below("rights are", rights, 8 if "rights" in uses else 1)
         yield from below("unused bytes are", unused, 1)

@@ -1,14 +1,16 @@
 #!/usr/bin/env python3
 """A second implementation of `nrvs pages`, in plain Python: written from docs/FORMATS.md alone, to compare with.
 
-What a trace spells and what an entry means is tests/model_auditor.py's. The tables are gone through from the highest entry down, and what
-is found is sorted.
+What a trace spells and what an entry means is tests/model_auditor.py's, and how a chain is judged tests/model_chains.py's. The tables are
+gone through from the highest entry down, and what is found is sorted.
 
-    model_pages.py [--ranges] [--replica N] <TRACE      what `nrvs pages` prints, with its status
+    model_pages.py [--ranges] [--replica N] <TRACE              what `nrvs pages` prints, with its status
+    model_pages.py --chain (--start | --end) [--ranges] <CHAIN
 """
 import sys
 
 import model_auditor as traces
+import model_chains as chains
 from model_auditor import Fault, SIZES, SIZE_NAMES
 
 
@@ -98,9 +100,37 @@ def shown(data, replica=0, as_ranges=False):
     return text_of(pages_of(trace, dump), as_ranges), "", 0
 
 
+def shown_start(data, as_ranges=False):
+    """What `nrvs pages --chain --start` prints, and its status: the first segment is judged, and its start shown."""
+    try:
+        segment = chains.read_segment(data, 0, None)
+        chains.check_segment(segment, None)
+    except Fault as fault:
+        return f"segment 0\n{fault}\n", 1
+    return text_of(pages_of(segment.trace, segment.start) if segment.start else [], as_ranges), 0
+
+
+def shown_end(data, as_ranges=False):
+    """What `nrvs pages --chain --end` prints, and its status: all segments are judged, and the space after them shown."""
+    position, number, before, space = 0, 0, None, None
+    while position < len(data) or number == 0:
+        try:
+            segment = chains.read_segment(data, position, before)
+            _, space = chains.check_segment(segment, space)
+        except Fault as fault:
+            return f"segment {number}\n{fault}\n", 1
+        position, before, number = segment.ends, segment.trace, number + 1
+    return text_of(space.listed(), as_ranges), 0
+
+
 def main(words):
     as_ranges = "--ranges" in words
     words = [word for word in words if word != "--ranges"]
+    ends = {"--start": shown_start, "--end": shown_end}
+    if len(words) == 2 and words[0] == "--chain" and words[1] in ends:
+        text, status = ends[words[1]](sys.stdin.buffer.read(), as_ranges)
+        sys.stdout.write(text)
+        return status
     if words[:1] not in ([], ["--replica"]) or len(words) not in (0, 2):
         sys.stderr.write(__doc__)
         return 2

@@ -193,7 +193,8 @@ def first_part():
 
 
 AUDIT = {"vs_types", "vs_walk", "vs_plain", "vs_text", "nr_trace", "nr_dump", "nr_audit", "nr_explain", "nr_engines", "nr_touch", "nr_segment",
-         "nr_chain", "nr_chain_engines", "nr_pages", "nr_commands", "nrvs_audit", "nrvs_audit_c"}
+         "nr_chain", "nr_chain_engines", "nr_chain_explain", "nr_chain_texts", "nr_pages", "nr_commands", "nrvs_audit",
+         "nrvs_audit_c"}
 
 
 def audit_alone():

@@ -24,6 +24,7 @@ class Evidence:
     address: str = None
     after: int = None
     sentence: str = ""
+    window: list = None                             # a stale touch, and the fewest and the most entries that it may see
 
 
 def of_yes(trace, order, counts):
@@ -34,7 +35,19 @@ def of_yes(trace, order, counts):
                     sentence="This run is right: in the recorded order each answer is that of one address space, and each dump fits it.")
 
 
+def of_right_chain(trace, number, counts):
+    """A segment of a chain that is right up to there."""
+    has = [many(counts[key], noun) for key, noun in (("updates", "update"), ("reads", "read"), ("touches", "touch"), ("pages", "page")) if counts]
+    return Evidence([f"The chain has {', '.join(has[:-1])}, and in the end {has[-1]}."] if counts else [],
+                    sentence=f"Segment {number} is right: in the recorded order each answer is that of one address space, from the pages on with "
+                             "which the segment begins.")
+
+
 def of_format(trace, shown):
+    if "begins" in shown:
+        return Evidence([sentence(trace.broken.why),
+                         f"The format fault is {shown['format'].split()[0]}. It shows at offset {trace.broken.offset} of the segment, which "
+                         f"begins at byte {shown['begins']} of the chain."])
     offset, read = shown["offset"], bytes.fromhex(shown["read"])
     if trace.data[offset:][:shown["size"]][:24] != read:
         raise LookupError
@@ -104,6 +117,8 @@ def last_change(trace, shown):
     changed = shown["changed"]
     if changed is None:
         return [], [f"Up to there no update changed how {shown['address']} looks."], {}
+    if isinstance(changed, str):
+        return [], [f"Up to there no update of this segment changed how {shown['address']} looks: that is of {changed}."], {}
     place, call = changed["place"], changed["call"]["event"]
     return ([place], [f"How {shown['address']} looks was changed last at place {place}: {trace.call_text(call)}."],
             {call: f"changed last how the address looks, at place {place}"})
@@ -165,12 +180,67 @@ def of_differs(trace, shown):
                     after=shown["applied"])
 
 
+# ---- what only chains have: the start is drawn behind the dumps
+
+def of_start(trace, **marked):
+    return Evidence(replica=len(trace.dumps), **marked)
+
+
+def of_start_missing(trace, shown):
+    path = path_of(shown["path"])
+    return of_start(trace, facts=way_facts(trace, "The way there", path), frame=shown["frame"], paths=[path])
+
+
+def of_start_shared(trace, shown):
+    first, second = path_of(shown["first"]), path_of(shown["second"])
+    return of_start(trace, facts=way_facts(trace, "One way there", first) + way_facts(trace, "Another", second), frame=shown["frame"],
+                    paths=[first, second])
+
+
+def of_start_reserved(trace, shown):
+    path = path_of(shown["path"] + [shown["entry"]])
+    return of_start(trace, facts=way_facts(trace, "The way there", path), frame=shown["entry"]["frame"], paths=[path])
+
+
+def of_start_stray(trace, shown):
+    present = sum(word & 1 for word in trace.words(trace.start, shown["frame"]))
+    return of_start(trace, facts=[f"{present} of its 512 entries are present."], frame=shown["frame"])
+
+
+def of_start_page(trace, shown):
+    """A page of the start, or an address, that isn't as it should be."""
+    path, facts = path_of(shown["path"]), last_change(trace, shown)[1] if "changed" in shown else []
+    return of_start(trace, facts=[*facts, *map(step_words, path)], paths=[path], address=shown["address"], after=0)
+
+
+def of_stale(trace, shown):
+    """A touch, how many entries of the log it may see, and the updates at both ends of these."""
+    number, first, last, looks = shown["call"]["event"], shown["first"], shown["last"], shown["looks"]
+    calls, address, replied = {number: "is stale"}, trace.events[shown["call"]["event"]].address, trace.first_replies
+    facts = [f"Too late: {trace.call_text(number)}.",
+             f"It may see {first} to {last} entries of the log, which has {len(trace.log)}."]
+    for each in looks:
+        facts.append(f"After {each['entries']} of them {address:#x} looks so: `{each['look']}`.")
+    if first:
+        before = trace.log[first - 1]
+        facts.append(f"It has to see the entry at place {first - 1}, {trace.call_text(before)}: event {replied[before][0]} answered that, before "
+                     f"the touch was made.")
+        calls[before] = "was answered, so that its flush was over, before the touch was made"
+    if last < len(trace.log):
+        behind = trace.log[last]
+        facts.append(f"It may not see the entry at place {last}, {trace.call_text(behind)}: that was made after the touch was answered.")
+        calls[behind] = "was made after the touch was answered"
+    places = [place for place in (first - 1, last) if 0 <= place < len(trace.log)]
+    return Evidence(facts, calls, [shown["reply"]["event"]], places, address=hex(address), after=first, window=[number, first, last])
+
+
 OF_FAULT = {
     "Format": of_format, "ThreadOpen": of_thread_open, "NoSuchCall": of_no_such_call, "AnsweredTwice": of_answered_twice,
     "NotAnUpdate": of_not_an_update, "PlacedTwice": of_placed_twice, "NotPlaced": of_not_placed, "PastLog": of_past_log,
     "Early": of_early, "WrongAnswer": of_wrong_answer, "PrefixPastLog": of_prefix_past_log, "PrefixShort": of_prefix_short,
     "MissingFrame": of_missing_frame, "SharedFrame": of_shared_frame, "ReservedBit": of_reserved_bit, "StrayFrame": of_stray_frame,
-    "Differs": of_differs,
+    "Differs": of_differs, "StartMissing": of_start_missing, "StartShared": of_start_shared, "StartReserved": of_start_reserved,
+    "StartStray": of_start_stray, "StartBeyond": of_start_page, "StartDiffers": of_start_page, "Stale": of_stale,
 }
 
 # what each fault means most often (docs/RECORDING.md)
@@ -191,6 +261,13 @@ MEANS = {
     "ReservedBit": "a large page made of a frame that isn't its first: bits below its size are set",
     "StrayFrame": "a table that was unlinked, and not freed",
     "Differs": "tables that have other pages or rights than the calls were answered",
+    "StartMissing": "a table that was freed while its parent's entry stayed, or a start that was copied while a thread changed the tables",
+    "StartShared": "a table that is linked at two entries, on purpose or not",
+    "StartReserved": "a large page made of a frame that isn't its first, or a start that isn't the page table's",
+    "StartStray": "a table that was unlinked, and not freed",
+    "StartBeyond": "a page of memory that the processor hasn't",
+    "StartDiffers": "a start that was copied while a thread still changed the tables, or updates that weren't recorded",
+    "Stale": "an update that was answered before the TLBs were flushed",
 }
 
 
@@ -214,10 +291,25 @@ def of_dump(trace, verdict, found):
                      found.sentence, *found.facts], sentence=f"A dump of {whose}: {frames} in memory, and no calls.")
 
 
+def of_chain(trace, whole):
+    """The verdict on a segment that isn't the one with the fault, and what is said of it; or nothing where it is that one."""
+    judged = whole["segment"] if "segment" in whole else int(whole["verdict"].split()[1])
+    if trace.segment == judged and "segment" in whole:
+        return None
+    if trace.segment >= judged:
+        raise LookupError
+    found = of_right_chain(trace, trace.segment, whole.get("counts", {}))
+    found.facts += [f"The first fault is one of segment {judged}: {whole['verdict']}."] if "segment" in whole else []
+    return "yes", found
+
+
 def evidence(trace, said):
     """The verdict, and what is marked in its trace of what `nrvs explain --json` says of it."""
     whole = json.loads(said)
     verdict, shown = whole["verdict"], whole.get("evidence", {"fault": None})
+    other = of_chain(trace, whole) if trace.is_segment else None
+    if other:
+        return other
     name = shown["fault"]
     if (name == "Format") != (trace.broken is not None):
         raise LookupError

@@ -66,7 +66,7 @@ function addressButton(text, only) {
 
 /** A text with its addresses of the space, not of memory, as buttons that show their calls alone. */
 function withAddresses(text) {
-  const named = /\b((?:map (4K|2M|1G)|unmap|protect|resolve|access [su] [rwx]|overlap|inside|from|At|How) )(0x[0-9a-f]+)/g, parts = [];
+  const named = /\b((?:map (4K|2M|1G)|unmap|protect|resolve|(?:access|touch) [su] [rwx]|overlap|inside|from|At|How) )(0x[0-9a-f]+)/g, parts = [];
   let after = 0;
   for (const found of text.matchAll(named)) {
     const size = found[2] && found[2] !== "4K" ? " " + found[2] : "";

@@ -1,6 +1,6 @@
 // ---- the picture of the run ----
 
-const OVERVIEW = 14, AXIS = 20, FLAG = 15, LEAST_LANE = 20;
+const OVERVIEW = 14, AXIS = 20, FLAG = 15, LEAST_LANE = 20, POINTS = 11;
 const picture = { from: 0, to: 1, selected: -1, place: -1, hits: [], hit: -1, labels: 116 };
 const NARROW = 600;                                 // pixels: below, labels are short and tables have more rows
 let colours = {}, waiting = false;
@@ -29,16 +29,25 @@ function sized(canvas, height) {
   return [pen, width];
 }
 
-/** The height of lanes and log: threads with a marked call have room for words, and none has less than a line. */
+/** The height of lanes: threads with a marked call have room for words, none has less than a line, and those with touches have one of
+ *  points below. */
 function heightsOf(lanes) {
   const usual = Math.max(LEAST_LANE, Math.min(38, Math.floor((window.innerHeight * 0.62 - 90) / lanes.length)));
   const loud = new Set(run.marked.map(threadOf));
-  return lanes.map(lane => loud.has(lane.thread) ? Math.max(usual, 26) : usual);
+  return lanes.map(lane => (loud.has(lane.thread) ? Math.max(usual, 26) : usual) + pointsOf(lane));
 }
+
+const pointsOf = lane => lane.touches ? POINTS : 0;
+
+/** The dumps of which it is known how much of the log they have applied: not the start of a segment, and none that isn't there. */
+const appliedDumps = () => told.dumps.map((dump, index) => ({ ...dump, index })).filter(dump => dump.applied !== null && dump.frames.length);
+
+/** The lines below the log: of each such dump, and of a stale touch. */
+const linesOfLog = () => appliedDumps().length + (told.window ? 1 : 0);
 
 /** Where lanes and log lie: half of the lanes above the log, the others below; or all below it, to be scrolled, where they don't fit. */
 function layOut() {
-  const heights = heightsOf(run.lanes), logHeight = 22 + 11 * told.dumps.length, top = OVERVIEW + AXIS, tops = [];
+  const heights = heightsOf(run.lanes), logHeight = 22 + 11 * linesOfLog(), top = OVERVIEW + AXIS, tops = [];
   const whole = heights.reduce((sum, tall) => sum + tall, top + logHeight + 24), most = Math.max(320, Math.round(window.innerHeight * 0.8));
   const stuck = whole > most && !isPrinting(), above = stuck ? 0 : Math.ceil(heights.length / 2), from = stuck ? $("scroller").scrollTop : 0;
   let y = top, log = 0;
@@ -113,11 +122,15 @@ function drawLogLabels(pen, width, place) {
   pen.font = "600 12px system-ui, sans-serif";
   pen.fillText("log", 8, place.log + 9);
   pen.font = "10px system-ui, sans-serif";
-  told.dumps.forEach((dump, replica) => {
-    pen.fillStyle = replica === told.replica ? colours.fault : colours.soft;
-    const name = width < NARROW ? `r${replica}: ` : `replica ${replica}: `;
-    pen.fillText(name + counted(dump.applied), width < NARROW ? 3 : 8, place.log + 28 + 11 * replica);
+  const left = width < NARROW ? 3 : 8;
+  appliedDumps().forEach((dump, line) => {
+    pen.fillStyle = dump.index === told.replica ? colours.fault : colours.soft;
+    const name = width < NARROW ? `r${dump.index}: ` : `replica ${dump.index}: `;
+    pen.fillText(name + counted(dump.applied), left, place.log + 28 + 11 * line);
   });
+  if (!told.window) return;
+  pen.fillStyle = colours.fault;
+  pen.fillText(width < NARROW ? `t. ${told.window[0]}` : `touch ${told.window[0]} may see`, left, place.log + 28 + 11 * appliedDumps().length);
 }
 
 const counted = number => number.toLocaleString("en");
@@ -190,7 +203,8 @@ function drawLog(pen, width, place) {
   pen.fillRect(picture.labels, top - 3, width - picture.labels, place.logHeight);
   const after = firstFrom(run.from, picture.to);
   for (let index = first; index < after; index++) drawEntry(pen, width, place, index, cells, hasArrows(place));
-  told.dumps.forEach((dump, replica) => drawApplied(pen, width, top + 28 + 11 * replica, dump, replica));
+  appliedDumps().forEach((dump, line) => drawApplied(pen, width, top + 28 + 11 * line, dump, dump.index));
+  if (told.window) drawWindow(pen, width, top + 28 + 11 * appliedDumps().length);
 }
 
 function drawEntry(pen, width, place, index, cells, arrows) {
@@ -222,6 +236,23 @@ function drawApplied(pen, width, y, dump, replica) {
   pen.fillRect(end, y - 5, 2, 9);
 }
 
+/** Where on the axis so many entries of the log have come, and where the next one comes. */
+function afterEntries(count) {
+  const many = firstFrom(run.entries, count);
+  return [many ? run.to[many - 1] : 0, many < run.from.length ? run.from[many] : axis.length];
+}
+
+/** From where to where in the log a stale touch may see: after the fewest entries, up to before the one that it may see no more. */
+function drawWindow(pen, width, y) {
+  const [, first, last] = told.window, left = toX(afterEntries(first)[0], width), right = Math.max(toX(afterEntries(last)[1], width), left + 2);
+  pen.fillStyle = colours.fault;
+  pen.globalAlpha = 0.3;
+  pen.fillRect(left, y - 4, right - left, 7);
+  pen.globalAlpha = 1;
+  pen.fillRect(left, y - 6, 2, 11);
+  pen.fillRect(right - 2, y - 6, 2, 11);
+}
+
 /** Whether so few events are in view that each call's arrow can be seen apart from the others; marked ones are always drawn. */
 const hasArrows = place => picture.to - picture.from < (place.stuck ? 120 : 400);
 
@@ -249,17 +280,37 @@ function arrow(pen, place, width, call, colour, thick) {
 }
 
 function drawCalls(pen, width, place, lane, row) {
-  const { calls, from, reach } = lane, y = place.tops[row], tall = place.heights[row];
+  const { calls, from, reach } = lane, y = place.tops[row], tall = place.heights[row] - pointsOf(lane);
   const few = hasArrows(place);
   let last = -1;
   for (let index = firstFrom(reach, picture.from - 1); index < calls.length && from[index] < picture.to; index++) {
     const call = calls[index], left = toX(from[index] + 0.12, width), right = toX(stopOf(call), width);
     if (right < last + 2 && !(call in told.calls)) continue;
     last = Math.max(last, right);
+    if (isTouch(call)) {
+      drawPoint(pen, call, left, right, y + tall + POINTS / 2 - 1);
+      continue;
+    }
     if (few && !isUpdate(call)) arrow(pen, place, width, call, colours.soft, 0.8);
     const nested = index > 0 && reach[index - 1] > from[index];
     drawBox(pen, call, left, Math.max(right - left, 1.2), y + (nested ? tall * 0.4 : 0), tall * (nested ? 0.6 : 1));
   }
+}
+
+/** A touch: a point at its reply, and a line from when it was made; one that faults is hollow, one without a reply is only the line. */
+function drawPoint(pen, call, left, right, y) {
+  const reply = run.reply[call], x = Math.max(left, right - 4);
+  pen.fillStyle = pen.strokeStyle = call in told.calls ? colours.fault : colours.touch;
+  pen.fillRect(left, y - 0.5, Math.max(x - left, 1), 1);
+  if (reply < 0) return;
+  pen.lineWidth = 1.5;
+  pen.beginPath();
+  pen.arc(x, y, 3, 0, 7);
+  if (REFUSED.has(answerOf(reply))) {
+    pen.fillStyle = colours.paper;
+    pen.fill();
+    pen.stroke();
+  } else pen.fill();
 }
 
 function drawBox(pen, call, left, width, top, height) {

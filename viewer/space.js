@@ -7,6 +7,10 @@ const space = { base: [], size: [], after: 0, rows: ROWS, address: null };
 /** Of each place the page that its update maps, unmaps or protects, by the number of its first 4 KiB: -1 where it changes nothing. */
 function indexSpace() {
   const pages = new Map(), tables = new Map();
+  for (const [base, size] of told.begins) {
+    pages.set(base, size);
+    for (const table of tablesOf(base, size)) addUser(tables, table, 1);
+  }
   space.base = new Float64Array(told.places).fill(-1);
   space.size = new Uint8Array(told.places);
   for (let place = 0; place < told.places; place++) {
@@ -51,11 +55,11 @@ function covering(sizes, page) {
 
 /** The pages after so many places, by rising address: each with its size, physical address, rights and the last place that changed it. */
 function pagesAfter(count) {
-  const pages = new Map();
+  const pages = new Map(told.begins.map(([base, size, physical, rights]) => [base, { base, size, physical: BigInt(physical), rights, place: -1 }]));
   for (let place = 0; place < Math.min(count, told.places); place++) {
     const base = space.base[place], call = logAt(place);
     if (base < 0) continue;
-    if (kindOf(call) === 0) pages.set(base, { base, size: space.size[place], map: call, rights: rightsOf(call), place });
+    if (kindOf(call) === 0) pages.set(base, { base, size: space.size[place], physical: physicalOf(call), rights: rightsOf(call), place });
     else if (kindOf(call) === 1) pages.delete(base);
     else Object.assign(pages.get(base), { rights: rightsOf(call), place });
   }
@@ -65,6 +69,7 @@ function pagesAfter(count) {
 /** How many entries of the log a call comes after, with itself; -1 where it isn't known. */
 function entriesWith(call) {
   if (run.place[call] >= 0) return run.place[call] + 1;
+  if (isTouch(call)) return told.window && told.window[0] === call ? told.window[1] : -1;
   return isUpdate(call) || run.reply[call] < 0 ? -1 : Math.min(atOf(run.reply[call]), told.places);
 }
 
@@ -86,13 +91,19 @@ function drawPages() {
   Object.assign(space, { waiting: false, drawn: true });
   $("after").value = space.after;
   $("after-says").textContent = `after ${counted(space.after)} of ${plural(told.places, "place")}: ${plural(pages.length, "page")}`;
-  $("after-update").replaceChildren(...withAddresses(place < 0 ? "Before the first update nothing is mapped." : updateText(place, call)));
+  $("after-update").replaceChildren(...withAddresses(place < 0 ? beginText() : updateText(place, call)));
   const first = firstRows(pages), rest = joined(pages.filter(page => !first.some(each => each.page === page)));
   const rows = [...first.map(({ page, text }) => pageRow(page, text)), ...rest.slice(0, space.rows).map(run => pageRow(run, ""))];
   $("pages").tBodies[0].replaceChildren(...rows);
   $("pages").hidden = !rows.length;
   $("more-pages").hidden = rest.length <= space.rows;
   $("more-pages").textContent = `Show more: ${plural(rest.length - space.rows, "row")} left`;
+}
+
+/** What there is before the first update. */
+function beginText() {
+  if (told.segment === null) return "Before the first update nothing is mapped.";
+  return told.begins.length ? "These are the pages with which the segment begins." : "The segment begins with no page.";
 }
 
 function updateText(place, call) {
@@ -130,7 +141,7 @@ function joined(pages) {
   const rows = [];
   let last = null, physical = -1n;
   for (const page of pages) {
-    const here = physicalOf(page.map), span = SPAN[page.size];
+    const here = page.physical, span = SPAN[page.size];
     const follows = last && last.size === page.size && last.rights === page.rights && last.base + last.many * span === page.base && here === physical;
     physical = here + (BigInt(span) << 12n);
     if (!follows) rows.push(last = { ...page, many: 1, least: page.place });
@@ -142,18 +153,23 @@ function joined(pages) {
 /** A row of the panel: a page, or some that were joined, or an address where none is; what comes first says why. */
 function pageRow(page, why) {
   const row = element("tr", undefined, why ? "first" : ""), many = page.many || 1;
-  const only = page.map === undefined ? hex(page.address) : pageHex(page.base) + (page.size ? ` ${SIZES[page.size]}` : "");
+  const only = page.physical === undefined ? hex(page.address) : pageHex(page.base) + (page.size ? ` ${SIZES[page.size]}` : "");
   const head = element("td");
   head.append(addressButton(only.split(" ")[0], only));
-  const places = many > 1 && page.least !== page.place ? `places ${page.least} to ${page.place}` : `place ${page.place}`;
-  const cells = page.map === undefined ? ["not mapped", "", "", ""]
-    : [many > 1 ? `${counted(many)} of ${SIZES[page.size]}` : SIZES[page.size], hex(physicalOf(page.map)), rightsText(page.rights), places];
+  const cells = page.physical === undefined ? ["not mapped", "", "", ""]
+    : [many > 1 ? `${counted(many)} of ${SIZES[page.size]}` : SIZES[page.size], hex(page.physical), rightsText(page.rights), placesText(page, many)];
   row.append(head, ...[...cells, why].map(text => element("td", text)));
   return row;
 }
 
+/** Where a page, or some that were joined, was changed last. */
+function placesText(page, many) {
+  if (page.place < 0) return "the beginning";
+  return many > 1 && page.least !== page.place ? `${page.least < 0 ? "the beginning" : `places ${page.least}`} to ${page.place}` : `place ${page.place}`;
+}
+
 function startSpace() {
-  $("space").hidden = !told.places;
+  $("space").hidden = !told.places && !told.begins.length;
   $("after").max = told.places;
   $("after").addEventListener("input", () => {
     picture.place = Number($("after").value) - 1;

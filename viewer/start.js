@@ -1,14 +1,15 @@
 // ---- start ----
 
 function startDumps() {
-  const readable = told.dumps.filter(dump => dump.frames.length).length;
-  $("dumps").hidden = !readable;
-  if (!readable) return;
+  const readable = told.dumps.map((_, index) => index).filter(index => told.dumps[index].frames.length);
+  $("dumps").hidden = !readable.length;
+  if (!readable.length) return;
   tables.frames = told.dumps.map(dump => new Map(dump.frames));
   for (const [frame, index] of told.paths.flat()) tables.marked.add(`${told.replica}:${frame}:${index}`);
-  $("replicas").replaceChildren(...told.dumps.slice(0, readable).map((_, replica) => {
-    const button = element("button", `Replica ${replica}`);
-    button.addEventListener("click", () => showReplica(replica));
+  $("replicas").replaceChildren(...readable.map(index => {
+    const button = element("button", told.dumps[index].name);
+    button.dataset.index = index;
+    button.addEventListener("click", () => showReplica(index));
     return button;
   }));
   onKeys($("map"), MAP_KEYS);
@@ -19,7 +20,7 @@ function startDumps() {
     if (stretch) showAddress(stretch.address);
     else $("cell").textContent = "Not an address, as 0x400000 is.";
   });
-  showReplica(told.replica !== null && told.replica < readable ? told.replica : 0);
+  showReplica(readable.includes(told.replica) ? told.replica : readable[0]);
 }
 
 function startRun() {
@@ -31,7 +32,7 @@ function startRun() {
   $("all").addEventListener("click", showAll);
   $("fault").addEventListener("click", showMarked);
   $("search").addEventListener("submit", event => { event.preventDefault(); find(); });
-  $("the-run").hidden = told.isDump;
+  $("the-run").hidden = told.isDump || told.segment !== null && !told.events && !told.places;
   $("marked").hidden = !run.marked.length;
   $("fault").hidden = !run.marked.length && !told.marked.length;
   if (run.marked.length) describe(run.marked[run.marked.length - 1]);

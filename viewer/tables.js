@@ -288,7 +288,7 @@ function makeTree() {
   const root = rootOf(tables.replica), parts = [], text = `Level ${told.levels}: the root, frame ${told.dumps[tables.replica].root}`;
   if (hasFrame(root)) parts.push(branch({ level: told.levels, frame: root, address: 0n, rights: 7 }, text, false));
   else parts.push(element("p", text + ", is missing", "here"));
-  if (told.verdict.includes("StrayFrame") && told.replica === tables.replica) {
+  if (/StrayFrame|StartStray/.test(told.verdict) && told.replica === tables.replica) {
     const stray = `Frame ${hex(told.frame)}, to which no table leads; as a table of level 1`;
     parts.push(branch({ level: 1, frame: told.frame, address: 0n, rights: 7 }, stray, true));
   }
@@ -311,11 +311,10 @@ function showReplica(replica) {
   tables.replica = replica;
   tables.path = replica === told.replica && told.paths.length ? told.paths[told.paths.length - 1].map(([, index]) => index) : [];
   tables.level = Math.max(0, tables.path.length - 1);
-  const dump = told.dumps[replica];
-  const applied = `${dump.applied.toLocaleString("en")} of ${plural(told.places, "place")} of the log`;
-  const has = `its dump has ${plural(dump.frames.length, "frame")}, the root is frame ${dump.root}.`;
-  $("dump-says").textContent = `Replica ${replica} had applied ${applied}; ${has}`;
-  [...$("replicas").children].forEach((button, index) => button.setAttribute("aria-pressed", index === replica));
+  const dump = told.dumps[replica], has = `${plural(dump.frames.length, "frame")}, the root is frame ${dump.root}.`;
+  $("dump-says").textContent = dump.applied === null ? `The start, with which the segment begins, has ${has}`
+    : `${dump.name} had applied ${counted(dump.applied)} of ${plural(told.places, "place")} of the log; its dump has ${has}`;
+  for (const button of $("replicas").children) button.setAttribute("aria-pressed", Number(button.dataset.index) === replica);
   drawMap();
   makeTree();
 }

@@ -1,4 +1,4 @@
-"""Ways through the dumped tables of a trace: entries, and what they say."""
+"""Ways through the tables of a dump or of a start: entries, and what they say."""
 import collections
 
 from reading import rights_words

@@ -11,9 +11,9 @@ _nrvs() {
   fi
   case ${COMP_WORDS[1]} in
     audit) options='--chain --quiet' ;;
-    explain) options='--json --all' ;;
+    explain) options='--json --all --chain' ;;
     resolve) options='--address --replica --steps' ;;
-    pages) options='--replica --ranges' ;;
+    pages) options='--replica --ranges --chain --start --end' ;;
     simulate) options='--levels --replicas --tables --trace' ;;
     run) options='--levels --replicas --tables --turns --trace' ;;
     help) COMPREPLY=($(compgen -W 'audit explain resolve pages simulate run' -- "$word")); return ;;

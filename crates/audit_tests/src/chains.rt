@@ -1,6 +1,7 @@
-use nr_chain_engines::audit_chain_io;
+use nr_chain_engines::{audit_chain_io, chain_end_io, chain_start_io};
 use nr_engines::ProgFault;
 use std::io::{Chain, Error, ErrorKind, Read, Write};
+use std::process::Abort;
 use std::test::Fail;
 
 // A segment in which nothing is recorded: four threads, one replica, and no dump of it.
@@ -105,4 +106,60 @@ fn a_second_write_that_fails(rt: HostRuntime) -> Result<(), Fail> {
     assert_eq!(rt; output.0.as_slice(), b"segment 0\nyes\norder\n".as_slice());
     assert!(rt; matches!(told, Err(ProgFault::CannotWrite)));
     Ok(())
+}
+
+// The reads until one fails, and the status of the start and of the end, none where there is no answer; no page is there.
+static ENDS: [(usize, Option<u8>, Option<u8>); 4] = [
+    (100, Some(0), Some(0)),
+    (80, Some(0), None),
+    (40, Some(0), None),
+    (39, None, None),
+];
+
+fn expect_status(rt: &impl Abort, told: Result<u8, ProgFault>, wanted: Option<u8>) {
+    match (told, wanted) {
+        (Ok(got), Some(wanted)) => assert_eq!(rt; got, wanted),
+        (Err(ProgFault::CannotRead), None) => {}
+        _ => panic!(rt; "another outcome"),
+    }
+}
+
+#[test]
+fn the_ends_of_a_chain_in_short_reads(rt: HostRuntime) {
+    let alloc = rt.alloc();
+    for (reads, start, end) in &ENDS {
+        let mut output = Vec::new(alloc);
+        let told = chain_start_io(alloc, &mut two_segments(*reads), &mut output, false);
+        expect_status(&rt, told, *start);
+        let told = chain_end_io(alloc, &mut two_segments(*reads), &mut output, true);
+        expect_status(&rt, told, *end);
+        assert!(&rt; output.is_empty());
+    }
+}
+
+#[test]
+fn the_end_of_a_chain_cut_short(rt: HostRuntime) {
+    let alloc = rt.alloc();
+    let mut output = Vec::new(alloc);
+    let mut input = NOTHING.as_slice().chain(&NOTHING[..1]);
+    expect_status(
+        &rt,
+        chain_end_io(alloc, &mut input, &mut output, false),
+        Some(1),
+    );
+    assert_eq!(&rt;
+        output.as_slice(),
+        b"segment 1\nno 1 Format Truncated\n".as_slice()
+    );
+    let mut output = Vec::new(alloc);
+    let mut input = &NOTHING[..1];
+    expect_status(
+        &rt,
+        chain_start_io(alloc, &mut input, &mut output, false),
+        Some(1),
+    );
+    assert_eq!(&rt;
+        output.as_slice(),
+        b"segment 0\nno 1 Format Truncated\n".as_slice()
+    );
 }

@@ -27,6 +27,8 @@ mod named_files;
 #[cfg(test)]
 mod other_dumps;
 #[cfg(test)]
+mod pages;
+#[cfg(test)]
 mod pieces;
 #[cfg(test)]
 mod recorded;

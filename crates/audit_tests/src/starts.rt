@@ -82,7 +82,7 @@ static BEGUN_WITH_A_PAGE: [(Case, usize); 6] = [
 ];
 
 /// The space with the page that the cases begin with, of a trace's depth and limit of tables.
-fn space_with_page(rt: &impl Abort, alloc: Global, trace: &Trace) -> PlainSpace
+pub(crate) fn space_with_page(rt: &impl Abort, alloc: Global, trace: &Trace) -> PlainSpace
     ensures depth { result.depth ≡ trace.now.layout.depth }
     ensures limit { result.limit ≡ trace.now.layout.tables }
 {
@@ -96,7 +96,7 @@ fn space_with_page(rt: &impl Abort, alloc: Global, trace: &Trace) -> PlainSpace
 }
 
 /// The trace of a case.
-fn read_case(rt: &impl Abort, alloc: Global, case: &Case) -> Trace {
+pub(crate) fn read_case(rt: &impl Abort, alloc: Global, case: &Case) -> Trace {
     read(alloc, &trace_of(rt, alloc, case)).expect(rt, "a trace")
 }
 

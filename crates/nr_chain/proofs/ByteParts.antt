@@ -10,7 +10,7 @@ use Rattle.nr_chain.specs.Bytes.{kept_after, layout_before, BeginsWith, EndsWith
 use Rattle.nr_chain.specs.Fed.{Kept}
 use Rattle.nr_chain.specs.Parts.{ComesTo, MayFollow, SpellUpTo}
 use Rattle.nr_chain.proofs.OneChain.{begins_some, one_front}
-use Rattle.nr_chain.proofs.Restarts.{sound_behind}
+use Rattle.nr_chain.proofs.Restarts.{behind_any}
 
 -- with bytes behind it
 begins_longer : (before : Option Layout) (bytes : List ℕ) (segment : Recording) (rest more : List ℕ) → BeginsWith before bytes segment rest
@@ -52,7 +52,7 @@ module _ (end : Kept) (back : List ℕ) (follow : MayFollow end back) where
       let (own_rest, is) = one_front None back follow.first segment follow.rest rest follow.begins begins in
       let own_sound : IsSoundAfter None follow.first = subst (IsSoundAfter None) (sym is) sound in
       let behind : IsSoundAfter (Some end.space) follow.first =
-      sound_behind follow.first follow.start follow.has_start follow.begins.spelled.in_range own_sound end.space follow.pages in
+      behind_any follow.first follow.begins.spelled.in_range own_sound end.space follow.pages in
       let kept = ap (kept_after None) (sym is) ∙ same_kept ∙ ap (kept_after (Some end)) is in (
         segment,
         rest,

@@ -41,7 +41,8 @@ sound_or_first kept bytes segment rest fault begins sound (inr (other, last, sta
     let (same_rest, same) = one_front (layout_before kept) bytes other segment last rest starts begins in
     sound.faultless fault (subst (λ (r : Recording). IsFirstAfter (space_before kept) r fault) same first).holds
 
-ends_or_sound : (kept : Option Kept) (bytes : List ℕ) (found : Option SegmentFault) (segment : Recording) (rest : List ℕ) → EndsWith kept bytes found
+-- a chain doesn't end at a segment that is sound
+pub ends_or_sound : (kept : Option Kept) (bytes : List ℕ) (found : Option SegmentFault) (segment : Recording) (rest : List ℕ) → EndsWith kept bytes found
     → BeginsWith (layout_before kept) bytes segment rest → IsSoundAfter (space_before kept) segment → ⊥
 ends_or_sound None bytes None segment rest ends begins sound = ends
 ends_or_sound None bytes (Some fault) segment rest ends begins sound =

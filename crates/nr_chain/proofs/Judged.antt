@@ -29,13 +29,14 @@ if_ok P Q (Ok a) widen h = widen a h
 if_ok P Q (Err e) widen h = tt
 
 -- the first fault of a segment that is spelled is none of the format
-first_next : (kept : Option Kept) (bytes : List ℕ) (fault : SegmentFault) → HasFirstNext kept bytes fault → IsFirstNext kept bytes fault
+pub first_next : (kept : Option Kept) (bytes : List ℕ) (fault : SegmentFault) → HasFirstNext kept bytes fault → IsFirstNext kept bytes fault
 first_next kept bytes (Start fault) h = h
 first_next kept bytes (Within (faults.Format fault)) (segment, rest, begins, first) = absurd first.holds
 first_next kept bytes (Within fault) h = h
 first_next kept bytes (Stale call) h = h
 
-cut_so : (bytes piece rest : List ℕ) (count : ℕ) → (bytes ++ piece) ++ rest ≡ (bytes ++ take count piece) ++ (drop count piece ++ rest)
+-- the bytes of a piece, of which so many end a segment
+pub cut_so : (bytes piece rest : List ℕ) (count : ℕ) → (bytes ++ piece) ++ rest ≡ (bytes ++ take count piece) ++ (drop count piece ++ rest)
 cut_so bytes piece rest count =
     append_assoc bytes piece rest
     ∙ ap (λ (ps : List ℕ). bytes ++ (ps ++ rest)) (sym (take-append-drop count piece))

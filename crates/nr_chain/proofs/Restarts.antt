@@ -136,3 +136,24 @@ begins_in segment in_range sound = by_start segment.start refl where
   by_start : (start : Option Image) → segment.start ≡ start → Begins segment.layout.depth segment.start
   by_start None has = subst (Begins segment.layout.depth) (sym has) (no_pages_space segment.layout.depth, refl)
   by_start (Some start) has = subst (Begins segment.layout.depth) (sym has) (space_of_start segment start has in_range sound)
+
+-- a segment without a start that is right at the head of a chain is right behind one after which there are no pages
+module _ (segment : Recording) (has : segment.start ≡ None) (sound : IsSoundAfter None segment) (space : Space) (none : start_space segment.layout.depth segment.start ≡ space) where
+  still_faultless : HasNoFaultAfter (Some space) segment
+  still_faultless (Start fault) (start, start_is, holds) = absurd (let wrong : None ≡ Some start = sym has ∙ start_is in cc)
+  still_faultless (Within fault) holds = sound.faultless (Within fault) (subst (λ (s : Space). HasFaultFrom s segment fault) (sym none) holds)
+  still_faultless (Stale call) holds = sound.faultless (Stale call) (subst (λ (s : Space). IsStale s segment call) (sym none) holds)
+
+  without_start : IsSoundAfter (Some space) segment
+  without_start = record {
+    faultless = still_faultless;
+    touches = subst (λ (s : Space). HasRightTouches s segment) none sound.touches;
+  }
+
+-- a segment that is right at the head of a chain is right behind one that leaves the space with which it begins
+pub behind_any : (segment : Recording) → IsRecording segment → IsSoundAfter None segment → (space : Space)
+    → start_space segment.layout.depth segment.start ≡ space → IsSoundAfter (Some space) segment
+behind_any segment in_range sound space pages = by_start segment.start refl where
+  by_start : (start : Option Image) → segment.start ≡ start → IsSoundAfter (Some space) segment
+  by_start None has = without_start segment has sound space pages
+  by_start (Some start) has = sound_behind segment start has in_range sound space pages

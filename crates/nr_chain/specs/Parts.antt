@@ -1,6 +1,5 @@
 -- Parts of the bytes of a chain: what one comes to, and which other may come behind it.
 use Rattle.std.specs.Prelude.{◌≡◌, ℕ, List, [], ◌∷◌, Option, Some, None}
-use Rattle.vs_walk.specs.Dump.{Image}
 use Rattle.nr_trace.specs.Recording.{Recording}
 use Rattle.nr_segment.specs.Start.{start_space}
 use Rattle.nr_chain.specs.Bytes.{kept_after, layout_before, BeginsWith}
@@ -16,13 +15,11 @@ SpellUpTo kept bytes (segment ∷ more) end =
 abbrev pub ComesTo : Option Kept → List ℕ → Kept → Type 0
 ComesTo kept bytes end = (segments : List Recording) × SpellUpTo kept bytes segments end
 
--- a chain that is spelled by itself may come behind one that has come to this: its first segment is laid out so, and has a start, whose
--- pages are those of the space
+-- a chain that is spelled by itself may come behind one that has come to this: its first segment is laid out so, and the pages of its start,
+-- or none where it has no start, are those of the space
 pub record MayFollow (end : Kept) (bytes : List ℕ) : Type 0 where
   pub first : Recording
   pub rest : List ℕ
   pub begins : BeginsWith None bytes first rest
   pub layout : first.layout ≡ end.layout
-  pub start : Image
-  pub has_start : first.start ≡ Some start
   pub pages : start_space first.layout.depth first.start ≡ end.space

@@ -1,11 +1,13 @@
 -- The verdict on a chain, and what a piece and the end make of one that comes in pieces.
 use Rattle.std.specs.Prelude.{◌≡◌, ℕ, ◌<◌, ◌≤◌, List, [], ◌++◌, length, take, Option, Some, None, ⊤}
+use Rattle.vs_plain.specs.Plain.{BoundedSpace}
 use Rattle.nr_trace.specs.Recording.{Recording}
 use Rattle.nr_trace.specs.FirstFault.{HasSegmentFault}
 use Rattle.nr_trace.specs.Orders.{recorded_order}
 use Rattle.nr_trace.specs.Spelling.{SpellsSegment}
 use Rattle.nr_trace.specs.declared.fault.Format.TheVariants.{Truncated}
 use Rattle.nr_segment.specs.Faults.{IsSoundAfter}
+use Rattle.nr_segment.specs.Verdict.{FitsLayout}
 use Rattle.nr_segment.specs.declared.fault.SegmentFault.{SegmentFault}
 use Rattle.nr_chain.specs.Bytes.{kept_after, layout_before, space_before, IsFirstNext, GoesOnSo}
 use Rattle.nr_chain.specs.declared.verdict.ChainVerdict.{ChainVerdict}
@@ -38,3 +40,9 @@ FeedsChain old piece (Right count order new) =
     × IsSoundAfter (space_before old.kept) segment × (order ≡ recorded_order segment)
     × (new ≡ record { kept = Some (kept_after old.kept segment); bytes = [] })
 FeedsChain old piece (Wrong fault) = LastsNext old.kept (old.bytes ++ piece) fault
+
+-- this is the space after the segments so far, where there are some, with the depth and the limit of their layout
+abbrev pub IsSpaceAfter : Option Kept → Option BoundedSpace → Type 0
+IsSpaceAfter None space = space ≡ None
+IsSpaceAfter (Some kept) None = ⊥
+IsSpaceAfter (Some kept) (Some space) = (space.space ≡ kept.space) × FitsLayout kept.layout space

@@ -28,10 +28,9 @@ pub fn one_thing_is_found()
         → GoesOnSo kept bytes others other → (orders ≡ others) × (found ≡ other) }
 {}
 
-/// Two parts of a chain, each right by itself, of which the second has the layout of the first and begins with a start, whose pages
-/// are those of the space at the end of the first, are right as one, with the orders one after the other. What the whole has come to
-/// is what the second has come to, so that a third part may follow: and so of any number of parts, each of which may be judged
-/// elsewhere.
+/// Two parts of a chain, each right by itself, of which the second has the layout of the first and begins with the pages of the space
+/// at the end of the first, are right as one, with the orders one after the other. What the whole has come to is what the second has
+/// come to, so that a third part may follow: and so of any number of parts, each of which may be judged elsewhere.
 pub fn parts_of_bytes_are_right_as_one()
     ensures comes { (kept : Option Kept) (bytes : List ℕ) (orders : List (List ℕ))
         → GoesOnSo kept bytes orders None → (end : Kept) × ComesTo kept bytes end }

@@ -1,10 +1,10 @@
 //! A chain that comes in pieces: each segment is judged as soon as it is whole.
 
-ghost use Rattle.std.specs.Prelude.{◌≡◌, ◌⊎◌, [], IfOk, IfSome, Some, None, true, false, option_map};
+ghost use Rattle.std.specs.Prelude.{◌≡◌, ◌⊎◌, [], IfOk, IfSome, Some, None, true, false, option_copied, option_map};
 ghost use Rattle.nr_trace.specs.Feed.{IsWhole};
 ghost use Rattle.nr_segment.specs.Verdict.{pages_before, FitsLayout, IsVerdictAfter};
 ghost use Rattle.nr_chain.specs.Bytes.{layout_before, EndsWith};
-ghost use Rattle.nr_chain.specs.Verdict.{FeedsChain};
+ghost use Rattle.nr_chain.specs.Verdict.{FeedsChain, IsSpaceAfter};
 ghost use Rattle.nr_chain.specs.inside.Between.{bytes_in, kept_by, FitsLast};
 ghost use Rattle.nr_chain.specs.inside.Steps.{JudgesWhole, RefusesWith};
 
@@ -102,6 +102,17 @@ impl Chain {
                 Ok(Step::More(next))
             }
             Err(fail) => refused(fail),
+        }
+    }
+
+    /// The space after the last segment, where there is one: it has the depth and the limit of that segment's layout. It allocates no
+    /// memory.
+    pub fn space(&self) -> Option<&PlainSpace>
+        ensures { IsSpaceAfter self.now.kept (option_copied result) }
+    {
+        match &self.last {
+            Some(last) => Some(&last.space),
+            None => None,
         }
     }
 

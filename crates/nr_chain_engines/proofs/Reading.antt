@@ -13,19 +13,11 @@ use Rattle.nr_chain.specs.Verdict.{LastsNext}
 use Rattle.nr_chain.proofs.FoundChains.{right_chain}
 use Rattle.nr_chain_engines.specs.ChainAudit.{AuditsWhatIsRead, HasReadFewOfChain, HasWrittenFirst, IsChainAudit}
 use Rattle.nr_chain_engines.specs.ChainText.{chain_status, chain_text, end_lines, shown_lines}
-use Rattle.nr_chain_engines.specs.inside.Going.{GoesOnTo, IsShort, TakesBlock, TakesSegments, TakesSome}
+use Rattle.nr_chain_engines.specs.inside.Going.{IsShort, TakesBlock, TakesSegments, TakesSome}
+use Rattle.nr_chain_engines.specs.inside.Judged.{IsAt}
 use Rattle.nr_chain_engines.specs.declared.audit.Taken.TheVariants.{More}
 use Rattle.nr_chain_engines.proofs.Lines.{none_shown, shown_lines-append}
 use Rattle.nr_chain_engines.proofs.Going.{ended, extend, front_of, lasting, none_short, right_yet, through}
-
--- what the reader has lost are right segments and others behind them, and the lines of these segments were written
-pub record IsAt (quiet : Bool) (known left old new : Option (List ℕ)) (last : Option Kept) (rest : List ℕ) (count : ℕ) : Type 0 where
-  pub read : List ℕ
-  pub consumed : Consumes known left read
-  pub orders : List (List ℕ)
-  pub goes_on : GoesOnTo None read orders last rest
-  pub counted : count ≡ length orders
-  pub written : Appends old new (shown_lines quiet 0 orders)
 
 -- between two blocks
 pub record IsReading (quiet : Bool) (known left old new : Option (List ℕ)) (chain : ChainFed) (count room : ℕ) : Type 0 where
@@ -197,7 +189,8 @@ pub text_is : (quiet : Bool) (orders : List (List ℕ)) (count : ℕ) (found : O
     → shown_lines quiet 0 orders ++ end_lines count found ≡ chain_text quiet orders found
 text_is quiet orders count found counted = ap (λ n. shown_lines quiet 0 orders ++ end_lines n found) counted
 
-whole_read : (known next : Option (List ℕ)) (bytes : List ℕ) → Consumes known next bytes → IsAtEnd next → IsReadOf known bytes
+-- the whole input, where it has ended
+pub whole_read : (known next : Option (List ℕ)) (bytes : List ℕ) → Consumes known next bytes → IsAtEnd next → IsReadOf known bytes
 whole_read None next bytes lost end = tt
 whole_read (Some whole) None bytes lost end = absurd lost
 whole_read (Some whole) (Some left) bytes lost end = sym (lost ∙ ap (λ (l : List ℕ). bytes ++ l) end ∙ append-nil bytes)
@@ -250,7 +243,8 @@ answers_wrong quiet known left old now new last rest count status fault here las
   written = Appends-trans old now new (shown_lines quiet 0 here.orders) (end_lines count (Some fault)) here.written written;
 }
 
-whole_with : (known left : Option (List ℕ)) (bytes : List ℕ) → Consumes known left bytes → (behind : List ℕ) × IsReadOf known (bytes ++ behind)
+-- the input, with what was not read of it
+pub whole_with : (known left : Option (List ℕ)) (bytes : List ℕ) → Consumes known left bytes → (behind : List ℕ) × IsReadOf known (bytes ++ behind)
 whole_with None left bytes lost = ([], tt)
 whole_with (Some whole) None bytes lost = absurd lost
 whole_with (Some whole) (Some left) bytes lost = (left, sym lost)

@@ -1,7 +1,10 @@
 pub mod ChainText
 pub mod ChainAudit
+pub mod ChainPages
 pub mod inside
 pub use Rattle.nr_engines.specs.Answers
 pub use Rattle.nr_engines.specs.Refusals
 pub use Rattle.nr_chain.specs.Bytes
 pub use Rattle.nr_chain.specs.Headline
+pub use Rattle.nr_chain.specs.Parts
+pub use Rattle.nr_pages.specs.Listing

@@ -7,6 +7,7 @@ ghost use Rattle.nr_engines.specs.Refusals.{IsEndFault};
 ghost use Rattle.nr_chain_engines.specs.ChainAudit.{AuditsWhatIsRead, HasReadFewOfChain, HasWrittenFirst, IsChainAudit};
 ghost use Rattle.nr_chain_engines.specs.ChainText.{chain_status, end_lines, lines_of};
 ghost use Rattle.nr_chain_engines.specs.inside.Going.{IsShort, TakesBlock, TakesSome};
+ghost use Rattle.nr_chain_engines.specs.inside.Judged.{HasJudged};
 
 use crate::text::{end_lines, segment_lines};
 use nr_audit::Order;
@@ -17,7 +18,7 @@ use std::alloc::Global;
 use std::io::{Read, Write};
 
 /// The most blocks that are read: those of so many bytes that their count has 64 bits.
-const MOST_BLOCKS: u64 = 4_503_599_627_370_495;
+pub(crate) const MOST_BLOCKS: u64 = 4_503_599_627_370_495;
 
 /// What a block makes of a chain.
 #[derive(Drop)]
@@ -103,19 +104,26 @@ fn take_block<W: Write>(
     Ok(Taken::More(chain, number))
 }
 
-/// Reads blocks and feeds each, to the end of the input or to the first fault, and writes the last lines.
-fn audit_blocks<R: Read, W: Write>(
+/// What a chain is found to be that was read to its end or to its first fault.
+#[derive(Drop)]
+pub(crate) enum Judged {
+    /// The input has ended, and so many segments are right.
+    Ended(Chain, u64),
+    /// So many segments are right, and the next one has this fault, its first.
+    Faulty(u64, SegmentFault),
+}
+
+/// Reads blocks and feeds each, to the end of the input or to the first fault, and writes the lines of right segments.
+pub(crate) fn judge_blocks<R: Read, W: Write>(
     alloc: Global,
     reader: &mut R,
     writer: &mut W,
     block: &mut [u8],
     quiet: bool,
-) -> Result<u8, ProgFault>
+) -> Result<Judged, ProgFault>
     requires { length block.old ≡ 4096 }
-    ensures ok { IfOk result (WritesReport (IsChainAudit quiet) (R.remaining reader.old)
+    ensures ok { IfOk result (HasJudged quiet (R.remaining reader.old) (R.remaining reader.new)
         (W.contents writer.old) (W.contents writer.new)) }
-    ensures read { IfOk result (AuditsWhatIsRead quiet (R.remaining reader.old)
-        (R.remaining reader.new) (W.contents writer.old) (W.contents writer.new)) }
     ensures err { IfErr result IsEndFault }
     ensures first { IfErr result (λ fault. fault ≢ ProgFault.CannotWrite
         → HasWrittenFirst quiet (R.remaining reader.old) (R.remaining reader.new)
@@ -128,7 +136,7 @@ fn audit_blocks<R: Read, W: Write>(
     while room > 0 {
         let count = read_block(reader, block)?;
         if count == 0 {
-            return write_end(alloc, writer, number, chain.end());
+            return Ok(Judged::Ended(chain, number));
         }
         match take_block(alloc, writer, chain, number, &block[..count], quiet)? {
             Taken::More(next, right) => {
@@ -136,9 +144,7 @@ fn audit_blocks<R: Read, W: Write>(
                 number = right;
                 room -= 1;
             }
-            Taken::Wrong(right, fault) => {
-                return write_end(alloc, writer, right, Some(fault));
-            }
+            Taken::Wrong(right, fault) => return Ok(Judged::Faulty(right, fault)),
         }
     }
     Err(ProgFault::CannotRead)
@@ -171,5 +177,8 @@ pub fn audit_chain_io<R: Read, W: Write>(
         (W.contents writer.old) (W.contents writer.new) fault) }
     ensures few { HasReadFewOfChain (R.remaining reader.old) (R.remaining reader.new) }
 {
-    audit_blocks(alloc, reader, writer, &mut [0; BLOCK], quiet)
+    match judge_blocks(alloc, reader, writer, &mut [0; BLOCK], quiet)? {
+        Judged::Ended(chain, number) => write_end(alloc, writer, number, chain.end()),
+        Judged::Faulty(number, fault) => write_end(alloc, writer, number, Some(fault)),
+    }
 }

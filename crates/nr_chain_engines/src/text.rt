@@ -24,9 +24,13 @@ fn start_fault_text(alloc: Global, fault: StartFault) -> Result<String, AllocErr
     }
 }
 
-/// The number of a fault of a segment, its name, and its numbers.
+/// The number of a fault of a segment, its name, and its numbers. Allocates the text.
+///
+/// # Errors
+///
+/// Out of memory.
 #[tactic(auto, unfolding(crate::specs::ChainText::segment_fault_text))]
-fn segment_fault_text(alloc: Global, fault: SegmentFault) -> Result<String, AllocError>
+pub fn segment_fault_text(alloc: Global, fault: SegmentFault) -> Result<String, AllocError>
     ensures { IfOk result (λ text. string_bytes text ≡ segment_fault_text fault) }
 {
     match fault {

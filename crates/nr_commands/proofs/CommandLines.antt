@@ -12,9 +12,10 @@ use Rattle.clap.specs.declared.error.kind.ErrorKind.{ErrorKind}
 use Rattle.clap.specs.declared.error.kind.ErrorKind.TheVariants.{OutOfMemory}
 use Rattle.clap.specs.declared.parser.matches.SubCommand.{SubCommand}
 use Rattle.clap.specs.declared.parser.matches.ArgMatches.TheViews.{out-SubCommand}
-use Rattle.nr_commands.specs.Words.{AsksAudit, AsksTraces, HasSeveralFiles, IsFlag, IsMisuse, IsMisused, IsReplica}
+use Rattle.nr_commands.specs.Words.{AsksAudit, AsksTraces, HasSeveralFiles, IsFlag, IsMisuse, IsMisused, IsPagesMisuse, IsReplica}
 use Rattle.nr_commands.specs.declared.inspection.Inspection.{Inspection}
 use Rattle.nr_commands.specs.declared.inspection.Inspection.TheVariants.{One, Each, Chain}
+use Rattle.nr_commands.specs.declared.task.ChainTask.TheVariants as chains
 use Rattle.nr_commands.specs.declared.task.Task.{Task}
 use Rattle.nr_commands.specs.declared.task.Task.TheVariants.{Audit, Explain, Resolve, Pages}
 
@@ -48,7 +49,13 @@ of_clap (Err e) kinds P h = inl h
 pub of_audit : (e : Error) (kinds : Kinds) (sub : Option (Text × List Row)) (rows : List Row) → sub ≡ Some (codes "audit", rows)
     → (kind_of e ≡ OutOfMemory) ⊎ IsMisuse rows (kind_of e) → HasKind kinds e ⊎ IsMisused sub (kind_of e)
 of_audit e kinds sub rows is (inl memory) = inl (inl memory)
-of_audit e kinds sub rows is (inr misuse) = inr (subst (λ s. IsMisused s (kind_of e)) (sym is) (refl, misuse))
+of_audit e kinds sub rows is (inr misuse) = inr (subst (λ s. IsMisused s (kind_of e)) (sym is) (inl (refl, misuse)))
+
+-- and of `pages`
+pub of_pages : (e : Error) (kinds : Kinds) (sub : Option (Text × List Row)) (rows : List Row) → sub ≡ Some (codes "pages", rows)
+    → (kind_of e ≡ OutOfMemory) ⊎ IsPagesMisuse rows (kind_of e) → HasKind kinds e ⊎ IsMisused sub (kind_of e)
+of_pages e kinds sub rows is (inl memory) = inl (inl memory)
+of_pages e kinds sub rows is (inr misuse) = inr (subst (λ s. IsMisused s (kind_of e)) (sym is) (inr (refl, misuse)))
 
 -- the text of a value, or none
 pub text_or_none : (o : Option (Bor (List ℕ))) (d : Bor (List ℕ)) (t : Option Text) → option_map (λ s. s.now) o ≡ t → d.now ≡ []
@@ -69,6 +76,10 @@ pub flag_of : (t u : Option Text) (flag : Bool) → t ≡ u → (t ≡ None → 
     → (t ≡ Some (codes "false") → flag ≡ false) → IsFlag u flag
 flag_of t u flag same absent set unset = record { none = λ e. absent (same ∙ e); yes = λ e. set (same ∙ e); no = λ e. unset (same ∙ e) }
 
+-- a flag that is known
+pub flag_is : {t : Option Text} {flag known : Bool} → IsFlag t flag → flag ≡ known → IsFlag t known
+flag_is {t = t} is same = subst (IsFlag t) same is
+
 -- ---- what was given with `audit`
 
 -- an audit of traces
@@ -76,11 +87,11 @@ pub asks_traces : (rows : List Row) (asked : Inspection) → IsFlag (one_of (cod
     → AsksTraces rows asked → AsksAudit rows asked
 asks_traces rows (One task input) chain quiet asks = (chain, quiet, asks)
 asks_traces rows (Each names) chain quiet asks = (chain, quiet, asks)
-asks_traces rows (Chain still input) chain quiet asks = absurd asks
+asks_traces rows (Chain task input) chain quiet asks = absurd asks
 
 -- of one chain
 pub asks_chain : (rows : List Row) (task : Task) (input : Option (Bor (List ℕ))) (quiet : Bool) → IsFlag (one_of (codes "chain") rows) true
-    → IsFlag (one_of (codes "quiet") rows) quiet → AsksTraces rows (One task input) → AsksAudit rows (Chain quiet input)
+    → IsFlag (one_of (codes "quiet") rows) quiet → AsksTraces rows (One task input) → AsksAudit rows (Chain (chains.Audit quiet) input)
 asks_chain rows Audit input quiet chain still asks = (chain, still, asks)
 asks_chain rows (Explain as_json with_dumps) input quiet chain still asks = absurd asks
 asks_chain rows (Resolve word replica with_steps) input quiet chain still asks = absurd asks
@@ -92,4 +103,4 @@ pub several_files : (rows : List Row) (asked : Inspection) → AsksTraces rows a
 several_files rows (One task input) asks none = absurd (none task input refl)
 several_files rows (Each names) asks none =
     (map (λ name. name.now) names.items, asks.0, subst (λ (n : ℕ). 2 ≤ n) (sym (length-map names.items (λ (name : Bor (List ℕ)). name.now))) asks.1)
-several_files rows (Chain quiet input) asks none = absurd asks
+several_files rows (Chain task input) asks none = absurd asks

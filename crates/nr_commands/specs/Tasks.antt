@@ -13,10 +13,15 @@ use Rattle.nr_engines.specs.FullExplained.{IsFullyExplained}
 use Rattle.nr_engines.specs.Refusals.{IsEndFault, IsResolveFault, WritesAnswersAlone, exit_status, refusal_status}
 use Rattle.nr_engines.specs.declared.fault.ProgFault.{ProgFault}
 use Rattle.nr_chain_engines.specs.ChainAudit.{HasWrittenFirst, IsChainAudit}
+use Rattle.nr_chain_engines.specs.ChainPages.{IsChainEnd, IsChainStart}
+use Rattle.nr_chain_texts.specs.ChainExplained.{IsChainExplained}
 use Rattle.nr_engines.specs.declared.fault.ProgFault.TheVariants.{CannotRead, CannotWrite, Memory}
 use Rattle.nr_pages.specs.Answers.{IsPages, IsPagesFault}
 use Rattle.nr_commands.specs.declared.inspection.Inspection.{Inspection}
 use Rattle.nr_commands.specs.declared.inspection.Inspection.TheVariants.{One, Each, Chain}
+use Rattle.nr_commands.specs.declared.task.ChainPoint.TheVariants.{Start, End}
+use Rattle.nr_commands.specs.declared.task.ChainTask.{ChainTask}
+use Rattle.nr_commands.specs.declared.task.ChainTask.TheVariants as chains
 use Rattle.nr_commands.specs.declared.task.Task.{Task}
 use Rattle.nr_commands.specs.declared.task.Task.TheVariants.{Audit, Explain, Resolve, Pages}
 use Rattle.nr_commands.specs.Words.{named_file}
@@ -102,9 +107,22 @@ pub record AuditsChain {W : Type 0} (quiet : Bool) (known : Option (List ℕ)) (
   pub first : IfErr outcome (λ fault. fault ≢ CannotWrite
       → (left : Option (List ℕ)) × HasWrittenFirst quiet known left (contents old) (contents new) fault)
 
+-- such an answer to this input was written, where it is specified; or there is none, since an end failed or memory ran out
+pub record Answers {W : Type 0} (IsAnswer : List ℕ → List ℕ → ℕ → Type 0) (known : Option (List ℕ)) (contents : W
+    → Option (List ℕ)) (old new : W) (outcome : Result ℕ ProgFault) : Type 0 where
+  pub ends : MatchResult outcome (WritesReport IsAnswer known (contents old) (contents new)) IsEndFault
+  pub alone : WritesAnswersAlone old new outcome
+
+-- the task was done on a chain
+abbrev pub RunsChainTask : {W : Type 0} → ChainTask → Option (List ℕ) → (W → Option (List ℕ)) → W → W → Result ℕ ProgFault → Type 0
+RunsChainTask (chains.Audit quiet) known contents old new outcome = AuditsChain quiet known contents old new outcome
+RunsChainTask (chains.Explain as_json) known contents old new outcome = Answers (IsChainExplained as_json) known contents old new outcome
+RunsChainTask (chains.Pages Start as_ranges) known contents old new outcome = Answers (IsChainStart as_ranges) known contents old new outcome
+RunsChainTask (chains.Pages End as_ranges) known contents old new outcome = Answers (IsChainEnd as_ranges) known contents old new outcome
+
 -- the same of a file's bytes; or it couldn't be opened
-abbrev pub AuditsChainOfFile : {W : Type 0} → Bool → Option (List ℕ) → (W → Option (List ℕ)) → W → W → Result ℕ ProgFault → Type 0
-AuditsChainOfFile quiet known contents old new outcome = AuditsChain quiet known contents old new outcome ⊎ ((outcome ≡ Err CannotRead) × (new ≡ old))
+abbrev pub RunsChainTaskOnFile : {W : Type 0} → ChainTask → Option (List ℕ) → (W → Option (List ℕ)) → W → W → Result ℕ ProgFault → Type 0
+RunsChainTaskOnFile task known contents old new outcome = RunsChainTask task known contents old new outcome ⊎ ((outcome ≡ Err CannotRead) × (new ≡ old))
 
 -- the inspection was made: of files with these bytes, and of this standard input, where they are specified
 abbrev pub RunsInspection : {W : Type 0} → (List ℕ → Option (List ℕ)) → Inspection → Option (List ℕ) → (W
@@ -115,9 +133,9 @@ RunsInspection file_bytes (One task (Some name)) known contents old new outcome 
 RunsInspection file_bytes (Each names) known contents old new outcome =
     MatchResult outcome (AuditsEach file_bytes (map (λ (name : Bor (List ℕ)). name.now) names.items) (contents old) (contents new))
     (λ fault. fault ≡ CannotWrite)
-RunsInspection file_bytes (Chain quiet None) known contents old new outcome = AuditsChain quiet known contents old new outcome
-RunsInspection file_bytes (Chain quiet (Some name)) known contents old new outcome =
-    AuditsChainOfFile quiet (file_bytes name.now) contents old new outcome
+RunsInspection file_bytes (Chain task None) known contents old new outcome = RunsChainTask task known contents old new outcome
+RunsInspection file_bytes (Chain task (Some name)) known contents old new outcome =
+    RunsChainTaskOnFile task (file_bytes name.now) contents old new outcome
 
 -- help or the version was asked for, which go to the output
 abbrev pub is_shown : ErrorKind → Bool

@@ -13,6 +13,9 @@ use Rattle.clap.specs.declared.error.kind.ErrorKind.{ErrorKind}
 use Rattle.clap.specs.declared.error.kind.ErrorKind.TheVariants as kind
 use Rattle.nr_commands.specs.declared.inspection.Inspection.{Inspection}
 use Rattle.nr_commands.specs.declared.inspection.Inspection.TheVariants.{One, Each, Chain}
+use Rattle.nr_commands.specs.declared.task.ChainPoint.{ChainPoint}
+use Rattle.nr_commands.specs.declared.task.ChainPoint.TheVariants.{Start, End}
+use Rattle.nr_commands.specs.declared.task.ChainTask.TheVariants as chains
 use Rattle.nr_commands.specs.declared.task.Task.TheVariants.{Audit, Explain, Resolve, Pages}
 use Rattle.nr_commands.specs.declared.host_words.NoWords.{NoWords}
 use Rattle.nr_commands.specs.declared.host_words.NoWords.TheVariants.{Memory, NotText}
@@ -56,26 +59,30 @@ chain_option = record (new_rule (codes "chain")) { long = Some (codes "chain"); 
 abbrev pub quiet_option : Rule
 quiet_option = record (new_rule (codes "quiet")) { long = Some (codes "quiet"); action = Some SetTrue }
 
+-- an option that has no value
+abbrev pub flag_option : Text → Rule
+flag_option id = record (new_rule id) { long = Some id; action = Some SetTrue }
+
 -- --steps, which has no value
 abbrev pub steps_option : Rule
 steps_option = record (new_rule (codes "steps")) { long = Some (codes "steps"); action = Some SetTrue }
-
--- --ranges, which has no value
-abbrev pub ranges_option : Rule
-ranges_option = record (new_rule (codes "ranges")) { long = Some (codes "ranges"); action = Some SetTrue }
 
 abbrev pub audit_app : App
 audit_app = with_rule (with_rule (with_rule (new_app (codes "audit")) chain_option) quiet_option) files_argument
 
 abbrev pub explain_app : App
-explain_app = with_rule (with_rule (with_rule (new_app (codes "explain")) json_option) all_option) file_argument
+explain_app =
+    with_rule (with_rule (with_rule (with_rule (new_app (codes "explain")) json_option) all_option) (flag_option (codes "chain"))) file_argument
 
 abbrev pub resolve_app : App
 resolve_app =
     with_rule (with_rule (with_rule (with_rule (new_app (codes "resolve")) address_option) replica_option) steps_option) file_argument
 
+-- --ranges, --chain, --start and --end, which have no value
 abbrev pub pages_app : App
-pages_app = with_rule (with_rule (with_rule (new_app (codes "pages")) replica_option) ranges_option) file_argument
+pages_app =
+    with_rule (with_rule (with_rule (with_rule (with_rule (with_rule (new_app (codes "pages")) replica_option) (flag_option (codes "ranges")))
+    (flag_option (codes "chain"))) (flag_option (codes "start"))) (flag_option (codes "end"))) file_argument
 
 -- the file of this name, but standard input where it is `-` or there is none
 abbrev pub named_file : Text → Option Text
@@ -113,7 +120,7 @@ AsksTraces rows _ = ⊥
 
 -- what was given with `audit` asks for this: with --chain for an audit of one chain
 abbrev pub AsksAudit : List Row → Inspection → Type 0
-AsksAudit rows (Chain quiet input) =
+AsksAudit rows (Chain (chains.Audit quiet) input) =
     IsFlag (one_of (codes "chain") rows) true × IsFlag (one_of (codes "quiet") rows) quiet × HasOneInput rows input
 AsksAudit rows inspection =
     IsFlag (one_of (codes "chain") rows) false × IsFlag (one_of (codes "quiet") rows) false × AsksTraces rows inspection
@@ -124,15 +131,13 @@ IsMisuse rows kind.TooManyValues = IsFlag (one_of (codes "chain") rows) true × 
 IsMisuse rows kind.MissingRequiredArgument = IsFlag (one_of (codes "chain") rows) false × IsFlag (one_of (codes "quiet") rows) true
 IsMisuse rows _ = ⊥
 
--- so a subcommand is with what was given with it
-abbrev pub IsMisused : Option (Text × List Row) → ErrorKind → Type 0
-IsMisused None fault = ⊥
-IsMisused (Some given) fault = (given.0 ≡ codes "audit") × IsMisuse given.1 fault
-
--- with `explain`
+-- with `explain`: with --chain for an explanation of one chain, and --all says nothing then
 abbrev pub AsksExplain : List Row → Inspection → Type 0
 AsksExplain rows (One (Explain as_json with_dumps) input) =
-    IsFlag (one_of (codes "json") rows) as_json × IsFlag (one_of (codes "all") rows) with_dumps
+    IsFlag (one_of (codes "chain") rows) false × IsFlag (one_of (codes "json") rows) as_json × IsFlag (one_of (codes "all") rows) with_dumps
+    × (option_map (λ name. name.now) input ≡ input_of (first_of (codes "file") rows))
+AsksExplain rows (Chain (chains.Explain as_json) input) =
+    IsFlag (one_of (codes "chain") rows) true × IsFlag (one_of (codes "json") rows) as_json
     × (option_map (λ name. name.now) input ≡ input_of (first_of (codes "file") rows))
 AsksExplain rows _ = ⊥
 
@@ -143,12 +148,42 @@ AsksResolve rows (One (Resolve address replica with_steps) input) = (unwrap_or (
     × (option_map (λ name. name.now) input ≡ input_of (first_of (codes "file") rows))
 AsksResolve rows _ = ⊥
 
--- with `pages`
+-- --start asks for the start of a chain, --end for its end
+abbrev pub IsPoint : List Row → ChainPoint → Type 0
+IsPoint rows Start = IsFlag (one_of (codes "start") rows) true × IsFlag (one_of (codes "end") rows) false
+IsPoint rows End = IsFlag (one_of (codes "start") rows) false × IsFlag (one_of (codes "end") rows) true
+
+-- with `pages`: with --chain for those at an end of a chain
 abbrev pub AsksPages : List Row → Inspection → Type 0
 AsksPages rows (One (Pages replica as_ranges) input) =
-    IsReplica (one_of (codes "replica") rows) replica × IsFlag (one_of (codes "ranges") rows) as_ranges
+    IsFlag (one_of (codes "chain") rows) false × IsFlag (one_of (codes "start") rows) false × IsFlag (one_of (codes "end") rows) false
+    × IsReplica (one_of (codes "replica") rows) replica × IsFlag (one_of (codes "ranges") rows) as_ranges
+    × (option_map (λ name. name.now) input ≡ input_of (first_of (codes "file") rows))
+AsksPages rows (Chain (chains.Pages point as_ranges) input) =
+    IsFlag (one_of (codes "chain") rows) true × IsPoint rows point × IsFlag (one_of (codes "ranges") rows) as_ranges
     × (option_map (λ name. name.now) input ≡ input_of (first_of (codes "file") rows))
 AsksPages rows _ = ⊥
+
+-- of a chain both ends are asked for, or none
+abbrev pub IsPointMisuse : List Row → ErrorKind → Type 0
+IsPointMisuse rows kind.ArgumentConflict = IsFlag (one_of (codes "start") rows) true × IsFlag (one_of (codes "end") rows) true
+IsPointMisuse rows kind.MissingRequiredArgument = IsFlag (one_of (codes "start") rows) false × IsFlag (one_of (codes "end") rows) false
+IsPointMisuse rows _ = ⊥
+
+-- or an end, but of no chain
+abbrev pub IsEndOfNone : List Row → ErrorKind → Type 0
+IsEndOfNone rows kind.MissingRequiredArgument = IsFlag (one_of (codes "start") rows) true ⊎ IsFlag (one_of (codes "end") rows) true
+IsEndOfNone rows _ = ⊥
+
+-- `pages` is misused, though clap has nothing against it
+abbrev pub IsPagesMisuse : List Row → ErrorKind → Type 0
+IsPagesMisuse rows fault =
+    (IsFlag (one_of (codes "chain") rows) true × IsPointMisuse rows fault) ⊎ (IsFlag (one_of (codes "chain") rows) false × IsEndOfNone rows fault)
+
+-- so a subcommand is with what was given with it
+abbrev pub IsMisused : Option (Text × List Row) → ErrorKind → Type 0
+IsMisused None fault = ⊥
+IsMisused (Some given) fault = ((given.0 ≡ codes "audit") × IsMisuse given.1 fault) ⊎ ((given.0 ≡ codes "pages") × IsPagesMisuse given.1 fault)
 
 -- a subcommand and what was given with it ask for an inspection
 abbrev pub AsksInspection : Text × List Row → Inspection → Type 0

@@ -1,9 +1,11 @@
-ghost use Rattle.std.specs.Prelude.{◌≡◌, ◌⊎◌, IfErr, IfOk, codes, option_map};
+ghost use Rattle.std.specs.Prelude.{◌≡◌, ◌⊎◌, IfErr, IfOk, codes, false, option_map};
+ghost use Rattle.clap.specs.Walk.{one_of};
 ghost use Rattle.clap.specs.Words.{first_of, found_of, kind_of, rows_of};
-ghost use Rattle.nr_commands.specs.Words.{AsksAudit, AsksExplain, AsksPages, AsksResolve, AsksTraces, IsMisuse};
+ghost use Rattle.nr_commands.specs.Words.{AsksAudit, AsksExplain, AsksPages, AsksResolve, AsksTraces};
+ghost use Rattle.nr_commands.specs.Words.{IsFlag, IsMisuse, IsPagesMisuse, IsPoint, IsPointMisuse};
 ghost use Rattle.nr_commands.specs.Words.{input_of, named_file};
 
-use crate::task::Task;
+use crate::task::{ChainPoint, ChainTask, Task};
 use clap::error::ErrorKind;
 use clap::{ArgMatches, Command, Error};
 use std::alloc::{AllocError, Global};
@@ -15,8 +17,8 @@ pub enum Inspection<'a> {
     One(Task<'a>, Option<&'a str>),
     /// An audit of each of these files, a line each; `-` is standard input.
     Each(Vec<&'a str>),
-    /// An audit of a chain, which prints nothing of right segments where it is quiet: of the file of this name, or of standard input.
-    Chain(bool, Option<&'a str>),
+    /// A task on one chain: the file of this name, or standard input.
+    Chain(ChainTask, Option<&'a str>),
 }
 
 /// The file of this name, or none where it is `-`, which is standard input.
@@ -71,7 +73,9 @@ pub fn read_audit<'a>(
     let quiet = given.get_flag("quiet");
     if given.get_flag("chain") {
         match asked {
-            Inspection::One(_, input) => return Ok(Inspection::Chain(quiet, input)),
+            Inspection::One(_, input) => {
+                return Ok(Inspection::Chain(ChainTask::Audit(quiet), input));
+            }
             _ => {
                 let several = line.error(
                     ErrorKind::TooManyValues,
@@ -95,8 +99,11 @@ pub fn read_audit<'a>(
 pub fn read_explain<'a>(given: &ArgMatches<'a>) -> Inspection<'a>
     ensures { AsksExplain (rows_of (found_of given.now)) result }
 {
-    let as_json = given.get_flag("json");
-    let with_dumps = given.get_flag("all");
+    let as_json = is_given(given, "json");
+    if is_given(given, "chain") {
+        return Inspection::Chain(ChainTask::Explain(as_json), input_of(given));
+    }
+    let with_dumps = is_given(given, "all");
     Inspection::One(Task::Explain(as_json, with_dumps), input_of(given))
 }
 
@@ -110,11 +117,83 @@ pub fn read_resolve<'a>(given: &ArgMatches<'a>) -> Inspection<'a>
     Inspection::One(Task::Resolve(address, replica, with_steps), input_of(given))
 }
 
-/// What was given with `pages` asks for.
-pub fn read_pages<'a>(given: &ArgMatches<'a>) -> Inspection<'a>
-    ensures { AsksPages (rows_of (found_of given.now)) result }
+/// Whether an option was given that has no value.
+fn is_given(given: &ArgMatches<'_>, id: &str) -> bool
+    ensures { IsFlag (one_of id.now (rows_of (found_of given.now))) result }
 {
+    given.get_flag(id)
+}
+
+/// At which point of a chain its pages were asked for.
+fn read_point<'a>(line: &mut Command<'a>, given: &ArgMatches<'a>) -> Result<ChainPoint, Error>
+    ensures point { IfOk result (IsPoint (rows_of (found_of given.now))) }
+    ensures misused { IfErr result (λ error. (kind_of error ≡ ErrorKind.OutOfMemory)
+        ⊎ IsPointMisuse (rows_of (found_of given.now)) (kind_of error)) }
+{
+    let start = is_given(given, "start");
+    let end = is_given(given, "end");
+    if start && end {
+        let both = line.error(
+            ErrorKind::ArgumentConflict,
+            "--chain takes --start or --end, and not both",
+        )?;
+        return Err(both);
+    }
+    if start {
+        return Ok(ChainPoint::Start);
+    }
+    if end {
+        return Ok(ChainPoint::End);
+    }
+    let none = line.error(
+        ErrorKind::MissingRequiredArgument,
+        "--chain takes --start or --end",
+    )?;
+    Err(none)
+}
+
+/// The pages of a trace's dump that were asked for.
+fn read_dump_pages<'a>(
+    line: &mut Command<'a>,
+    given: &ArgMatches<'a>,
+) -> Result<Inspection<'a>, Error>
+    requires { IsFlag (one_of (codes "chain") (rows_of (found_of given.now))) false }
+    ensures asks { IfOk result (AsksPages (rows_of (found_of given.now))) }
+    ensures misused { IfErr result (λ error. (kind_of error ≡ ErrorKind.OutOfMemory)
+        ⊎ IsPagesMisuse (rows_of (found_of given.now)) (kind_of error)) }
+{
+    let start = is_given(given, "start");
+    let end = is_given(given, "end");
+    if start || end {
+        let alone = line.error(
+            ErrorKind::MissingRequiredArgument,
+            "--start and --end are for --chain alone",
+        )?;
+        return Err(alone);
+    }
     let replica = given.get_one::<u8>("replica").unwrap_or(0);
-    let as_ranges = given.get_flag("ranges");
-    Inspection::One(Task::Pages(replica, as_ranges), input_of(given))
+    let as_ranges = is_given(given, "ranges");
+    Ok(Inspection::One(Task::Pages(replica, as_ranges), input_of(given)))
+}
+
+/// What was given with `pages` asks for. The line is that of the program, for what it says of its words.
+///
+/// # Errors
+///
+/// `ArgumentConflict` where both ends of a chain are asked for, `MissingRequiredArgument` where none is, or one but no chain; out of
+/// memory.
+pub fn read_pages<'a>(
+    line: &mut Command<'a>,
+    given: &ArgMatches<'a>,
+) -> Result<Inspection<'a>, Error>
+    ensures asks { IfOk result (AsksPages (rows_of (found_of given.now))) }
+    ensures misused { IfErr result (λ error. (kind_of error ≡ ErrorKind.OutOfMemory)
+        ⊎ IsPagesMisuse (rows_of (found_of given.now)) (kind_of error)) }
+{
+    if !is_given(given, "chain") {
+        return read_dump_pages(line, given);
+    }
+    let point = read_point(line, given)?;
+    let as_ranges = is_given(given, "ranges");
+    Ok(Inspection::Chain(ChainTask::Pages(point, as_ranges), input_of(given)))
 }

@@ -15,5 +15,5 @@ pub use host_words::{NoWords, program_words};
 pub use inspection::{Inspection, read_audit, read_explain, read_pages, read_resolve};
 pub use refusal::{end, tell_refusal};
 pub use running::run_inspection;
-pub use task::Task;
+pub use task::{ChainPoint, ChainTask, Task};
 pub use words::{VERSION, audit, explain, pages, resolve};

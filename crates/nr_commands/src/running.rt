@@ -1,11 +1,10 @@
 ghost use Rattle.std.specs.Prelude.{◌≡◌, IfErr, IfOk, map};
-ghost use Rattle.nr_commands.specs.Tasks.{AuditsChainOfFile, AuditsEach, AuditsOne, RunsInspection, RunsTaskOnFile, WritesLine};
+ghost use Rattle.nr_commands.specs.Tasks.{AuditsEach, AuditsOne, RunsChainTaskOnFile, RunsInspection, RunsTaskOnFile, WritesLine};
 
 use crate::files::FilesByName;
 use crate::inspection::Inspection;
 use crate::refusal::{tell_name, tell_refused};
-use crate::task::Task;
-use nr_chain_engines::audit_chain_io;
+use crate::task::{ChainTask, Task};
 use nr_engines::{ProgFault, named_audit_io};
 use std::alloc::Global;
 use std::io::{Read, Write};
@@ -27,19 +26,19 @@ fn run_on_file<F: FilesByName, W: Write>(
     }
 }
 
-/// Audits the chain in the file of this name.
-fn audit_chain_of_file<F: FilesByName, W: Write>(
+/// Does the task on the chain in the file of this name.
+fn run_on_chain<F: FilesByName, W: Write>(
     files: &F,
     alloc: Global,
+    task: ChainTask,
     name: &str,
     output: &mut W,
-    quiet: bool,
 ) -> Result<u8, ProgFault>
-    ensures { AuditsChainOfFile quiet (F.file_bytes files.now name.now) W.contents output.old
+    ensures { RunsChainTaskOnFile task (F.file_bytes files.now name.now) W.contents output.old
         output.new result }
 {
     match files.open(name) {
-        Ok(mut file) => audit_chain_io(alloc, &mut file, output, quiet),
+        Ok(mut file) => task.run(alloc, &mut file, output),
         Err(_) => Err(ProgFault::CannotRead),
     }
 }
@@ -108,7 +107,8 @@ fn audit_each<F: FilesByName, R: Read, W: Write, E: Write>(
 ///
 /// # Errors
 ///
-/// Of one input `CannotRead` where the file couldn't be opened, and those of `Task::run`; of several files `CannotWrite`.
+/// Of one input `CannotRead` where the file couldn't be opened, and those of `Task::run` or of `ChainTask::run`; of several files
+/// `CannotWrite`.
 pub fn run_inspection<F: FilesByName, R: Read, W: Write, E: Write>(
     files: &F,
     alloc: Global,
@@ -132,9 +132,9 @@ pub fn run_inspection<F: FilesByName, R: Read, W: Write, E: Write>(
         Inspection::Each(names) => {
             audit_each(files, alloc, names.as_slice(), reader, output, errors)
         }
-        Inspection::Chain(quiet, None) => audit_chain_io(alloc, reader, output, quiet),
-        Inspection::Chain(quiet, Some(name)) => {
-            let outcome = audit_chain_of_file(files, alloc, name, output, quiet);
+        Inspection::Chain(task, None) => task.run(alloc, reader, output),
+        Inspection::Chain(task, Some(name)) => {
+            let outcome = run_on_chain(files, alloc, task, name, output);
             if let Err(fault) = &outcome {
                 tell_name(name, fault, errors);
             }

@@ -1,3 +1,5 @@
+use nr_chain_engines::{audit_chain_io, chain_end_io, chain_start_io};
+use nr_chain_texts::explain_chain_io;
 use nr_engines::{ProgFault, audit_io, explain_all_io, explain_io, resolve_io};
 use nr_pages::pages_io;
 use std::alloc::Global;
@@ -47,6 +49,55 @@ impl Task<'_> {
                 resolve_io(alloc, reader, writer, address, replica, with_steps)
             }
             Task::Pages(replica, as_ranges) => pages_io(alloc, reader, writer, replica, as_ranges),
+        }
+    }
+}
+
+/// Where a chain is looked at.
+#[derive(Clone, Copy, Debug)]
+pub enum ChainPoint {
+    /// Where its first segment begins.
+    Start,
+    /// After its last segment.
+    End,
+}
+
+/// What can be asked of one chain.
+#[derive(Debug, Drop)]
+pub enum ChainTask {
+    /// Judge it; and print nothing of the segments that are right.
+    Audit(bool),
+    /// Judge it, and show the evidence of its first fault, or how much it has; as JSON.
+    Explain(bool),
+    /// List the pages at this point of it; and as ranges.
+    Pages(ChainPoint, bool),
+}
+
+impl ChainTask {
+    ghost use Rattle.nr_commands.specs.Tasks.{RunsChainTask};
+
+    /// Does the task on the input, and gives the exit status.
+    ///
+    /// # Errors
+    ///
+    /// Those of `audit_chain_io`, of `explain_chain_io`, of `chain_start_io`, or of `chain_end_io`.
+    pub fn run<R: Read, W: Write>(
+        self,
+        alloc: Global,
+        reader: &mut R,
+        writer: &mut W,
+    ) -> Result<u8, ProgFault>
+        ensures { RunsChainTask self (R.remaining reader.old) W.contents writer.old writer.new result }
+    {
+        match self {
+            ChainTask::Audit(quiet) => audit_chain_io(alloc, reader, writer, quiet),
+            ChainTask::Explain(as_json) => explain_chain_io(alloc, reader, writer, as_json),
+            ChainTask::Pages(ChainPoint::Start, as_ranges) => {
+                chain_start_io(alloc, reader, writer, as_ranges)
+            }
+            ChainTask::Pages(ChainPoint::End, as_ranges) => {
+                chain_end_io(alloc, reader, writer, as_ranges)
+            }
         }
     }
 }

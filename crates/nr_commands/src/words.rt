@@ -1,7 +1,7 @@
 //! The words of the commands.
 ghost use Rattle.std.specs.Prelude.{◌≡◌, false, IfOk};
 ghost use Rattle.clap.specs.Words.{app_of, rule_of};
-ghost use Rattle.nr_commands.specs.Words.{audit_app, explain_app, file_argument, pages_app, resolve_app, IsLocal};
+ghost use Rattle.nr_commands.specs.Words.{audit_app, explain_app, file_argument, flag_option, pages_app, resolve_app, IsLocal};
 
 use clap::{Arg, ArgAction, Command, value_parser};
 use std::alloc::{AllocError, Global};
@@ -17,6 +17,14 @@ fn file<'a>(alloc: Global) -> Arg<'a>
     Arg::new(alloc, "file")
         .value_name("FILE")
         .help("The trace; standard input where it is - or not given")
+}
+
+/// An option that has no value.
+fn flag<'a>(alloc: Global, id: &'a str) -> Arg<'a>
+    ensures rule { rule_of result ≡ flag_option id.entry.now }
+    ensures local { result.global ≡ false }
+{
+    Arg::new(alloc, id).long(id).action(ArgAction::SetTrue)
 }
 
 /// The words of `audit`.
@@ -66,10 +74,14 @@ pub fn explain<'a>(alloc: Global) -> Result<Command<'a>, AllocError>
         .long("all")
         .action(ArgAction::SetTrue)
         .help("Prints what is wrong with each other dump, too");
+    let chain = flag(alloc, "chain").help(
+        "The input is a chain: prints how much it has, or the first fault and what shows it",
+    );
     Command::new(alloc, "explain")
         .about("Prints whether a trace is right, and what shows a fault")
         .arg(json)?
         .arg(all)?
+        .arg(chain)?
         .arg(file(alloc))
 }
 
@@ -117,13 +129,22 @@ pub fn pages<'a>(alloc: Global) -> Result<Command<'a>, AllocError>
         .value_parser(value_parser!(u8))
         .default_value("0")
         .help("The number of the replica whose dump is looked into");
-    let ranges = Arg::new(alloc, "ranges")
-        .long("ranges")
-        .action(ArgAction::SetTrue)
-        .help("Prints pages that follow one another on one line");
+    let ranges = flag(alloc, "ranges").help("Prints pages that follow one another on one line");
+    let chain = flag(alloc, "chain").help(
+        "The input is a chain: prints the pages at one of its ends",
+    );
+    let start = flag(alloc, "start").help(
+        "With --chain: the pages with which its first segment begins",
+    );
+    let end = flag(alloc, "end").help(
+        "With --chain: the pages after its last segment, where all are right",
+    );
     Command::new(alloc, "pages")
-        .about("Prints the pages of a dump of a trace")
+        .about("Prints the pages of a dump of a trace, or at an end of a chain")
         .arg(replica)?
         .arg(ranges)?
+        .arg(chain)?
+        .arg(start)?
+        .arg(end)?
         .arg(file(alloc))
 }

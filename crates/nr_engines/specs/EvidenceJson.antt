@@ -1,5 +1,5 @@
 -- What `explain --json` prints: one JSON object, its members by their names in the order of the alphabet, with no space between.
-use Rattle.std.specs.Prelude.{ℕ, ◌++◌, false, List, length, codes, map, Option, Some, None}
+use Rattle.std.specs.Prelude.{ℕ, ◌++◌, true, false, List, length, codes, map, Option, Some, None}
 use Rattle.serde_json.specs.Data.{Data, Members, array, member, no_members, null, number, object, string, unsigned}
 use Rattle.serde_json.specs.View.{items_of}
 use Rattle.serde_json.specs.Written.{compact_text}
@@ -15,10 +15,10 @@ use Rattle.nr_explain.specs.declared.evidence.Evidence.{Evidence}
 use Rattle.nr_explain.specs.declared.evidence.Evidence.TheVariants as evidence
 use Rattle.nr_explain.specs.declared.explaining.Explanation.{Explanation}
 use Rattle.nr_explain.specs.declared.explaining.Explanation.TheVariants.{Yes, No}
-use Rattle.vs_text.specs.Requests.{request_text}
+use Rattle.vs_types.specs.declared.request.Query.TheVariants.{Access}
 use Rattle.vs_text.specs.Words.{hexadecimal}
 use Rattle.nr_engines.specs.Text.{answer_text, fault_text, format_text, line_end, walk_words}
-use Rattle.nr_engines.specs.EvidenceText.{bytes_text, unit_text}
+use Rattle.nr_engines.specs.EvidenceText.{asked_text, bytes_text, unit_text}
 use Rattle.nr_engines.specs.Sentence.{sentence_text}
 
 abbrev pub number_data : ℕ → Data
@@ -33,7 +33,7 @@ abbrev pub call_data : RecordedCall → Data
 call_data call = object
     (member (codes "event") (number_data call.event)
     (member (codes "replica") (number_data call.replica)
-    (member (codes "request") (string (request_text call.request))
+    (member (codes "request") (string (asked_text call.touch call.request))
     (member (codes "thread") (number_data call.thread) no_members))))
 
 abbrev pub reply_data : RecordedReply → Data
@@ -53,9 +53,8 @@ abbrev pub event_data : ℕ → Option Event → Data
 event_data index None = null
 event_data index (Some (Call replica thread request)) =
     call_data record { event = index; replica = replica; thread = thread; request = request; touch = false }
-event_data index (Some (Touch replica thread address mode access)) = object
-    (member (codes "event") (number_data index)
-    (member (codes "touch") (number_data address) no_members))
+event_data index (Some (Touch replica thread address mode access)) =
+    call_data record { event = index; replica = replica; thread = thread; request = Access address mode access; touch = true }
 event_data index (Some (Reply call at answer)) = reply_data record { event = index; call = call; at = at; answer = answer }
 
 -- an update and its place, or null

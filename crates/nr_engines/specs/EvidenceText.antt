@@ -1,9 +1,11 @@
 -- The lines of `explain`: of a no for each fact that shows the fault, of a yes how much there is.
-use Rattle.std.specs.Prelude.{ℕ, ◌/◌, ◌%◌, ◌==◌, ◌++◌, false, List, [], ◌∷◌, length, take, codes, decimal, flat_map, if◌then◌else◌, Option, Some, None}
+use Rattle.std.specs.Prelude.{ℕ, ◌/◌, ◌%◌, ◌==◌, ◌++◌, Bool, true, false, List, [], ◌∷◌, length, take, codes, decimal, flat_map, if◌then◌else◌, Option, Some, None}
 use Rattle.std.specs.Fmt.{digits}
 use Rattle.vs_types.specs.declared.answer.Answer.{Answer}
+use Rattle.vs_types.specs.declared.request.Query.{Query}
+use Rattle.vs_types.specs.declared.request.Query.TheVariants.{Update, Resolve, Access}
 use Rattle.vs_text.specs.Requests.{request_text}
-use Rattle.vs_text.specs.Words.{hexadecimal}
+use Rattle.vs_text.specs.Words.{access_text, hexadecimal, mode_text, space}
 use Rattle.nr_trace.specs.declared.event.Event.{Event}
 use Rattle.nr_trace.specs.declared.event.Event.TheVariants.{Call, Reply, Touch}
 use Rattle.nr_trace.specs.declared.fault.Format.{Format}
@@ -37,10 +39,18 @@ use Rattle.nr_explain.specs.declared.evidence.Evidence.{Evidence}
 use Rattle.nr_explain.specs.declared.evidence.Evidence.TheVariants as evidence
 use Rattle.nr_engines.specs.Text.{answer_text, line_end, walk_text}
 
+-- what is asked, in the words of a script; of a touch, which a script has not, in those of an access
+unfoldable pub asked_text : Bool → Query → List ℕ
+asked_text false request = request_text request
+asked_text true (Access address mode access) =
+    codes "touch " ++ (mode_text mode ++ (space ++ (access_text access ++ (space ++ hexadecimal address))))
+asked_text true (Resolve address) = request_text (Resolve address)
+asked_text true (Update action) = request_text (Update action)
+
 -- the line of a call: its number, its thread, its replica and what it asks
 unfoldable pub call_line : RecordedCall → List ℕ
 call_line call = codes "call " ++ (decimal call.event ++ (codes ", thread " ++ (decimal call.thread ++ (codes ", replica " ++ (decimal call.replica
-    ++ (codes ": " ++ (request_text call.request ++ line_end)))))))
+    ++ (codes ": " ++ (asked_text call.touch call.request ++ line_end)))))))
 
 -- the line of a reply: its event, the call that it answers, its `at` and its answer
 unfoldable pub reply_line : RecordedReply → List ℕ
@@ -52,7 +62,8 @@ unfoldable pub event_line : ℕ → Option Event → List ℕ
 event_line number None = codes "event " ++ (decimal number ++ codes ": none\n")
 event_line number (Some (Call replica thread request)) =
     call_line record { event = number; replica = replica; thread = thread; request = request; touch = false }
-event_line number (Some (Touch replica thread address mode access)) = codes "event " ++ (decimal number ++ codes ": a touch\n")
+event_line number (Some (Touch replica thread address mode access)) =
+    call_line record { event = number; replica = replica; thread = thread; request = Access address mode access; touch = true }
 event_line number (Some (Reply call at answer)) = reply_line record { event = number; call = call; at = at; answer = answer }
 
 -- the line of a number, behind words

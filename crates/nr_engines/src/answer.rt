@@ -55,8 +55,12 @@ pub fn push_answer(text: &mut String, answer: Answer) -> Result<(), AllocError>
     }
 }
 
-/// The name of an answer, and what it says.
-pub(crate) fn answer_text(alloc: Global, answer: Answer) -> Result<String, AllocError>
+/// The name of an answer, and what it says. Allocates the text.
+///
+/// # Errors
+///
+/// Out of memory.
+pub fn answer_text(alloc: Global, answer: Answer) -> Result<String, AllocError>
     ensures { IfOk result (λ text. string_bytes text ≡ answer_text answer) }
 {
     let mut text = String::new(alloc);

@@ -296,8 +296,12 @@ fn put_evidence(members: &mut Members, alloc: Global, shown: &Evidence) -> Resul
     }
 }
 
-/// The evidence of a fault.
-pub(crate) fn evidence_value(alloc: Global, shown: &Evidence) -> Result<Value, AllocError>
+/// The evidence of a fault. Allocates the value.
+///
+/// # Errors
+///
+/// Out of memory.
+pub fn evidence_value(alloc: Global, shown: &Evidence) -> Result<Value, AllocError>
     ensures { IfOk result (λ value. view value ≡ evidence_data shown.now) }
 {
     let mut members = Map::new(alloc);

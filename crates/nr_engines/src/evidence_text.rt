@@ -178,9 +178,13 @@ pub(crate) fn counts_lines(alloc: Global, counts: Counts) -> Result<String, Allo
     format!(in alloc; "{calls}{updates}{reads}{replicas}{pages}")
 }
 
-/// The lines of the evidence of a fault.
+/// The lines of the evidence of a fault. Allocates the text.
+///
+/// # Errors
+///
+/// Out of memory.
 #[tactic(auto, unfolding(crate::specs::EvidenceText::evidence_text))]
-pub(crate) fn evidence_text(alloc: Global, shown: &Evidence) -> Result<String, AllocError>
+pub fn evidence_lines(alloc: Global, shown: &Evidence) -> Result<String, AllocError>
     ensures { IfOk result (λ text. string_bytes text ≡ evidence_text shown.now) }
 {
     match shown {

@@ -11,7 +11,7 @@ ghost use Rattle.nr_engines.specs.Answers.{HasReadFew, WritesReport};
 
 use crate::ends::write_report;
 use crate::evidence_json::{counts_value, evidence_value};
-use crate::evidence_text::{counts_lines, evidence_text};
+use crate::evidence_text::{counts_lines, evidence_lines};
 use crate::fact_json::{Members, put_text};
 use crate::fault::ProgFault;
 use crate::report::Report;
@@ -50,7 +50,7 @@ pub(crate) fn explanation_text(
         Explanation::No(fault, shown) => {
             let no = no_text(alloc, *fault)?;
             let sentence = sentence_text(alloc, shown)?;
-            let lines = evidence_text(alloc, shown)?;
+            let lines = evidence_lines(alloc, shown)?;
             format!(in alloc; "{no}{sentence}\n{lines}")
         }
     }

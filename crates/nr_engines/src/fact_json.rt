@@ -1,26 +1,31 @@
 //! What evidence is made of, as members of JSON objects: texts, calls, replies, entries of tables.
 
-ghost use Rattle.std.specs.Prelude.{◌≡◌, IfOk, OnOk, Some, codes, map};
-ghost use Rattle.serde_json.specs.Data.{member, no_members, object, put as with_member, string};
+ghost use Rattle.std.specs.Prelude.{◌≡◌, IfOk, OnOk, Some, map};
+ghost use Rattle.serde_json.specs.Data.{put as with_member, string};
 ghost use Rattle.serde_json.specs.View.{members_view, view};
 ghost use Rattle.vs_text.specs.Words.{hexadecimal};
+ghost use Rattle.nr_trace.specs.declared.event.Event.TheVariants as events;
 ghost use Rattle.nr_engines.specs.Text.{answer_text};
 ghost use Rattle.nr_engines.specs.EvidenceJson.{call_data, changed_data, event_data, option_data, own_data, reply_data};
-ghost use Rattle.nr_engines.specs.EvidenceJson.{number_data, step_data, way_data};
+ghost use Rattle.nr_engines.specs.EvidenceJson.{step_data, way_data};
 
 use crate::answer::answer_text;
+use crate::fact_text::{asked_text, touch_text};
 use nr_explain::{PlacedUpdate, RecordedCall, RecordedReply, Step};
 use nr_trace::Event;
 use serde_json::{Map, Value, put};
 use std::alloc::{AllocError, Global};
-use vs_text::request_text;
-use vs_types::Answer;
+use vs_types::{Access, Answer, Mode};
 
 /// The members of an object.
-pub(crate) type Members = Map<String, Value>;
+pub type Members = Map<String, Value>;
 
-/// Puts a text.
-pub(crate) fn put_text(
+/// Puts a text. Allocates the value and its key.
+///
+/// # Errors
+///
+/// Out of memory.
+pub fn put_text(
     members: &mut Members,
     alloc: Global,
     key: &str,
@@ -32,8 +37,12 @@ pub(crate) fn put_text(
     put(members, alloc, key, Value::try_from_str(alloc, text)?)
 }
 
-/// Puts the text of a number, as an address is written.
-pub(crate) fn put_hexadecimal(
+/// Puts the text of a number, as an address is written. Allocates the value and its key.
+///
+/// # Errors
+///
+/// Out of memory.
+pub fn put_hexadecimal(
     members: &mut Members,
     alloc: Global,
     key: &str,
@@ -46,8 +55,12 @@ pub(crate) fn put_hexadecimal(
     put(members, alloc, key, Value::String(text))
 }
 
-/// Puts the text of an answer.
-pub(crate) fn put_answer(
+/// Puts the text of an answer. Allocates the value and its key.
+///
+/// # Errors
+///
+/// Out of memory.
+pub fn put_answer(
     members: &mut Members,
     alloc: Global,
     key: &str,
@@ -79,7 +92,7 @@ pub(crate) fn put_option(
 fn call_value(alloc: Global, call: RecordedCall) -> Result<Value, AllocError>
     ensures { IfOk result (λ value. view value ≡ call_data call) }
 {
-    let request = request_text(alloc, call.request)?;
+    let request = asked_text(alloc, call.touch, call.request)?;
     let mut members = Map::new(alloc);
     put(&mut members, alloc, "event", Value::from(call.event))?;
     put(&mut members, alloc, "replica", Value::from(call.replica))?;
@@ -88,8 +101,12 @@ fn call_value(alloc: Global, call: RecordedCall) -> Result<Value, AllocError>
     Ok(Value::Object(members))
 }
 
-/// Puts a call.
-pub(crate) fn put_call(
+/// Puts a call. Allocates the value and its key.
+///
+/// # Errors
+///
+/// Out of memory.
+pub fn put_call(
     members: &mut Members,
     alloc: Global,
     key: &str,
@@ -112,8 +129,12 @@ fn reply_value(alloc: Global, reply: RecordedReply) -> Result<Value, AllocError>
     Ok(Value::Object(members))
 }
 
-/// Puts a reply.
-pub(crate) fn put_reply(
+/// Puts a reply. Allocates the value and its key.
+///
+/// # Errors
+///
+/// Out of memory.
+pub fn put_reply(
     members: &mut Members,
     alloc: Global,
     key: &str,
@@ -141,13 +162,24 @@ pub(crate) fn put_own(
     }
 }
 
-fn touch_value(alloc: Global, index: u32, address: u64) -> Result<Value, AllocError>
-    ensures { IfOk result (λ value. view value ≡ object (member (codes "event") (number_data index)
-        (member (codes "touch") (number_data address) no_members))) }
+fn touch_value(
+    alloc: Global,
+    index: u32,
+    replica: u8,
+    thread: u16,
+    address: u64,
+    mode: Mode,
+    access: Access,
+) -> Result<Value, AllocError>
+    ensures { IfOk result (λ value. view value
+        ≡ event_data index (Some (events.Touch replica thread address mode access))) }
 {
+    let request = touch_text(alloc, address, mode, access)?;
     let mut members = Map::new(alloc);
     put(&mut members, alloc, "event", Value::from(index))?;
-    put(&mut members, alloc, "touch", Value::from(address))?;
+    put(&mut members, alloc, "replica", Value::from(replica))?;
+    put(&mut members, alloc, "request", Value::String(request))?;
+    put(&mut members, alloc, "thread", Value::from(thread))?;
     Ok(Value::Object(members))
 }
 
@@ -169,7 +201,13 @@ fn one_event_value(alloc: Global, index: u32, event: Event) -> Result<Value, All
             };
             call_value(alloc, call)
         }
-        Event::Touch { address, .. } => touch_value(alloc, index, address),
+        Event::Touch {
+            replica,
+            thread,
+            address,
+            mode,
+            access,
+        } => touch_value(alloc, index, replica, thread, address, mode, access),
         Event::Reply { call, at, answer } => {
             let reply = RecordedReply {
                 event: index,
@@ -208,8 +246,12 @@ fn update_value(alloc: Global, update: PlacedUpdate) -> Result<Value, AllocError
     Ok(Value::Object(members))
 }
 
-/// Puts an update and its place, or null.
-pub(crate) fn put_changed(
+/// Puts an update and its place, or null. Allocates the value and its key.
+///
+/// # Errors
+///
+/// Out of memory.
+pub fn put_changed(
     members: &mut Members,
     alloc: Global,
     key: &str,
@@ -235,8 +277,12 @@ fn step_value(alloc: Global, step: Step) -> Result<Value, AllocError>
     Ok(Value::Object(members))
 }
 
-/// Puts an entry of a table.
-pub(crate) fn put_step(
+/// Puts an entry of a table. Allocates the value and its key.
+///
+/// # Errors
+///
+/// Out of memory.
+pub fn put_step(
     members: &mut Members,
     alloc: Global,
     key: &str,
@@ -259,8 +305,12 @@ fn way_values(alloc: Global, steps: &[Step]) -> Result<Vec<Value>, AllocError>
     Ok(values)
 }
 
-/// Puts the entries on a way.
-pub(crate) fn put_way(
+/// Puts the entries on a way. Allocates the value and its key.
+///
+/// # Errors
+///
+/// Out of memory.
+pub fn put_way(
     members: &mut Members,
     alloc: Global,
     key: &str,

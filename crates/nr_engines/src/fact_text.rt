@@ -1,31 +1,71 @@
 //! The lines of what evidence is made of: calls, replies, entries of tables.
 
-ghost use Rattle.std.specs.Prelude.{◌≡◌, ◌++◌, IfOk, OnOk, Some, flat_map, string_bytes};
-ghost use Rattle.nr_engines.specs.EvidenceText.{address_line, answer_line, call_line, changed_line, event_line, format_lines};
+ghost use Rattle.std.specs.Prelude.{◌≡◌, ◌++◌, IfOk, OnOk, Some, flat_map, string_bytes, true};
+ghost use Rattle.vs_types.specs.declared.request.Query.TheVariants as queries;
+ghost use Rattle.nr_trace.specs.declared.event.Event.TheVariants as events;
+ghost use Rattle.nr_engines.specs.EvidenceText.{address_line, answer_line, asked_text, call_line, changed_line, event_line, format_lines};
 ghost use Rattle.nr_engines.specs.EvidenceText.{number_line, option_line, own_line, reply_line, reserved_text, step_line, way_lines};
 
 use crate::answer::answer_text;
 use nr_explain::{PlacedUpdate, RecordedCall, RecordedReply, Step};
 use nr_trace::{Event, Format};
 use std::alloc::{AllocError, Global};
-use vs_text::request_text;
-use vs_types::Answer;
+use vs_text::{access_text, mode_text, request_text};
+use vs_types::{Access, Answer, Mode, Query, Request};
 
-/// The line of a call.
+/// What a touch asks.
+#[tactic(auto, unfolding(crate::specs::EvidenceText::asked_text))]
+pub(crate) fn touch_text(
+    alloc: Global,
+    address: u64,
+    mode: Mode,
+    access: Access,
+) -> Result<String, AllocError>
+    ensures { IfOk result (λ text. string_bytes text
+        ≡ asked_text true (queries.Access address mode access)) }
+{
+    let mode = mode_text(mode);
+    let access = access_text(access);
+    format!(in alloc; "touch {mode} {access} 0x{address:x}")
+}
+
+/// What a call asks.
+#[tactic(auto, unfolding(crate::specs::EvidenceText::asked_text))]
+pub(crate) fn asked_text(alloc: Global, touch: bool, request: Request) -> Result<String, AllocError>
+    ensures { IfOk result (λ text. string_bytes text ≡ asked_text touch request) }
+{
+    if !touch {
+        return request_text(alloc, request);
+    }
+    match request.query() {
+        Query::Access(address, mode, access) => touch_text(alloc, address, mode, access),
+        Query::Update(_) | Query::Resolve(_) => request_text(alloc, request),
+    }
+}
+
+/// The line of a call. Allocates the text.
+///
+/// # Errors
+///
+/// Out of memory.
 #[tactic(auto, unfolding(crate::specs::EvidenceText::call_line))]
-pub(crate) fn call_line(alloc: Global, call: RecordedCall) -> Result<String, AllocError>
+pub fn call_line(alloc: Global, call: RecordedCall) -> Result<String, AllocError>
     ensures { IfOk result (λ text. string_bytes text ≡ call_line call) }
 {
-    let asked = request_text(alloc, call.request)?;
+    let asked = asked_text(alloc, call.touch, call.request)?;
     let event = call.event;
     let thread = call.thread;
     let replica = call.replica;
     format!(in alloc; "call {event}, thread {thread}, replica {replica}: {asked}\n")
 }
 
-/// The line of a reply.
+/// The line of a reply. Allocates the text.
+///
+/// # Errors
+///
+/// Out of memory.
 #[tactic(auto, unfolding(crate::specs::EvidenceText::reply_line))]
-pub(crate) fn reply_line(alloc: Global, reply: RecordedReply) -> Result<String, AllocError>
+pub fn reply_line(alloc: Global, reply: RecordedReply) -> Result<String, AllocError>
     ensures { IfOk result (λ text. string_bytes text ≡ reply_line reply) }
 {
     let told = answer_text(alloc, reply.answer)?;
@@ -44,6 +84,24 @@ pub(crate) fn own_line(alloc: Global, own: Option<RecordedReply>) -> Result<Stri
         None => String::from_str(alloc, "no reply to it\n"),
         Some(reply) => reply_line(alloc, reply),
     }
+}
+
+/// The line of a touch.
+#[tactic(auto, unfolding(crate::specs::EvidenceText::event_line, crate::specs::EvidenceText::call_line))]
+fn touch_line(
+    alloc: Global,
+    index: u32,
+    replica: u8,
+    thread: u16,
+    address: u64,
+    mode: Mode,
+    access: Access,
+) -> Result<String, AllocError>
+    ensures { IfOk result (λ text. string_bytes text
+        ≡ event_line index (Some (events.Touch replica thread address mode access))) }
+{
+    let asked = touch_text(alloc, address, mode, access)?;
+    format!(in alloc; "call {index}, thread {thread}, replica {replica}: {asked}\n")
 }
 
 /// The line of an event.
@@ -66,7 +124,13 @@ fn one_event_line(alloc: Global, index: u32, event: Event) -> Result<String, All
             };
             call_line(alloc, call)
         }
-        Event::Touch { .. } => format!(in alloc; "event {index}: a touch\n"),
+        Event::Touch {
+            replica,
+            thread,
+            address,
+            mode,
+            access,
+        } => touch_line(alloc, index, replica, thread, address, mode, access),
         Event::Reply { call, at, answer } => {
             let reply = RecordedReply {
                 event: index,
@@ -94,13 +158,13 @@ pub(crate) fn event_line(
     }
 }
 
-/// The line of a number, behind words.
+/// The line of a number, behind words. Allocates the text.
+///
+/// # Errors
+///
+/// Out of memory.
 #[tactic(auto, unfolding(crate::specs::EvidenceText::number_line))]
-pub(crate) fn number_line(
-    alloc: Global,
-    words: &'static str,
-    number: u64,
-) -> Result<String, AllocError>
+pub fn number_line(alloc: Global, words: &'static str, number: u64) -> Result<String, AllocError>
     ensures { IfOk result (λ text. string_bytes text ≡ number_line words.now number) }
 {
     format!(in alloc; "{words}{number}\n")
@@ -121,13 +185,13 @@ pub(crate) fn option_line(
     }
 }
 
-/// The line of an answer, behind words.
+/// The line of an answer, behind words. Allocates the text.
+///
+/// # Errors
+///
+/// Out of memory.
 #[tactic(auto, unfolding(crate::specs::EvidenceText::answer_line))]
-pub(crate) fn answer_line(
-    alloc: Global,
-    words: &'static str,
-    answer: Answer,
-) -> Result<String, AllocError>
+pub fn answer_line(alloc: Global, words: &'static str, answer: Answer) -> Result<String, AllocError>
     ensures { IfOk result (λ text. string_bytes text ≡ answer_line words.now answer) }
 {
     let answer = answer_text(alloc, answer)?;
@@ -149,9 +213,13 @@ fn changed_line(alloc: Global, changed: Option<PlacedUpdate>) -> Result<String, 
     }
 }
 
-/// The line of an address, and what changed last how it looks.
+/// The line of an address, and what changed last how it looks. Allocates the text.
+///
+/// # Errors
+///
+/// Out of memory.
 #[tactic(auto, unfolding(crate::specs::EvidenceText::address_line))]
-pub(crate) fn address_line(
+pub fn address_line(
     alloc: Global,
     address: u64,
     changed: Option<PlacedUpdate>,
@@ -162,9 +230,13 @@ pub(crate) fn address_line(
     format!(in alloc; "address 0x{address:x}, {changed}")
 }
 
-/// The line of an entry of a table.
+/// The line of an entry of a table. Allocates the text.
+///
+/// # Errors
+///
+/// Out of memory.
 #[tactic(auto, unfolding(crate::specs::EvidenceText::step_line))]
-pub(crate) fn step_line(alloc: Global, step: Step) -> Result<String, AllocError>
+pub fn step_line(alloc: Global, step: Step) -> Result<String, AllocError>
     ensures { IfOk result (λ text. string_bytes text ≡ step_line step) }
 {
     let level = step.level;
@@ -174,8 +246,12 @@ pub(crate) fn step_line(alloc: Global, step: Step) -> Result<String, AllocError>
     format!(in alloc; "level {level}, frame 0x{frame:x}, index {index}: 0x{word:x}\n")
 }
 
-/// Adds the lines of entries.
-pub(crate) fn push_steps(alloc: Global, text: &mut String, steps: &[Step]) -> Result<(), AllocError>
+/// Adds the lines of entries. Allocates the text.
+///
+/// # Errors
+///
+/// Out of memory.
+pub fn push_steps(alloc: Global, text: &mut String, steps: &[Step]) -> Result<(), AllocError>
     ensures { OnOk result (string_bytes text.new ≡ string_bytes text.old ++ flat_map step_line steps.now) }
 {
     for step in steps {
@@ -185,9 +261,13 @@ pub(crate) fn push_steps(alloc: Global, text: &mut String, steps: &[Step]) -> Re
     Ok(())
 }
 
-/// The lines of the entries on a way from the root.
+/// The lines of the entries on a way from the root. Allocates the text.
+///
+/// # Errors
+///
+/// Out of memory.
 #[tactic(auto, unfolding(crate::specs::EvidenceText::way_lines))]
-pub(crate) fn way_lines(alloc: Global, steps: &[Step]) -> Result<String, AllocError>
+pub fn way_lines(alloc: Global, steps: &[Step]) -> Result<String, AllocError>
     ensures { IfOk result (λ text. string_bytes text ≡ way_lines steps.now) }
 {
     if steps.is_empty() {
@@ -198,9 +278,13 @@ pub(crate) fn way_lines(alloc: Global, steps: &[Step]) -> Result<String, AllocEr
     Ok(text)
 }
 
-/// What is reserved in an entry of a level that has a reserved bit set.
+/// What is reserved in an entry of a level that has a reserved bit set. Allocates the text.
+///
+/// # Errors
+///
+/// Out of memory.
 #[tactic(auto, unfolding(crate::specs::EvidenceText::reserved_text))]
-pub(crate) fn reserved_text(alloc: Global, level: u8) -> Result<String, AllocError>
+pub fn reserved_text(alloc: Global, level: u8) -> Result<String, AllocError>
     ensures { IfOk result (λ text. string_bytes text ≡ reserved_text level) }
 {
     if level == 2 {
@@ -212,9 +296,13 @@ pub(crate) fn reserved_text(alloc: Global, level: u8) -> Result<String, AllocErr
     format!(in alloc; "bit 7 is reserved in an entry of level {level}")
 }
 
-/// The unit that is wrong, and what is allowed there.
+/// The unit that is wrong, and what is allowed there. Allocates the text.
+///
+/// # Errors
+///
+/// Out of memory.
 #[tactic(auto, unfolding(crate::specs::EvidenceText::format_lines))]
-pub(crate) fn format_lines(alloc: Global, fault: Format) -> Result<String, AllocError>
+pub fn format_lines(alloc: Global, fault: Format) -> Result<String, AllocError>
     ensures { IfOk result (λ text. string_bytes text ≡ format_lines fault) }
 {
     match fault {

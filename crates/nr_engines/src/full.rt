@@ -10,7 +10,7 @@ ghost use Rattle.nr_engines.specs.Refusals.{IsEndFault, WritesAnswersAlone};
 
 use crate::ends::write_report;
 use crate::evidence_json::evidence_value;
-use crate::evidence_text::evidence_text;
+use crate::evidence_text::evidence_lines;
 use crate::explain::{explanation_text, explanation_value, put_no, status_of};
 use crate::fact_json::Members;
 use crate::fault::ProgFault;
@@ -41,7 +41,7 @@ fn dump_lines(alloc: Global, dump: &DumpExplanation) -> Result<String, AllocErro
             let replica = *replica;
             let fault = fault_text(alloc, *fault)?;
             let sentence = sentence_text(alloc, shown)?;
-            let lines = evidence_text(alloc, shown)?;
+            let lines = evidence_lines(alloc, shown)?;
             format!(in alloc; "dump {replica}: {fault}\n{sentence}\n{lines}")
         }
     }

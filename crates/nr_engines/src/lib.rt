@@ -20,13 +20,24 @@ mod text;
 mod unit_input;
 mod unit_text;
 
-pub use answer::push_answer;
+pub use answer::{answer_text, push_answer};
 pub use audit::{audit_io, audit_read, named_audit_io, named_audit_read};
 pub use ends::{BLOCK, read_block, read_trace, write_report, write_text};
+pub use evidence_json::evidence_value;
+pub use evidence_text::evidence_lines;
 pub use explain::{explain_io, explained_read};
+pub use fact_json::{
+    Members, put_answer, put_call, put_changed, put_hexadecimal, put_reply, put_step, put_text,
+    put_way,
+};
+pub use fact_text::{
+    address_line, answer_line, call_line, format_lines, number_line, push_steps, reply_line,
+    reserved_text, step_line, way_lines,
+};
 pub use fault::ProgFault;
 pub use full::{explain_all_io, fully_explained_read};
 pub use report::Report;
 pub use resolve::{resolve_io, resolve_read};
-pub use text::{fault_text, yes_text};
+pub use sentence::{difference_sentence, other_answer_sentence, sentence_text};
+pub use text::{fault_text, format_text, walk_words, yes_text};
 pub use unit_input::read_units;

@@ -272,7 +272,12 @@ fn early_sentence(alloc: Global, early: EarlyCall) -> Result<String, AllocError>
     )
 }
 
-fn other_answer_sentence(alloc: Global, wrong: OtherAnswer) -> Result<String, AllocError>
+/// The sentence of a wrong answer. Allocates the text.
+///
+/// # Errors
+///
+/// Out of memory.
+pub fn other_answer_sentence(alloc: Global, wrong: OtherAnswer) -> Result<String, AllocError>
     ensures { IfOk result (λ text. string_bytes text ≡ other_answer_sentence wrong) }
 {
     let call = wrong.call.event;
@@ -363,7 +368,12 @@ fn address_text(alloc: Global, address: u64) -> Result<String, AllocError>
     format!(in alloc; "0x{address:x}")
 }
 
-fn difference_sentence(alloc: Global, wrong: &Difference) -> Result<String, AllocError>
+/// The sentence of a dump that translates otherwise than the space. Allocates the text.
+///
+/// # Errors
+///
+/// Out of memory.
+pub fn difference_sentence(alloc: Global, wrong: &Difference) -> Result<String, AllocError>
     ensures { IfOk result (λ text. string_bytes text ≡ difference_sentence wrong.now) }
 {
     let at = address_text(alloc, wrong.address)?;
@@ -377,8 +387,12 @@ fn difference_sentence(alloc: Global, wrong: &Difference) -> Result<String, Allo
 }
 
 /// The sentence of a fault, by what shows it. Allocates the text.
+///
+/// # Errors
+///
+/// Out of memory.
 #[tactic(auto, unfolding(crate::specs::Sentence::sentence_text))]
-pub(crate) fn sentence_text(alloc: Global, shown: &Evidence) -> Result<String, AllocError>
+pub fn sentence_text(alloc: Global, shown: &Evidence) -> Result<String, AllocError>
     ensures { IfOk result (λ text. string_bytes text ≡ sentence_text shown.now) }
 {
     match shown {

@@ -8,8 +8,13 @@ use std::alloc::{AllocError, Global};
 use vs_text::push_page;
 use vs_walk::Walk;
 
+/// The name of a fault of the format, and its numbers. Allocates the text.
+///
+/// # Errors
+///
+/// Out of memory.
 #[tactic(auto, unfolding(crate::specs::Text::format_text))]
-pub(crate) fn format_text(alloc: Global, fault: Format) -> Result<String, AllocError>
+pub fn format_text(alloc: Global, fault: Format) -> Result<String, AllocError>
     ensures { IfOk result (λ text. string_bytes text ≡ format_text fault) }
 {
     match fault {
@@ -122,9 +127,13 @@ pub(crate) fn verdict_line(alloc: Global, verdict: &Verdict) -> Result<String, A
     }
 }
 
-/// Where a walk ends.
+/// Where a walk ends. Allocates the text.
+///
+/// # Errors
+///
+/// Out of memory.
 #[tactic(auto, unfolding(crate::specs::Text::walk_words))]
-pub(crate) fn walk_words(alloc: Global, walk: Walk) -> Result<String, AllocError>
+pub fn walk_words(alloc: Global, walk: Walk) -> Result<String, AllocError>
     ensures { IfOk result (λ text. string_bytes text ≡ walk_words walk) }
 {
     match walk {

@@ -1,4 +1,4 @@
--- What the searches of this crate find. No public clause cites these.
+-- What the searches of this crate find. Of these public clauses cite `Ways` alone.
 pub mod Explained
 pub mod Positions
 pub mod Searches

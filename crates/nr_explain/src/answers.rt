@@ -15,7 +15,7 @@ use std::alloc::Global;
 use vs_types::{Action, Answer, Memory, Query, Request};
 
 /// The address that a request names.
-fn asked_address(request: Request) -> u64
+pub fn asked_address(request: Request) -> u64
     ensures { result ≡ asked_address request }
 {
     match request.query() {
@@ -27,8 +27,8 @@ fn asked_address(request: Request) -> u64
     }
 }
 
-/// The address that an answer is about.
-fn address_about(request: Request, answer: Answer) -> u64
+/// The address that an answer is about: the base that it names, where it names one, else the one that is asked for.
+pub fn address_about(request: Request, answer: Answer) -> u64
     ensures { result ≡ address_about request answer }
 {
     match answer {

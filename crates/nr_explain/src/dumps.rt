@@ -161,7 +161,11 @@ fn difference(alloc: Global, trace: &Trace, replica: u8, address: u64) -> Result
 }
 
 /// What shows the first fault of a dump. Allocates it, and for a difference a space.
-pub(crate) fn explain_dump(alloc: Global, trace: &Trace, fault: Fault) -> Result<Evidence, Memory>
+///
+/// # Errors
+///
+/// `Memory` where a growth of memory was refused.
+pub fn explain_dump(alloc: Global, trace: &Trace, fault: Fault) -> Result<Evidence, Memory>
     requires { IsFirstOfItsDump trace.now fault }
     ensures { IfOk result (IsEvidence trace.now fault) }
 {

@@ -22,7 +22,9 @@ mod unit_numbers;
 mod units;
 
 pub use all_dumps::{DumpExplanation, FullExplanation, explain_all_read};
+pub use answers::{address_about, asked_address};
 pub use counts::Counts;
+pub use dumps::explain_dump;
 pub use evidence::{
     Difference, EarlyCall, Evidence, LongPrefix, Misplaced, MissingTable, NoUpdate, OpenCalls,
     OtherAnswer, PastEnd, PlacedUpdate, RecordedCall, RecordedReply, ReservedEntry, SharedTable,
@@ -30,6 +32,8 @@ pub use evidence::{
 };
 pub use explaining::{Explanation, explain, explain_read};
 pub use fields::{BadField, EventField, FieldFault};
-pub use paths::entries_read;
+pub use lookup::call_at;
+pub use paths::{Target, another_way, entries_read, entry_at, find_way, reserved_bit};
+pub use searching::reply_to;
 pub use unit_feed::UnitFeed;
 pub use units::{BadUnit, TraceUnit, Unread};

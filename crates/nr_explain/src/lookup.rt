@@ -71,7 +71,7 @@ pub(crate) fn find_reply(trace: &Trace, index: u32) -> Option<RecordedReply>
 }
 
 /// The call of a number that is one.
-pub(crate) fn call_at(trace: &Trace, index: u32) -> RecordedCall
+pub fn call_at(trace: &Trace, index: u32) -> RecordedCall
     requires { IsCall trace.now index }
     ensures is { IsCallOf trace.now result }
     ensures event { result.event ≡ index }

@@ -15,13 +15,13 @@ use vs_walk::{Dump, Frames};
 
 /// What is looked for in the tables of a dump.
 #[derive(Drop)]
-pub(crate) struct Target {
+pub struct Target {
     /// The number of a frame.
-    pub(crate) frame: u64,
+    pub frame: u64,
     /// The index of a word of it that has a reserved bit set, if it has to have one.
-    pub(crate) reserved: Option<u16>,
+    pub reserved: Option<u16>,
     /// The way that it may not be, if there is one.
-    pub(crate) other: Option<Vec<Step>>,
+    pub other: Option<Vec<Step>>,
 }
 
 /// Whether the word of a frame at an index has a reserved bit set, as an entry of a level.
@@ -102,8 +102,12 @@ fn go_on(
     Ok(false)
 }
 
-/// The first way from the root of a dump to what is looked for. Allocates memory for the way.
-pub(crate) fn find_way(
+/// The first way from the root of a dump to what is looked for, if there is one. Allocates memory for the way.
+///
+/// # Errors
+///
+/// `Memory` where a growth of memory was refused.
+pub fn find_way(
     alloc: Global,
     dump: &Dump,
     depth: Depth,
@@ -120,7 +124,11 @@ pub(crate) fn find_way(
 }
 
 /// A way to a frame, and another one that leads there. Allocates memory for the other way.
-pub(crate) fn another_way(
+///
+/// # Errors
+///
+/// `Memory` where a growth of memory was refused.
+pub fn another_way(
     alloc: Global,
     dump: &Dump,
     depth: Depth,
@@ -146,7 +154,7 @@ pub(crate) fn another_way(
 }
 
 /// The word of a frame at an index, as an entry of a level, which has a reserved bit set.
-pub(crate) fn entry_at(dump: &Dump, level: u8, frame: u64, index: u16) -> Step
+pub fn entry_at(dump: &Dump, level: u8, frame: u64, index: u16) -> Step
     requires { IsReservedAt dump.now.frames level frame index }
     ensures level { result.level ≡ level }
     ensures frame { result.frame ≡ frame }
@@ -165,7 +173,7 @@ pub(crate) fn entry_at(dump: &Dump, level: u8, frame: u64, index: u16) -> Step
 }
 
 /// A bit of a word that is set and reserved, as an entry of a level: the lowest.
-pub(crate) fn reserved_bit(level: u8, word: u64) -> u8
+pub fn reserved_bit(level: u8, word: u64) -> u8
     requires few_levels { level ≤ MOST_LEVELS }
     requires reserved { meaning level word ≡ Reserved }
     ensures { IsReservedBit level word result }

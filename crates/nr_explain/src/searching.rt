@@ -38,8 +38,8 @@ pub(crate) fn first_reply(trace: &Trace, call: u32, end: u32) -> Option<Recorded
     None
 }
 
-/// The first reply to a call.
-pub(crate) fn reply_to(trace: &Trace, call: u32) -> Option<RecordedReply>
+/// The first reply to a call, if it has one.
+pub fn reply_to(trace: &Trace, call: u32) -> Option<RecordedReply>
     ensures { IsFirstReplyTo trace.now call result }
 {
     first_reply(trace, call, trace.events().len() as u32)

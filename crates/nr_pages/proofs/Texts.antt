@@ -138,6 +138,9 @@ space_within depth space is =
     (λ page listed. is_within (2 ^ 51) depth (omega arith) page (is.well_formed page ((holds_listed is page).0 listed)))
     (pages space) (All-contains_itself (pages space))
 
+pub space_ends : (depth : Depth) (space : Space) → IsSpace depth space → All (λ page. end_of page ≤ 2 ^ 64) (pages space)
+space_ends depth space is = All-weaker IsWithin (λ page. end_of page ≤ 2 ^ 64) (λ page within. within.end) (pages space) (space_within depth space is)
+
 pub equal_spaces : (as_ranges : Bool) (depth : Depth) (s t : Space) → IsSpace depth s → IsSpace depth t
     → pages_text as_ranges (pages s) ≡ pages_text as_ranges (pages t) → s ≡ t
 equal_spaces as_ranges depth s t first second same =

@@ -10,4 +10,4 @@ mod range;
 mod visitors;
 
 pub use pages::{pages_io, pages_read};
-pub use printing::dump_text;
+pub use printing::{dump_text, space_text};

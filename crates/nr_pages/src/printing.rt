@@ -1,15 +1,18 @@
-//! What is printed of the pages of a dump.
+//! What is printed of the pages of a dump, and of a space.
 
 ghost use Rattle.std.specs.Prelude.{◌≡◌, IfErr, IfOk, None, OnOk, Some, false, true, string_bytes};
 ghost use Rattle.vs_types.specs.Refusal.{IfRefused};
+ghost use Rattle.vs_types.specs.Space.{pages, IsSpace};
 ghost use Rattle.vs_walk.specs.Dump.{IsDump};
 ghost use Rattle.vs_walk.specs.Traversal.{walk_fault};
 ghost use Rattle.nr_pages.specs.Dumps.{dump_text};
+ghost use Rattle.nr_pages.specs.Listing.{pages_text};
 
 use crate::visitors::{PageLines, RangeLines};
 use std::alloc::Global;
-use vs_types::{Depth, Fail};
-use vs_walk::{Dump, WalkFault, traverse};
+use vs_plain::PlainSpace;
+use vs_types::{Depth, Fail, Memory};
+use vs_walk::{Dump, PageVisitor, WalkFault, traverse};
 
 /// That this is a dump. It does nothing: a call that counts the frames shows it.
 fn is_dump(dump: &Dump)
@@ -66,5 +69,46 @@ pub fn dump_text(
         lines_of_ranges(alloc, dump, depth)
     } else {
         lines_of_pages(alloc, dump, depth)
+    }
+}
+
+/// The lines of the pages of a space.
+fn lines_of_space(alloc: Global, space: &PlainSpace) -> Result<String, Memory>
+    ensures text { IfOk result (λ text. string_bytes text ≡ pages_text false (pages space.now.space)) }
+    ensures apart { IsSpace space.now.depth space.now.space }
+{
+    let mut lines = PageLines::new(alloc);
+    for page in space.iter() {
+        lines.take(page)?;
+    }
+    Ok(lines.text)
+}
+
+/// The lines of their ranges.
+fn ranges_of_space(alloc: Global, space: &PlainSpace) -> Result<String, Memory>
+    ensures text { IfOk result (λ text. string_bytes text ≡ pages_text true (pages space.now.space)) }
+    ensures apart { IsSpace space.now.depth space.now.space }
+{
+    let mut lines = RangeLines::new(alloc);
+    for page in space.iter() {
+        lines.take(page)?;
+    }
+    lines.end()
+}
+
+/// The pages of a space by rising base, as `dump_text` has those of a dump. It allocates memory for the text, and keeps no pages.
+///
+/// # Errors
+///
+/// Out of memory.
+pub fn space_text(alloc: Global, space: &PlainSpace, as_ranges: bool) -> Result<String, Memory>
+    ensures text { IfOk result
+        (λ text. string_bytes text ≡ pages_text as_ranges (pages space.now.space)) }
+    ensures apart { IsSpace space.now.depth space.now.space }
+{
+    if as_ranges {
+        ranges_of_space(alloc, space)
+    } else {
+        lines_of_space(alloc, space)
     }
 }

@@ -78,7 +78,7 @@ fn read_words<'a>(alloc: Global, words: &'a [String]) -> Result<Command<'a>, Err
         Some(("audit", given)) => Ok(Command::Inspect(read_audit(alloc, &mut line, given)?)),
         Some(("explain", given)) => Ok(Command::Inspect(read_explain(given))),
         Some(("resolve", given)) => Ok(Command::Inspect(read_resolve(given))),
-        Some(("pages", given)) => Ok(Command::Inspect(read_pages(given))),
+        Some(("pages", given)) => Ok(Command::Inspect(read_pages(&mut line, given)?)),
         Some(("simulate", given)) => {
             let setup = read_setup(given);
             let as_trace = given.get_flag("trace");

@@ -28,7 +28,7 @@ fn read_words<'a>(alloc: Global, words: &'a [String]) -> Result<Inspection<'a>, 
         Some(("audit", given)) => read_audit(alloc, &mut line, given),
         Some(("explain", given)) => Ok(read_explain(given)),
         Some(("resolve", given)) => Ok(read_resolve(given)),
-        Some(("pages", given)) => Ok(read_pages(given)),
+        Some(("pages", given)) => read_pages(&mut line, given),
         _ => Err(line.error(ErrorKind::MissingSubcommand, "a subcommand is required")?),
     }
 }

@@ -1,4 +1,4 @@
--- Ways through the tables of a dump, as they are looked for. No public clause cites this file.
+-- Ways through the tables of a dump, as they are looked for.
 use Rattle.std.specs.Prelude.{◌≡◌, ◌≢◌, ℕ, ◌<◌, Bool, true, false, List, ◌++◌, length, slice_index, Some, IfSome}
 use Rattle.std.specs.FinMap as finite
 use Rattle.vs_types.specs.Entry.{meaning}

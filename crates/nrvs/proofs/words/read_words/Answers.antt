@@ -4,7 +4,7 @@ use Rattle.clap.specs.Words.{App, app_of, rows_of, found_of, subcommand_of, subc
 use Rattle.clap.specs.declared.error.kind.ErrorKind.TheVariants.{MissingSubcommand}
 use Rattle.clap.specs.Faults.{fault_of, is_simple_and_free}
 use Rattle.clap.proofs.WalkLemmas.{one_text-rows}
-use Rattle.nr_commands.proofs.CommandLines.{entered, flag_of, of_audit, of_clap, one_more, passed_on, same_error}
+use Rattle.nr_commands.proofs.CommandLines.{entered, flag_of, of_audit, of_clap, of_pages, one_more, passed_on, same_error}
 use Rattle.nr_commands.specs.Words.{IsMisused}
 use Rattle.nrvs.specs.CommandLine.{command_line, IsTurns}
 use Rattle.nrvs.proofs.CommandLines.{asks_inspection, asks_run, asks_simulate}
@@ -109,7 +109,24 @@ returns-in-Some-pages-default-clause-asks c =
     (c.in_ok-matches.ensures.ok.2 (ap is_simple app_is)).1 ∙ ap (λ (a : App). subcommand_of a texts) app_is in
     let name_is = ap Some (sym arm.is-pages) ∙ arm.ensures.name in
     let sub_is = sym parsed ∙ entered _ (codes "pages") (rows_of found) name_is arm.ensures.rows in
-    asks_inspection _ (codes "pages", rows_of found) c.read_pages.result sub_is (inr (inr (inr (refl, c.read_pages.ensures))))
+    asks_inspection _ (codes "pages", rows_of found) c.in_ok-read_pages-in-Some-pages-default.field-0 sub_is (inr (inr (inr (refl, c.in_ok-read_pages-in-Some-pages-default.ensures.asks))))
+
+pub returns-in_err-read_pages-in-Some-pages-default-clause-fault : goal.returns-in_err-read_pages-in-Some-pages-default-clause-fault
+returns-in_err-read_pages-in-Some-pages-default-clause-fault c =
+    let app_is : app_of c.in_ok-line.line ≡ command_line = c.in_ok-line.ensures.app in
+    let arm = c.in-Some-pages-default in
+    let found = found_of arm.given.now in
+    let texts = map (λ word. string_bytes word) c.args.words.now in
+    let parsed : subcommand_rows_of c.in_ok-matches.matches ≡ subcommand_of command_line texts =
+    (c.in_ok-matches.ensures.ok.2 (ap is_simple app_is)).1 ∙ ap (λ (a : App). subcommand_of a texts) app_is in
+    let name_is = ap Some (sym arm.is-pages) ∙ arm.ensures.name in
+    let sub_is = sym parsed ∙ entered _ (codes "pages") (rows_of found) name_is arm.ensures.rows in
+    let kinds = MissingSubcommand ∷ fault_of command_line texts in
+    passed_on c.from_residual-in_err-read_pages-in-Some-pages-default.result c.in_err-read_pages-in-Some-pages-default.field-0.0
+    (λ e. HasKind kinds e ⊎ IsMisused (subcommand_of command_line texts) (kind_of e))
+    c.from_residual-in_err-read_pages-in-Some-pages-default.ensures.1
+    (of_pages c.in_err-read_pages-in-Some-pages-default.field-0.0 kinds (subcommand_of command_line texts) (rows_of found) sub_is
+    c.in_err-read_pages-in-Some-pages-default.ensures.misused)
 
 pub returns-in-Some-simulate-default-clause-faultless : goal.returns-in-Some-simulate-default-clause-faultless
 returns-in-Some-simulate-default-clause-faultless c =

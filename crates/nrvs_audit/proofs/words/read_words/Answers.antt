@@ -5,7 +5,7 @@ use Rattle.clap.specs.declared.error.kind.ErrorKind.TheVariants.{MissingSubcomma
 use Rattle.clap.specs.Faults.{fault_of, is_simple_and_free}
 use Rattle.std.specs.Prelude.{IsSomeAnd}
 use Rattle.nr_commands.specs.Words.{AsksInspection, IsMisused}
-use Rattle.nr_commands.proofs.CommandLines.{entered, of_audit, of_clap, one_more, same_error}
+use Rattle.nr_commands.proofs.CommandLines.{entered, of_audit, of_clap, of_pages, one_more, same_error}
 use Rattle.nrvs_audit.specs.CommandLine.{nrvs_audit_line}
 use Rattle.nrvs_audit.proofs.words.read_words.Goals as goal
 
@@ -95,8 +95,9 @@ returns-in-Some-resolve-default-clause-asks c =
 pub returns-in-Some-pages-default-clause-faultless : goal.returns-in-Some-pages-default-clause-faultless
 returns-in-Some-pages-default-clause-faultless c =
     let app_is : app_of c.in_ok-line.line ≡ nrvs_audit_line = c.in_ok-line.ensures.app in
-    subst (λ (a : App). fault_of a (map (λ word. string_bytes word) c.args.words.now) ≡ []) app_is
-    (c.in_ok-matches.ensures.kinds (ap is_simple_and_free app_is))
+    let none = subst (λ (a : App). fault_of a (map (λ word. string_bytes word) c.args.words.now) ≡ []) app_is
+    (c.in_ok-matches.ensures.kinds (ap is_simple_and_free app_is)) in
+    IfOk-weaker c.read_pages.result _ _ (λ inspection h. none) c.read_pages.ensures.asks
 
 pub returns-in-Some-pages-default-clause-asks : goal.returns-in-Some-pages-default-clause-asks
 returns-in-Some-pages-default-clause-asks c =
@@ -108,4 +109,20 @@ returns-in-Some-pages-default-clause-asks c =
     (c.in_ok-matches.ensures.ok.2 (ap is_simple app_is)).1 ∙ ap (λ (a : App). subcommand_of a texts) app_is in
     let name_is = ap Some (sym arm.is-pages) ∙ arm.ensures.name in
     let sub_is = sym parsed ∙ entered _ (codes "pages") (rows_of found) name_is arm.ensures.rows in
-    subst (λ s. IsSomeAnd s (λ given. AsksInspection given c.read_pages.result)) (sym sub_is) (inr (inr (inr (refl, c.read_pages.ensures))))
+    IfOk-weaker c.read_pages.result _ _
+    (λ inspection h. subst (λ s. IsSomeAnd s (λ given. AsksInspection given inspection)) (sym sub_is) (inr (inr (inr (refl, h)))))
+    c.read_pages.ensures.asks
+
+pub returns-in-Some-pages-default-clause-fault : goal.returns-in-Some-pages-default-clause-fault
+returns-in-Some-pages-default-clause-fault c =
+    let app_is : app_of c.in_ok-line.line ≡ nrvs_audit_line = c.in_ok-line.ensures.app in
+    let arm = c.in-Some-pages-default in
+    let found = found_of arm.given.now in
+    let texts = map (λ word. string_bytes word) c.args.words.now in
+    let parsed : subcommand_rows_of c.in_ok-matches.matches ≡ subcommand_of nrvs_audit_line texts =
+    (c.in_ok-matches.ensures.ok.2 (ap is_simple app_is)).1 ∙ ap (λ (a : App). subcommand_of a texts) app_is in
+    let name_is = ap Some (sym arm.is-pages) ∙ arm.ensures.name in
+    let sub_is = sym parsed ∙ entered _ (codes "pages") (rows_of found) name_is arm.ensures.rows in
+    IfErr-weaker c.read_pages.result _ _
+    (λ e h. of_pages e (MissingSubcommand ∷ fault_of nrvs_audit_line texts) (subcommand_of nrvs_audit_line texts) (rows_of found) sub_is h)
+    c.read_pages.ensures.misused

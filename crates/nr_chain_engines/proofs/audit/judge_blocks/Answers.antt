@@ -1,0 +1,137 @@
+use Rattle.std.proofs.Common.{◌≡◌, ◌≢◌, ℕ, ◌-◌, [], ap, subst, take, arith}
+use Rattle.std.proofs.lemmas.List.{length-take}
+use Rattle.std.specs.Io.KnownBytes.{IsAtEnd}
+use Rattle.std.proofs.KnownBytes.{Keeps-refl}
+use Rattle.nr_engines.specs.declared.fault.ProgFault.{ProgFault}
+use Rattle.nr_engines.specs.declared.fault.ProgFault.TheVariants.{CannotRead, CannotWrite}
+use Rattle.nr_chain_engines.specs.ChainAudit.{HasWrittenFirst}
+use Rattle.nr_chain_engines.specs.inside.Going.{TakesBlock}
+use Rattle.nr_chain_engines.specs.declared.audit.Taken.{Taken}
+use Rattle.nr_chain_engines.proofs.Going.{passed_on}
+use Rattle.nr_chain_engines.proofs.Reading.{all_written, block_refused, few_kept, few_read, next_block, read_nothing, reading_begins, reads_on, stayed}
+use Rattle.nr_chain_engines.proofs.audit.judge_blocks.Goals as goal
+
+pub loop-room-init : goal.loop-room-init
+loop-room-init g c =
+    reading_begins c.args.quiet (g.R.Read.remaining c.args.reader.now) (g.W.Write.contents c.args.writer.now) c.new-chain.result c.new-chain.ensures
+
+pub returns-in_err-count-clause-first : goal.returns-in_err-count-clause-first
+returns-in_err-count-clause-first g c =
+    let known = g.R.Read.remaining in
+    let contents = g.W.Write.contents in
+    let chain = c.loop-room.chain in
+    passed_on c.from_residual.result c.in_err-count.field-0.0
+    (λ (fault : ProgFault). fault ≢ CannotWrite → HasWrittenFirst c.args.quiet (known c.args.reader.now) (known c.read_block.new.reader)
+    (contents c.args.writer.now) (contents c.loop-room.writer) fault)
+    c.from_residual.ensures.1
+    (λ written. all_written c.args.quiet _ _ _ _ chain.kept chain.bytes c.loop-room.number c.in_err-count.field-0.0
+    (stayed c.args.quiet _ (known c.loop-room.reader) (known c.read_block.new.reader) _ _ chain.kept chain.bytes c.loop-room.number
+    c.loop-room.invariant.here c.in_err-count.ensures.kept) c.loop-room.invariant.short)
+
+pub returns-in_err-count-clause-few : goal.returns-in_err-count-clause-few
+returns-in_err-count-clause-few g c =
+    let known = g.R.Read.remaining in
+    few_kept c.args.quiet _ (known c.loop-room.reader) (known c.read_block.new.reader) _ _ c.loop-room.chain.kept c.loop-room.chain.bytes c.loop-room.number
+    c.loop-room.invariant.here c.loop-room.invariant.short c.in_err-count.ensures.kept
+
+pub returns-then-count-eq0-clause-ok : goal.returns-then-count-eq0-clause-ok
+returns-then-count-eq0-clause-ok g c =
+    let known = g.R.Read.remaining in
+    let chain = c.loop-room.chain in
+    let piece = take c.in_ok-count.count c.read_block.new.block in
+    let read = c.read_block.auto.block in
+    let whole = c.loop-room.auto.block in
+    let asked = c.requires in
+    let nothing : piece ≡ [] = ap (λ (n : ℕ). take n c.read_block.new.block) c.if-count-eq0.true in
+    let end : IsAtEnd (known c.read_block.new.reader) = c.in_ok-count.ensures.end c.if-count-eq0.true (omega arith) in (
+      read_nothing c.args.quiet _ (known c.loop-room.reader) (known c.read_block.new.reader) _ _ chain.kept chain.bytes piece c.loop-room.number
+          c.loop-room.invariant.here c.in_ok-count.ensures.ok nothing,
+      end,
+    )
+
+pub returns-then-count-eq0-clause-few : goal.returns-then-count-eq0-clause-few
+returns-then-count-eq0-clause-few g c =
+    let known = g.R.Read.remaining in
+    let chain = c.loop-room.chain in
+    let piece = take c.in_ok-count.count c.read_block.new.block in
+    let long = length-take c.in_ok-count.count c.read_block.new.block in
+    let read = c.read_block.auto.block in
+    let whole = c.loop-room.auto.block in
+    let asked = c.requires in
+    few_read c.args.quiet _ (known c.loop-room.reader) (known c.read_block.new.reader) _ _ chain.kept chain.bytes piece c.loop-room.number
+    c.loop-room.invariant.here c.loop-room.invariant.short c.in_ok-count.ensures.ok (omega arith)
+
+pub returns-in_err-next-clause-first : goal.returns-in_err-next-clause-first
+returns-in_err-next-clause-first g c =
+    let known = g.R.Read.remaining in
+    let contents = g.W.Write.contents in
+    let piece = take c.in_ok-count.count c.read_block.new.block in
+    passed_on c.from_residual-in_err-next.result c.in_err-next.field-0.0
+    (λ (fault : ProgFault). fault ≢ CannotWrite → HasWrittenFirst c.args.quiet (known c.args.reader.now) (known c.read_block.new.reader)
+    (contents c.args.writer.now) (contents c.take_block.new.writer) fault)
+    c.from_residual-in_err-next.ensures.1
+    (block_refused c.args.quiet _ (known c.loop-room.reader) (known c.read_block.new.reader) _ (contents c.loop-room.writer)
+    (contents c.take_block.new.writer) c.loop-room.chain piece c.loop-room.number c.in_err-next.field-0.0 c.loop-room.invariant.here
+    c.in_ok-count.ensures.ok c.in_err-next.ensures.err)
+
+pub returns-in_err-next-clause-few : goal.returns-in_err-next-clause-few
+returns-in_err-next-clause-few g c =
+    let known = g.R.Read.remaining in
+    let chain = c.loop-room.chain in
+    let piece = take c.in_ok-count.count c.read_block.new.block in
+    let long = length-take c.in_ok-count.count c.read_block.new.block in
+    let read = c.read_block.auto.block in
+    let whole = c.loop-room.auto.block in
+    let asked = c.requires in
+    few_read c.args.quiet _ (known c.loop-room.reader) (known c.read_block.new.reader) _ _ chain.kept chain.bytes piece c.loop-room.number
+    c.loop-room.invariant.here c.loop-room.invariant.short c.in_ok-count.ensures.ok (omega arith)
+
+pub returns-in-Wrong-clause-ok : goal.returns-in-Wrong-clause-ok
+returns-in-Wrong-clause-ok g c =
+    let known = g.R.Read.remaining in
+    let contents = g.W.Write.contents in
+    let piece = take c.in_ok-count.count c.read_block.new.block in
+    let taken = subst (λ (t : Taken). TakesBlock c.args.quiet c.loop-room.chain c.loop-room.number piece (contents c.loop-room.writer)
+    (contents c.take_block.new.writer) t) c.in-Wrong.is c.in_ok-next.ensures.ok in
+    let here = next_block c.args.quiet _ (known c.loop-room.reader) (known c.read_block.new.reader) _ (contents c.loop-room.writer)
+    (contents c.take_block.new.writer) c.loop-room.chain piece taken.0 taken.1 c.loop-room.number c.in-Wrong.right c.loop-room.invariant.here
+    c.in_ok-count.ensures.ok taken.2 in
+    (taken.0, taken.1, here, taken.3, taken.4)
+
+pub returns-in-Wrong-clause-few : goal.returns-in-Wrong-clause-few
+returns-in-Wrong-clause-few g c =
+    let known = g.R.Read.remaining in
+    let chain = c.loop-room.chain in
+    let piece = take c.in_ok-count.count c.read_block.new.block in
+    let long = length-take c.in_ok-count.count c.read_block.new.block in
+    let read = c.read_block.auto.block in
+    let whole = c.loop-room.auto.block in
+    let asked = c.requires in
+    few_read c.args.quiet _ (known c.loop-room.reader) (known c.read_block.new.reader) _ _ chain.kept chain.bytes piece c.loop-room.number
+    c.loop-room.invariant.here c.loop-room.invariant.short c.in_ok-count.ensures.ok (omega arith)
+
+pub loop-room-preserved : goal.loop-room-preserved
+loop-room-preserved g c =
+    let known = g.R.Read.remaining in
+    let contents = g.W.Write.contents in
+    let piece = take c.in_ok-count.count c.read_block.new.block in
+    let long = length-take c.in_ok-count.count c.read_block.new.block in
+    let read = c.read_block.auto.block in
+    let whole = c.loop-room.auto.block in
+    let asked = c.requires in
+    let taken = subst (λ (t : Taken). TakesBlock c.args.quiet c.loop-room.chain c.loop-room.number piece (contents c.loop-room.writer)
+    (contents c.take_block.new.writer) t) c.in-More.is c.in_ok-next.ensures.ok in
+    reads_on c.args.quiet _ (known c.loop-room.reader) (known c.read_block.new.reader) _ (contents c.loop-room.writer) (contents c.take_block.new.writer)
+    c.loop-room.chain c.in-More.next piece c.loop-room.number c.in-More.right c.loop-room.room (c.loop-room.room - 1) c.loop-room.invariant
+    c.in_ok-count.ensures.ok (omega arith) (omega arith) taken
+
+pub returns-clause-first : goal.returns-clause-first
+returns-clause-first g c =
+    let chain = c.loop-room.chain in
+    λ written. all_written c.args.quiet _ _ _ _ chain.kept chain.bytes c.loop-room.number CannotRead c.loop-room.invariant.here c.loop-room.invariant.short
+
+pub returns-clause-few : goal.returns-clause-few
+returns-clause-few g c =
+    let known = g.R.Read.remaining in
+    few_kept c.args.quiet _ (known c.loop-room.reader) (known c.loop-room.reader) _ _ c.loop-room.chain.kept c.loop-room.chain.bytes c.loop-room.number
+    c.loop-room.invariant.here c.loop-room.invariant.short (Keeps-refl (known c.loop-room.reader))

@@ -1,0 +1,13 @@
+pub mod Firsts
+pub mod Feeding
+pub mod Startings
+pub mod Changes
+pub mod WrongAnswers
+pub mod Differing
+pub mod Wholes
+pub mod StartsShown
+pub mod Windows
+pub mod Looking
+pub mod Answering
+pub mod OriginsShown
+pub mod Verdicts

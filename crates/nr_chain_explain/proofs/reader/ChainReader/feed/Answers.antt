@@ -1,0 +1,50 @@
+use Rattle.std.proofs.Common.{◌≡◌, ℕ, ◌-◌, ◌==◌, true, false, List, inl, inr, length, take, drop, refl, ap, sym, ◌∙◌, subst, arith, tests, rules}
+use Rattle.std.proofs.Math.Seq.{take-length}
+use Rattle.std.proofs.lemmas.Bool.Decides.{nat_tests}
+use Rattle.std.proofs.lemmas.List.{length-drop, nil_from_length}
+use Rattle.nr_chain_explain.specs.inside.Steps.{StepsTo}
+use Rattle.nr_chain_explain.proofs.Feeding.{leads_end, leads_more, leads_on, short_after, short_fresh}
+use Rattle.nr_chain_explain.proofs.reader.ChainReader.feed.Goals as goal
+
+zero_of : (n : ℕ) → (n == 0) ≡ true → n ≡ 0
+zero_of n e = first_of (grind (arith, nat_tests), search (rules, tests))
+
+left_behind : (count : ℕ) (rest : List ℕ) → take (length rest - count) (drop count rest) ≡ drop count rest
+left_behind count rest = ap (λ (n : ℕ). take n (drop count rest)) (sym (length-drop count rest)) ∙ take-length (drop count rest)
+
+pub segments-init : goal.segments-init
+segments-init c = record { leads = λ behind explanation h. h; short = inl refl }
+
+pub segments-preserved : goal.segments-preserved
+segments-preserved c =
+    let step = subst (StepsTo c.segments.reader c.segments.rest.now) c.in-Right.is c.in_ok-next.ensures in
+    record {
+      leads = leads_on c.args.self c.segments.reader c.in-Right.next c.args.piece.now c.segments.rest.now _ c.in-Right.count
+          c.segments.invariant.leads step (left_behind c.in-Right.count c.segments.rest.now);
+      short = inr (short_fresh c.segments.reader c.in-Right.next c.segments.rest.now c.in-Right.count step);
+    }
+
+pub returns-in-More : goal.returns-in-More
+returns-in-More c =
+    let step = subst (StepsTo c.segments.reader c.segments.rest.now) c.in-More.is c.in_ok-next.ensures in (
+      leads_more c.args.self c.segments.reader c.in-More.next c.args.piece.now c.segments.rest.now c.segments.invariant.leads step,
+      λ some. short_after c.segments.reader c.in-More.next c.segments.rest.now step,
+    )
+
+pub returns-in-Wrong : goal.returns-in-Wrong
+returns-in-Wrong c =
+    let step = subst (StepsTo c.segments.reader c.segments.rest.now) c.in-Wrong.is c.in_ok-next.ensures in
+    λ rest. c.segments.invariant.leads rest c.in-Wrong.found (step (λ none. absurd (
+    let at_zero : length c.segments.rest.now ≡ 0 = ap length none in
+    let empty : c.is_empty.result ≡ true = c.is_empty.ensures ∙ ap (λ (n : ℕ). n == 0) at_zero in
+    let some : c.is_empty.result ≡ false = c.segments-test.true in cc)) rest)
+
+pub returns : goal.returns
+returns c =
+    let none = nil_from_length c.segments.rest.now (zero_of (length c.segments.rest.now) (sym c.is_empty.ensures ∙ c.segments-test.false)) in (
+      leads_end c.args.self c.segments.reader c.args.piece.now c.segments.rest.now c.segments.invariant.leads none,
+      λ some. elim c.segments.invariant.short [
+        | inl same ↦ absurd (some (sym same ∙ none))
+        | inr short ↦ short
+      ],
+    )

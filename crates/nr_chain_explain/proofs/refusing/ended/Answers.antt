@@ -1,0 +1,34 @@
+use Rattle.std.proofs.Common.{◌≡◌, ℕ, ◌==◌, [], true, false, Option, None, is_some, length, sym, ap, ◌∙◌, arith, tests, rules}
+use Rattle.std.proofs.lemmas.Bool.Decides.{nat_tests}
+use Rattle.std.proofs.lemmas.List.{nil_from_length}
+use Rattle.nr_trace.specs.declared.fault.Format.TheVariants.{Truncated}
+use Rattle.nr_chain_explain.specs.Came.{kept_in}
+use Rattle.nr_chain_explain.specs.inside.Reading.{all_seen, seen_of}
+use Rattle.nr_chain_explain.specs.declared.came.Came.{Came}
+use Rattle.nr_chain_explain.proofs.Feeding.{refusal_explains}
+use Rattle.nr_chain_explain.proofs.refusing.ended.Goals as goal
+use Rattle.nr_chain_explain.proofs.refusing.ended.Goals.{then-is_empty+in_default, else-is_empty}
+
+zero_of : (n : ℕ) → (n == 0) ≡ true → n ≡ 0
+zero_of n e = first_of (grind (arith, nat_tests), search (rules, tests))
+
+none_kept : (last : Option Came) → last ≡ None → is_some (kept_in (all_seen last)) ≡ true → ⊥
+none_kept last none some =
+    let wrong : false ≡ true = sym (ap (λ (l : Option Came). is_some (kept_in (all_seen l))) none) ∙ some in cc
+
+pub returns-in-Some : goal.returns-in-Some
+returns-in-Some c =
+    let none = nil_from_length c.args.bytes.now (zero_of (length c.args.bytes.now) (sym c.is_empty.ensures ∙ c.if-is_empty.true)) in
+    ([], seen_of c.in-Some.came, (sym (ap all_seen c.in-Some.is), sym none), c.in_ok-counts.ensures)
+
+pub returns : goal.returns
+returns c =
+    let bytes = c.args.bytes.now in
+    refusal_explains (all_seen c.args.last.now) bytes Truncated c.refusal.result c.refusal.ensures c.requires (λ some none.
+    elim c.if-is_empty.branch [
+      | then-is_empty+in_default w ↦ none_kept c.args.last.now w.in_default.is some
+      | else-is_empty w ↦ (
+          let at_zero : length bytes ≡ 0 = ap length none in
+          let empty : c.is_empty.result ≡ true = c.is_empty.ensures ∙ ap (λ (n : ℕ). n == 0) at_zero in
+          let other : c.is_empty.result ≡ false = w.if-is_empty.false in cc)
+    ])

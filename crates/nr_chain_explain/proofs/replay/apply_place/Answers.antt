@@ -1,0 +1,29 @@
+use Rattle.std.proofs.Common.{ℕ, List, take, get_or, sym, ap, subst, ◌∙◌}
+use Rattle.vs_types.specs.Query.{IsQuery}
+use Rattle.vs_plain.specs.Plain.{BoundedSpace}
+use Rattle.nr_trace.specs.Orders.{space_from}
+use Rattle.nr_audit.specs.Verdict.{space_of}
+use Rattle.nr_audit.specs.inside.Replies.{asked_by}
+use Rattle.nr_audit.specs.inside.Steps.{Serves}
+use Rattle.nr_audit.proofs.AnswerFaults.{space_visits, space_stays, left}
+use Rattle.nr_chain_explain.proofs.replay.apply_place.Goals as goal
+
+pub serve-requires : goal.serve-requires
+serve-requires c = subst (λ (s : BoundedSpace). IsQuery s.depth c.in-Some.request) (sym c.requires.before.1) c.in-Some.ensures.well_formed
+
+pub returns-in_ok-serve : goal.returns-in_ok-serve
+returns-in_ok-serve c = λ start before.
+    let segment = c.args.segment.now in
+    let log = segment.log in
+    let asks = c.request_of.ensures.asks
+    ∙ ap (λ (xs : List ℕ). asked_by segment (get_or xs c.args.place 0)) c.log-log.ensures.reads in
+    let serves = subst (λ (s : BoundedSpace). Serves s c.in-Some.request c.in_ok-serve.field-0 c.serve.new.space) before c.in_ok-serve.ensures in
+    left segment.layout (space_from start segment (take c.args.place log)) c.in-Some.request _ c.serve.new.space serves
+    ∙ ap (λ s. space_of segment.layout s) (space_visits start segment log c.args.place 0 c.in-Some.request c.requires.within (sym c.in-Some.is ∙ asks))
+
+pub returns-in_default : goal.returns-in_default
+returns-in_default c = λ start before.
+    let segment = c.args.segment.now in
+    let asks = c.request_of.ensures.asks
+    ∙ ap (λ (xs : List ℕ). asked_by segment (get_or xs c.args.place 0)) c.log-log.ensures.reads in
+    before ∙ ap (λ s. space_of segment.layout s) (space_stays start segment segment.log c.args.place 0 c.requires.within (sym asks ∙ c.in_default.is))

@@ -1,0 +1,55 @@
+-- Facts of a segment that evidence is made of, from the space on with which it begins.
+use Rattle.std.specs.Prelude.{◌≡◌, ◌≢◌, ℕ, ◌+◌, ◌-◌, ◌<◌, ◌≤◌, List, take, slice_get, Option, Some, None}
+use Rattle.vs_types.specs.Depth.{levels}
+use Rattle.vs_types.specs.Space.{Space, no_pages}
+use Rattle.vs_types.specs.Step.{look}
+use Rattle.vs_types.specs.declared.answer.Answer.{Answer}
+use Rattle.vs_types.specs.declared.depth.Depth.{Depth}
+use Rattle.vs_walk.specs.Dump.{Image}
+use Rattle.nr_trace.specs.Recording.{Recording}
+use Rattle.nr_trace.specs.Orders.{space_from}
+use Rattle.nr_explain.specs.Facts.{IsCallOf, IsPath}
+use Rattle.nr_explain.specs.declared.evidence.PlacedUpdate.{PlacedUpdate}
+use Rattle.nr_explain.specs.declared.evidence.Step.{Step}
+use Rattle.nr_chain_explain.specs.declared.evidence.Origin.{Origin}
+use Rattle.nr_chain_explain.specs.declared.evidence.Origin.TheVariants.{Nothing, Start, Earlier}
+
+-- how an address looks in the space after the first places of the log, this many
+abbrev pub looks_from : Space → Recording → ℕ → ℕ → Answer
+looks_from start segment address places = look (space_from start segment (take places segment.log)) address
+
+-- the address looks the same after each number of places from the first to the last
+abbrev pub LooksSameFrom : Space → Recording → ℕ → ℕ → ℕ → Type 0
+LooksSameFrom start segment address first last = (places : ℕ) → first ≤ places → places ≤ last
+    → looks_from start segment address places ≡ looks_from start segment address last
+
+-- after so many places, some, the address looks otherwise than after one less
+pub record IsChangedAt (start : Space) (segment : Recording) (address places : ℕ) : Type 0 where
+  pub some : 0 < places
+  pub changed : looks_from start segment address (places - 1) ≢ looks_from start segment address places
+
+-- of the places below an end, the last one whose update changed how the address looks; or none, where none did
+abbrev pub IsLastChangeFrom : Space → Recording → ℕ → ℕ → Option PlacedUpdate → Type 0
+IsLastChangeFrom start segment address end None = LooksSameFrom start segment address 0 end
+IsLastChangeFrom start segment address end (Some update) =
+    (update.place < end) × IsCallOf segment update.call × (slice_get segment.log update.place ≡ Some update.call.event)
+    × (looks_from start segment address update.place ≢ looks_from start segment address (update.place + 1))
+    × LooksSameFrom start segment address (update.place + 1) end
+
+-- the space with which a chain begins, that of its start or no pages
+abbrev pub first_of : Option Space → Space
+first_of None = no_pages
+first_of (Some space) = space
+
+-- whether an address looks in a space as where the chain begins
+abbrev pub IsOrigin : Option Space → Space → ℕ → Origin → Type 0
+IsOrigin began now address Nothing = (began ≡ None) × (look now address ≡ look no_pages address)
+IsOrigin began now address Start = (space : Space) × (began ≡ Some space) × (look now address ≡ look space address)
+IsOrigin began now address Earlier = look now address ≢ look (first_of began) address
+
+-- the steps lead from the root of a start to the frame, as a table of this level, or of some level
+abbrev pub IsStartPath : Depth → Image → ℕ → ℕ → List Step → Type 0
+IsStartPath depth start level frame steps = IsPath start.frames (levels depth) start.root level frame steps
+
+abbrev pub LeadsInStart : Depth → Image → ℕ → List Step → Type 0
+LeadsInStart depth start frame steps = (level : ℕ) × IsStartPath depth start level frame steps

@@ -1,0 +1,61 @@
+-- No float is in the JSON of an explanation of a chain.
+use Rattle.std.proofs.Common.{◌≡◌, Bool, false, ◌||◌, List, [], ◌∷◌, Option, Some, None, ap, ap₂, map, refl}
+use Rattle.serde_json.specs.View.{items_of}
+use Rattle.serde_json.specs.Written.{has_float, items_have_float}
+use Rattle.nr_explain.specs.declared.evidence.PlacedUpdate.{PlacedUpdate}
+use Rattle.nr_explain.specs.declared.evidence.Step.{Step}
+use Rattle.nr_chain_explain.specs.declared.evidence.Origin.{Origin}
+use Rattle.nr_chain_explain.specs.declared.evidence.Origin.TheVariants.{Nothing, Start, Earlier}
+use Rattle.nr_chain_explain.specs.declared.evidence.Moment.{Moment}
+use Rattle.nr_chain_explain.specs.declared.evidence.SegmentEvidence.{SegmentEvidence}
+use Rattle.nr_chain_explain.specs.declared.evidence.SegmentEvidence.TheVariants as shown
+use Rattle.nr_chain_explain.specs.declared.explanation.ChainExplanation.{ChainExplanation}
+use Rattle.nr_chain_explain.specs.declared.explanation.ChainExplanation.TheVariants.{Yes, No}
+use Rattle.nr_engines.specs.EvidenceJson.{step_data, way_data}
+use Rattle.nr_engines.proofs.NoFloats.{evidence_has_no_float}
+use Rattle.nr_chain_texts.specs.EvidenceJson.{chain_explanation_data, change_data, moment_data, origin_data, segment_evidence_data}
+
+steps : (entries : List Step) → items_have_float (items_of (map step_data entries)) ≡ false
+steps [] = refl
+steps (step ∷ more) = steps more
+
+way : (entries : List Step) → has_float (way_data entries) ≡ false
+way entries = steps entries
+
+moments : (looks : List Moment) → items_have_float (items_of (map moment_data looks)) ≡ false
+moments [] = refl
+moments (moment ∷ more) = moments more
+
+from : (origin : Origin) → has_float (origin_data origin) ≡ false
+from Nothing = refl
+from Start = refl
+from Earlier = refl
+
+change : (update : Option PlacedUpdate) (origin : Origin) → has_float (change_data update origin) ≡ false
+change None origin = from origin
+change (Some update) origin = refl
+
+-- one of the members may be any of these, or two
+abbrev one : Bool → Bool
+one b = b || false
+
+abbrev two : Bool → Bool → Bool
+two a b = a || (b || false)
+
+segment_evidence_has_no_float : (evidence : SegmentEvidence) → has_float (segment_evidence_data evidence) ≡ false
+unfolding segment_evidence_data
+segment_evidence_has_no_float (shown.Format bad) = refl
+segment_evidence_has_no_float (shown.Within evidence) = evidence_has_no_float evidence
+segment_evidence_has_no_float (shown.WrongAnswer wrong origin) = ap one (change wrong.changed origin)
+segment_evidence_has_no_float (shown.Differs wrong origin) = ap₂ two (change wrong.changed origin) (way wrong.path.items)
+segment_evidence_has_no_float (shown.StartMissing wrong) = ap one (way wrong.path.items)
+segment_evidence_has_no_float (shown.StartShared wrong) = ap₂ two (way wrong.first.items) (way wrong.second.items)
+segment_evidence_has_no_float (shown.StartReserved wrong) = ap one (way wrong.path.items)
+segment_evidence_has_no_float (shown.StartStray frame) = refl
+segment_evidence_has_no_float (shown.StartBeyond wrong) = ap one (way wrong.path.items)
+segment_evidence_has_no_float (shown.StartDiffers wrong) = ap₂ two (from wrong.origin) (way wrong.path.items)
+segment_evidence_has_no_float (shown.Stale touch) = ap one (moments touch.looks.items)
+
+pub chain_explanation_has_no_float : (explanation : ChainExplanation) → has_float (chain_explanation_data explanation) ≡ false
+chain_explanation_has_no_float (Yes counts) = refl
+chain_explanation_has_no_float (No number fault evidence) = ap one (segment_evidence_has_no_float evidence)

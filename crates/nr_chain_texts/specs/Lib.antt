@@ -1,0 +1,5 @@
+pub mod EvidenceText
+pub mod Sentence
+pub mod EvidenceJson
+pub mod ChainExplained
+pub mod inside

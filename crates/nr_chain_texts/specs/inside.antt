@@ -1,0 +1,2 @@
+-- A chain that is read and explained: no public clause cites these.
+pub mod Explaining

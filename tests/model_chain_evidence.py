@@ -1,0 +1,213 @@
+#!/usr/bin/env python3
+"""What shows a fault of a chain, computed a second time in plain Python beside `model_chains.py`: written from docs/FORMATS.md alone, to
+compare with. What a segment shares with a trace is tests/model_evidence.py's.
+
+    model_chain_evidence.py [--json] <CHAIN     what `nrvs explain --chain` prints, with its status
+"""
+import json
+import sys
+
+import model_auditor as traces
+import model_chains as chains
+import model_evidence as evidence
+from model_auditor import Fault, Reply
+from model_evidence import event_fact, event_line, step_line, way_lines
+
+FORMAT_LINES = evidence.FORMAT_LINES | {
+    "BadMagic": "bytes 0 to 3 are NRVS",
+    "BadVersion": "bytes 4 and 5 are the version, 1",
+    "BadCount": "levels 4 or 5, replicas 1 to 4, threads and tables 1 to 65535, places to 65536, events to 131072, frames to 65535; "
+                "where a dump has none, its other numbers are 0",
+    "BadChain": "levels, replicas, threads and tables are those of the segment before",
+    "BadStart": "start, frame {}: its number is above the one before it, and below 0x10000000000",
+}
+REASONS = {
+    "Truncated": "they end before its last unit does",
+    "BadMagic": "they don't begin with NRVS",
+    "BadVersion": "their version is not 1",
+    "BadCount": "a number is out of range",
+    "BadChain": "they are not laid out as the segment before them",
+    "BadStart": "frame {0} of the start has a number that is not above the one before it, or too great",
+    "BadEvent": "event {0} is no call and no reply",
+    "BadFrame": "frame {1} of dump {0} has a number that is not above the one before it, or too great",
+}
+OF_DUMPS = {"StartMissing": "MissingFrame", "StartShared": "SharedFrame", "StartReserved": "ReservedBit", "StartStray": "StrayFrame"}
+
+
+# ---- a fault of the format ----
+
+def of_format(begins, name, numbers):
+    """Where the segment begins; the sentence, and the lines."""
+    return ({"format": " ".join([name, *numbers]), "begins": begins}, f"These bytes are no segment: {REASONS[name].format(*numbers)}.",
+            [f"the segment begins at byte {begins}", FORMAT_LINES[name].format(*numbers)])
+
+
+# ---- a fault of the start ----
+
+def of_start(segment, before, origin, name, numbers):
+    """The evidence of 18 to 23, the sentence, and the lines; `before` is the space after the segment before, if there is one."""
+    alone = segment.trace._replace(dumps=[segment.start])
+    if name in OF_DUMPS:
+        shown = evidence.OF_FAULT[OF_DUMPS[name]](alone, 0, *numbers)
+        del shown["replica"]
+        return shown, *words_of_tables(name, shown)
+    address, = numbers
+    shown = {"address": f"{address:#x}", "found": traces.walk(alone, segment.start, address),
+             "path": evidence.entries_read(alone, segment.start, address)}
+    lines = [f"the start: {shown['found']}", *map(step_line, shown["path"])]
+    if name == "StartBeyond":
+        return (shown, f"At {address:#x} the start has a page that ends above {1 << 51:#x}.", [*lines, f"its page ends above {1 << 51:#x}"])
+    shown |= {"wanted": looks(before, address), "changed": origin(before, address)}
+    return (shown, f"At {address:#x} the start says `{shown['found']}`, but after the segment before it the address space says "
+                   f"`{shown['wanted']}`.", [*lines, f"the space: {shown['wanted']}", evidence.changed_line(shown)])
+
+
+def words_of_tables(name, shown):
+    """The sentence and the lines of what is wrong with the tables of the start."""
+    frame, entry = f"frame {shown.get('frame', 0):#x}", shown.get("entry", {})
+    if name == "StartMissing":
+        leads = "An entry of the tables of the start leads to" if shown["path"] else "The root of the start is"
+        return f"{leads} {frame}, which the start doesn't have.", way_lines(shown["path"]) + [f"{frame}, which the start doesn't have"]
+    if name == "StartShared":
+        return (f"The tables of the start reach {frame} twice: a change on one way is seen on the other.",
+                ["one way:", *way_lines(shown["first"]), "another:", *way_lines(shown["second"])])
+    if name == "StartReserved":
+        return (f"Entry {entry['index']} of frame {entry['frame']:#x} of the start has the reserved bit {shown['bit']} set: a processor "
+                "faults there.", evidence.lines_of("ReservedBit", shown))
+    return f"The start holds {frame} as a table, and no table leads to it.", [f"no table leads to {frame}"]
+
+
+# ---- a stale touch ----
+
+def of_stale(trace, start, number):
+    """How many entries of the log it may see, and how its address looks after them."""
+    replied = {each.call: i for i, each in enumerate(trace.events) if isinstance(each, Reply)}
+    address, end = trace.events[number].address, replied[number]
+    places, _ = chains.changes_of(trace, start, [address])[address]
+    first = max([place + 1 for place in places if replied.get(trace.log[place], end) < number], default=0)
+    last = min([place for place in places if trace.log[place] > end], default=len(trace.log))
+    seen = []
+    for entries in (first, *(place + 1 for place in places if first <= place < last)):
+        space = start.copy()
+        for each in trace.log[:entries]:
+            space.apply(trace.events[each])
+        seen.append({"entries": entries, "look": looks(space, address)})
+    return {"call": event_fact(trace, number), "reply": event_fact(trace, end), "first": first, "last": last, "looks": seen}
+
+
+def words_of_stale(shown):
+    first, last, told = shown["first"], shown["last"], shown["reply"]["answer"]
+    return (f"Touch {shown['call']['event']} was answered `{told}`, but it may see only {first} to {last} entries of the log, and after none "
+            "of these its address looks so.",
+            [event_line(shown["call"]), event_line(shown["reply"]), f"entries seen at least: {first}", f"entries seen at most: {last}",
+             *(f"after {each['entries']}: {each['look']}" for each in shown["looks"])])
+
+
+# ---- a fault that a trace may have too ----
+
+def of_segment(segment, start, origin, name, numbers):
+    """The evidence of 2 to 17, from the space with which the segment begins."""
+    trace = segment.trace if traces.FAULTS.index(name) < 6 else chains.without_touches(segment)
+    of = evidence.OF_FAULT[name]
+    shown = of(trace, *numbers, start) if name in ("WrongAnswer", "Differs") else of(trace, *numbers)
+    if shown.get("changed", 0) is None:
+        shown["changed"] = origin(start, int(shown["address"], 0))
+    return shown, evidence.sentence_of(name, shown, b""), evidence.lines_of(name, shown)
+
+
+# ---- the whole answer ----
+
+def looks(space, address):
+    """How an address looks: what a resolve of it is answered."""
+    return evidence.answer_words(space.look(traces.Call(0, 0, traces.RESOLVE, 0, 0, address, 0)))
+
+
+class Chain:
+    """What is known of a chain up to a segment: where it begins in the bytes, its number, and what came before."""
+
+    def __init__(self, data):
+        self.data, self.position, self.number = data, 0, 0
+        self.before = self.space = None             # the trace and the space of the segment before
+        self.first = self.has_start = None          # the space with which the chain begins, and whether it has a start
+        self.counts = dict.fromkeys(("calls", "updates", "reads", "touches", "dumps", "replicas", "pages"), 0)
+
+    def origin(self, space, address):
+        """Where comes from how an address looks as a segment begins: that is compared with where the chain begins."""
+        if self.number and looks(space, address) != looks(self.first, address):
+            return "an earlier segment"
+        return "the start" if self.has_start else None
+
+    def begin(self, segment):
+        """The space with which the segment begins."""
+        space = chains.space_at_begin(segment, self.space and self.space.copy())
+        if self.number == 0:
+            self.first, self.has_start = space.copy(), segment.start is not None
+        return space
+
+    def pass_over(self, segment):
+        """Goes on behind a segment; raises its first fault."""
+        self.begin(segment)
+        order, self.space = chains.check_segment(segment, self.space and self.space.copy())
+        updates = len(segment.trace.log)
+        for words, more in (("calls", len(order)), ("updates", updates), ("reads", len(order) - updates), ("touches", len(segment.touches)),
+                            ("dumps", sum(dump is not None for dump in segment.trace.dumps))):
+            self.counts[words] += more
+        self.counts |= {"replicas": segment.trace.replicas, "pages": len(self.space.pages)}
+        self.position, self.before, self.number = segment.ends, segment.trace, self.number + 1
+
+    def shown(self, segment, fault):
+        """What shows the fault of the next segment: as JSON has it, the sentence, and the lines."""
+        name, *what = fault.args
+        if name == "Format":
+            return of_format(self.position, what[0], list(map(str, what[1:])))
+        numbers = [int(each, 0) if isinstance(each, str) else each for each in what]
+        if name.startswith("Start"):
+            return of_start(segment, self.space, self.origin, name, numbers)
+        start = self.begin(segment)
+        if name == "Stale":
+            shown = of_stale(segment.trace, start, *numbers)
+            return shown, *words_of_stale(shown)
+        return of_segment(segment, start, self.origin, name, numbers)
+
+
+def explained(data):
+    """What `nrvs explain --chain` says, as JSON has it; and the lines of text."""
+    chain = Chain(data)
+    while chain.position < len(data) or chain.number == 0:
+        segment = None
+        try:
+            segment = chains.read_segment(data, chain.position, chain.before)
+            chain.pass_over(segment)
+        except Fault as fault:
+            shown, sentence, lines = chain.shown(segment, fault)
+            whole = {"segment": chain.number, "verdict": str(fault), "sentence": sentence, "evidence": {"fault": fault.args[0], **shown}}
+            return whole, [f"segment {chain.number}", str(fault), sentence, *lines]
+    verdict = f"segments {chain.number}"
+    return {"verdict": verdict, "counts": chain.counts}, [verdict, *(f"{words}: {count}" for words, count in chain.counts.items())]
+
+
+def status_of(whole):
+    return int("evidence" in whole)
+
+
+def as_text(lines):
+    """What `nrvs explain --chain` prints."""
+    return "".join(line + "\n" for line in lines)
+
+
+def as_json(whole):
+    """What `nrvs explain --chain --json` prints."""
+    return json.dumps(whole, separators=(",", ":"), sort_keys=True) + "\n"
+
+
+def main(words):
+    if words not in ([], ["--json"]):
+        sys.stderr.write(__doc__)
+        return 2
+    whole, lines = explained(sys.stdin.buffer.read())
+    sys.stdout.write(as_json(whole) if words else as_text(lines))
+    return status_of(whole)
+
+
+if __name__ == "__main__":
+    sys.exit(main(sys.argv[1:]))
