@@ -1,5 +1,5 @@
 -- The answers of a trace, against the space after the calls that come before in the recorded order.
-use Rattle.std.proofs.Common.{◌≡◌, ℕ, zero, suc, ◌+◌, ◌<◌, ◌≤◌, Bool, true, false, List, [], ◌∷◌, ◌++◌, length, take, get_or, Some, None, Option, refl, sym, ap, subst, ◌∙◌}
+use Rattle.std.proofs.Common.{◌≡◌, ℕ, zero, suc, ◌+◌, ◌<◌, ◌≤◌, Bool, true, false, List, [], ◌∷◌, length, take, get_or, Some, None, Option, refl, sym, ap, subst, ◌∙◌}
 use Rattle.std.proofs.Common.{inl, inr, arith}
 use Rattle.std.specs.Prelude.{is_some, option_and_then, option_map, slice_get, Contains, IfSome, ◌==◌, nat_eq, if◌then◌else◌}
 use Rattle.std.specs.List.{IsDistinct, AllByRecursion, position_or_len, cons_option}
@@ -10,11 +10,11 @@ use Rattle.std.proofs.lemmas.List.Elements.{filter_map-append, at_from_Contains}
 use Rattle.vs_types.specs.Config.{Layout}
 use Rattle.vs_types.specs.Space.{Space}
 use Rattle.vs_types.specs.Step.{step, after_all}
-use Rattle.vs_types.specs.declared.depth.Depth.{Depth}
 use Rattle.vs_types.specs.declared.op.Action.{Action}
 use Rattle.vs_types.specs.declared.request.Query.{Query}
 use Rattle.vs_types.specs.declared.request.Query.TheVariants.{Update, Resolve, Access}
 use Rattle.vs_types.specs.declared.answer.Answer.{Answer}
+use Rattle.vs_types.proofs.Afterwards.{after_all-append}
 use Rattle.vs_plain.specs.Plain.{BoundedSpace}
 use Rattle.nr_trace.specs.Recording.{Recording}
 use Rattle.nr_trace.specs.Calls.{Invocation, made_by, Response, call_of, operation_in, operation_of, reply_to}
@@ -69,11 +69,6 @@ stands_there xs call k d lt within =
     ]
 
 -- ---- the space after a call
-
-after_all-append : (depth : Depth) (limit : ℕ) (space : Space) (xs ys : List Action)
-    → after_all depth limit space (xs ++ ys) ≡ after_all depth limit (after_all depth limit space xs) ys
-after_all-append depth limit space [] ys = refl
-after_all-append depth limit space (x ∷ xs) ys = after_all-append depth limit (step depth limit space x).space xs ys
 
 -- the space that a request leaves
 pub served : Layout → Space → Query → Space

@@ -107,7 +107,8 @@ made_on (Touch replica own address mode access) thread e =
 made_on (Reply call at answer) thread e = absurd (cc)
 
 -- it is one of the layout
-thread_in_layout : (version : Version) (layout : Layout) (event : Event) (thread : ℕ) → Some thread ≡ option_map (λ (made : Invocation). made.thread) (made_by event)
+thread_in_layout : (version : Version) (layout : Layout) (event : Event) (thread : ℕ)
+    → Some thread ≡ option_map (λ (made : Invocation). made.thread) (made_by event)
     → IsEvent version layout event → thread < layout.threads
 thread_in_layout version layout (Call replica own request) thread e is = let same : thread ≡ own = cc in omega (arith, is.1)
 thread_in_layout version layout (Touch replica own address mode access) thread e is = let same : thread ≡ own = cc in omega (arith, is.1)

@@ -21,7 +21,8 @@ compared_at_start trace space applied faults = record {
   kept = λ replica dump is other. refl;
 }
 
-module _ (trace : Recording) (space : BoundedSpace) (applied end : ℕ) (old new : List (Option DumpFault)) (dump : Image) (here : slice_get trace.dumps end ≡ Some dump)
+module _ (trace : Recording) (space : BoundedSpace) (applied end : ℕ) (old new : List (Option DumpFault)) (dump : Image)
+    (here : slice_get trace.dumps end ≡ Some dump)
     (are : AreCompared trace space applied end old new) where
   same_dump : (replica : ℕ) (other : Image) → replica ≡ end → slice_get trace.dumps replica ≡ Some other → other ≡ dump
   same_dump replica other same is = same_Some other dump (sym is ∙ ap (slice_get trace.dumps) same ∙ here)

@@ -53,7 +53,8 @@ none_past start trace replica past (PrefixPastLog at) among holds = no_dump_past
 none_past start trace replica past (PrefixShort at) among holds = no_dump_past trace at _ (subst (λ r. length trace.dumps ≤ r) (sym among) past) holds
 none_past start trace replica past (MissingFrame at frame) among holds = no_dump_past trace at _ (subst (λ r. length trace.dumps ≤ r) (sym among) past) holds
 none_past start trace replica past (SharedFrame at frame) among holds = no_dump_past trace at _ (subst (λ r. length trace.dumps ≤ r) (sym among) past) holds
-none_past start trace replica past (ReservedBit at frame index) among holds = no_dump_past trace at _ (subst (λ r. length trace.dumps ≤ r) (sym among) past) holds
+none_past start trace replica past (ReservedBit at frame index) among holds =
+    no_dump_past trace at _ (subst (λ r. length trace.dumps ≤ r) (sym among) past) holds
 none_past start trace replica past (StrayFrame at frame) among holds = no_dump_past trace at _ (subst (λ r. length trace.dumps ≤ r) (sym among) past) holds
 none_past start trace replica past (Differs at address) among holds = no_dump_past trace at _ (subst (λ r. length trace.dumps ≤ r) (sym among) past) holds
 none_past start trace replica past other among holds = among
@@ -227,7 +228,8 @@ module _ (start : Space) (trace : Recording) (replica : ℕ) (dump : Image) (is 
   -- a fault of a lower number comes earlier
   comes_earlier : (other fault : DumpFault) → number_in other < number_in fault
       → dumps.HoldsOfDump trace.layout.depth dump (space_from start trace (take dump.applied trace.log)) other
-      → dumps.HoldsOfDump trace.layout.depth dump (space_from start trace (take dump.applied trace.log)) fault → dumps.rank_in_dump other < dumps.rank_in_dump fault
+      → dumps.HoldsOfDump trace.layout.depth dump (space_from start trace (take dump.applied trace.log)) fault
+      → dumps.rank_in_dump other < dumps.rank_in_dump fault
   comes_earlier (of_dump.MissingFrame a) (of_dump.MissingFrame b) lt f g = absurd (omega arith)
   comes_earlier (of_dump.MissingFrame a) (of_dump.SharedFrame b) lt f g = absurd cc
   comes_earlier (of_dump.MissingFrame a) (of_dump.ReservedBit b i) lt f g = absurd cc
@@ -318,7 +320,8 @@ module _ (start : Space) (trace : Recording) (replica : ℕ) (dump : Image) (is 
 
       -- ---- the tables
 
-      pub none_of_replica : dumps.HasNoFault trace.layout.depth dump (space_from start trace (take dump.applied trace.log)) → HasNoneFrom start (IsDumpFaultAt replica) trace
+      pub none_of_replica : dumps.HasNoFault trace.layout.depth dump (space_from start trace (take dump.applied trace.log))
+          → HasNoneFrom start (IsDumpFaultAt replica) trace
       none_of_replica none other among holds = elim (back other among holds) [
         | inl low ↦ no_prefix other among holds low
         | inr there ↦ none there.0 there.1

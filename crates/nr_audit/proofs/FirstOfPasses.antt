@@ -1,5 +1,6 @@
 -- The passes one after another: the first fault of a pass, where none of an earlier pass holds, is the first of all.
-use Rattle.std.proofs.Common.{◌≡◌, ℕ, ◌+◌, ◌<◌, ◌≤◌, [], ◌∷◌, inl, inr, refl, subst, ◌∙◌, arith, lit<, length}
+use Rattle.std.proofs.Common.{◌≡◌, ℕ, ◌+◌, ◌<◌, ◌≤◌, [], ◌∷◌, inl, inr, ◌==◌, refl, subst, ◌∙◌, arith, lit<, length}
+use Rattle.std.specs.Prelude.{⊤, MatchBool}
 use Rattle.std.specs.Ordering.{nat_cmp}
 use Rattle.std.specs.Cmp.Lexicographic.{slice_cmp}
 use Rattle.std.specs.declared.cmp.Ordering.TheVariants.{Less}
@@ -191,24 +192,30 @@ pub refused_of_any : (start : Space) (trace : Recording) (fail : Fail Fault) →
 refused_of_any start trace Memory first = tt
 refused_of_any start trace (Refused fault) first = first start
 
-call_from : (fault : Fault) → pass_of fault ≡ 2 → IsCallFault fault
-call_from (Format fault) e = absurd (omega arith)
-call_from (ThreadOpen index) e = (index, refl)
-call_from (NoSuchCall index) e = (index, refl)
-call_from (AnsweredTwice index) e = (index, refl)
-call_from (NotAnUpdate place) e = absurd (omega arith)
-call_from (PlacedTwice place) e = absurd (omega arith)
-call_from (NotPlaced index) e = absurd (omega arith)
-call_from (PastLog index) e = absurd (omega arith)
-call_from (Early call) e = absurd (omega arith)
-call_from (WrongAnswer call) e = absurd (omega arith)
-call_from (PrefixPastLog replica) e = absurd (omega arith)
-call_from (PrefixShort replica) e = absurd (omega arith)
-call_from (MissingFrame replica number) e = absurd (omega arith)
-call_from (SharedFrame replica number) e = absurd (omega arith)
-call_from (ReservedBit replica number index) e = absurd (omega arith)
-call_from (StrayFrame replica number) e = absurd (omega arith)
-call_from (Differs replica address) e = absurd (omega arith)
+-- the faults for which a pass looks
+abbrev IsOfPass : ℕ → Fault → Type 0
+IsOfPass pass fault =
+    MatchBool (pass == 2) (IsCallFault fault) (MatchBool (pass == 3) (IsLogFault fault) (MatchBool (pass == 4) (IsPositionFault fault)
+    (MatchBool (pass == 5) (IsFloorFault fault) (MatchBool (pass == 6) (IsAnswerFault fault) (MatchBool (pass == 7) (IsDumpFault fault) ⊤)))))
+
+own_pass : (fault : Fault) → IsOfPass (pass_of fault) fault
+own_pass (Format fault) = tt
+own_pass (ThreadOpen index) = (index, refl)
+own_pass (NoSuchCall index) = (index, refl)
+own_pass (AnsweredTwice index) = (index, refl)
+own_pass (NotAnUpdate place) = (place, refl)
+own_pass (PlacedTwice place) = (place, refl)
+own_pass (NotPlaced index) = (index, refl)
+own_pass (PastLog index) = (index, refl)
+own_pass (Early call) = (call, refl)
+own_pass (WrongAnswer call) = tt
+own_pass (PrefixPastLog replica) = (replica, refl)
+own_pass (PrefixShort replica) = (replica, refl)
+own_pass (MissingFrame replica number) = (replica, refl)
+own_pass (SharedFrame replica number) = (replica, refl)
+own_pass (ReservedBit replica number index) = (replica, refl)
+own_pass (StrayFrame replica number) = (replica, refl)
+own_pass (Differs replica address) = (replica, refl)
 
 from_call : (fault : Fault) → IsCallFault fault → pass_of fault ≡ 2
 from_call (ThreadOpen index) among = refl
@@ -217,26 +224,7 @@ from_call (AnsweredTwice index) among = refl
 from_call fault among = absurd among.1
 
 pub call_faults : AreOfPass 2 IsCallFault
-call_faults = record { all = call_from; only = from_call }
-
-log_from : (fault : Fault) → pass_of fault ≡ 3 → IsLogFault fault
-log_from (Format fault) e = absurd (omega arith)
-log_from (ThreadOpen index) e = absurd (omega arith)
-log_from (NoSuchCall index) e = absurd (omega arith)
-log_from (AnsweredTwice index) e = absurd (omega arith)
-log_from (NotAnUpdate place) e = (place, refl)
-log_from (PlacedTwice place) e = (place, refl)
-log_from (NotPlaced index) e = absurd (omega arith)
-log_from (PastLog index) e = absurd (omega arith)
-log_from (Early call) e = absurd (omega arith)
-log_from (WrongAnswer call) e = absurd (omega arith)
-log_from (PrefixPastLog replica) e = absurd (omega arith)
-log_from (PrefixShort replica) e = absurd (omega arith)
-log_from (MissingFrame replica number) e = absurd (omega arith)
-log_from (SharedFrame replica number) e = absurd (omega arith)
-log_from (ReservedBit replica number index) e = absurd (omega arith)
-log_from (StrayFrame replica number) e = absurd (omega arith)
-log_from (Differs replica address) e = absurd (omega arith)
+call_faults = record { all = λ fault e. subst (λ pass. IsOfPass pass fault) e (own_pass fault); only = from_call }
 
 from_log : (fault : Fault) → IsLogFault fault → pass_of fault ≡ 3
 from_log (NotAnUpdate place) among = refl
@@ -244,26 +232,7 @@ from_log (PlacedTwice place) among = refl
 from_log fault among = absurd among.1
 
 pub log_faults : AreOfPass 3 IsLogFault
-log_faults = record { all = log_from; only = from_log }
-
-position_from : (fault : Fault) → pass_of fault ≡ 4 → IsPositionFault fault
-position_from (Format fault) e = absurd (omega arith)
-position_from (ThreadOpen index) e = absurd (omega arith)
-position_from (NoSuchCall index) e = absurd (omega arith)
-position_from (AnsweredTwice index) e = absurd (omega arith)
-position_from (NotAnUpdate place) e = absurd (omega arith)
-position_from (PlacedTwice place) e = absurd (omega arith)
-position_from (NotPlaced index) e = (index, refl)
-position_from (PastLog index) e = (index, refl)
-position_from (Early call) e = absurd (omega arith)
-position_from (WrongAnswer call) e = absurd (omega arith)
-position_from (PrefixPastLog replica) e = absurd (omega arith)
-position_from (PrefixShort replica) e = absurd (omega arith)
-position_from (MissingFrame replica number) e = absurd (omega arith)
-position_from (SharedFrame replica number) e = absurd (omega arith)
-position_from (ReservedBit replica number index) e = absurd (omega arith)
-position_from (StrayFrame replica number) e = absurd (omega arith)
-position_from (Differs replica address) e = absurd (omega arith)
+log_faults = record { all = λ fault e. subst (λ pass. IsOfPass pass fault) e (own_pass fault); only = from_log }
 
 from_position : (fault : Fault) → IsPositionFault fault → pass_of fault ≡ 4
 from_position (NotPlaced index) among = refl
@@ -271,78 +240,21 @@ from_position (PastLog index) among = refl
 from_position fault among = absurd among.1
 
 pub position_faults : AreOfPass 4 IsPositionFault
-position_faults = record { all = position_from; only = from_position }
-
-floor_from : (fault : Fault) → pass_of fault ≡ 5 → IsFloorFault fault
-floor_from (Format fault) e = absurd (omega arith)
-floor_from (ThreadOpen index) e = absurd (omega arith)
-floor_from (NoSuchCall index) e = absurd (omega arith)
-floor_from (AnsweredTwice index) e = absurd (omega arith)
-floor_from (NotAnUpdate place) e = absurd (omega arith)
-floor_from (PlacedTwice place) e = absurd (omega arith)
-floor_from (NotPlaced index) e = absurd (omega arith)
-floor_from (PastLog index) e = absurd (omega arith)
-floor_from (Early call) e = (call, refl)
-floor_from (WrongAnswer call) e = absurd (omega arith)
-floor_from (PrefixPastLog replica) e = absurd (omega arith)
-floor_from (PrefixShort replica) e = absurd (omega arith)
-floor_from (MissingFrame replica number) e = absurd (omega arith)
-floor_from (SharedFrame replica number) e = absurd (omega arith)
-floor_from (ReservedBit replica number index) e = absurd (omega arith)
-floor_from (StrayFrame replica number) e = absurd (omega arith)
-floor_from (Differs replica address) e = absurd (omega arith)
+position_faults = record { all = λ fault e. subst (λ pass. IsOfPass pass fault) e (own_pass fault); only = from_position }
 
 from_floor : (fault : Fault) → IsFloorFault fault → pass_of fault ≡ 5
 from_floor (Early call) among = refl
 from_floor fault among = absurd among.1
 
 pub floor_faults : AreOfPass 5 IsFloorFault
-floor_faults = record { all = floor_from; only = from_floor }
-
-answer_from : (fault : Fault) → pass_of fault ≡ 6 → IsAnswerFault fault
-answer_from (Format fault) e = absurd (omega arith)
-answer_from (ThreadOpen index) e = absurd (omega arith)
-answer_from (NoSuchCall index) e = absurd (omega arith)
-answer_from (AnsweredTwice index) e = absurd (omega arith)
-answer_from (NotAnUpdate place) e = absurd (omega arith)
-answer_from (PlacedTwice place) e = absurd (omega arith)
-answer_from (NotPlaced index) e = absurd (omega arith)
-answer_from (PastLog index) e = absurd (omega arith)
-answer_from (Early call) e = absurd (omega arith)
-answer_from (WrongAnswer call) e = tt
-answer_from (PrefixPastLog replica) e = absurd (omega arith)
-answer_from (PrefixShort replica) e = absurd (omega arith)
-answer_from (MissingFrame replica number) e = absurd (omega arith)
-answer_from (SharedFrame replica number) e = absurd (omega arith)
-answer_from (ReservedBit replica number index) e = absurd (omega arith)
-answer_from (StrayFrame replica number) e = absurd (omega arith)
-answer_from (Differs replica address) e = absurd (omega arith)
+floor_faults = record { all = λ fault e. subst (λ pass. IsOfPass pass fault) e (own_pass fault); only = from_floor }
 
 from_answer : (fault : Fault) → IsAnswerFault fault → pass_of fault ≡ 6
 from_answer (WrongAnswer call) among = refl
 from_answer fault among = absurd among
 
 pub answer_faults : AreOfPass 6 IsAnswerFault
-answer_faults = record { all = answer_from; only = from_answer }
-
-dump_from : (fault : Fault) → pass_of fault ≡ 7 → IsDumpFault fault
-dump_from (Format fault) e = absurd (omega arith)
-dump_from (ThreadOpen index) e = absurd (omega arith)
-dump_from (NoSuchCall index) e = absurd (omega arith)
-dump_from (AnsweredTwice index) e = absurd (omega arith)
-dump_from (NotAnUpdate place) e = absurd (omega arith)
-dump_from (PlacedTwice place) e = absurd (omega arith)
-dump_from (NotPlaced index) e = absurd (omega arith)
-dump_from (PastLog index) e = absurd (omega arith)
-dump_from (Early call) e = absurd (omega arith)
-dump_from (WrongAnswer call) e = absurd (omega arith)
-dump_from (PrefixPastLog replica) e = (replica, refl)
-dump_from (PrefixShort replica) e = (replica, refl)
-dump_from (MissingFrame replica number) e = (replica, refl)
-dump_from (SharedFrame replica number) e = (replica, refl)
-dump_from (ReservedBit replica number index) e = (replica, refl)
-dump_from (StrayFrame replica number) e = (replica, refl)
-dump_from (Differs replica address) e = (replica, refl)
+answer_faults = record { all = λ fault e. subst (λ pass. IsOfPass pass fault) e (own_pass fault); only = from_answer }
 
 from_dump : (fault : Fault) → IsDumpFault fault → pass_of fault ≡ 7
 from_dump (PrefixPastLog replica) among = refl
@@ -355,7 +267,7 @@ from_dump (Differs replica address) among = refl
 from_dump fault among = absurd among.1
 
 pub dump_faults : AreOfPass 7 IsDumpFault
-dump_faults = record { all = dump_from; only = from_dump }
+dump_faults = record { all = λ fault e. subst (λ pass. IsOfPass pass fault) e (own_pass fault); only = from_dump }
 
 -- a fault is of one of the passes
 last_pass : (fault : Fault) → pass_of fault < 8

@@ -10,7 +10,6 @@ pub mod Chains
 pub mod RecordedOrder
 pub mod LastEvents
 pub mod AnswerFaults
-pub mod AnswerEquality
 pub mod FirstOfPasses
 pub mod NeededEntries
 pub mod DumpFaults

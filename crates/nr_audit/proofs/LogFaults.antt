@@ -51,7 +51,8 @@ place_stays trace end call (Some own) other h = (
   ],
 )
 
-none_at : (trace : Recording) (place : ℕ) → (HasFault trace (NotAnUpdate place) → ⊥) → (HasFault trace (PlacedTwice place) → ⊥) → HasNone (IsLogFaultAt place) trace
+none_at : (trace : Recording) (place : ℕ) → (HasFault trace (NotAnUpdate place) → ⊥) → (HasFault trace (PlacedTwice place) → ⊥)
+    → HasNone (IsLogFaultAt place) trace
 none_at trace place a b (NotAnUpdate j) among holds = a (subst (λ k. HasFault trace (NotAnUpdate k)) among holds)
 none_at trace place a b (PlacedTwice j) among holds = b (subst (λ k. HasFault trace (PlacedTwice k)) among holds)
 none_at trace place a b fault among holds = absurd among

@@ -14,7 +14,8 @@ use Rattle.nr_audit.specs.inside.Passes.{IsPositionFaultAt, IsPositionFault}
 use Rattle.nr_audit.proofs.Ranks.{IsRanked, none_of_all, first_of_all, lower_number}
 use Rattle.nr_audit.proofs.CallsAndReplies.{reply_here, no_reply_past, no_reply_with}
 
-none_at : (trace : Recording) (index : ℕ) → (HasFault trace (NotPlaced index) → ⊥) → (HasFault trace (PastLog index) → ⊥) → HasNone (IsPositionFaultAt index) trace
+none_at : (trace : Recording) (index : ℕ) → (HasFault trace (NotPlaced index) → ⊥) → (HasFault trace (PastLog index) → ⊥)
+    → HasNone (IsPositionFaultAt index) trace
 none_at trace index a b (NotPlaced j) among holds = a (subst (λ k. HasFault trace (NotPlaced k)) among holds)
 none_at trace index a b (PastLog j) among holds = b (subst (λ k. HasFault trace (PastLog k)) among holds)
 none_at trace index a b fault among holds = absurd among

@@ -105,4 +105,5 @@ update_saw_nothing trace call update = seen_of_none (address_of trace call) (rep
 
 pub no_call_saw_nothing : (trace : Recording) (call : ℕ) → call_of trace call ≡ None → entries_seen trace call ≡ None
 no_call_saw_nothing trace call none = seen_of_none (address_of trace call) (reply_to trace call)
-    (λ read. false≢true (sym (ap (λ o. is_some (option_and_then (λ (made : Invocation). if made.touch then None else read_address made.request) o)) none) ∙ read))
+    (λ read. false≢true (sym (ap (λ o. is_some (option_and_then (λ (made : Invocation). if made.touch then None else read_address made.request) o)) none)
+    ∙ read))

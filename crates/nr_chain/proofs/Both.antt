@@ -67,7 +67,8 @@ module _ (start : Space) (first second : Segment) (same_layout : second.trace.la
   before_first_member : (call : ℕ) → In call first.order → before call order ≡ before call first.order
   before_first_member call i = before_left call first.order (calls_behind (length first.trace.events) second.order) i
 
-  before_second_member : (k : ℕ) → before (length first.trace.events + k) order ≡ first.order ++ calls_behind (length first.trace.events) (before k second.order)
+  before_second_member : (k : ℕ) → before (length first.trace.events + k) order
+      ≡ first.order ++ calls_behind (length first.trace.events) (before k second.order)
   before_second_member k =
       before_right (length first.trace.events + k) first.order (calls_behind (length first.trace.events) second.order) (not_in_first k)
       ∙ ap (λ (calls : List ℕ). first.order ++ calls) (before_behind (length first.trace.events) k second.order)
@@ -188,7 +189,8 @@ module _ (start : Space) (first second : Segment) (same_layout : second.trace.la
 
   pub of_log : AreOf first.trace first.trace.log
   of_log call i =
-      of_first call (in_filter (λ (c : ℕ). is_some (operation_of first.trace c)) call first.order (subst (λ (calls : List ℕ). In call calls) (sym is_before.log) i)).0
+      of_first call (in_filter (λ (c : ℕ). is_some (operation_of first.trace c)) call first.order
+      (subst (λ (calls : List ℕ). In call calls) (sym is_before.log) i)).0
 
   logged_space : space_behind start first ≡ space_from start first.trace first.order
   logged_space =
@@ -312,7 +314,8 @@ module _ (start : Space) (first second : Segment) (same_layout : second.trace.la
         (in_from_Contains (length first.trace.events + other) (first.order ++ calls_behind (length first.trace.events) (before k second.order))
         (subst (λ (calls : List ℕ). Contains calls (length first.trace.events + other)) (before_second_member k) h))) where
           by_side : In (length first.trace.events + other) first.order
-              ⊎ In (length first.trace.events + other) (calls_behind (length first.trace.events) (before k second.order)) → Contains (before k second.order) other
+              ⊎ In (length first.trace.events + other) (calls_behind (length first.trace.events) (before k second.order))
+              → Contains (before k second.order) other
           by_side (inl i) = absurd (not_in_first other i)
           by_side (inr i) = Contains-from_in other (before k second.order) (in_behind (length first.trace.events) other (before k second.order) i)
 

@@ -55,7 +55,8 @@ clean_without_dumps start trace faultless = record {
 }
 
 -- no reply makes more known than the log has
-known_within : (trace : Recording) (index : ℕ) (reply : Response) → HasCleanLog trace → reply_of trace index ≡ Some reply → known_by trace reply ≤ length trace.log
+known_within : (trace : Recording) (index : ℕ) (reply : Response) → HasCleanLog trace → reply_of trace index ≡ Some reply
+    → known_by trace reply ≤ length trace.log
 known_within trace index reply clean is = by_kind (ordered_or_touch trace reply.call (reply_behind_call trace index reply clean is).1) where
   stands : IsOrdered trace reply.call → StandsAfter trace reply.call reply.at × (reply.at ≤ length trace.log)
   stands ordered = answered_stands trace reply.call reply clean ordered (reply_is_first trace index reply clean is)
@@ -399,7 +400,8 @@ module _ (start : Space) (first second : Recording) (same_layout : second.layout
     dumps_differ : (replica address : ℕ) → HasFaultFrom start whole (Differs replica address) → ⊥
     dumps_differ replica address (dump, is, is_there, differs) =
         let (own, own_is, own_there, h) =
-        own_dump (λ (d : Image). HasDifference first.layout.depth d (space_from start whole (take d.applied whole.log)) address) replica dump is is_there differs in
+        own_dump (λ (d : Image). HasDifference first.layout.depth d (space_from start whole (take d.applied whole.log)) address) replica
+        dump is is_there differs in
         faultless (Differs replica address) (
           own,
           own_is,

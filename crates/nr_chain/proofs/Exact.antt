@@ -88,7 +88,8 @@ module _ (one_first : (before : Option Space) (segment : Recording) (first secon
       absurd (ends_or_sound kept bytes found segment rest h begins sound)
   found_once kept bytes (order ∷ more) [] found other (segment, rest, begins, sound, same, next) k =
       absurd (ends_or_sound kept bytes other segment rest k begins sound)
-  found_once kept bytes (order ∷ more) (another ∷ others) found other (segment, rest, begins, sound, same, next) (own, last, starts, own_sound, own_same, own_next) =
+  found_once kept bytes (order ∷ more) (another ∷ others) found other (segment, rest, begins, sound, same, next)
+      (own, last, starts, own_sound, own_same, own_next) =
       let (is_rest, is) = one_front (layout_before kept) bytes own segment last rest starts begins in
       let behind : GoesOnSo (Some (kept_after kept segment)) rest others other =
       subst (λ (b : List ℕ). GoesOnSo (Some (kept_after kept segment)) b others other) is_rest

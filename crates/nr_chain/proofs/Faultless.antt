@@ -13,7 +13,8 @@ use Rattle.nr_chain.specs.Run.{IsRightFrom, space_behind, AreRightFrom, AreFault
 use Rattle.nr_chain.proofs.History.{history_from}
 
 -- a faultless recording is right with the order that it records
-right_if_recorded : (start : Space) (trace : Recording) → IsFaultlessFrom start trace → IsRightFrom start (record { trace = trace; order = recorded_order trace })
+right_if_recorded : (start : Space) (trace : Recording) → IsFaultlessFrom start trace
+    → IsRightFrom start (record { trace = trace; order = recorded_order trace })
 right_if_recorded start trace faultless =
     let legal = legal_if_faultless start trace faultless in
     record {

@@ -11,6 +11,7 @@ not_answered (suc n) l h = omega arith
 
 pub no_history : IsWellFormedHistory (both maps_without_a_reply resolves_it).trace → ⊥
 no_history history =
-    let between = history.one_open 0 1 (record { replica = 0; thread = 0; request = map_it; touch = false }) (record { replica = 0; thread = 0; request = resolve_it; touch = false })
+    let between = history.one_open 0 1 (record { replica = 0; thread = 0; request = map_it; touch = false })
+    (record { replica = 0; thread = 0; request = resolve_it; touch = false })
     (omega arith) refl refl refl in
     not_answered between.1 between.2 between.3

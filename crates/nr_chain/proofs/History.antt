@@ -29,7 +29,8 @@ module _ (first second : Recording) (before : IsHistory first) (behind : IsHisto
   replied : (index : ℕ) (reply : Response) → reply_of (joined_traces first second) index ≡ Some reply
       → (reply.call < index) × IsCall (joined_traces first second) reply.call
   replied index reply is = by_side (split_at (length first.events) index) where
-    by_side : (index < length first.events) ⊎ ((k : ℕ) × (index ≡ length first.events + k)) → (reply.call < index) × IsCall (joined_traces first second) reply.call
+    by_side : (index < length first.events) ⊎ ((k : ℕ) × (index ≡ length first.events + k))
+        → (reply.call < index) × IsCall (joined_traces first second) reply.call
     by_side (inl l) = replied_left index reply l is
     by_side (inr (k, e)) =
         let (lower, is_call) = replied_right k reply (subst (λ (i : ℕ). reply_of (joined_traces first second) i ≡ Some reply) e is) in
@@ -51,7 +52,8 @@ module _ (first second : Recording) (before : IsHistory first) (behind : IsHisto
         omega arith
 
   abbrev IsAnsweredBefore : ℕ → ℕ → ℕ → Type 0
-  IsAnsweredBefore i j index = (made next : Invocation) → i < j → call_of (joined_traces first second) i ≡ Some made → call_of (joined_traces first second) j ≡ Some next
+  IsAnsweredBefore i j index = (made next : Invocation) → i < j → call_of (joined_traces first second) i ≡ Some made
+      → call_of (joined_traces first second) j ≡ Some next
       → made.thread ≡ next.thread → Answers (joined_traces first second) index i → index < j
 
   both_left : (i j index : ℕ) → i < length first.events → j < length first.events → IsAnsweredBefore i j index

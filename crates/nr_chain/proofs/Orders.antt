@@ -1,12 +1,11 @@
 -- The updates, operations and spaces of a joined run.
-use Rattle.std.proofs.Common.{◌≡◌, ℕ, ◌+◌, ◌<◌, List, [], ◌∷◌, ◌++◌, length, take, is_some, refl, ap, ap₂, sym, ◌∙◌}
+use Rattle.std.proofs.Common.{◌≡◌, ℕ, ◌+◌, ◌<◌, List, ◌++◌, length, take, is_some, refl, ap, ap₂, sym, ◌∙◌}
 use Rattle.std.proofs.lemmas.List.{take-map}
 use Rattle.std.proofs.lemmas.List.Elements.{filter-append, filter_map-append}
 use Rattle.vs_types.specs.Config.{Layout}
 use Rattle.vs_types.specs.Space.{Space}
-use Rattle.vs_types.specs.Step.{step, after_all}
-use Rattle.vs_types.specs.declared.depth.Depth.{Depth}
-use Rattle.vs_types.specs.declared.op.Action.{Action}
+use Rattle.vs_types.specs.Step.{after_all}
+use Rattle.vs_types.proofs.Afterwards.{after_all-append}
 use Rattle.nr_trace.specs.Recording.{Recording}
 use Rattle.nr_trace.specs.Calls.{operation_of}
 use Rattle.nr_trace.specs.Orders.{updates, operations, space_from}
@@ -14,11 +13,6 @@ use Rattle.nr_trace.proofs.LawsOfLists.{In}
 use Rattle.nr_chain.specs.Joined.{calls_behind, joined_traces}
 use Rattle.nr_chain.proofs.Lists.{filter_same, filter-map, filter_map_same, given_of_mapped, given_of_kept, take_behind}
 use Rattle.nr_chain.proofs.Parts.{operation_left, operation_right}
-
-after_all_both : (depth : Depth) (limit : ℕ) (space : Space) (xs ys : List Action)
-    → after_all depth limit space (xs ++ ys) ≡ after_all depth limit (after_all depth limit space xs) ys
-after_all_both depth limit space [] ys = refl
-after_all_both depth limit space (x ∷ xs) ys = after_all_both depth limit (step depth limit space x).space xs ys
 
 -- all these calls are of the run
 abbrev pub AreOf : Recording → List ℕ → Type 0
@@ -65,7 +59,7 @@ pub space_both : (start : Space) (first second : Recording) (before behind : Lis
     ≡ space_from (space_from start first before) second behind
 space_both start first second before behind same own =
     ap (after_all first.layout.depth first.layout.tables start) (operations_both first second before behind own)
-    ∙ after_all_both first.layout.depth first.layout.tables start (operations first before) (operations second behind)
+    ∙ after_all-append first.layout.depth first.layout.tables start (operations first before) (operations second behind)
     ∙ ap (λ (layout : Layout). after_all layout.depth layout.tables (space_from start first before) (operations second behind)) (sym same)
 
 -- the updates among some calls leave the same space as these calls

@@ -32,7 +32,8 @@ call_right first second call =
     ∙ slice_get-map (event_behind (length first.events) (length first.log)) second.events call)
     ∙ made_behind (length first.events) (length first.log) (slice_get second.events call)
 
-pub operation_left : (first second : Recording) (call : ℕ) → call < length first.events → operation_of (joined_traces first second) call ≡ operation_of first call
+pub operation_left : (first second : Recording) (call : ℕ) → call < length first.events
+    → operation_of (joined_traces first second) call ≡ operation_of first call
 operation_left first second call l = ap (option_and_then (λ (made : Invocation). operation_in made.request)) (call_left first second call l)
 
 pub operation_right : (first second : Recording) (call : ℕ)
@@ -40,10 +41,12 @@ pub operation_right : (first second : Recording) (call : ℕ)
 operation_right first second call = ap (option_and_then (λ (made : Invocation). operation_in made.request)) (call_right first second call)
 
 pub address_left : (first second : Recording) (call : ℕ) → call < length first.events → address_of (joined_traces first second) call ≡ address_of first call
-address_left first second call l = ap (option_and_then (λ (made : Invocation). if made.touch then None else read_address made.request)) (call_left first second call l)
+address_left first second call l =
+    ap (option_and_then (λ (made : Invocation). if made.touch then None else read_address made.request)) (call_left first second call l)
 
 pub address_right : (first second : Recording) (call : ℕ) → address_of (joined_traces first second) (length first.events + call) ≡ address_of second call
-address_right first second call = ap (option_and_then (λ (made : Invocation). if made.touch then None else read_address made.request)) (call_right first second call)
+address_right first second call =
+    ap (option_and_then (λ (made : Invocation). if made.touch then None else read_address made.request)) (call_right first second call)
 
 pub touch_left : (first second : Recording) (call : ℕ) → call < length first.events → touch_of (joined_traces first second) call ≡ touch_of first call
 touch_left first second call l =
@@ -72,14 +75,16 @@ reply_left first second index l =
     ap (option_and_then reply_in) (get_left first.events (map (event_behind (length first.events) (length first.log)) second.events) index l)
 
 pub reply_right : (first second : Recording) (index : ℕ)
-    → reply_of (joined_traces first second) (length first.events + index) ≡ option_map (reply_behind (length first.events) (length first.log)) (reply_of second index)
+    → reply_of (joined_traces first second) (length first.events + index)
+    ≡ option_map (reply_behind (length first.events) (length first.log)) (reply_of second index)
 reply_right first second index =
     ap (option_and_then reply_in) (get_right first.events (map (event_behind (length first.events) (length first.log)) second.events) index
     ∙ slice_get-map (event_behind (length first.events) (length first.log)) second.events index)
     ∙ replies_behind (length first.events) (length first.log) (slice_get second.events index)
 
 -- a reply of the second run, as the joined one has it
-pub reply_from_right : (first second : Recording) (index : ℕ) (reply : Response) → reply_of (joined_traces first second) (length first.events + index) ≡ Some reply
+pub reply_from_right : (first second : Recording) (index : ℕ) (reply : Response)
+    → reply_of (joined_traces first second) (length first.events + index) ≡ Some reply
     → (own : Response) × (reply_of second index ≡ Some own) × (reply_behind (length first.events) (length first.log) own ≡ reply)
 reply_from_right first second index reply is =
     of_mapped (reply_behind (length first.events) (length first.log)) (reply_of second index) reply (sym (reply_right first second index) ∙ is)
@@ -111,7 +116,8 @@ answers_to_left first second index call h =
     let (reply, is, named) = reply_that_answers first index call h in
     answers_from (joined_traces first second) index call reply (reply_left first second index (within_events first index reply is) ∙ is) named
 
-pub answers_right : (first second : Recording) (index call : ℕ) → Answers (joined_traces first second) (length first.events + index) (length first.events + call)
+pub answers_right : (first second : Recording) (index call : ℕ)
+    → Answers (joined_traces first second) (length first.events + index) (length first.events + call)
     → Answers second index call
 answers_right first second index call h =
     let (reply, is, named) = reply_that_answers (joined_traces first second) (length first.events + index) (length first.events + call) h in

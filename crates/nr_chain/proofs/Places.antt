@@ -48,7 +48,8 @@ is_ordered_from_right first second call (inr r) = inr (is_read_from_right first 
 
 -- ---- the log
 
-pub placed_left : (first second : Recording) (place call : ℕ) → slice_get first.log place ≡ Some call → slice_get (joined_traces first second).log place ≡ Some call
+pub placed_left : (first second : Recording) (place call : ℕ) → slice_get first.log place ≡ Some call
+    → slice_get (joined_traces first second).log place ≡ Some call
 placed_left first second place call is =
     get_left first.log (calls_behind (length first.events) second.log) place (slice_get_within first.log place call is) ∙ is
 
@@ -71,7 +72,8 @@ PlacedRight first second place call =
 pub placed_in : (first second : Recording) (place call : ℕ) → slice_get (joined_traces first second).log place ≡ Some call
     → (slice_get first.log place ≡ Some call) ⊎ PlacedRight first second place call
 placed_in first second place call is = by_side (split_at (length first.log) place) where
-  by_side : (place < length first.log) ⊎ ((k : ℕ) × (place ≡ length first.log + k)) → (slice_get first.log place ≡ Some call) ⊎ PlacedRight first second place call
+  by_side : (place < length first.log) ⊎ ((k : ℕ) × (place ≡ length first.log + k))
+      → (slice_get first.log place ≡ Some call) ⊎ PlacedRight first second place call
   by_side (inl l) = inl (sym (get_left first.log (calls_behind (length first.events) second.log) place l) ∙ is)
   by_side (inr (k, e)) =
       let (own, own_is, same) = placed_in_right first second k call (subst (λ (p : ℕ). slice_get (joined_traces first second).log p ≡ Some call) e is) in
@@ -200,7 +202,8 @@ get_taken (y ∷ ys) (suc n) (suc i) x e = let (l, f) = get_taken ys n i x e in 
 
 pub knows_more : (trace : Recording) (call entries : ℕ) → entries < floor trace call → KnowsMore trace call entries
 knows_more trace call entries l = by_side (max_of 0 entries (map (known_by trace) (filter_map reply_in (take call trace.events))) l) where
-  by_side : (entries < 0) ⊎ ((k : ℕ) × In k (map (known_by trace) (filter_map reply_in (take call trace.events))) × (entries < k)) → KnowsMore trace call entries
+  by_side : (entries < 0) ⊎ ((k : ℕ) × In k (map (known_by trace) (filter_map reply_in (take call trace.events))) × (entries < k))
+      → KnowsMore trace call entries
   by_side (inl m) = absurd (omega arith)
   by_side (inr (k, i, m)) =
       let (reply, j, same) = in_mapped (known_by trace) k (filter_map reply_in (take call trace.events)) i in

@@ -40,7 +40,8 @@ use Rattle.nr_segment.proofs.Starts.{found_apart, none_differs, right_tables}
 valued : (q : ℕ) (es : List (ℕ × List ℕ)) (words : List ℕ) → entries.find nat_cmp q es ≡ Some words → Contains (map (λ (e : ℕ × List ℕ). e.1) es) words
 valued q [] words e = cc
 valued q (x ∷ es) words e =
-    elim (eq_by_cmp nat_cmp q x.0) as (λ b. cond b (Some x.1) (entries.find nat_cmp q es) ≡ Some words → Contains (map (λ (e : ℕ × List ℕ). e.1) (x ∷ es)) words) [
+    elim (eq_by_cmp nat_cmp q x.0) as (λ b. cond b (Some x.1) (entries.find nat_cmp q es) ≡ Some words
+    → Contains (map (λ (e : ℕ × List ℕ). e.1) (x ∷ es)) words) [
       | true ↦ λ is.
           let same : x.1 ≡ words = cc in
           subst (Contains (map (λ (e : ℕ × List ℕ). e.1) (x ∷ es))) same (Contains-head x.1 (map (λ (e : ℕ × List ℕ). e.1) es))
@@ -138,7 +139,8 @@ begins_in segment in_range sound = by_start segment.start refl where
   by_start (Some start) has = subst (Begins segment.layout.depth) (sym has) (space_of_start segment start has in_range sound)
 
 -- a segment without a start that is right at the head of a chain is right behind one after which there are no pages
-module _ (segment : Recording) (has : segment.start ≡ None) (sound : IsSoundAfter None segment) (space : Space) (none : start_space segment.layout.depth segment.start ≡ space) where
+module _ (segment : Recording) (has : segment.start ≡ None) (sound : IsSoundAfter None segment) (space : Space)
+    (none : start_space segment.layout.depth segment.start ≡ space) where
   still_faultless : HasNoFaultAfter (Some space) segment
   still_faultless (Start fault) (start, start_is, holds) = absurd (let wrong : None ≡ Some start = sym has ∙ start_is in cc)
   still_faultless (Within fault) holds = sound.faultless (Within fault) (subst (λ (s : Space). HasFaultFrom s segment fault) (sym none) holds)

@@ -40,7 +40,8 @@ pub record IsGathered (table : PageTable) (depth : Depth) (root : ℕ) (dump : I
   pub held : (number : ℕ) → Contains (reached (traversal depth table.memory root)) number → finite.get dump.frames number ≡ finite.get table.memory number
   pub only : (number : ℕ) → IsTrue (finite.contains_key dump.frames number) → Contains (reached (traversal depth table.memory root)) number
 
-pub same_reached : (memory : Memory) (depth d : Depth) (root r : ℕ) → d ≡ depth → r ≡ root → reached (traversal d memory r) ≡ reached (traversal depth memory root)
+pub same_reached : (memory : Memory) (depth d : Depth) (root r : ℕ) → d ≡ depth → r ≡ root
+    → reached (traversal d memory r) ≡ reached (traversal depth memory root)
 same_reached memory depth d root r ed er = ap (λ z. reached (traversal z memory r)) ed ∙ ap (λ z. reached (traversal depth memory z)) er
 
 same_frames : (table : PageTable) (depth : Depth) (root : ℕ) (dump : Image) → IsGathered table depth root dump → dump.frames ≡ table.memory
@@ -63,12 +64,16 @@ is_dump table space replica depth root dump of space_is there applied faultless 
     record {
       there = there;
       applied = applied;
-      translates = subst ByFrames (sym frames) (subst ByRoot (sym root_is) (subst (TranslatesAs table.depth table.memory table.root) (sym space_is) of.translates));
+      translates =
+          subst ByFrames (sym frames) (subst ByRoot (sym root_is) (subst (TranslatesAs table.depth table.memory table.root) (sym space_is) of.translates));
       faultless = ap (λ m. walk_fault table.depth m dump.root) frames ∙ ap (walk_fault table.depth table.memory) root_is ∙ faultless;
       none_stray = λ number stray.
-          let in_table : IsTrue (finite.contains_key table.memory number) = subst (λ (m : Memory). IsTrue (finite.contains_key m number)) frames (some_get dump.frames number stray.0) in
+          let in_table : IsTrue (finite.contains_key table.memory number) =
+          subst (λ (m : Memory). IsTrue (finite.contains_key m number)) frames (some_get dump.frames number stray.0) in
           let reached_there : Contains (reached (traversal table.depth dump.frames dump.root)) number =
-          subst (λ l. Contains l number) (sym (ap (λ m. reached (traversal table.depth m dump.root)) frames ∙ ap (λ r. reached (traversal table.depth table.memory r)) root_is))
+          subst (λ l. Contains l number) (sym
+          (ap (λ m. reached (traversal table.depth m dump.root)) frames
+          ∙ ap (λ r. reached (traversal table.depth table.memory r)) root_is))
           (is.each number in_table) in
           stray.1 reached_there;
     }

@@ -40,8 +40,10 @@ pub one_of : {A : Type 0} (P : A → Type 0) (xs : List A) (i : ℕ) (x : A) →
 one_of P xs i x within is all = subst P (sym is) (All-get_or P xs i x within all)
 
 -- another thread in the place of one, with no more events left to record
-pub with_other_thread : {layout : Layout} {events : List Event} {log : List LogEntry} {replicas : List ReplicaState} {threads : List ThreadState} (t : ℕ) (x y : ThreadState)
-    → AreParts layout events log replicas threads → t < length threads → x ≡ slice_index_or threads t x → IsThread layout.depth y → events_left y ≤ events_left x
+pub with_other_thread : {layout : Layout} {events : List Event} {log : List LogEntry} {replicas : List ReplicaState}
+    {threads : List ThreadState} (t : ℕ) (x y : ThreadState)
+    → AreParts layout events log replicas threads → t < length threads → x ≡ slice_index_or threads t x → IsThread layout.depth y
+    → events_left y ≤ events_left x
     → AreParts layout events log replicas (slice_set threads t y)
 with_other_thread {layout} {events} {log} {replicas} {threads} t x y parts within is good fewer = record {
   each_thread = All-set (IsThread layout.depth) threads t y good parts.each_thread;
@@ -59,7 +61,8 @@ with_other_thread {layout} {events} {log} {replicas} {threads} t x y parts withi
 }
 
 -- another replica in the place of one
-pub with_other_replica : {layout : Layout} {events : List Event} {log : List LogEntry} {replicas : List ReplicaState} {threads : List ThreadState} (r : ℕ) (y : ReplicaState)
+pub with_other_replica : {layout : Layout} {events : List Event} {log : List LogEntry} {replicas : List ReplicaState}
+    {threads : List ThreadState} (r : ℕ) (y : ReplicaState)
     → AreParts layout events log replicas threads → IsReplica layout y → AreParts layout events log (slice_set replicas r y) threads
 with_other_replica {layout} {events} {log} {replicas} {threads} r y parts good = record {
   each_thread = parts.each_thread;
@@ -117,8 +120,10 @@ same_replica state r before is =
     same_element xs i x is = ap (slice_set xs i) (sym (get_or_from_slice_get xs i x x is)) ∙ set-get_or xs i x
 
 -- an event more, and another thread in the place of one, which has one event less to record
-pub with_other_event : {layout : Layout} {events : List Event} {log : List LogEntry} {replicas : List ReplicaState} {threads : List ThreadState} (t : ℕ) (x y : ThreadState) (event : Event)
-    → AreParts layout events log replicas threads → t < length threads → x ≡ slice_index_or threads t x → IsThread layout.depth y → events_left y + 1 ≤ events_left x
+pub with_other_event : {layout : Layout} {events : List Event} {log : List LogEntry} {replicas : List ReplicaState}
+    {threads : List ThreadState} (t : ℕ) (x y : ThreadState) (event : Event)
+    → AreParts layout events log replicas threads → t < length threads → x ≡ slice_index_or threads t x → IsThread layout.depth y
+    → events_left y + 1 ≤ events_left x
     → IsEvent V2 layout event → AreParts layout (events ++ event ∷ []) log replicas (slice_set threads t y)
 with_other_event {layout} {events} {log} {replicas} {threads} t x y event parts within is good fewer fits = record {
   each_thread = All-set (IsThread layout.depth) threads t y good parts.each_thread;
@@ -137,14 +142,16 @@ with_other_event {layout} {events} {log} {replicas} {threads} t x y event parts 
 }
 
 -- the state, where one thread is another, and an event more is recorded
-pub set_recorded : {state : State} {t k : ℕ} {events : List Event} (core : Inside) (y : ThreadState) (after : Thread) (event : Event) → seen core ≡ state → k ≡ t → thread_in y ≡ after
+pub set_recorded : {state : State} {t k : ℕ} {events : List Event} (core : Inside) (y : ThreadState) (after : Thread) (event : Event)
+    → seen core ≡ state → k ≡ t → thread_in y ≡ after
     → events ≡ core.events.items ++ event ∷ []
     → state_in core.config events core.log.items core.completed core.replicas.items (slice_set core.threads.items k y)
     ≡ record (with_thread state t after) { events = state.events ++ event ∷ [] }
 set_recorded {k = k} core y after event is same as_after pushed = rw (← is, map-set thread_in core.threads.items k y, same, as_after, pushed) refl
 
 -- the log with a batch's entries at its end
-pub with_entries : {layout : Layout} {events : List Event} {log : List LogEntry} {replicas : List ReplicaState} {threads : List ThreadState} (more : List LogEntry)
+pub with_entries : {layout : Layout} {events : List Event} {log : List LogEntry} {replicas : List ReplicaState} {threads : List ThreadState}
+    (more : List LogEntry)
     → AreParts layout events log replicas threads → All (λ entry. IsAction layout.depth entry.op) more → length log + length more ≤ LOG_PLACES
     → AreParts layout events (log ++ more) replicas threads
 with_entries {layout} {log = log} more parts fit few = record {

@@ -16,14 +16,16 @@ use Rattle.nr_core.specs.inside.Parts.{thread_in, thread_of, replica_in, events_
 all_in : {A B : Type 0} (P : B → Type 0) (f : A → B) (xs : List A) → All P (map f xs) → All (λ x. P (f x)) xs
 all_in P f xs all k d within = subst P (get_or-map f xs k d (f d) within) (all k (f d) (subst (λ n. k < n) (sym (length-map xs f)) within))
 
-pub threads_good : (layout : Layout) (scripts : List (Vec Query)) → AreScripts layout (map (λ script. script.items) scripts) → All (IsThread layout.depth) (map thread_of scripts)
+pub threads_good : (layout : Layout) (scripts : List (Vec Query)) → AreScripts layout (map (λ script. script.items) scripts)
+    → All (IsThread layout.depth) (map thread_of scripts)
 threads_good layout scripts are =
     All-map (IsThread layout.depth) thread_of scripts (λ k d within. record {
       script = all_in (All (IsQuery layout.depth)) (λ (script : Vec Query). script.items) scripts are.well_formed k d within;
       stage = tt;
     })
 
-pub threads_left : (scripts : List (Vec Query)) → sum_by events_left (map thread_of scripts) ≡ 2 * sum_by (λ script. length script) (map (λ (script : Vec Query). script.items) scripts)
+pub threads_left : (scripts : List (Vec Query))
+    → sum_by events_left (map thread_of scripts) ≡ 2 * sum_by (λ script. length script) (map (λ (script : Vec Query). script.items) scripts)
 threads_left [] = refl
 threads_left (s ∷ scripts) =
     let rest = threads_left scripts in
@@ -36,7 +38,8 @@ threads_seen [] = refl
 threads_seen (s ∷ scripts) = ap (λ ts. new_thread s.items ∷ ts) (threads_seen scripts)
 
 -- a state from its parts at the start
-pub parts_good : (layout : Layout) (scripts : List (Vec Query)) (replicas : List ReplicaState) → AreScripts layout (map (λ (script : Vec Query). script.items) scripts)
+pub parts_good : (layout : Layout) (scripts : List (Vec Query)) (replicas : List ReplicaState)
+    → AreScripts layout (map (λ (script : Vec Query). script.items) scripts)
     → map replica_in replicas ≡ replicate layout.replicas new_replica → All (IsReplica layout) replicas → AreParts layout [] [] replicas (map thread_of scripts)
 parts_good layout scripts replicas are seen good = record {
   each_thread = threads_good layout scripts are;

@@ -20,7 +20,8 @@ use Rattle.nr_ring.specs.inside.Codes.{code_in, code_of, code_of_log, local_in, 
 -- words have the code of their log
 pub code_is : (log : Log) (words : List ℕ) → IsWordsOf log words → code_in words ≡ code_of_log log
 code_is log words is = λ i.
-    code_of (is.tail_is i) (is.locals_are 0 (omega arith) i ∷ is.locals_are 1 (omega arith) i ∷ is.locals_are 2 (omega arith) i ∷ is.locals_are 3 (omega arith) i ∷ []) (is.replicas_are i)
+    code_of (is.tail_is i) (is.locals_are 0 (omega arith) i ∷ is.locals_are 1 (omega arith) i ∷ is.locals_are 2 (omega arith) i
+    ∷ is.locals_are 3 (omega arith) i ∷ []) (is.replicas_are i)
 
 beyond : (xs : List ℕ) (i : ℕ) → length xs ≤ i → get_or xs i 0 ≡ 0
 beyond [] i le = refl
@@ -52,7 +53,8 @@ room_is log fits r = room_at log fits r (nat_le (r + 1) (length log.locals)) ref
 abbrev packed : ℕ → ℕ → ℕ → ℕ → ℕ → ℕ → ℕ
 packed t a b c d n = ((((t * 32 + a) * 32 + b) * 32 + c) * 32 + d) * 8 + n
 
-local_at : (code t room l n r unit : ℕ) → code % 8 ≡ n → code / 2 ^ 23 ≡ t → code / unit % 32 ≡ room → Room t l room n r → (n ≤ r → l ≡ 0) → (b : Bool) → nat_le (r + 1) (code % 8) ≡ b
+local_at : (code t room l n r unit : ℕ) → code % 8 ≡ n → code / 2 ^ 23 ≡ t → code / unit % 32 ≡ room → Room t l room n r → (n ≤ r → l ≡ 0)
+    → (b : Bool) → nat_le (r + 1) (code % 8) ≡ b
     → (if b then code / 2 ^ 23 + code / unit % 32 - 16 else 0) ≡ l
 local_at code t room l n r unit count tail has is none true e =
     let lt = leb-true (r + 1) (code % 8) e in
@@ -103,7 +105,8 @@ module _ (log : Log) (fits : FitsTheRing log) (few : length log.locals ≤ 4) wh
 
   tells_local : (r unit : ℕ) → code / unit % 32 ≡ room r → local_in code r unit ≡ local_of log r
   tells_local r unit has =
-      local_at code (tail log) (room r) (local_of log r) (length log.locals) r unit tells_count tells_tail has (room_is log fits r) (beyond log.locals r) (nat_le (r + 1) (code % 8)) refl
+      local_at code (tail log) (room r) (local_of log r) (length log.locals) r unit tells_count tells_tail has (room_is log fits r)
+      (beyond log.locals r) (nat_le (r + 1) (code % 8)) refl
 
   pub small_code : code < 2 ^ 62
   small_code = omega (arith, code_packed, few, fits.ends, small 0, small 1, small 2, small 3)
@@ -111,7 +114,8 @@ module _ (log : Log) (fits : FitsTheRing log) (few : length log.locals ≤ 4) wh
   told : (words : List ℕ) → IsWordsOf log words → (place : ℕ) → place < 7 → slice_index words place ≡ word_in code place
   told words is zero lt = is.tail_is ∙ sym tells_tail
   told words is (suc zero) lt = is.completed_is ∙ (greatest_of_four log.locals few
-      ∙ sym (λ i. max (tells_local 0 (2 ^ 18) tells_room_0 i) (max (tells_local 1 (2 ^ 13) tells_room_1 i) (max (tells_local 2 (2 ^ 8) tells_room_2 i) (tells_local 3 (2 ^ 3) tells_room_3 i)))))
+      ∙ sym (λ i. max (tells_local 0 (2 ^ 18) tells_room_0 i)
+      (max (tells_local 1 (2 ^ 13) tells_room_1 i) (max (tells_local 2 (2 ^ 8) tells_room_2 i) (tells_local 3 (2 ^ 3) tells_room_3 i)))))
   told words is (suc (suc zero)) lt = is.locals_are 0 (omega arith) ∙ sym (tells_local 0 (2 ^ 18) tells_room_0)
   told words is (suc (suc (suc zero))) lt = is.locals_are 1 (omega arith) ∙ sym (tells_local 1 (2 ^ 13) tells_room_1)
   told words is (suc (suc (suc (suc zero)))) lt = is.locals_are 2 (omega arith) ∙ sym (tells_local 2 (2 ^ 8) tells_room_2)
@@ -124,11 +128,23 @@ module _ (log : Log) (fits : FitsTheRing log) (few : length log.locals ≤ 4) wh
   words_are_coded words is place lt = told words is place lt ∙ ap (λ (z : ℕ). word_in z place) (sym (code_is log words is))
 
 -- each event raises the code
-pub event_raises : (depth : Depth) (log : Log) (event : LogEvent) → FitsTheRing log → FitsTheRing (log_after_event log event) → length log.locals ≤ 4 → MayFollow depth log event
+pub event_raises : (depth : Depth) (log : Log) (event : LogEvent) → FitsTheRing log → FitsTheRing (log_after_event log event)
+    → length log.locals ≤ 4 → MayFollow depth log event
     → code_of_log log < code_of_log (log_after_event log event)
 event_raises depth log (Append batch) fits after few may =
     let r = λ (k : ℕ). (room_is log fits k).few in
-    omega (arith, length-append log.entries batch, may.some, few, r 0, r 1, r 2, r 3, code_packed log fits few, code_packed (log_after_event log (Append batch)) after few)
+    omega (
+      arith,
+      length-append log.entries batch,
+      may.some,
+      few,
+      r 0,
+      r 1,
+      r 2,
+      r 3,
+      code_packed log fits few,
+      code_packed (log_after_event log (Append batch)) after few,
+    )
 event_raises depth log (Advance replica to) fits after few may = by_replica replica may after where
   next : ℕ → Log
   next r = log_after_event log (Advance r to)
@@ -142,7 +158,8 @@ event_raises depth log (Advance replica to) fits after few may = by_replica repl
   rises : (r : ℕ) → MayAdvance log r to → local_of log r < local_of (next r) r
   rises r may = omega (arith, get_or-set_same log.locals r to 0 may.there, may.some)
 
-  same : (r k : ℕ) → (k ≡ r → ⊥) → room_of (tail log) (local_of (next r) k) (nat_le (k + 1) (length (next r).locals)) ≡ room_of (tail log) (local_of log k) (nat_le (k + 1) (length log.locals))
+  same : (r k : ℕ) → (k ≡ r → ⊥) → room_of (tail log) (local_of (next r) k) (nat_le (k + 1) (length (next r).locals))
+      ≡ room_of (tail log) (local_of log k) (nat_le (k + 1) (length log.locals))
   same r k other = λ i. room_of (tail log) (stays r k other i) (nat_le (k + 1) (as_many r i))
 
   more : (r : ℕ) → MayAdvance log r to → FitsTheRing (next r) → room_of (tail log) (local_of log r) (nat_le (r + 1) (length log.locals))
@@ -156,10 +173,24 @@ event_raises depth log (Advance replica to) fits after few may = by_replica repl
   few_after r k after = (room_is (next r) after k).few
 
   by_replica : (r : ℕ) → MayAdvance log r to → FitsTheRing (next r) → code_of_log log < code_of_log (next r)
-  by_replica zero may after = omega (arith, as_many 0, more 0 may after, few_of 1, few_of 2, few_of 3, same 0 1 (λ e. omega arith), same 0 2 (λ e. omega arith), same 0 3 (λ e. omega arith))
-  by_replica (suc zero) may after = omega (arith, as_many 1, more 1 may after, few_of 2, few_of 3, same 1 0 (λ e. omega arith), same 1 2 (λ e. omega arith), same 1 3 (λ e. omega arith))
-  by_replica (suc (suc zero)) may after = omega (arith, as_many 2, more 2 may after, few_of 3, same 2 0 (λ e. omega arith), same 2 1 (λ e. omega arith), same 2 3 (λ e. omega arith))
-  by_replica (suc (suc (suc zero))) may after = omega (arith, as_many 3, more 3 may after, same 3 0 (λ e. omega arith), same 3 1 (λ e. omega arith), same 3 2 (λ e. omega arith))
+  by_replica zero may after =
+      omega (
+        arith,
+        as_many 0,
+        more 0 may after,
+        few_of 1,
+        few_of 2,
+        few_of 3,
+        same 0 1 (λ e. omega arith),
+        same 0 2 (λ e. omega arith),
+        same 0 3 (λ e. omega arith),
+      )
+  by_replica (suc zero) may after =
+      omega (arith, as_many 1, more 1 may after, few_of 2, few_of 3, same 1 0 (λ e. omega arith), same 1 2 (λ e. omega arith), same 1 3 (λ e. omega arith))
+  by_replica (suc (suc zero)) may after =
+      omega (arith, as_many 2, more 2 may after, few_of 3, same 2 0 (λ e. omega arith), same 2 1 (λ e. omega arith), same 2 3 (λ e. omega arith))
+  by_replica (suc (suc (suc zero))) may after =
+      omega (arith, as_many 3, more 3 may after, same 3 0 (λ e. omega arith), same 3 1 (λ e. omega arith), same 3 2 (λ e. omega arith))
   by_replica (suc (suc (suc (suc r)))) may after = absurd (omega (arith, may.there, few))
 
 -- the local tails of a log
@@ -167,10 +198,12 @@ abbrev pub locals_of : Log → List ℕ
 locals_of log = local_of log 0 ∷ local_of log 1 ∷ local_of log 2 ∷ local_of log 3 ∷ []
 
 locals_are : (log : Log) (words : List ℕ) → IsHeadOf log words → locals_in words ≡ locals_of log
-locals_are log words is = λ i. is.locals_are 0 (omega arith) i ∷ is.locals_are 1 (omega arith) i ∷ is.locals_are 2 (omega arith) i ∷ is.locals_are 3 (omega arith) i ∷ []
+locals_are log words is = λ i. is.locals_are 0 (omega arith) i ∷ is.locals_are 1 (omega arith) i ∷ is.locals_are 2 (omega arith) i
+    ∷ is.locals_are 3 (omega arith) i ∷ []
 
 -- the local tails after an advance
-advanced_locals : (log : Log) (replica to : ℕ) → replica < length log.locals → length log.locals ≤ 4 → set (locals_of log) replica to ≡ locals_of (log_after_event log (Advance replica to))
+advanced_locals : (log : Log) (replica to : ℕ) → replica < length log.locals → length log.locals ≤ 4
+    → set (locals_of log) replica to ≡ locals_of (log_after_event log (Advance replica to))
 advanced_locals log replica to there few = by_replica replica there where
   here : (r : ℕ) → r < length log.locals → to ≡ get_or (set log.locals r to) r 0
   here r there = sym (get_or-set_same log.locals r to 0 there)
@@ -181,18 +214,23 @@ advanced_locals log replica to there few = by_replica replica there where
   by_replica : (r : ℕ) → r < length log.locals → set (locals_of log) r to ≡ locals_of (log_after_event log (Advance r to))
   by_replica zero there = λ i. here 0 there i ∷ other 0 1 (λ e. omega arith) i ∷ other 0 2 (λ e. omega arith) i ∷ other 0 3 (λ e. omega arith) i ∷ []
   by_replica (suc zero) there = λ i. other 1 0 (λ e. omega arith) i ∷ here 1 there i ∷ other 1 2 (λ e. omega arith) i ∷ other 1 3 (λ e. omega arith) i ∷ []
-  by_replica (suc (suc zero)) there = λ i. other 2 0 (λ e. omega arith) i ∷ other 2 1 (λ e. omega arith) i ∷ here 2 there i ∷ other 2 3 (λ e. omega arith) i ∷ []
-  by_replica (suc (suc (suc zero))) there = λ i. other 3 0 (λ e. omega arith) i ∷ other 3 1 (λ e. omega arith) i ∷ other 3 2 (λ e. omega arith) i ∷ here 3 there i ∷ []
+  by_replica (suc (suc zero)) there =
+      λ i. other 2 0 (λ e. omega arith) i ∷ other 2 1 (λ e. omega arith) i ∷ here 2 there i ∷ other 2 3 (λ e. omega arith) i ∷ []
+  by_replica (suc (suc (suc zero))) there =
+      λ i. other 3 0 (λ e. omega arith) i ∷ other 3 1 (λ e. omega arith) i ∷ other 3 2 (λ e. omega arith) i ∷ here 3 there i ∷ []
   by_replica (suc (suc (suc (suc r)))) there = absurd (omega (arith, there, few))
 
-pub append_code : (log : Log) (words : List ℕ) (batch : List LogEntry) (t n : ℕ) (locals : List ℕ) → IsHeadOf log words → t ≡ slice_index words 0 + length batch → locals ≡ locals_in words → n ≡ slice_index words 6
+pub append_code : (log : Log) (words : List ℕ) (batch : List LogEntry) (t n : ℕ) (locals : List ℕ) → IsHeadOf log words
+    → t ≡ slice_index words 0 + length batch → locals ≡ locals_in words → n ≡ slice_index words 6
     → code_of t locals n ≡ code_of_log (log_after_event log (Append batch))
 append_code log words batch t n locals is tail_is same count =
     let longer : t ≡ length (log.entries ++ batch) = omega (arith, tail_is, is.tail_is, length-append log.entries batch) in
     λ i. code_of (longer i) ((same ∙ locals_are log words is) i) ((count ∙ is.replicas_are) i)
 
-pub advance_code : (log : Log) (words : List ℕ) (replica to t n : ℕ) (locals : List ℕ) → IsHeadOf log words → replica < length log.locals → length log.locals ≤ 4
-    → t ≡ slice_index words 0 → locals ≡ set (locals_in words) replica to → n ≡ slice_index words 6 → code_of t locals n ≡ code_of_log (log_after_event log (Advance replica to))
+pub advance_code : (log : Log) (words : List ℕ) (replica to t n : ℕ) (locals : List ℕ) → IsHeadOf log words → replica < length log.locals
+    → length log.locals ≤ 4
+    → t ≡ slice_index words 0 → locals ≡ set (locals_in words) replica to → n ≡ slice_index words 6
+    → code_of t locals n ≡ code_of_log (log_after_event log (Advance replica to))
 advance_code log words replica to t n locals is there few tail_is same count =
     let moved = same ∙ (ap (λ (l : List ℕ). set l replica to) (locals_are log words is) ∙ advanced_locals log replica to there few) in
     λ i. code_of ((tail_is ∙ is.tail_is) i) (moved i) ((count ∙ (is.replicas_are ∙ sym (length-set log.locals replica to))) i)
@@ -207,7 +245,8 @@ small_locals words locals small is = subst (λ (l : List ℕ). All (λ local. lo
   each (suc (suc (suc zero))) d lt = small.tails 5 (omega arith)
   each (suc (suc (suc (suc k)))) d lt = absurd (omega arith)
 
-pub small_still : (locals : List ℕ) (replica to : ℕ) → replica < length locals → All (λ local. local ≤ 65536) locals → to ≤ 65536 → All (λ local. local ≤ 65536) (set locals replica to)
+pub small_still : (locals : List ℕ) (replica to : ℕ) → replica < length locals → All (λ local. local ≤ 65536) locals → to ≤ 65536
+    → All (λ local. local ≤ 65536) (set locals replica to)
 small_still locals replica to inside all le k d lt = dite (ℕ_discrete k replica)
     (λ e. omega (arith, le, ap (λ (z : ℕ). get_or (set locals replica to) z d) e ∙ get_or-set_same locals replica to d inside))
     (λ other. omega (arith, all k d (omega (arith, lt, length-set locals replica to)), get_or-set_other locals replica k to d other))

@@ -31,8 +31,10 @@ event_turns depth replicas passes pass v event words next few is may own now vie
     (with_event v event, event_kept depth replicas passes pass v event words next views few kept at is may own now, refl)
 
 -- each event raises the code of the words, which determines the first of the words after it
-pub event_coded : (depth : Depth) (replicas : ℕ) (seen : List LogEvent) (event : LogEvent) (words next : List ℕ) (code : ℕ) → replicas ≤ 4 → IsLogHistory depth replicas seen
-    → IsWordsOf (log_after replicas seen) words → MayFollow depth (log_after replicas seen) event → IsWordsOf (log_after_event (log_after replicas seen) event) next
+pub event_coded : (depth : Depth) (replicas : ℕ) (seen : List LogEvent) (event : LogEvent) (words next : List ℕ) (code : ℕ) → replicas ≤ 4
+    → IsLogHistory depth replicas seen
+    → IsWordsOf (log_after replicas seen) words → MayFollow depth (log_after replicas seen) event
+    → IsWordsOf (log_after_event (log_after replicas seen) event) next
     → code ≡ code_of_log (log_after_event (log_after replicas seen) event)
     → ((code ≡ code_in next) × (code < 2 ^ 63)) × IsCoded code_in word_in 7 next × (code_in words < code)
 event_coded depth replicas seen event words next code few history is may now has =
@@ -108,5 +110,7 @@ pub exchange_tells : (depth : Depth) (replicas : ℕ) (words words' next : List 
 exchange_tells depth replicas words words' next replica v w event true is may now tells =
     let Is : List ℕ × View → Type 0 = λ z. Remembers depth replicas z.0 replica z.1 in
     (subst Is (λ i. (sym tells.0 i, sym tells.1 i)) (event_remembers depth replicas words next replica v event is may now), tells.1)
-exchange_tells depth replicas words words' next replica v w event false is may now tells =
-    (look_remembers depth replicas words words' replica v w is tells.1, (tells.1.looked, later_moved depth replicas words' words replica v w is tells.0 tells.1))
+exchange_tells depth replicas words words' next replica v w event false is may now tells = (
+  look_remembers depth replicas words words' replica v w is tells.1,
+  (tells.1.looked, later_moved depth replicas words' words replica v w is tells.0 tells.1),
+)

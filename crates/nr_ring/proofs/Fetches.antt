@@ -32,7 +32,8 @@ item_holds P (y ∷ ys) zero x e all = let Q : Option LogEntry → Type 0 = λ o
 item_holds P (y ∷ ys) (suc i) x e all = item_holds P ys i x e (λ k d lt. all (suc k) d (omega arith))
 
 -- the two words of a place spell the entry that is there
-pub spelled_at : (depth : Depth) (log : Log) (from : ℕ) (words : List ℕ) (place : ℕ) (entry : LogEntry) → HaveEntries log from words → All (IsLogEntry depth) log.entries
+pub spelled_at : (depth : Depth) (log : Log) (from : ℕ) (words : List ℕ) (place : ℕ) (entry : LogEntry) → HaveEntries log from words
+    → All (IsLogEntry depth) log.entries
     → slice_get log.entries place ≡ Some entry → from ≤ place
     → SpellsEntry depth (slice_index words (word_of place) ∷ slice_index words (word_of place + 1) ∷ []) entry
 spelled_at depth log from words place entry have fit there high =

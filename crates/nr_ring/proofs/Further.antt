@@ -88,7 +88,8 @@ sees depth replicas passes pass told other seen words x views few kept at here m
     let v : View = joint_view told other in
     let w : View = seeing seen v in
     let old : IsTrueOf kept.history (made_by_pass pass kept.makers) v = kept.each_view pass v at in
-    let own : (k d : ℕ) → k < length v.owns → HasSeenAdvances (slice_index_or v.owns k d) kept.history seen × HasSeenAdvances (slice_index_or v.owns k d) seen told.seen =
+    let own : (k d : ℕ) → k < length v.owns
+    → HasSeenAdvances (slice_index_or v.owns k d) kept.history seen × HasSeenAdvances (slice_index_or v.owns k d) seen told.seen =
     λ k d lt. between (slice_index_or v.owns k d) kept.history seen told.seen (old.owns k d lt) here mine in (
       w,
       seeing_kept depth replicas passes pass v seen x views kept at (record { seen = here; told = old.told; owns = λ k d lt. (own k d lt).0; mine = old.mine }),
@@ -122,11 +123,13 @@ meeting_recalls depth replicas passes pass told other given first second words o
     let Begins : List LogEvent → Type 0 = λ l. StartsWith other.seen l in
     let as_told : StartsWith told.seen other.seen → code_in second ≤ code_in first → words ≡ first
     → (w : View) × IsKept depth replicas passes x (Rattle.std.specs.Prelude.slice_set views pass w) × Looks depth replicas words (joint_view told given) w =
-    λ after le chosen. sees depth replicas passes pass told given told.seen words x views is.few kept at mine (whole told.seen) (subst Ends (sym same) after) is.told is.is_history
+    λ after le chosen. sees depth replicas passes pass told given told.seen words x views is.few kept at mine (whole told.seen)
+    (subst Ends (sym same) after) is.told is.is_history
     (subst (λ (ws : List ℕ). Of ws told.seen) (sym chosen) is.words_are) in
     let as_other : StartsWith other.seen told.seen → words ≡ second
     → (w : View) × IsKept depth replicas passes x (Rattle.std.specs.Prelude.slice_set views pass w) × Looks depth replicas words (joint_view told given) w =
-    λ after chosen. sees depth replicas passes pass told given other.seen words x views is.few kept at hers after (subst Begins (sym same) (whole other.seen)) is.told they.is_history
+    λ after chosen. sees depth replicas passes pass told given other.seen words x views is.few kept at hers after
+    (subst Begins (sym same) (whole other.seen)) is.told they.is_history
     (subst (λ (ws : List ℕ). Of ws other.seen) (sym chosen) they.words_are) in
     let order = either_begins told.seen other.seen mine.0 hers.0 (sym mine.1 ∙ hers.1) in
     ⊎_elim

@@ -44,7 +44,8 @@ one_event depth log (Advance replica to) may =
 pub events_go_on : (depth : Depth) (log : Log) (events : List LogEvent) → MayGoOn depth log events → HasGoneOn log (log_after_events log events)
 events_go_on depth log [] may = stands log
 events_go_on depth log (event ∷ events) may =
-    goes_on log (log_after_event log event) (log_after_events (log_after_event log event) events) (one_event depth log event may.0) (events_go_on depth (log_after_event log event) events may.1)
+    goes_on log (log_after_event log event) (log_after_events (log_after_event log event) events) (one_event depth log event may.0)
+    (events_go_on depth (log_after_event log event) events may.1)
 
 tail_rises : (p q : Log) → HasGoneOn p q → tail p ≤ tail q
 tail_rises p q on = omega (arith, length-append p.entries on.entries.0, ap (λ (l : List LogEntry). length l) on.entries.1)
@@ -107,7 +108,8 @@ after_both log [] rest = refl
 after_both log (event ∷ seen) rest = after_both (log_after_event log event) seen rest
 
 -- events that are no advance of a replica leave its local tail
-local_stays : (replica : ℕ) (log : Log) (events : List LogEvent) → All (IsElse replica) events → local_of (log_after_events log events) replica ≡ local_of log replica
+local_stays : (replica : ℕ) (log : Log) (events : List LogEvent) → All (IsElse replica) events
+    → local_of (log_after_events log events) replica ≡ local_of log replica
 local_stays replica log [] all = refl
 local_stays replica log (Append batch ∷ events) all = local_stays replica (log_after_event log (Append batch)) events (λ k d lt. all (suc k) d (omega arith))
 local_stays replica log (Advance other to ∷ events) all =

@@ -42,7 +42,8 @@ third : (depth : Depth) (replicas passes : ℕ) (words : List ℕ) (views : List
     → IsKept depth replicas passes words views → get_elem? views pass ≡ some v → get_elem? views other ≡ some w
     → Contains v.owns replica ⊎ Contains w.owns replica → j ≢ pass → j ≢ other → get_elem? views j ≡ some u → Contains u.owns replica → ⊥
 third depth replicas passes words views pass other v w j replica u is at there (inl a) mine its here has = mine (is.one_owner j pass u v replica here at has a)
-third depth replicas passes words views pass other v w j replica u is at there (inr a) mine its here has = its (is.one_owner j other u w replica here there has a)
+third depth replicas passes words views pass other v w j replica u is at there (inr a) mine its here has =
+    its (is.one_owner j other u w replica here there has a)
 
 one_each : (depth : Depth) (replicas passes : ℕ) (words : List ℕ) (views : List View) (pass other : ℕ) (v w z : View) (p q replica : ℕ)
     → IsKept depth replicas passes words views → get_elem? views pass ≡ some v → get_elem? views other ≡ some w
@@ -64,7 +65,8 @@ other_at views pass other z w differ there =
     (at_set views pass other z w there)
 
 -- the pass may then have what is true of the history, own what one of the two owned, and has the rights of both
-pub merged : (depth : Depth) (replicas passes pass other : ℕ) (v w z : View) (words : List ℕ) (views : List View) → (is : IsKept depth replicas passes words views)
+pub merged : (depth : Depth) (replicas passes pass other : ℕ) (v w z : View) (words : List ℕ) (views : List View)
+    → (is : IsKept depth replicas passes words views)
     → get_elem? views pass ≡ some v → (other ≡ pass → ⊥) → get_elem? (set views pass z) other ≡ some w → w.mine ≡ []
     → IsTrueOf is.history (made_by_pass pass is.makers) z → ((replica : ℕ) → Contains z.owns replica → Contains v.owns replica ⊎ Contains w.owns replica)
     → z.mine ≡ v.mine → z.rights ≡ v.rights + w.rights
@@ -89,7 +91,8 @@ merged depth replicas passes pass other v w z words views is at differ there idl
       by_passes = λ k d lt. omega (arith, is.by_passes k d lt, wide);
       each_view = λ j u here.
           ⊎_elim
-          (λ (t : (j ≡ other) × (empty_view ≡ u)). let R : ℕ → Type 0 = λ i. T i empty_view in let Q : View → Type 0 = λ y. T j y in subst Q t.1 (subst R (sym t.0) gone))
+          (λ (t : (j ≡ other) × (empty_view ≡ u)). let R : ℕ → Type 0 = λ i. T i empty_view in let Q : View → Type 0 = λ y. T j y in
+          subst Q t.1 (subst R (sym t.0) gone))
           (λ (t : (j ≢ other) × (get_elem? changed j ≡ some u)).
           ⊎_elim
           (λ (s : (j ≡ pass) × (z ≡ u)). let R : ℕ → Type 0 = λ i. T i z in let Q : View → Type 0 = λ y. T j y in subst Q s.1 (subst R (sym s.0) own))

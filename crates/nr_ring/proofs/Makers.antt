@@ -24,7 +24,8 @@ contains_more : (xs : List ℕ) (x y : ℕ) → Contains xs y → Contains (x �
 contains_more xs x y has = (suc has.0, omega (arith, has.1), has.2)
 
 -- a later event of a pass is among those that it made
-later : (from m maker y : ℕ) (ms : List ℕ) (b : Bool) → eqb m maker ≡ b → Contains (made_from (from + 1) maker ms) y → Contains (made_from from maker (m ∷ ms)) y
+later : (from m maker y : ℕ) (ms : List ℕ) (b : Bool) → eqb m maker ≡ b → Contains (made_from (from + 1) maker ms) y
+    → Contains (made_from from maker (m ∷ ms)) y
 later from m maker y ms true is has = rw is (contains_more (made_from (from + 1) maker ms) from y has)
 later from m maker y ms false is has = rw is has
 

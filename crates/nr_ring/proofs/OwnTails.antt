@@ -41,7 +41,8 @@ look_keeps depth replicas replica before after looked has =
 
 -- where a replica had entries to take, it has them still after a look
 pub ahead_still : (depth : Depth) (replicas replica : ℕ) (before after : View) → HasLooked depth replicas before after → before.owns ≡ replica ∷ []
-    → local_of (log_after replicas before.seen) replica < tail (log_after replicas before.seen) → LiesAhead replicas after (tail (log_after replicas after.seen))
+    → local_of (log_after replicas before.seen) replica < tail (log_after replicas before.seen)
+    → LiesAhead replicas after (tail (log_after replicas after.seen))
 ahead_still depth replicas replica before after looked owns ahead = λ r now.
     let same : r ≡ replica = same_replica after.owns r replica now (looked.owns ∙ owns) in
     let Has : List ℕ → Type 0 = λ l. Contains l replica in

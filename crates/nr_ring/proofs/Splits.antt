@@ -57,7 +57,8 @@ owner views pass v kept given left right j u replica there has =
 one_each : (depth : Depth) (replicas passes : ℕ) (words : List ℕ) (views : List View) (pass : ℕ) (v : View) (kept given : List ℕ) (p q replica : ℕ)
     → IsKept depth replicas passes words views → get_elem? views pass ≡ some v → IsCut v.owns kept given → Owner views pass kept given p replica
     → Owner views pass kept given q replica → p ≡ q
-one_each depth replicas passes words views pass v kept given p q replica is at cut (inl a) (inl b) = is.one_owner p q a.1.0 b.1.0 replica a.1.1 b.1.1 a.1.2 b.1.2
+one_each depth replicas passes words views pass v kept given p q replica is at cut (inl a) (inl b) =
+    is.one_owner p q a.1.0 b.1.0 replica a.1.1 b.1.1 a.1.2 b.1.2
 one_each depth replicas passes words views pass v kept given p q replica is at cut (inl a) (inr (inl b)) =
     absurd (a.0 (is.one_owner p pass a.1.0 v replica a.1.1 at a.1.2 (cut.kept_of replica b.1)))
 one_each depth replicas passes words views pass v kept given p q replica is at cut (inl a) (inr (inr b)) =

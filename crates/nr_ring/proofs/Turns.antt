@@ -25,7 +25,8 @@ abbrev pub seeing : List LogEvent → View → View
 seeing seen v = record { seen = seen; mine = v.mine; owns = v.owns; rights = v.rights; told = v.told }
 
 -- a pass may have seen what is true of the history
-pub seeing_kept : (depth : Depth) (replicas passes pass : ℕ) (v : View) (seen : List LogEvent) (x : List ℕ) (views : List View) → (kept : IsKept depth replicas passes x views)
+pub seeing_kept : (depth : Depth) (replicas passes pass : ℕ) (v : View) (seen : List LogEvent) (x : List ℕ) (views : List View)
+    → (kept : IsKept depth replicas passes x views)
     → get_elem? views pass ≡ some v → IsTrueOf kept.history (made_by_pass pass kept.makers) (seeing seen v)
     → IsKept depth replicas passes x (set views pass (seeing seen v))
 seeing_kept depth replicas passes pass v seen x views kept at true_of = let w : View = seeing seen v in record {
@@ -53,7 +54,17 @@ look_turns depth replicas passes pass v x views kept at =
       seeing_kept depth replicas passes pass v history x views kept at
           (record { seen = whole history; told = old.told; owns = λ k d lt. nothing_since (slice_index_or v.owns k d) history; mine = old.mine }),
       record {
-        looked = record { is_history = kept.is_history; seen = old.seen; told = old.told; advances = old.owns; told_stays = refl; mine = refl; owns = refl; rights = refl };
+        looked =
+            record {
+              is_history = kept.is_history;
+              seen = old.seen;
+              told = old.told;
+              advances = old.owns;
+              told_stays = refl;
+              mine = refl;
+              owns = refl;
+              rights = refl;
+            };
         words_are = kept.words_are;
       },
     )
@@ -80,7 +91,8 @@ event_kept depth replicas passes pass v event words words' views few kept at bef
     let H : List LogEvent → Type 0 = λ h. IsLogHistory depth replicas h in
     let L : Log → Type 0 = λ log. IsWordsOf log words' in
     let number : length kept.makers ≡ length v.seen = kept.each_made ∙ ap (λ (h : List LogEvent). length h) same in
-    let true_of : (j : ℕ) (u : View) → get_elem? views j ≡ some u → IsTrueOf v.seen (made_by_pass j kept.makers) u = λ j u there. let T : List LogEvent → Type 0 =
+    let true_of : (j : ℕ) (u : View) → get_elem? views j ≡ some u → IsTrueOf v.seen (made_by_pass j kept.makers) u =
+    λ j u there. let T : List LogEvent → Type 0 =
     λ h. IsTrueOf h (made_by_pass j kept.makers) u in subst T same (kept.each_view j u there) in
     let mine = true_of pass v at in
     let one : All (λ p. p < length (set views pass w)) (pass ∷ []) =

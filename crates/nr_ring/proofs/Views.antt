@@ -13,12 +13,14 @@ use Rattle.nr_ring.specs.View.{StartsWith, IsElse, HasSeenAdvances, made_from, m
 use Rattle.nr_ring.specs.declared.log_event.LogEvent.{LogEvent}
 use Rattle.nr_ring.specs.declared.view.View.{View}
 
-pub goes_on_by : (depth : Depth) (log : Log) (events : List LogEvent) (event : LogEvent) → MayGoOn depth log events → MayFollow depth (log_after_events log events) event
+pub goes_on_by : (depth : Depth) (log : Log) (events : List LogEvent) (event : LogEvent) → MayGoOn depth log events
+    → MayFollow depth (log_after_events log events) event
     → MayGoOn depth log (events ++ event ∷ [])
 goes_on_by depth log [] event may next = (next, tt)
 goes_on_by depth log (e ∷ es) event may next = (may.0, goes_on_by depth (log_after_event log e) es event may.1 next)
 
-pub after_one_more : (log : Log) (events : List LogEvent) (event : LogEvent) → log_after_events log (events ++ event ∷ []) ≡ log_after_event (log_after_events log events) event
+pub after_one_more : (log : Log) (events : List LogEvent) (event : LogEvent)
+    → log_after_events log (events ++ event ∷ []) ≡ log_after_event (log_after_events log events) event
 after_one_more log [] event = refl
 after_one_more log (e ∷ es) event = after_one_more (log_after_event log e) es event
 
@@ -65,7 +67,8 @@ made_on number pass maker (m ∷ ms) =
 pub made_by_it : (pass : ℕ) (makers : List ℕ) → made_by_pass pass (makers ++ pass ∷ []) ≡ made_by_pass pass makers ++ length makers ∷ []
 made_by_it pass makers =
     made_on 0 pass pass makers
-    ∙ ap (λ (l : List ℕ). made_by_pass pass makers ++ l) (one_more_by (0 + length makers) pass pass true (eq-eqb pass pass refl) ∙ ap (λ n. n ∷ []) (omega arith))
+    ∙ ap (λ (l : List ℕ). made_by_pass pass makers ++ l)
+    (one_more_by (0 + length makers) pass pass true (eq-eqb pass pass refl) ∙ ap (λ n. n ∷ []) (omega arith))
 
 pub made_by_another : (pass maker : ℕ) (makers : List ℕ) → maker ≢ pass → made_by_pass pass (makers ++ maker ∷ []) ≡ made_by_pass pass makers
 made_by_another pass maker makers other =

@@ -151,12 +151,14 @@ read_more said old new it number kept is asked_is threads_is lists_are steps_is 
     }
 
 -- a request or a step past the limit
-pub past_requests : (said : List Line) (old : Reading) (thread : ℕ) (query : Query) (it : Line) → request_in it ≡ (thread, query) ∷ [] → IsReadSoFar said old → LOG_PLACES ≤ old.asked
+pub past_requests : (said : List Line) (old : Reading) (thread : ℕ) (query : Query) (it : Line) → request_in it ≡ (thread, query) ∷ []
+    → IsReadSoFar said old → LOG_PLACES ≤ old.asked
     → IsWithinLimits (said ++ it ∷ []) → ⊥
 past_requests said old thread query it is kept full within =
     omega (arith, ap length (asked_more said it), ap length is, kept.asked_is, within.requests, length-append {A = ℕ × Query})
 
-pub past_steps : (said : List Line) (old : Reading) (step : Step) (it : Line) → step_in it ≡ step ∷ [] → IsReadSoFar said old → SCRIPT_STEPS ≤ length old.steps.items
+pub past_steps : (said : List Line) (old : Reading) (step : Step) (it : Line) → step_in it ≡ step ∷ [] → IsReadSoFar said old
+    → SCRIPT_STEPS ≤ length old.steps.items
     → IsWithinLimits (said ++ it ∷ []) → ⊥
 past_steps said old step it is kept full within =
     omega (arith, ap length (steps_more said it), ap length is, ap length kept.steps_are, within.steps, length-append {A = Step})
@@ -177,7 +179,8 @@ few_asked_kept said reading kept = omega (arith, kept.asked_is, kept.within_limi
 -- there is a list for each of the most threads
 pub all_lists : (said : List Line) (reading : Reading) → IsReadSoFar said reading → length reading.lists.items ≡ 64
 all_lists said reading kept =
-    sym (length-map reading.lists.items (λ (list : Vec Query Global). list.items)) ∙ ap length kept.lists_are ∙ length-map-range_with_len (requests_by said) 0 64
+    sym (length-map reading.lists.items (λ (list : Vec Query Global). list.items)) ∙ ap length kept.lists_are
+    ∙ length-map-range_with_len (requests_by said) 0 64
 
 same_shares : (said : List Line) (reading : Reading) → IsReadSoFar said reading → map (λ list. list.items) reading.lists.items ≡ shares (asked said ++ [])
 same_shares said reading kept = kept.lists_are ∙ ap shares (sym (append-nil (asked said)))

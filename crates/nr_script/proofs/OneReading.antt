@@ -49,7 +49,8 @@ not_step depth line step over said =
     let first = passed_over line (codes "step") _ said.acts over said.words_are in
     omega (arith, ap (λ (text : List ℕ). get_or text 0 0) first.1)
 
-pub not_both : (depth : Depth) (line : List ℕ) (thread : ℕ) (query : Query) (step : Step) → Says depth line (says.Request thread query) → Says depth line (says.Step step) → ⊥
+pub not_both : (depth : Depth) (line : List ℕ) (thread : ℕ) (query : Query) (step : Step) → Says depth line (says.Request thread query)
+    → Says depth line (says.Step step) → ⊥
 not_both depth line thread query step request said =
     let joined = sym said.words_are ∙ request.words_are in
     not_number thread request.thread_fits (cc joined)
@@ -140,7 +141,8 @@ as_within depth texts line a b x y p q says_x says_y within =
     let here = same_form depth line x y says_x says_y in
     let there = same_sums depth texts a b p q in
     record {
-      requests = omega (arith, within.requests, here.requests, there.requests, ap length (asked_more a x), ap length (asked_more b y), length-append {A = ℕ × Query});
+      requests =
+          omega (arith, within.requests, here.requests, there.requests, ap length (asked_more a x), ap length (asked_more b y), length-append {A = ℕ × Query});
       steps = omega (arith, within.steps, here.steps, there.steps, ap length (steps_more a x), ap length (steps_more b y), length-append {A = Step});
     }
 

@@ -79,7 +79,9 @@ sizes_more them a n = sum_by-cons (λ list. length list) (share them a) (map (sh
 share_more : (it : ℕ × Query) (them : List (ℕ × Query)) (thread : ℕ) → length (share (it ∷ them) thread) ≡ tally (it.0 == thread) + length (share them thread)
 unfolding share
 share_more it them thread =
-    elim (it.0 == thread) as (λ b. length (map {A = ℕ × Query} (λ asked. asked.1) (cond b (it ∷ filter (λ asked. asked.0 == thread) them) (filter (λ asked. asked.0 == thread) them)))
+    elim (it.0 == thread) as (λ b. length
+    (map {A = ℕ × Query} (λ asked. asked.1)
+    (cond b (it ∷ filter (λ asked. asked.0 == thread) them) (filter (λ asked. asked.0 == thread) them)))
     ≡ tally b + length (map {A = ℕ × Query} (λ asked. asked.1) (filter (λ asked. asked.0 == thread) them))) [
       | true ↦ omega arith
       | false ↦ omega arith
@@ -102,11 +104,14 @@ shares_fit : (them : List (ℕ × Query)) (a n : ℕ) → sizes them a n ≤ len
 shares_fit [] a n = omega (arith, sizes_of_none a n)
 shares_fit (it ∷ them) a n = omega (arith, sizes_of_more it them a n, few_hits it.0 a n, shares_fit them a n)
 
-well_formed_share : (depth : Depth) (them : List (ℕ × Query)) (thread : ℕ) → AllByRecursion (IsAsked depth) them → AllByRecursion (IsQuery depth) (share them thread)
+well_formed_share : (depth : Depth) (them : List (ℕ × Query)) (thread : ℕ) → AllByRecursion (IsAsked depth) them
+    → AllByRecursion (IsQuery depth) (share them thread)
 unfolding share
 well_formed_share depth [] thread all = tt
 well_formed_share depth (it ∷ them) thread all =
-    elim (it.0 == thread) as (λ b. AllByRecursion (IsQuery depth) (map {A = ℕ × Query} (λ asked. asked.1) (cond b (it ∷ filter (λ asked. asked.0 == thread) them) (filter (λ asked. asked.0 == thread) them)))) [
+    elim (it.0 == thread) as (λ b. AllByRecursion (IsQuery depth)
+    (map {A = ℕ × Query} (λ asked. asked.1)
+    (cond b (it ∷ filter (λ asked. asked.0 == thread) them) (filter (λ asked. asked.0 == thread) them)))) [
       | true ↦ (all.0.1, well_formed_share depth them thread all.1)
       | false ↦ well_formed_share depth them thread all.1
     ]
@@ -118,7 +123,8 @@ each_well_formed depth them a (suc n) all =
     (All-from_recursion (IsQuery depth) (share them a) (well_formed_share depth them a all), each_well_formed depth them (a + 1) n all)
 
 -- the requests are scripts for that many threads
-pub scripts_of : (depth : Depth) (bytes : List ℕ) (script : Script) (layout : Layout) → IsScript depth bytes script → layout.depth ≡ depth → layout.threads ≡ script.threads
+pub scripts_of : (depth : Depth) (bytes : List ℕ) (script : Script) (layout : Layout) → IsScript depth bytes script → layout.depth ≡ depth
+    → layout.threads ≡ script.threads
     → AreScripts layout (map (λ list. list.items) script.requests.items)
 unfolding share sizes
 scripts_of depth bytes script layout is deep many =
@@ -131,5 +137,6 @@ scripts_of depth bytes script layout is deep many =
       few = omega (arith, shares_fit (asked said) 0 count, is.within_limits.requests);
       well_formed =
           let Q : Depth → Type 0 = λ depth. All (All (IsQuery depth)) (map (requests_by said) (range_with_len 0 count)) in
-          subst Q (sym deep) (All-from_recursion (All (IsQuery depth)) (map (requests_by said) (range_with_len 0 count)) (each_well_formed depth (asked said) 0 count all));
+          subst Q (sym deep) (All-from_recursion (All (IsQuery depth)) (map (requests_by said) (range_with_len 0 count))
+          (each_well_formed depth (asked said) 0 count all));
     })

@@ -105,7 +105,8 @@ taken : {X : Type 0} (k : ℕ) (xs : List X) (x : X) → Contains (take k xs) x 
 taken zero xs x (j, lt, is) = absurd (omega arith)
 taken (suc k) [] x (j, lt, is) = absurd (omega arith)
 taken (suc k) (y ∷ ys) x (zero, lt, is) = (0, omega arith, omega arith, is)
-taken (suc k) (y ∷ ys) x (suc j, lt, is) = let there = taken k ys x (j, omega arith, is) in (suc there.0, omega (arith, there.1), omega (arith, there.2), there.3)
+taken (suc k) (y ∷ ys) x (suc j, lt, is) =
+    let there = taken k ys x (j, omega arith, is) in (suc there.0, omega (arith, there.1), omega (arith, there.2), there.3)
 
 module _ {depth : Depth} (ps : List Page) (k : ℕ) (d : Page) (lt : k < length ps) (are : AreApart depth ps) where
   here : Contains ps (get_or ps k d)

@@ -85,7 +85,7 @@ before_by_rest : (p q : ℕ) (xs ys : List ℕ) → p ≡ q → slice_cmp nat_cm
 before_by_rest p q xs ys same less = ap (λ r. ordering_then r (slice_cmp nat_cmp xs ys)) (is_equal p q same) ∙ less
 
 -- an earlier fault of the trace is an earlier one of the segment
-within_before : (segment : Recording) (first second : Fault) → Earlier segment first second → ComesBefore segment (Within first) (Within second)
+pub within_before : (segment : Recording) (first second : Fault) → Earlier segment first second → ComesBefore segment (Within first) (Within second)
 within_before segment first second less = elim (cases_order (part_of first) (part_of second)) [
   | inl same ↦ before_by_rest (part_of first) (part_of second) (rank segment first) (rank segment second) same less
   | inr other ↦ elim other [

@@ -34,7 +34,8 @@ of_asked (Some (events.Call replica thread request)) address mode access e = cc
 of_asked (Some (events.Touch replica thread own_address own_mode own_access)) address mode access e = (replica, thread, cc)
 of_asked (Some (events.Reply call at answer)) address mode access e = cc
 
-of_replied : (event : Option Event) (reply : Response) → option_and_then reply_in event ≡ Some reply → event ≡ Some (events.Reply reply.call reply.at reply.answer)
+of_replied : (event : Option Event) (reply : Response) → option_and_then reply_in event ≡ Some reply
+    → event ≡ Some (events.Reply reply.call reply.at reply.answer)
 of_replied None reply e = cc
 of_replied (Some (events.Call replica thread request)) reply e = cc
 of_replied (Some (events.Touch replica thread address mode access)) reply e = cc
@@ -67,7 +68,8 @@ lies_by segment made answered touch (Some (events.Call replica thread request)) 
 lies_by segment made answered touch (Some (events.Reply call at answer)) replied a r e = cc
 lies_by segment made answered touch (Some (events.Touch replica thread address mode access)) None a r e = cc
 lies_by segment made answered touch (Some (events.Touch replica thread address mode access)) (Some (events.Call other_replica other_thread request)) a r e = cc
-lies_by segment made answered touch (Some (events.Touch replica thread address mode access)) (Some (events.Touch other_replica other_thread other_address other_mode other_access)) a r e = cc
+lies_by segment made answered touch (Some (events.Touch replica thread address mode access))
+    (Some (events.Touch other_replica other_thread other_address other_mode other_access)) a r e = cc
 lies_by segment made answered touch (Some (events.Touch replica thread address mode access)) (Some (events.Reply call at answer)) a r e =
     let same : record { made = made; answered = answered; address = address; mode = mode; access = access; answer = answer } ≡ touch = cc in
     subst (Lies segment made answered) same record {
@@ -139,7 +141,8 @@ pushed_cases (z ∷ zs) x (suc k) y e = pushed_cases zs x k y e
 -- ---- the replies by call
 
 -- an event that answers a call is a reply to it
-answer_event : (segment : Recording) (index call : ℕ) → Answers segment index call → (reply : Response) × (reply_of segment index ≡ Some reply) × (reply.call ≡ call)
+answer_event : (segment : Recording) (index call : ℕ) → Answers segment index call
+    → (reply : Response) × (reply_of segment index ≡ Some reply) × (reply.call ≡ call)
 answer_event segment index call answers = by_reply (reply_of segment index) refl where
   by_reply : (o : Option Response) → reply_of segment index ≡ o → (reply : Response) × (reply_of segment index ≡ Some reply) × (reply.call ≡ call)
   by_reply None is = absurd (let none = subst (λ r. IsSome (option_and_then (λ (r : Response). if r.call == call then Some r else None) r)) is answers in
@@ -294,7 +297,8 @@ one_more_touch segment end touches touch has made only are = record { each = eac
         | inr high ↦ (
             let last : j ≡ length touches = omega arith in
             let new : get_or (touches ++ touch ∷ []) j d ≡ touch =
-            ap (λ k. get_or (touches ++ touch ∷ []) k d) last ∙ get_or_from_slice_get (touches ++ touch ∷ []) (length touches) touch d (pushed_new touches touch) in
+            ap (λ k. get_or (touches ++ touch ∷ []) k d) last
+            ∙ get_or_from_slice_get (touches ++ touch ∷ []) (length touches) touch d (pushed_new touches touch) in
             let own = are.each i (get_or touches i d) (slice_get-get_or touches i d (omega arith)) in
             subst (λ (t : Touch). t.made < (get_or (touches ++ touch ∷ []) j d).made) (sym (old_at i (omega arith)))
             (subst (λ (t : Touch). (get_or touches i d).made < t.made) (sym new) (omega (arith, own.1, made))))
@@ -313,7 +317,8 @@ only_touch segment made answered replies are at other has is =
     let within = answered_within segment other has in
     let same : other.answered ≡ answered =
     (let there = are.all other.made other.answered within answers in let e = subst (λ c. slice_index_or replies c None ≡ Some other.answered) is there in cc) in
-    subst (λ m. touch_between segment m answered ≡ Some other) is (subst (λ a. touch_between segment other.made a ≡ Some other) same (has_between segment other has))
+    subst (λ m. touch_between segment m answered ≡ Some other) is
+    (subst (λ a. touch_between segment other.made a ≡ Some other) same (has_between segment other has))
 
 -- where the call has no reply, no answered touch is made there
 pub unanswered : (segment : Recording) (made : ℕ) (replies : List (Option ℕ)) → AreRepliesBelow segment (length segment.events) replies
@@ -358,7 +363,8 @@ all_right start segment touches are finds touch has =
     let there = are.all touch has (touch_within segment touch has) in
     finds there.0 touch there.1
 
-pub first_of_list : (start : Space) (segment : Recording) (touches : List Touch) (index : ℕ) (d : Touch) → AreTouchesBelow segment (length segment.events) touches
+pub first_of_list : (start : Space) (segment : Recording) (touches : List Touch) (index : ℕ) (d : Touch)
+    → AreTouchesBelow segment (length segment.events) touches
     → FindsStale start segment touches (Some index) → IsFirstStale start segment (get_or touches index d).made
 first_of_list start segment touches index d are (touch, at, wrong, below) =
     let is = get_or_from_slice_get touches index touch d at in
@@ -384,5 +390,6 @@ first_of_list start segment touches index d are (touch, at, wrong, below) =
             ]
           ]
 
-pub index_within : (start : Space) (segment : Recording) (touches : List Touch) (index : ℕ) → FindsStale start segment touches (Some index) → index < length touches
+pub index_within : (start : Space) (segment : Recording) (touches : List Touch) (index : ℕ) → FindsStale start segment touches (Some index)
+    → index < length touches
 index_within start segment touches index (touch, at, wrong, below) = slice_get_within touches index touch at

@@ -1,4 +1,3 @@
-mod AnswerEquality
 pub mod Found
 pub mod Looked
 pub mod QuietPages

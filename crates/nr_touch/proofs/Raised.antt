@@ -30,7 +30,8 @@ raised_more pages old b new i some h many same least rises attains = record {
         omega (arith, before, first, then)
   ];
   attained = λ k l. elim (cases_eq k i) [
-    | inl here ↦ subst (λ n. (get_or new n 0 ≡ get_or old n 0) ⊎ ((0 < n) × (get_or pages (n - 1) 0 ≡ get_or pages n 0) × (get_or new n 0 ≡ get_or new (n - 1) 0)))
+    | inl here ↦ subst (λ n. (get_or new n 0 ≡ get_or old n 0)
+        ⊎ ((0 < n) × (get_or pages (n - 1) 0 ≡ get_or pages n 0) × (get_or new n 0 ≡ get_or new (n - 1) 0)))
         (sym here) (at_end attains)
     | inr other ↦ before k (omega arith) (same k other) (h.attained k (omega arith))
   ];

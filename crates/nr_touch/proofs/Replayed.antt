@@ -211,7 +211,8 @@ read_log trace log place same lt = subst (λ (xs : List ℕ). slice_get xs place
 -- a page ends by 2 ^ 64
 pub page_ends : (depth : Depth) (page : Page) → IsPage depth page → page.base + bytes_of page.size ≤ 2 ^ 64
 page_ends depth page good =
-    ends_before page.size page.base (2 ^ 64) good.aligned (pow_multiple 64 (3 + 9 * level_of page.size) (let most = level_at_most page.size in omega (arith, most)))
+    ends_before page.size page.base (2 ^ 64) good.aligned
+    (pow_multiple 64 (3 + 9 * level_of page.size) (let most = level_at_most page.size in omega (arith, most)))
     (canonical_fits depth page.base good.canonical)
 
 -- the replies to a call of the table that is whole

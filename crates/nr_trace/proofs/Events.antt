@@ -17,8 +17,10 @@ use Rattle.nr_trace.specs.declared.fields.AnswerFields.{AnswerFields}
 use Rattle.nr_trace.specs.declared.version.Version.{Version}
 use Rattle.nr_trace.specs.declared.event.Event.{Event}
 use Rattle.nr_trace.specs.declared.event.Event.TheVariants.{Call, Reply, Touch}
-use Rattle.nr_trace.proofs.LawsOfUnits.{call_bytes, CallFits, call_fits, calls_apart, request_apart, reply_bytes, ReplyFits, reply_fits, replies_apart}
-use Rattle.nr_trace.proofs.LawsOfUnits.{IsWide, answer_apart, touch_fits}
+use Rattle.nr_trace.proofs.LawsOfUnits.{request_apart}
+use Rattle.nr_trace.proofs.EventsApart.{call_bytes, CallFits, call_fits, calls_apart, reply_bytes, ReplyFits, reply_fits, replies_apart}
+use Rattle.nr_trace.proofs.LawsOfUnits.{IsWide, answer_apart}
+use Rattle.nr_trace.proofs.EventsApart.{touch_fits}
 
 -- a call that the bytes spell has those fields
 call_fields : (version : Version) (layout : Layout) (bytes : List ℕ) (replica thread unused : ℕ) (fields : RequestFields) (rest : List ℕ) → IsWide layout

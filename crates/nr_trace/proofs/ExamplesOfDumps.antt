@@ -76,7 +76,12 @@ least_stray (suc zero) l h = h.1 (subst (λ (ns : List ℕ). Contains ns 1) (sym
 least_stray (suc (suc n)) l h = omega arith
 
 pub stray : HasFault stray_frame (StrayFrame 0 2)
-stray = (_, refl, begins no_words ((2, no_words) ∷ []), ((subst IsSome (sym second) refl, λ h. not_the_root (subst (λ (ns : List ℕ). Contains ns 2) only_root h)), least_stray))
+stray = (
+  _,
+  refl,
+  begins no_words ((2, no_words) ∷ []),
+  ((subst IsSome (sym second) refl, λ h. not_the_root (subst (λ (ns : List ℕ). Contains ns 2) only_root h)), least_stray),
+)
 
 -- ---- a page that the space doesn't have
 

@@ -54,7 +54,8 @@ sound_after reader next unit sound has = record {
   ready = has.ready;
   faults = λ rest fault h. subst (λ (f : Form). HasFaultAs f (said next ++ rest) fault) (sym has.form_is)
       (subst (λ (l : List ℕ). HasFaultAs (form_of reader) l fault)
-      (sym (ap (λ (l : List ℕ). l ++ rest) has.bytes_are ∙ append_assoc (said reader) unit rest)) (sound.faults (unit ++ rest) fault (has.faults rest fault h)));
+      (sym (ap (λ (l : List ℕ). l ++ rest) has.bytes_are ∙ append_assoc (said reader) unit rest))
+      (sound.faults (unit ++ rest) fault (has.faults rest fault h)));
 }
 
 pub goes : (form : Form) (bytes piece : List ℕ) (reader next : Reader) (rest unit behind : List ℕ) → IsBetween form bytes piece reader rest

@@ -36,7 +36,8 @@ whole_at_end form reader begun feeding is =
     let nothing = subst (λ o. AreFewer o begun.items) is feeding.2 in (
       end.0,
       subst (λ (f : Form). SpellsAs f (said reader ++ begun.items) end.0) feeding.0
-          (subst (λ (l : List ℕ). SpellsAs (form_of reader) l end.0) (sym (append-nil (said reader)) ∙ ap (λ (l : List ℕ). said reader ++ l) (sym nothing)) end.1),
+          (subst (λ (l : List ℕ). SpellsAs (form_of reader) l end.0)
+          (sym (append-nil (said reader)) ∙ ap (λ (l : List ℕ). said reader ++ l) (sym nothing)) end.1),
     )
 
 at_end : (before : Option Layout) (state : State) → IsFeeding (forms.Segment before) state → IsAtEnd state → IsWhole (seen before state)

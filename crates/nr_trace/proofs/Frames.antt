@@ -4,68 +4,44 @@ use Rattle.std.proofs.Common.{subst, ◌∙◌, arith, append_assoc}
 use Rattle.std.specs.Global.{Vec}
 use Rattle.std.specs.List.{flat_map}
 use Rattle.std.specs.FinMap as finite
-use Rattle.std.specs.FinMap.Entries.{put, by_order}
-use Rattle.std.specs.Ordering.{nat_cmp}
-use Rattle.std.specs.Cmp.{nat_cmp_total, nat_cmp_is}
-use Rattle.std.specs.declared.cmp.Ordering.TheVariants.{Greater}
-use Rattle.std.proofs.lemmas.List.{append-nil, nil_from_length, length-append, map-append}
+use Rattle.std.specs.Cmp.{nat_cmp_total}
+use Rattle.std.proofs.lemmas.List.{append-nil, length-append, map-append}
 use Rattle.std.proofs.lemmas.List.Concat.{flat_map-cons}
 use Rattle.std.proofs.lemmas.Grind.{flat_map-append}
-use Rattle.std.proofs.lemmas.List.Elements.{All-head, All-tail, All-push, All-nil}
+use Rattle.std.proofs.lemmas.List.Elements.{All-push, All-nil}
 use Rattle.vs_walk.specs.Memory.{Memory}
 use Rattle.vs_walk.specs.Dump.{Image, OpenImage}
 use Rattle.vs_types.specs.Frame.{IsFrame}
 use Rattle.nr_trace.specs.Versions.{least_frames, most_frames, most_start}
 use Rattle.nr_trace.specs.Recording.{IsImage, IsStart, start_frames}
 use Rattle.nr_trace.specs.Spelling.{dump, dump_head, event, frame_number, frame_words, frames, log_word, start_units}
-use Rattle.nr_trace.specs.inside.Reading.{SpellsHead, HasWords}
-use Rattle.nr_trace.specs.declared.fields.DumpHead.{DumpHead}
-use Rattle.nr_trace.specs.FirstFault.{AtUnit, AtFrames, AtDumps, AtLog, AtStart, IsNext, IsDumpHead}
+use Rattle.nr_trace.specs.inside.Reading.{HasWords}
+use Rattle.nr_trace.specs.FirstFault.{AtUnit, AtFrames, AtDumps, AtLog, AtStart, IsNext}
 use Rattle.vs_types.specs.Config.{Layout}
 use Rattle.nr_trace.specs.inside.Progress.{HasRead, AreInRange, IsEmpty, IsOpened, IsOwner, IsReady, AreBelow, BehindDumps, BehindFrames, Belongs, AtWords, Ahead}
 use Rattle.nr_trace.specs.inside.Progress.{front_with, header_units, numbers_of, opened_spelling, own_fault, parts_spelling, said, whole_of, whole_spelling}
 use Rattle.nr_trace.specs.inside.Progress.{begun, opened_of, frame_begun, words_begun}
 use Rattle.nr_trace.specs.declared.fault.Format.{Format}
-use Rattle.nr_trace.specs.declared.fault.Format.TheVariants.{BadCount, BadFrame, BadStart}
 use Rattle.nr_trace.specs.declared.reading.reader.Parts.{Parts}
 use Rattle.nr_trace.specs.declared.reading.reader.Opened.{Opened}
 use Rattle.nr_trace.specs.declared.reading.reader.OpenFrame.{OpenFrame}
 use Rattle.nr_trace.specs.declared.reading.reader.Reader.{Reader}
-use Rattle.nr_trace.specs.declared.reading.reader.Reader.TheVariants.{Dumps, Frame, Root, Words}
+use Rattle.nr_trace.specs.declared.reading.reader.Reader.TheVariants.{Dumps, Frame, Words}
 use Rattle.nr_trace.specs.declared.reading.reader.Owner.{Owner}
 use Rattle.nr_trace.specs.declared.reading.reader.Owner.TheVariants as owners
 use Rattle.nr_trace.specs.declared.event.Event.{Event}
 use Rattle.nr_trace.specs.declared.fields.Counts.{Counts}
 use Rattle.nr_trace.specs.declared.version.Version.{Version}
 use Rattle.nr_trace.specs.declared.version.Version.TheVariants.{V1, V2, Segment}
-use Rattle.vs_types.specs.declared.limits.TheConstants.{FRAMES}
-use Rattle.nr_trace.proofs.LawsOfUnits.{few_of, few_of_start}
+use Rattle.vs_walk.proofs.Dumps.{put_last, numbers_push, count_push}
 use Rattle.nr_trace.proofs.Spelled.{front_of, spelling_of, more_dump}
 use Rattle.nr_trace.proofs.Units.{refused, passed, goes_on}
 
 -- ---- memories that grow by a frame above all others
 
-put_last : (es : List (ℕ × List ℕ)) (k : ℕ) (v : List ℕ) → All (λ held. held < k) (map (λ e. e.0) es) → put nat_cmp k v es ≡ es ++ (k, v) ∷ []
-put_last [] k v h = refl
-put_last (e ∷ es) k v h =
-    subst (λ r. by_order r ((k, v) ∷ e ∷ es) ((e.0, v) ∷ es) (e ∷ put nat_cmp k v es) ≡ (e ∷ es) ++ (k, v) ∷ [])
-    (nat_cmp_is k e.0 Greater (All-head (λ held. held < k) e.0 (map (λ f. f.0) es) h))
-    (ap (λ fs. e ∷ fs) (put_last es k v (All-tail (λ held. held < k) e.0 (map (λ f. f.0) es) h)))
-
 pub entries_more : (memory : Memory) (k : ℕ) (v : List ℕ) → All (λ held. held < k) (finite.keys memory)
     → finite.entries (finite.insert memory k v) ≡ finite.entries memory ++ (k, v) ∷ []
 entries_more memory k v above = finite.entries-insert nat_cmp_total memory k v ∙ put_last (finite.entries memory) k v above
-
-pub len_more : (memory : Memory) (k : ℕ) (v : List ℕ) → All (λ held. held < k) (finite.keys memory)
-    → finite.len (finite.insert memory k v) ≡ finite.len memory + 1
-len_more memory k v above =
-    finite.len-entries (finite.insert memory k v) ∙ ap length (entries_more memory k v above) ∙ length-append (finite.entries memory) ((k, v) ∷ [])
-    ∙ ap (λ (n : ℕ). n + 1) (sym (finite.len-entries memory))
-
-pub keys_more : (memory : Memory) (k : ℕ) (v : List ℕ) → All (λ held. held < k) (finite.keys memory)
-    → finite.keys (finite.insert memory k v) ≡ finite.keys memory ++ k ∷ []
-keys_more memory k v above = ap (map (λ (e : ℕ × List ℕ). e.0)) (entries_more memory k v above)
-    ∙ map-append (λ (e : ℕ × List ℕ). e.0) (finite.entries memory) ((k, v) ∷ [])
 
 pub values_more : (memory : Memory) (k : ℕ) (v : List ℕ) → All (λ held. held < k) (finite.keys memory)
     → finite.values (finite.insert memory k v) ≡ finite.values memory ++ v ∷ []
@@ -74,7 +50,8 @@ values_more memory k v above =
 
 -- ---- the number of a frame
 
-pub number_passed : (own : ℕ → Format) (index frames : ℕ) (last : Option ℕ) (Behind : List ℕ → Format → Type 0) (number : ℕ) (unit rest : List ℕ) (fault : Format)
+pub number_passed : (own : ℕ → Format) (index frames : ℕ) (last : Option ℕ) (Behind : List ℕ → Format → Type 0)
+    (number : ℕ) (unit rest : List ℕ) (fault : Format)
     → 1 ≤ frames → IsNext last number → unit ≡ frame_number number
     → AtUnit 4096 None IsFrame frame_words (λ words. AtFrames own (index + 1) (frames - 1) (Some number) Behind) rest fault
     → AtFrames own index frames last Behind (unit ++ rest) fault
@@ -86,7 +63,8 @@ number_passed own index (suc frames) last Behind number unit rest fault some nex
     (λ n. AtUnit 4096 None IsFrame frame_words (λ words. AtFrames own (index + 1) frames (Some n) Behind)) fault unit rest number next is
     (subst (λ (n : ℕ). AtUnit 4096 None IsFrame frame_words (λ words. AtFrames own (index + 1) n (Some number) Behind) rest fault) down h)
 
-pub number_refused : (own : ℕ → Format) (index frames : ℕ) (last : Option ℕ) (Behind : List ℕ → Format → Type 0) (unit rest : List ℕ) → 1 ≤ frames → length unit ≡ 8
+pub number_refused : (own : ℕ → Format) (index frames : ℕ) (last : Option ℕ) (Behind : List ℕ → Format → Type 0) (unit rest : List ℕ)
+    → 1 ≤ frames → length unit ≡ 8
     → ((number : ℕ) → IsNext last number → unit ≢ frame_number number)
     → AtFrames own index frames last Behind (unit ++ rest) (own index)
 unfolding AtFrames
@@ -110,7 +88,7 @@ number_taken parts opened last number unit is_opened below next is = record {
 
 -- ---- the words of a frame
 
-abbrev frame_bytes : ℕ × List ℕ → List ℕ
+abbrev pub frame_bytes : ℕ × List ℕ → List ℕ
 frame_bytes frame = frame_number frame.0 ++ frame_words frame.1
 
 -- the dump with the frame that has come, which then lacks fewer
@@ -133,7 +111,7 @@ frames_spelled memory number words above =
 -- as many frames in all
 grown_count : (frame : OpenFrame) → 1 ≤ frame.left → AreBelow (opened_of frame) frame.dump.number
     → finite.len (grown frame).dump.frames + (frame.left - 1) ≡ finite.len frame.dump.dump.frames + frame.left
-grown_count frame some above = omega (arith, some, len_more frame.dump.dump.frames frame.dump.number frame.dump.coming above)
+grown_count frame some above = omega (arith, some, count_push frame.dump.dump.frames frame.dump.number frame.dump.coming above)
 
 -- what comes before the frames says nothing of them, but how many there are
 same_front : (parts : Parts) (owner : Owner) (image : Image) (memory : Memory) (all : ℕ)
@@ -169,13 +147,13 @@ words_faults parts frame rest fault above are h =
     (λ _. AtFrames (own_fault parts frame.owner) (finite.len memory + 1) (frame.left - 1) (Some frame.dump.number) (BehindFrames parts frame.owner)) fault
     (words_begun frame) rest frame.dump.coming are refl
     (subst (λ (n : ℕ). AtFrames (own_fault parts frame.owner) n (frame.left - 1) (Some frame.dump.number) (BehindFrames parts frame.owner) rest fault)
-    (len_more memory frame.dump.number frame.dump.coming above) h)
+    (count_push memory frame.dump.number frame.dump.coming above) h)
 
 grown_numbers : (frame : OpenFrame) → All (λ n. n < 2 ^ 40) (finite.keys frame.dump.dump.frames) → frame.dump.number < 2 ^ 40
     → AreBelow (opened_of frame) frame.dump.number → All (λ n. n < 2 ^ 40) (finite.keys (grown frame).dump.frames)
 grown_numbers frame fit fits above =
     let memory = frame.dump.dump.frames in
-    subst (All (λ n. n < 2 ^ 40)) (sym (keys_more memory frame.dump.number frame.dump.coming above))
+    subst (All (λ n. n < 2 ^ 40)) (sym (numbers_push memory frame.dump.number frame.dump.coming above))
     (All-push (λ n. n < 2 ^ 40) (finite.keys memory) frame.dump.number fit fits)
 
 grown_words : (frame : OpenFrame) → All IsFrame (finite.values frame.dump.dump.frames) → IsFrame frame.dump.coming
@@ -190,7 +168,7 @@ grown_below : (frame : OpenFrame) → AreBelow (opened_of frame) frame.dump.numb
 grown_below frame above next is_next =
     let number = frame.dump.number in
     let memory = frame.dump.dump.frames in
-    subst (All (λ held. held < next)) (sym (keys_more memory number frame.dump.coming above))
+    subst (All (λ held. held < next)) (sym (numbers_push memory number frame.dump.coming above))
     (All-push (λ held. held < next) (finite.keys memory) number (λ k d within. let one = above k d within in
     omega (arith, one, is_next.rises)) is_next.rises)
 
@@ -210,7 +188,7 @@ frame_taken parts frame is_opened fits above are more = record {
       numbers = grown_numbers frame is_opened.numbers fits above;
       words = grown_words frame is_opened.words are above;
       some_left = more;
-      few_frames = omega (arith, len_more frame.dump.dump.frames frame.dump.number frame.dump.coming above, is_opened.few_frames, is_opened.some_left);
+      few_frames = omega (arith, count_push frame.dump.dump.frames frame.dump.number frame.dump.coming above, is_opened.few_frames, is_opened.some_left);
     },
     grown_below frame above,
   );
@@ -218,7 +196,7 @@ frame_taken parts frame is_opened fits above are more = record {
   faults = λ rest fault h. words_faults parts frame rest fault above are h;
 }
 
-no_frame : (own : ℕ → Format) (index frames : ℕ) (last : Option ℕ) (Behind : List ℕ → Format → Type 0) (rest : List ℕ) (fault : Format)
+pub no_frame : (own : ℕ → Format) (index frames : ℕ) (last : Option ℕ) (Behind : List ℕ → Format → Type 0) (rest : List ℕ) (fault : Format)
     → frames ≡ 0 → Behind rest fault → AtFrames own index frames last Behind rest fault
 unfolding AtFrames
 no_frame own index frames last Behind rest fault none h = subst (λ (n : ℕ). AtFrames own index n last Behind rest fault) (sym none) h
@@ -233,7 +211,7 @@ module _ (parts : Parts) (frame : OpenFrame) (is_opened : IsOpened parts (opened
     (above : AreBelow (opened_of frame) frame.dump.number) (are : IsFrame frame.dump.coming) (none : frame.left - 1 ≡ 0) where
   grown_is_image : (version : Version) → finite.len frame.dump.dump.frames + frame.left ≤ most_frames version → IsImage version (grown frame).dump
   grown_is_image version few =
-      let count = len_more frame.dump.dump.frames frame.dump.number frame.dump.coming above in
+      let count = count_push frame.dump.dump.frames frame.dump.number frame.dump.coming above in
       let least = least_one version in
       record {
         applied = is_opened.applied;
@@ -248,7 +226,7 @@ module _ (parts : Parts) (frame : OpenFrame) (is_opened : IsOpened parts (opened
   belongs_to : (owner : Owner) → IsOwner parts owner frame.dump.dump.applied (finite.len frame.dump.dump.frames + frame.left)
       → Belongs parts owner (grown frame).dump
   belongs_to (owners.Start places events) is =
-      let count = len_more frame.dump.dump.frames frame.dump.number frame.dump.coming above in (
+      let count = count_push frame.dump.dump.frames frame.dump.number frame.dump.coming above in (
         is.0,
         is.1,
         is.2,
@@ -261,7 +239,8 @@ module _ (parts : Parts) (frame : OpenFrame) (is_opened : IsOpened parts (opened
   grown_belongs = belongs_to frame.owner is_opened.owner
 
   -- the frame was the last one
-  pub dump_taken : (reader : Reader) → HasRead parts.form (opened_spelling parts (whole_of frame.owner (grown frame).dump)) (BehindFrames parts frame.owner) reader
+  pub dump_taken : (reader : Reader) → HasRead parts.form (opened_spelling parts (whole_of frame.owner (grown frame).dump))
+      (BehindFrames parts frame.owner) reader
       → HasRead parts.form (frame_begun parts frame ++ words_begun frame) (λ rest fault. AtWords parts frame (words_begun frame ++ rest) fault) reader
   dump_taken reader has =
       let image = (grown frame).dump in
@@ -280,7 +259,8 @@ dump_put parts next held dump is one_more in_range one_left image =
     let count : length held.items ≡ length parts.dumps.items + 1 = ap length one_more ∙ length-append parts.dumps.items (dump ∷ []) in
     let front = front_of parts (length parts.log.items) (length parts.events.items) in
     let whole = whole_spelling parts in
-    let made : HasRead parts.form (opened_spelling parts (whole_of owners.Replica dump)) (BehindDumps parts 1) (Dumps (record parts { dumps = held })) = record {
+    let made : HasRead parts.form (opened_spelling parts (whole_of owners.Replica dump)) (BehindDumps parts 1) (Dumps (record parts { dumps = held })) =
+    record {
       form_is = refl;
       ready = record {
         of_form = in_range.of_form;
@@ -373,7 +353,8 @@ no_start parts numbers reader empty layout none has =
 
 -- the frame with the words of a run after those that had come
 abbrev pub filled : OpenFrame → OpenImage → OpenFrame
-filled frame dump = record { dump = record { dump = frame.dump.dump; number = frame.dump.number; coming = dump.coming }; left = frame.left; owner = frame.owner }
+filled frame dump =
+    record { dump = record { dump = frame.dump.dump; number = frame.dump.number; coming = dump.coming }; left = frame.left; owner = frame.owner }
 
 -- what is ahead of some words is ahead of the frame that they go into
 run_faults : (parts : Parts) (frame : OpenFrame) (dump : OpenImage) (run rest : List ℕ) (fault : Format) → HasWords frame.dump run dump
@@ -393,184 +374,28 @@ pub run_taken : (parts : Parts) (frame next : OpenFrame) (run : List ℕ) → Is
     → next.left ≡ frame.left → next.owner ≡ frame.owner → length next.dump.coming < 512
     → HasRead parts.form (said (Words parts frame) ++ run) (λ rest fault. Ahead (Words parts frame) (run ++ rest) fault) (Words parts next)
 run_taken parts frame next run ready has same own few =
-    let made : HasRead parts.form (said (Words parts frame) ++ run) (λ rest fault. Ahead (Words parts frame) (run ++ rest) fault) (Words parts (filled frame next.dump)) =
+    let made : HasRead parts.form (said (Words parts frame) ++ run) (λ rest fault. Ahead (Words parts frame) (run ++ rest) fault)
+    (Words parts (filled frame next.dump)) =
     record {
       form_is = refl;
       ready = (ready.0, ready.1, ready.2, has.fit ready.3, few);
       bytes_are = run_said parts frame next.dump run has;
       faults = λ rest fault h. run_faults parts frame next.dump run rest fault has h;
     } in
-    subst (λ (f : OpenFrame). HasRead parts.form (said (Words parts frame) ++ run) (λ rest fault. Ahead (Words parts frame) (run ++ rest) fault) (Words parts f))
+    subst (λ (f : OpenFrame). HasRead parts.form (said (Words parts frame) ++ run)
+    (λ rest fault. Ahead (Words parts frame) (run ++ rest) fault) (Words parts f))
     (λ i. record { dump = (sym has.same) i; left = (sym same) i; owner = (sym own) i }) made
 
 -- no word is left
 pub words_taken : (parts : Parts) (frame next : OpenFrame) (run : List ℕ) (reader : Reader) → HasWords frame.dump run next.dump → next.left ≡ frame.left
-    → next.owner ≡ frame.owner → HasRead parts.form (frame_begun parts next ++ words_begun next) (λ rest fault. AtWords parts next (words_begun next ++ rest) fault) reader
+    → next.owner ≡ frame.owner → HasRead parts.form (frame_begun parts next ++ words_begun next)
+    (λ rest fault. AtWords parts next (words_begun next ++ rest) fault) reader
     → HasRead parts.form (said (Words parts frame) ++ run) (λ rest fault. Ahead (Words parts frame) (run ++ rest) fault) reader
 words_taken parts frame next run reader has same own read =
     let is : next ≡ filled frame next.dump = λ i. record { dump = has.same i; left = same i; owner = own i } in
     let read_so : HasRead parts.form (frame_begun parts frame ++ words_begun (filled frame next.dump))
     (λ rest fault. AtWords parts (filled frame next.dump) (words_begun (filled frame next.dump) ++ rest) fault) reader =
-    subst (λ (f : OpenFrame). HasRead parts.form (frame_begun parts f ++ words_begun f) (λ rest fault. AtWords parts f (words_begun f ++ rest) fault) reader) is read in
+    subst (λ (f : OpenFrame). HasRead parts.form (frame_begun parts f ++ words_begun f) (λ rest fault. AtWords parts f (words_begun f ++ rest) fault) reader) is
+    read in
     goes_on parts.form reader _ _ _ _ read_so (run_said parts frame next.dump run has)
     (λ rest fault h. run_faults parts frame next.dump run rest fault has h)
-
--- ---- the head of a dump
-
-dump_passed : (version : Version) (replica dumps index behind left : ℕ) (head : DumpHead) (unit rest : List ℕ) (fault : Format) → index ≡ 0 → behind ≡ replica + 1
-    → left + 1 ≡ dumps → IsDumpHead version head → unit ≡ dump_head head
-    → AtFrames (BadFrame replica) index head.frames None (AtDumps version behind left) rest fault → AtDumps version replica dumps (unit ++ rest) fault
-unfolding AtDumps
-dump_passed version replica zero index behind left head unit rest fault first next one_less fits is h = absurd (omega arith)
-dump_passed version replica (suc dumps) index behind left head unit rest fault first next one_less fits is h =
-    let same : left ≡ dumps = omega arith in
-    passed 16 (Some BadCount) (IsDumpHead version) dump_head (λ head. AtFrames (BadFrame replica) 0 head.frames None (AtDumps version (replica + 1) dumps)) fault unit rest head fits is
-    (subst (λ (n : ℕ). AtFrames (BadFrame replica) 0 head.frames None (AtDumps version (replica + 1) n) rest fault) same
-    (subst (λ (n : ℕ). AtFrames (BadFrame replica) 0 head.frames None (AtDumps version n left) rest fault) next
-    (subst (λ (n : ℕ). AtFrames (BadFrame replica) n head.frames None (AtDumps version behind left) rest fault) first h)))
-
-dump_refused : (version : Version) (replica dumps : ℕ) (unit rest : List ℕ) → 1 ≤ dumps → length unit ≡ 16
-    → ((head : DumpHead) → IsDumpHead version head → unit ≢ dump_head head) → AtDumps version replica dumps (unit ++ rest) BadCount
-unfolding AtDumps
-dump_refused version replica zero unit rest some whole none = absurd (omega arith)
-dump_refused version replica (suc dumps) unit rest some whole none =
-    refused 16 (Some BadCount) (IsDumpHead version) dump_head
-    (λ head. AtFrames (BadFrame replica) 0 head.frames None (AtDumps version (replica + 1) dumps)) BadCount unit rest whole refl none
-
-pub head_refused : (parts : Parts) (unit rest : List ℕ) → length parts.dumps.items < parts.layout.replicas → length unit ≡ 16
-    → ((head : DumpHead) → SpellsHead parts.version unit head → ⊥) → Ahead (Dumps parts) (unit ++ rest) BadCount
-head_refused parts unit rest one_left whole none =
-    dump_refused parts.version (length parts.dumps.items + 0) (parts.layout.replicas - (length parts.dumps.items + 0)) unit rest (omega (arith, one_left)) whole
-    (λ head fits e. none head (record { in_range = fits; spelled = e }))
-
-no_entries : finite.entries (finite.empty {X = List ℕ} {R = nat_cmp}) ≡ []
-no_entries = nil_from_length (finite.entries (finite.empty {X = List ℕ} {R = nat_cmp})) (sym (finite.len-entries (finite.empty {X = List ℕ} {R = nat_cmp}))
-    ∙ finite.len-empty nat_cmp (List ℕ))
-
-abbrev pub first_image : DumpHead → Image
-first_image head = record { applied = head.applied; root = head.root; frames = finite.empty }
-
-no_frames : finite.len (finite.empty {X = List ℕ} {R = nat_cmp}) ≡ 0
-no_frames = finite.len-empty nat_cmp (List ℕ)
-
-no_keys : finite.keys (finite.empty {X = List ℕ} {R = nat_cmp}) ≡ []
-no_keys = ap (map (λ (e : ℕ × List ℕ). e.0)) no_entries
-
-no_values : finite.values (finite.empty {X = List ℕ} {R = nat_cmp}) ≡ []
-no_values = ap (map (λ (e : ℕ × List ℕ). e.1)) no_entries
-
--- a dump of which no frame has come yet
-none_come : (parts : Parts) (owner : Owner) (head : DumpHead) → AreInRange parts → IsOwner parts owner head.applied head.frames → head.applied < 2 ^ 32
-    → head.root < 2 ^ 64 → 1 ≤ head.frames → head.frames ≤ FRAMES
-    → IsReady (Frame parts (record { dump = first_image head; left = head.frames; owner = owner }) None)
-none_come parts owner head in_range is applied root some few = (
-  record {
-    in_range = in_range;
-    owner = let all : head.frames ≡ finite.len (finite.empty {X = List ℕ} {R = nat_cmp}) + head.frames = omega (arith, no_frames) in
-        subst (IsOwner parts owner head.applied) all is;
-    applied = applied;
-    root = root;
-    numbers = subst (All (λ n. n < 2 ^ 40)) (sym no_keys) (All-nil (λ n. n < 2 ^ 40));
-    words = subst (All IsFrame) (sym no_values) (All-nil IsFrame);
-    some_left = some;
-    few_frames = omega (arith, no_frames, few);
-  },
-  λ number next. subst (All (λ held. held < number)) (sym no_keys) (All-nil (λ held. held < number)),
-)
-
-none_spelled : (parts : Parts) (owner : Owner) (head : DumpHead)
-    → opened_spelling parts (record { dump = first_image head; left = head.frames; owner = owner })
-    ≡ front_with parts owner (first_image head) head.frames
-none_spelled parts owner head =
-    ap (λ (n : ℕ). front_with parts owner (first_image head) n ++ flat_map frame_bytes (finite.entries (finite.empty {X = List ℕ} {R = nat_cmp})))
-    (let all : finite.len (finite.empty {X = List ℕ} {R = nat_cmp}) + head.frames ≡ head.frames = omega (arith, no_frames) in all)
-    ∙ ap (λ (es : List (ℕ × List ℕ)). front_with parts owner (first_image head) head.frames ++ flat_map frame_bytes es) no_entries
-    ∙ append-nil (front_with parts owner (first_image head) head.frames)
-
--- what is ahead of the head of a dump
-head_faults : (parts : Parts) (head : DumpHead) (unit rest : List ℕ) (fault : Format) → length parts.dumps.items < parts.layout.replicas
-    → SpellsHead parts.version unit head
-    → AtFrames (BadFrame (length parts.dumps.items)) 0 head.frames None (BehindDumps parts 1) rest fault
-    → Ahead (Dumps parts) (unit ++ rest) fault
-head_faults parts head unit rest fault one_left spells h =
-    let replica = length parts.dumps.items in
-    let same : replica ≡ replica + 0 = omega arith in
-    let left : parts.layout.replicas - (replica + 1) + 1 ≡ parts.layout.replicas - replica = omega (arith, one_left) in
-    subst (λ (n : ℕ). AtDumps parts.version n (parts.layout.replicas - n) (unit ++ rest) fault) same
-    (dump_passed parts.version replica (parts.layout.replicas - replica) 0 (replica + 1) (parts.layout.replicas - (replica + 1))
-    head unit rest fault refl refl left spells.in_range spells.spelled h)
-
-pub head_taken : (parts : Parts) (head : DumpHead) (image : Image) (unit : List ℕ) → image ≡ first_image head → AreInRange parts
-    → length parts.dumps.items < parts.layout.replicas → SpellsHead parts.version unit head → 1 ≤ head.frames
-    → HasRead parts.form (said (Dumps parts) ++ unit) (λ rest fault. Ahead (Dumps parts) (unit ++ rest) fault)
-    (Frame parts (record { dump = image; left = head.frames; owner = owners.Replica }) None)
-head_taken parts head image unit begins in_range one_left spells some =
-    let made : HasRead parts.form (said (Dumps parts) ++ unit) (λ rest fault. Ahead (Dumps parts) (unit ++ rest) fault)
-    (Frame parts (record { dump = first_image head; left = head.frames; owner = owners.Replica }) None) = record {
-      form_is = refl;
-      ready = none_come parts owners.Replica head in_range (one_left, spells.in_range.few_frames) spells.in_range.applied spells.in_range.root some
-          (omega (arith, spells.in_range.few_frames, few_of parts.version));
-      bytes_are = none_spelled parts owners.Replica head ∙ ap (λ (l : List ℕ). whole_spelling parts ++ l) (sym spells.spelled);
-      faults = λ rest fault h. head_faults parts head unit rest fault one_left spells
-          (subst (λ (n : ℕ). AtFrames (BadFrame (length parts.dumps.items)) n head.frames None (BehindDumps parts 1) rest fault) no_frames h);
-    } in
-    subst (λ (d : Image). HasRead parts.form (said (Dumps parts) ++ unit) (λ rest fault. Ahead (Dumps parts) (unit ++ rest) fault)
-    (Frame parts (record { dump = d; left = head.frames; owner = owners.Replica }) None)) (sym begins) made
-
--- a dump without frames is whole
-pub head_belongs : (version : Version) (head : DumpHead) (image : Image) → image ≡ first_image head → IsDumpHead version head → head.frames ≡ 0
-    → IsImage version image
-head_belongs version head image begins fits none = subst (IsImage version) (sym begins) (record {
-  applied = fits.applied;
-  root = fits.root;
-  some_frame = omega (arith, no_frames, fits.some_frame, none);
-  few_frames = omega (arith, no_frames);
-  nothing = λ _. fits.nothing none;
-  numbers = subst (All (λ n. n < 2 ^ 40)) (sym no_keys) (All-nil (λ n. n < 2 ^ 40));
-  words = subst (All IsFrame) (sym no_values) (All-nil IsFrame);
-})
-
-pub head_whole : (parts : Parts) (head : DumpHead) (image : Image) (unit : List ℕ) (reader : Reader) → image ≡ first_image head
-    → length parts.dumps.items < parts.layout.replicas → SpellsHead parts.version unit head → head.frames ≡ 0
-    → HasRead parts.form (opened_spelling parts (whole_of owners.Replica image)) (BehindDumps parts 1) reader
-    → HasRead parts.form (said (Dumps parts) ++ unit) (λ rest fault. Ahead (Dumps parts) (unit ++ rest) fault) reader
-head_whole parts head image unit reader begins one_left spells none has =
-    let read : HasRead parts.form (opened_spelling parts (whole_of owners.Replica (first_image head))) (BehindDumps parts 1) reader =
-    subst (λ (d : Image). HasRead parts.form (opened_spelling parts (whole_of owners.Replica d)) (BehindDumps parts 1) reader) begins has in
-    goes_on parts.form reader _ _ _ _ read
-    (ap (λ (n : ℕ). opened_spelling parts (record { dump = first_image head; left = n; owner = owners.Replica })) (sym none)
-    ∙ none_spelled parts owners.Replica head ∙ ap (λ (l : List ℕ). whole_spelling parts ++ l) (sym spells.spelled))
-    (λ rest fault h. head_faults parts head unit rest fault one_left spells
-    (no_frame (BadFrame (length parts.dumps.items)) 0 head.frames None (BehindDumps parts 1) rest fault none h))
-
--- the root of a start
-pub root_taken : (parts : Parts) (numbers : Counts) (image : Image) (root : ℕ) (unit : List ℕ)
-    → image ≡ first_image (record { applied = 0; frames = numbers.start; root = root }) → IsReady (Root parts numbers) → root < 2 ^ 64
-    → unit ≡ frame_number root
-    → HasRead parts.form (said (Root parts numbers) ++ unit) (λ rest fault. Ahead (Root parts numbers) (unit ++ rest) fault)
-    (Frame parts (record { dump = image; left = numbers.start; owner = owners.Start numbers.places numbers.events }) None)
-root_taken parts numbers image root unit begins ready fits is =
-    let owner = owners.Start numbers.places numbers.events in
-    let head : DumpHead = record { applied = 0; frames = numbers.start; root = root } in
-    let given = ready.2 in
-    let layout = ready.3 in
-    let behind = AtLog parts.version parts.layout numbers.places numbers.events in
-    let made : HasRead parts.form (said (Root parts numbers) ++ unit) (λ rest fault. Ahead (Root parts numbers) (unit ++ rest) fault)
-    (Frame parts (record { dump = first_image head; left = numbers.start; owner = owner }) None) = record {
-      form_is = refl;
-      ready = none_come parts owner head ready.0 (ready.1, given.few_places, given.few_events, refl, given.few_start) (omega arith) fits ready.4
-          (omega (arith, given.few_start, few_of_start parts.version));
-      bytes_are = none_spelled parts owner head
-          ∙ ap (λ (l : Layout). header_units (record { layout = l; places = numbers.places; events = numbers.events; start = numbers.start }) parts
-          ++ frame_number root) (sym layout)
-          ∙ ap (λ (l : List ℕ). header_units numbers parts ++ l) (sym is);
-      faults = λ rest fault h. root_passed numbers.start behind root unit rest fault ready.4 fits is
-          (subst (λ (n : ℕ). AtFrames BadStart n numbers.start None behind rest fault) no_frames h);
-    } in
-    subst (λ (d : Image). HasRead parts.form (said (Root parts numbers) ++ unit) (λ rest fault. Ahead (Root parts numbers) (unit ++ rest) fault)
-    (Frame parts (record { dump = d; left = numbers.start; owner = owner }) None)) (sym begins) made where
-      root_passed : (frames : ℕ) (Behind : List ℕ → Format → Type 0) (root : ℕ) (unit rest : List ℕ) (fault : Format) → 1 ≤ frames → root < 2 ^ 64
-          → unit ≡ frame_number root → AtFrames BadStart 0 frames None Behind rest fault → AtStart frames Behind (unit ++ rest) fault
-      root_passed zero Behind root unit rest fault some fits is h = absurd (omega arith)
-      root_passed (suc frames) Behind root unit rest fault some fits is h =
-          passed 8 None (λ root. root < 2 ^ 64) frame_number (λ _. AtFrames BadStart 0 (suc frames) None Behind) fault unit rest root fits is h

@@ -87,7 +87,8 @@ at_unit {A} bytes own Fits spelled Behind Then other judged on rest from = by_so
 
 -- ---- the rest, from the end
 
-frames_or_fault : (own : ℕ → Format) → ((index : ℕ) → own index ≢ Trailing) → (index frames : ℕ) (before : Option ℕ) (Behind : List ℕ → Format → Type 0) (Then : List ℕ → Type 0)
+frames_or_fault : (own : ℕ → Format) → ((index : ℕ) → own index ≢ Trailing)
+    → (index frames : ℕ) (before : Option ℕ) (Behind : List ℕ → Format → Type 0) (Then : List ℕ → Type 0)
     → AlwaysEither Then Behind → AlwaysEither (HasUnits (FramesFit before) frame frames Then) (AtFrames own index frames before Behind)
 unfolding AtFrames
 frames_or_fault own other index zero before Behind Then on rest from = either_as (no_unit (FramesFit before) frame Then rest (tt, tt)) (on rest from)
@@ -197,7 +198,8 @@ front_or_fault form bytes from =
 -- a trace at the front, and what comes after it
 by_end : (bytes front more : List ℕ) (trace : Recording) → bytes ≡ front ++ more → Spells front trace
     → ((whole : Recording) × Spells bytes whole) ⊎ ((more ≢ []) × HasFormatFault bytes Trailing)
-by_end bytes front [] trace is spells = inl (trace, record { of_form = spells.of_form; follows = spells.follows; in_range = spells.in_range; spelled = is ∙ append-nil front ∙ spells.spelled })
+by_end bytes front [] trace is spells =
+    inl (trace, record { of_form = spells.of_form; follows = spells.follows; in_range = spells.in_range; spelled = is ∙ append-nil front ∙ spells.spelled })
 by_end bytes front (byte ∷ more) trace is spells =
     inr ((λ e. absurd cc), subst (λ (l : List ℕ). HasFormatFault l Trailing) (sym is) (trailing_after front (byte ∷ more) trace spells (λ e. absurd cc)))
 

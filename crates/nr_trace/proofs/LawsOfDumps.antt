@@ -116,11 +116,13 @@ known_applied trace replica dump call made reply no_more is_made here is_reply =
   by_order (inr l) = l
 
 pub dump_translates : (start : Space) (trace : Recording) (dump : Image)
-    → ((address : ℕ) → IsLeast (TranslatesOtherwise trace.layout.depth dump.frames dump.root (space_from start trace (take dump.applied trace.log))) address → ⊥)
+    → ((address : ℕ) → IsLeast (TranslatesOtherwise trace.layout.depth dump.frames dump.root (space_from start trace (take dump.applied trace.log))) address
+    → ⊥)
     → TranslatesAs trace.layout.depth dump.frames dump.root (space_from start trace (take dump.applied trace.log))
 dump_translates start trace dump none_differs address canonical =
     same_walk (walk trace.layout.depth dump.frames dump.root address) (as_walk (look (space_from start trace (take dump.applied trace.log)) address))
-    (λ apart. none_from_no_least (TranslatesOtherwise trace.layout.depth dump.frames dump.root (space_from start trace (take dump.applied trace.log))) none_differs
+    (λ apart. none_from_no_least (TranslatesOtherwise trace.layout.depth dump.frames dump.root (space_from start trace (take dump.applied trace.log)))
+    none_differs
     address (canonical, apart))
 
 -- the places that a dump has applied

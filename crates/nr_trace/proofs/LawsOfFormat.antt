@@ -31,7 +31,8 @@ use Rattle.nr_trace.specs.declared.fields.Counts.{Counts}
 use Rattle.nr_trace.proofs.LawsOfSpelling.{Frame, FrameFits, frame, image_frames_fit, head_fits, frames_of, counts_fit, logs, events, dumps, numbered}
 use Rattle.nr_trace.proofs.LawsOfSpelling.{counted, magic_is, spelling_is, versioned}
 use Rattle.nr_trace.proofs.LawsOfUnits.{IsWide, ToldApart, is_wide, number_64, versions_apart, counts_apart, length-counts, heads_apart, length-head, frame_numbers_apart, words_apart}
-use Rattle.nr_trace.proofs.LawsOfUnits.{length-frame_words, log_words_apart, events_apart, length-event}
+use Rattle.nr_trace.proofs.LawsOfUnits.{length-frame_words, log_words_apart, length-event}
+use Rattle.nr_trace.proofs.EventsApart.{events_apart}
 
 -- ---- one unit
 

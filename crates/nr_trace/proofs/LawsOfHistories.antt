@@ -27,7 +27,8 @@ some_below test (suc n) = by_last (cases_Bool (test n)) (some_below test n) wher
 
 -- no fault of calls and replies holds at any event
 abbrev pub HasNoCallFault : Recording → Type 0
-HasNoCallFault trace = (index : ℕ) → (HasFault trace (ThreadOpen index) → ⊥) × (HasFault trace (NoSuchCall index) → ⊥) × (HasFault trace (AnsweredTwice index) → ⊥)
+HasNoCallFault trace = (index : ℕ) → (HasFault trace (ThreadOpen index) → ⊥) × (HasFault trace (NoSuchCall index) → ⊥)
+    × (HasFault trace (AnsweredTwice index) → ⊥)
 
 module _ (trace : Recording) (clean : HasNoCallFault trace) where
   -- of two replies to a call the second would be a fault
@@ -47,7 +48,8 @@ module _ (trace : Recording) (clean : HasNoCallFault trace) where
   answered_between : (first second : ℕ) (made next : Invocation) → first < second → call_of trace first ≡ Some made → call_of trace second ≡ Some next
       → made.thread ≡ next.thread → Precedes trace first second
   answered_between first second made next l is_made is_next same =
-      by_search (some_below (λ index. is_some (option_and_then (λ (reply : Response). if reply.call == first then Some reply else None) (reply_of trace index))) second) where
+      by_search (some_below (λ index. is_some (option_and_then (λ (reply : Response). if reply.call == first then Some reply else None) (reply_of trace index)))
+      second) where
         by_search : ((index : ℕ) × (index < second) × Answers trace index first) ⊎ ((index : ℕ) → index < second → Answers trace index first → ⊥)
             → Precedes trace first second
         by_search (inl (index, lower, answers)) = (is_some_from (call_of trace second) next is_next, index, lower, answers)
@@ -73,7 +75,8 @@ module _ (trace : Recording) (history : IsWellFormedHistory trace) where
   pub no_call_fault : HasNoCallFault trace
   no_call_fault index = (
     λ opens.
-        let between = history.one_open opens.earlier index opens.earlier_made opens.made opens.is_earlier opens.is_earlier_made opens.is_made opens.same_thread in
+        let between = history.one_open opens.earlier index opens.earlier_made opens.made opens.is_earlier opens.is_earlier_made
+        opens.is_made opens.same_thread in
         opens.not_answered between.1 between.2 between.3,
     λ such. such.2 (history.of_calls index such.0 such.1),
     λ twice.
@@ -83,7 +86,8 @@ module _ (trace : Recording) (history : IsWellFormedHistory trace) where
   )
 
 pub history_if_faultless : (start : Space) (trace : Recording) → IsFaultlessFrom start trace → IsWellFormedHistory trace
-history_if_faultless start trace faultless = well_formed trace (λ index. (faultless (ThreadOpen index), faultless (NoSuchCall index), faultless (AnsweredTwice index)))
+history_if_faultless start trace faultless =
+    well_formed trace (λ index. (faultless (ThreadOpen index), faultless (NoSuchCall index), faultless (AnsweredTwice index)))
 
 pub well_formed_as_faults : (trace : Recording) → IsWellFormedHistory trace ↔ HasNoCallFault trace
 well_formed_as_faults trace = (λ history. no_call_fault trace history, λ clean. well_formed trace clean)

@@ -272,7 +272,8 @@ same_or_not a b =
       by_parts (inl c) (inl s) (inr n) v = inr (λ e. n (ap (λ x. (answer_fields x).rights) e))
       by_parts (inl c) (inl s) (inl r) (inr n) = inr (λ e. n (ap (λ x. (answer_fields x).value) e))
 
-pub right_answer : (start : Space) (trace : Recording) → ((call : ℕ) → HasFaultFrom start trace (WrongAnswer call) → ⊥) → (call : ℕ) (made : Invocation) (reply : Response)
+pub right_answer : (start : Space) (trace : Recording) → ((call : ℕ) → HasFaultFrom start trace (WrongAnswer call) → ⊥)
+    → (call : ℕ) (made : Invocation) (reply : Response)
     → call_of trace call ≡ Some made → made.touch ≡ false → reply_to trace call ≡ Some reply
     → reply.answer ≡ answer_in trace.layout (space_from start trace (before call (recorded_order trace))) made.request
 right_answer start trace right call made reply e no_touch f =

@@ -132,7 +132,9 @@ legal start trace clean in_time right =
     let but = legal_but_precedence start trace clean right in
     record {
       members = but.members;
-      precedence = λ first second a b p. in_front first second (ordered first (member_stands trace first clean (in_from_Contains first (recorded_order trace) a)))
+      precedence =
+          λ first second a b p. in_front first second
+          (ordered first (member_stands trace first clean (in_from_Contains first (recorded_order trace) a)))
           (member_stands trace second clean (in_from_Contains second (recorded_order trace) b)) p;
       answers = but.answers;
     } where

@@ -19,7 +19,8 @@ use Rattle.nr_trace.specs.declared.version.Version.TheVariants.{V1, V2, Segment}
 use Rattle.nr_trace.specs.declared.version.Form.{Form}
 use Rattle.nr_trace.specs.declared.version.Form.TheVariants as forms
 use Rattle.nr_trace.proofs.LawsOfUnits.{ToldApart, versions_apart, counts_apart, heads_apart, frame_numbers_apart, words_apart, lists_apart, log_words_apart}
-use Rattle.nr_trace.proofs.LawsOfUnits.{events_apart, is_wide, number_64}
+use Rattle.nr_trace.proofs.LawsOfUnits.{is_wide, number_64}
+use Rattle.nr_trace.proofs.EventsApart.{events_apart}
 
 abbrev pub Frame : Type 0
 Frame = ℕ × List ℕ

@@ -61,8 +61,10 @@ one_operation : (trace : Recording) (o : Option ℕ) (call : ℕ) (action : Acti
 one_operation trace o call action e f = rw (e, f) refl
 
 -- the space after one place more
-pub space_next : (start : Space) (trace : Recording) (place call : ℕ) (action : Action) → slice_get trace.log place ≡ Some call → operation_of trace call ≡ Some action
-    → space_from start trace (take (place + 1) trace.log) ≡ (step trace.layout.depth trace.layout.tables (space_from start trace (take place trace.log)) action).space
+pub space_next : (start : Space) (trace : Recording) (place call : ℕ) (action : Action) → slice_get trace.log place ≡ Some call
+    → operation_of trace call ≡ Some action
+    → space_from start trace (take (place + 1) trace.log)
+    ≡ (step trace.layout.depth trace.layout.tables (space_from start trace (take place trace.log)) action).space
 space_next start trace place call action e f =
     let more = one_operation trace (slice_get trace.log place) call action e f in
     ap (λ n. space_from start trace (take n trace.log)) (add-one place)

@@ -6,6 +6,7 @@ pub mod Units
 pub mod Spelled
 pub mod Taken
 pub mod Frames
+pub mod DumpHeads
 pub mod Whole
 mod ExamplesOfSpelling
 mod ExamplesOfAnswers
@@ -16,6 +17,7 @@ mod ExamplesOfFormats
 pub mod ExamplesOfRanges
 mod ExamplesOfSegments
 pub mod LawsOfUnits
+pub mod EventsApart
 pub mod LawsOfSpelling
 pub mod LawsOfLength
 pub mod LawsOfFormat

@@ -14,7 +14,8 @@ use Rattle.nr_trace.specs.inside.Reading.{asked_by, asked_fields, IsAsked, IsAsk
 use Rattle.nr_trace.specs.declared.reading.event.Asked.{Asked}
 use Rattle.nr_trace.specs.declared.reading.event.Asked.TheVariants as askeds
 use Rattle.nr_trace.specs.declared.version.Version.{Version}
-use Rattle.nr_trace.proofs.LawsOfUnits.{call_bytes, request_fits}
+use Rattle.nr_trace.proofs.LawsOfUnits.{request_fits}
+use Rattle.nr_trace.proofs.EventsApart.{call_bytes}
 use Rattle.nr_trace.proofs.Taken.{only_front}
 
 -- the fields of a request, but for the kind

@@ -31,7 +31,8 @@ use Rattle.vs_types.specs.declared.request.Query.TheVariants.{Access}
 use Rattle.nr_trace.specs.declared.event.Event.{Event}
 use Rattle.nr_trace.specs.declared.event.Event.TheVariants.{Call, Reply, Touch}
 use Rattle.nr_trace.proofs.Known.{Known, below, both, same_bytes, version_known, event_known, counts_known, head_known, next_known}
-use Rattle.nr_trace.proofs.LawsOfUnits.{IsWide, is_wide, few_of, request_from, request_back, request_fits, touch_back, answer_from, answer_back, call_fits, touch_fits, reply_fits}
+use Rattle.nr_trace.proofs.LawsOfUnits.{IsWide, is_wide, few_of, request_from, request_back, request_fits, touch_back, answer_from, answer_back}
+use Rattle.nr_trace.proofs.EventsApart.{call_fits, touch_fits, reply_fits}
 
 -- the unit spells a value that fits, or none
 abbrev pub IsTold : {A : Type 0} → (A → Type 0) → (A → List ℕ) → List ℕ → Type 0

@@ -92,7 +92,8 @@ behind_end form V1 rest is of more = (more, refl)
 behind_end form V2 rest is of more = (more, refl)
 behind_end form Segment rest is of more = absurd (subst (λ (f : Form). IsVersionOf f Segment) is of)
 
-at_end : (version : versions.Version) (replica dumps : ℕ) (rest : List ℕ) → dumps ≡ 0 → AtEnd version rest Trailing → AtDumps version replica dumps rest Trailing
+at_end : (version : versions.Version) (replica dumps : ℕ) (rest : List ℕ) → dumps ≡ 0 → AtEnd version rest Trailing
+    → AtDumps version replica dumps rest Trailing
 unfolding AtDumps
 at_end version replica dumps rest none end = subst (λ (n : ℕ). AtDumps version replica n rest Trailing) (sym none) end
 

@@ -5,6 +5,7 @@ use Rattle.vs_types.specs.Step.{step, look, after_all}
 use Rattle.vs_types.specs.declared.depth.Depth.{Depth}
 use Rattle.vs_types.specs.declared.op.Action.{Action}
 use Rattle.vs_types.specs.declared.answer.Answer.{Answer}
+use Rattle.vs_types.proofs.Afterwards.{after_all-append}
 use Rattle.vs_space.specs.Table.{PageTable, IsTableOf, IsTableStep}
 use Rattle.space_benchmark.specs.Sum.{answer_number, sum_with}
 use Rattle.space_benchmark.specs.Work.{sum_of_steps, sum_of_looks, Applies}
@@ -14,11 +15,6 @@ sum_of_steps-append : (depth : Depth) (limit : ℕ) (space : Space) (sum : ℕ) 
 sum_of_steps-append depth limit space sum [] ys = refl
 sum_of_steps-append depth limit space sum (x ∷ xs) ys =
     sum_of_steps-append depth limit (step depth limit space x).space (sum_with sum (answer_number (step depth limit space x).answer)) xs ys
-
-after_all-append : (depth : Depth) (limit : ℕ) (space : Space) (xs ys : List Action)
-    → after_all depth limit space (xs ++ ys) ≡ after_all depth limit (after_all depth limit space xs) ys
-after_all-append depth limit space [] ys = refl
-after_all-append depth limit space (x ∷ xs) ys = after_all-append depth limit (step depth limit space x).space xs ys
 
 pub sum_of_looks-append : (space : Space) (sum : ℕ) (xs ys : List ℕ) → sum_of_looks space sum (xs ++ ys) ≡ sum_of_looks space (sum_of_looks space sum xs) ys
 sum_of_looks-append space sum [] ys = refl

@@ -32,7 +32,8 @@ pub head_of_code : (code : List ℕ → ℕ) (head : ℕ → ℕ → ℕ) (c h :
 head_of_code code head c h ys coded is i lt = coded i lt ∙ ap (λ (z : ℕ). head z i) (sym is)
 
 -- words that are coded have the head of their code
-pub coded_head : (code : List ℕ → ℕ) (head : ℕ → ℕ → ℕ) (c h : ℕ) (words ys : List ℕ) → AgreeFrom h words ys → IsCoded code head h ys → c ≡ code ys → HasHead head c h words ys
+pub coded_head : (code : List ℕ → ℕ) (head : ℕ → ℕ → ℕ) (c h : ℕ) (words ys : List ℕ) → AgreeFrom h words ys → IsCoded code head h ys
+    → c ≡ code ys → HasHead head c h words ys
 coded_head code head c h words ys alike coded is = (alike, head_of_code code head c h ys coded is)
 
 pub agree_back : (h : ℕ) (xs ys : List ℕ) → AgreeFrom h xs ys → AgreeFrom h ys xs
@@ -49,7 +50,8 @@ changes_below h words (change ∷ changes) all =
     )
 
 -- a word that is put in both
-pub put_in_both : (h place word : ℕ) (words now : List ℕ) → place < length words → AgreeFrom h words now → AgreeFrom h (set words place word) (set now place word)
+pub put_in_both : (h place word : ℕ) (words now : List ℕ) → place < length words → AgreeFrom h words now
+    → AgreeFrom h (set words place word) (set now place word)
 put_in_both h place word words now within alike = (
   length-set now place word ∙ (alike.0 ∙ sym (length-set words place word)),
   λ i high. dite (ℕ_discrete i place)
@@ -65,13 +67,15 @@ put_low h place word words now low alike =
     (alike.0 ∙ sym (length-set words place word), λ i high. alike.1 i high ∙ sym (get_or-set_other words place i word 0 (λ e. omega (arith, low, high))))
 
 -- the next of the first words is put
-pub one_more_head : (head : ℕ → ℕ → ℕ) (c n word : ℕ) (words : List ℕ) → n < length words → word ≡ head c n → IsHead head c n words → IsHead head c (n + 1) (set words n word)
+pub one_more_head : (head : ℕ → ℕ → ℕ) (c n word : ℕ) (words : List ℕ) → n < length words → word ≡ head c n → IsHead head c n words
+    → IsHead head c (n + 1) (set words n word)
 one_more_head head c n word words within is has i lt = dite (ℕ_discrete i n)
     (λ e. ap (λ (z : ℕ). get_or (set words n word) z 0) e ∙ (get_or-set_same words n word 0 within ∙ (is ∙ ap (λ (z : ℕ). head c z) (sym e))))
     (λ other. get_or-set_other words n i word 0 other ∙ has i (omega arith))
 
 -- a word that is put in both, of which one has the first ones alone
-pub put_first : (h place word : ℕ) (first words : List ℕ) → place < length first → place < length words → AgreeTo h first words → AgreeTo h (set first place word) (set words place word)
+pub put_first : (h place word : ℕ) (first words : List ℕ) → place < length first → place < length words → AgreeTo h first words
+    → AgreeTo h (set first place word) (set words place word)
 put_first h place word first words inside within alike i lt = dite (ℕ_discrete i place)
     (λ e. ap (λ (z : ℕ). get_or (set first place word) z 0) e
     ∙ (get_or-set_same first place word 0 inside

@@ -16,7 +16,8 @@ loads_none places words Idle = refl
 loads_none places words (Seen at last x) = (last, refl, λ le. (le, λ i lt. absurd (omega arith)))
 loads_none places words (Writing at old now) = refl
 
-pub loads_one : (places : List ℕ) (k place found : ℕ) (words : List ℕ) (a b c : Stage) → place < length words → get_or places k 0 ≡ place → Loaded places k words a b
+pub loads_one : (places : List ℕ) (k place found : ℕ) (words : List ℕ) (a b c : Stage) → place < length words → get_or places k 0 ≡ place
+    → Loaded places k words a b
     → Peeked ((place + 32) - 32) found b c → Loaded places (k + 1) (set words place found) a c
 loads_one places k place found words Idle b c inside is f g = subst (λ (z : Stage). Peeked ((place + 32) - 32) found z c) f g
 loads_one places k place found words (Writing at old now) b c inside is f g = subst (λ (z : Stage). Peeked ((place + 32) - 32) found z c) f g
@@ -29,7 +30,8 @@ loads_one places k place found words (Seen at last x) b c inside is f g =
           let m = h.2 le in
           let o = f.2 m.0 in
           let new : (p : ℕ) → p ≡ place → get_or (set words place found) p 0 ≡ get_or x p 0 =
-          λ p e. ap (λ (z : ℕ). get_or (set words place found) z 0) e ∙ (get_or-set_same words place found 0 inside ∙ (m.1 ∙ ap (λ (z : ℕ). get_or x z 0) (back ∙ sym e))) in (
+          λ p e. ap (λ (z : ℕ). get_or (set words place found) z 0) e
+          ∙ (get_or-set_same words place found 0 inside ∙ (m.1 ∙ ap (λ (z : ℕ). get_or x z 0) (back ∙ sym e))) in (
             o.0,
             λ j lt. dite (ℕ_discrete j k)
                 (λ last_one. new (get_or places j 0) (ap (λ (z : ℕ). get_or places z 0) last_one ∙ is))
@@ -39,7 +41,8 @@ loads_one places k place found words (Seen at last x) b c inside is f g =
           ),
     )
 
-module _ {V : Type 0} (code : List ℕ → ℕ) (head : ℕ → ℕ → ℕ) (h n : ℕ) (tells : V → List ℕ → List ℕ → V → Type 0) (found : ℕ) (v w : V) (before after : Stage) where
+module _ {V : Type 0} (code : List ℕ → ℕ) (head : ℕ → ℕ → ℕ) (h n : ℕ) (tells : V → List ℕ → List ℕ → V
+    → Type 0) (found : ℕ) (v w : V) (before after : Stage) where
   abbrev Looked : Type 0
   Looked = IsLook code head h n tells found v w before after
 
@@ -72,10 +75,12 @@ module _ {V : Type 0} (code : List ℕ → ℕ) (head : ℕ → ℕ → ℕ) (h 
       let grew : GrewTo code (Seen at waited.0 (words_of st)) found look.words = subst (λ (z : Stage). GrewTo code z found look.words) waited.1 look.grew in
       let up = waited.2 in let not_less = grew.0 in
       ⊎_elim (λ (t : (resting found ≡ at) × (look.words ≡ words_of st)). let same = t.0 in absurd (omega arith))
-      (λ (t : (at < resting found) × (code (words_of st) < code look.words)). subst (λ (ws : List ℕ). code (words_of st) < code ws) (sym (words_after look)) t.1) grew.1
+      (λ (t : (at < resting found) × (code (words_of st) < code look.words)). subst (λ (ws : List ℕ). code (words_of st) < code ws)
+      (sym (words_after look)) t.1) grew.1
 
 -- what was loaded, and seen still
-pub loaded_still : {V : Type 0} (code : List ℕ → ℕ) (head : ℕ → ℕ → ℕ) (h n : ℕ) (tells : V → List ℕ → List ℕ → V → Type 0) (found at k : ℕ) (v w : V) (places words : List ℕ) (seen loaded after : Stage)
+pub loaded_still : {V : Type 0} (code : List ℕ → ℕ) (head : ℕ → ℕ → ℕ) (h n : ℕ) (tells : V → List ℕ → List ℕ → V
+    → Type 0) (found at k : ℕ) (v w : V) (places words : List ℕ) (seen loaded after : Stage)
     → IsAt at seen → at % 2 ≡ 0 → Loaded places k words seen loaded → IsLook code head h n tells found v w loaded after → found ≡ at
     → (words_of after ≡ words_of seen) × AgreeAt places k words (words_of after)
 loaded_still code head h n tells found at k v w places words seen loaded after is even loads look same =
@@ -103,10 +108,13 @@ come_further code a b at at' p q twice twice' =
 
 -- as a number is another one or not
 pub as_found : (x y : ℕ) (A B : Type 0) → (x ≡ y → A) → (x ≢ y → B) → MatchBool (eqb x y) A B
-as_found x y A B equal other = dite (ℕ_discrete x y) (λ e. subst (λ b. MatchBool b A B) (sym (eq-eqb x y e)) (equal e)) (λ n. subst (λ b. MatchBool b A B) (sym (ne_eqb x y n)) (other n))
+as_found x y A B equal other =
+    dite (ℕ_discrete x y) (λ e. subst (λ b. MatchBool b A B) (sym (eq-eqb x y e)) (equal e))
+    (λ n. subst (λ b. MatchBool b A B) (sym (ne_eqb x y n)) (other n))
 
 -- a new seat has seen the words of the start
-pub new_seen : (code : List ℕ → ℕ) (head : ℕ → ℕ → ℕ) (h n c : ℕ) (words first : List ℕ) (stage : Stage) → stage ≡ Seen (2 * c) (2 * c) words → length words ≡ n → IsCoded code head h words → c ≡ code words
+pub new_seen : (code : List ℕ → ℕ) (head : ℕ → ℕ → ℕ) (h n c : ℕ) (words first : List ℕ) (stage : Stage)
+    → stage ≡ Seen (2 * c) (2 * c) words → length words ≡ n → IsCoded code head h words → c ≡ code words
     → IsHead head c h first → HasSeen h n (2 * c) first stage
 new_seen code head h n c words first stage is long coded c_is first_is = let same : words_of stage ≡ words = ap words_of is in record {
   last = 2 * c;
@@ -116,7 +124,8 @@ new_seen code head h n c words first stage is long coded c_is first_is = let sam
 }
 
 -- a seat that made an exchange has seen the words after it
-pub exchanged_seen : (h n at : ℕ) (words first : List ℕ) (stage : Stage) → stage ≡ Seen at at words → length words ≡ n → AgreeTo h first words → HasSeen h n at first stage
+pub exchanged_seen : (h n at : ℕ) (words first : List ℕ) (stage : Stage) → stage ≡ Seen at at words → length words ≡ n
+    → AgreeTo h first words → HasSeen h n at first stage
 exchanged_seen h n at words first stage is long alike = let same : words_of stage ≡ words = ap words_of is in record {
   last = at;
   seen = is ∙ ap (λ (ws : List ℕ). Seen at at ws) (sym same);

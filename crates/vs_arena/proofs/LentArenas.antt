@@ -32,7 +32,8 @@ module _ {X : Type 0} (part : FrameMark → X) where
   column-set n marks i y = ap (map part) (take-set n marks i y) ∙ map-set part (take n marks) i y
 
   -- a mark that keeps this part
-  pub column-kept : (n : ℕ) (marks : List FrameMark) (i : ℕ) (y : FrameMark) → part y ≡ part (get_or marks i blank) → column part n (set marks i y) ≡ column part n marks
+  pub column-kept : (n : ℕ) (marks : List FrameMark) (i : ℕ) (y : FrameMark) → part y ≡ part (get_or marks i blank)
+      → column part n (set marks i y) ≡ column part n marks
   column-kept n marks i y same = elim (cases_lt i n) as (λ _. column part n (set marks i y) ≡ column part n marks) [
     | inl lt ↦ ap (map part) (take-set-lt n marks i y lt)
         ∙ map-set_same part (take n marks) i y blank (same ∙ ap part (sym (get_or-take n marks i blank lt)))
@@ -40,7 +41,8 @@ module _ {X : Type 0} (part : FrameMark → X) where
   ]
 
   -- one mark more
-  pub column-push : (n : ℕ) (marks : List FrameMark) (y : FrameMark) → n < length marks → column part (n + 1) (set marks n y) ≡ column part n marks ++ part y ∷ []
+  pub column-push : (n : ℕ) (marks : List FrameMark) (y : FrameMark) → n < length marks
+      → column part (n + 1) (set marks n y) ≡ column part n marks ++ part y ∷ []
   column-push n marks y lt = ap (map part) (take_more_set marks n y lt) ∙ map-append part (take n marks) (y ∷ [])
 
   pub column-more : (n : ℕ) (marks : List FrameMark) → n < length marks → column part (n + 1) marks ≡ column part n marks ++ part (get_or marks n blank) ∷ []
@@ -150,7 +152,8 @@ module _ {base taken given last : ℕ} {words : List (List ℕ)} {marks : List F
   pub is_past : (index : ℕ) → taken ≤ index → get_or (uses_of_first taken marks) index false ≡ false
   is_past index le = get_or_past (uses_of_first taken marks) index false (omega (arith, le, length-uses))
 
-  pub note_at : {index : ℕ} → IsMarked (uses_of_first taken marks) (take taken words) index → get_or (notes_of_first taken marks) index 0 ≡ (get_or marks index blank).note
+  pub note_at : {index : ℕ} → IsMarked (uses_of_first taken marks) (take taken words) index
+      → get_or (notes_of_first taken marks) index 0 ≡ (get_or marks index blank).note
   note_at {index} is_marked = column-at note_in taken marks index 0 taken_marks (was_taken is_marked)
 
   pub words_at : {index : ℕ} → IsMarked (uses_of_first taken marks) (take taken words) index → get_or (take taken words) index [] ≡ get_or words index []
@@ -170,7 +173,8 @@ module _ {base taken given last : ℕ} {words : List (List ℕ)} {marks : List F
   IsLentArena-note index note =
       let mark = noted_mark marks index note in
       record {
-        arena = rw (column-kept use_of taken marks index mark refl, column-set note_in taken marks index mark, column-kept before_in taken marks index mark refl)
+        arena =
+            rw (column-kept use_of taken marks index mark refl, column-set note_in taken marks index mark, column-kept before_in taken marks index mark refl)
             (IsArena-note lent.arena index note);
         taken_within = lent.taken_within;
         given_within = lent.given_within;

@@ -122,4 +122,5 @@ module _ {base size : ℕ} {places : List (Option (List ℕ))} {marks : List Boo
 
 pub IsRawArena-new : (base size : ℕ) {places : List (Option (List ℕ))} → size ≤ TABLES → base + size ≤ 2 ^ 40 → places ≡ replicate size None
     → IsRawArena base size places [] [] []
-IsRawArena-new base size few fit empty = made [] (empty ∙ ap (λ k. replicate k None) (let same : size ≡ size - 0 = omega arith in same)) (IsArena-new base size few fit)
+IsRawArena-new base size few fit empty =
+    made [] (empty ∙ ap (λ k. replicate k None) (let same : size ≡ size - 0 = omega arith in same)) (IsArena-new base size few fit)

@@ -13,7 +13,8 @@ pub get-insert : {X : Type 0} (store : finite.FinMap nat_cmp X) (index : ℕ) (w
 get-insert store index words q =
     finite.get-insert nat_cmp_total store index words q ∙ ap (λ b. cond b (Some words) (finite.get store q)) (unsigned_tied q index)
 
-pub get-remove : {X : Type 0} (store : finite.FinMap nat_cmp X) (index q : ℕ) → finite.get (finite.remove store index) q ≡ cond (eqb q index) None (finite.get store q)
+pub get-remove : {X : Type 0} (store : finite.FinMap nat_cmp X) (index q : ℕ)
+    → finite.get (finite.remove store index) q ≡ cond (eqb q index) None (finite.get store q)
 get-remove store index q = finite.get-remove nat_cmp_total store index q ∙ ap (λ b. cond b None (finite.get store q)) (unsigned_tied q index)
 
 pub get-insert_same : {X : Type 0} (store : finite.FinMap nat_cmp X) (index : ℕ) (words : X) → finite.get (finite.insert store index words) index ≡ Some words

@@ -83,7 +83,8 @@ module _ {store : Store} {notes : Notes} (counted : IsCounted store notes) where
   pub counted_remove : (f : ℕ) → IsCounted (finite.remove store f) (finite.remove notes f)
   counted_remove f = record {
     counts = λ frame words got. ⊎_elim
-        (λ (same : frame ≡ f). absurd (none-some words (sym (get-remove store f frame ∙ ap (λ b. cond b None (finite.get store frame)) (eq-eqb frame f same)) ∙ got)))
+        (λ (same : frame ≡ f). absurd (none-some words
+        (sym (get-remove store f frame ∙ ap (λ b. cond b None (finite.get store frame)) (eq-eqb frame f same)) ∙ got)))
         (λ (other : frame ≢ f).
         let off = ne_eqb frame f other in
         ap (λ o. unwrap_or o 0) (get-remove notes f frame ∙ ap (λ b. cond b None (finite.get notes frame)) off)

@@ -42,7 +42,8 @@ no_frame (Some words) none = let wrong : true ≡ false = none in absurd (cc)
 -- ---- how many frames are in use
 
 -- a frame in use, where there is one
-some_frame : (m : Memory) (entries : List (ℕ × List ℕ)) → finite.entries m ≡ entries → finite.len m ≢ 0 → (frame : ℕ) × (words : List ℕ) × (finite.get m frame ≡ Some words)
+some_frame : (m : Memory) (entries : List (ℕ × List ℕ)) → finite.entries m ≡ entries → finite.len m ≢ 0
+    → (frame : ℕ) × (words : List ℕ) × (finite.get m frame ≡ Some words)
 some_frame m [] are some = absurd (some (finite.len-entries m ∙ ap length are))
 some_frame m (e ∷ entries) are some = (
   e.0,
@@ -59,7 +60,8 @@ same_len zero old new same none =
     (λ (is : finite.len new ≡ 0). is)
     (λ (some : finite.len new ≢ 0).
     let frame = some_frame new (finite.entries new) refl some in
-    let wrong : true ≡ false = sym (ap is_some frame.2) ∙ same frame.0 ∙ ap is_some (ap (λ (m : Memory). finite.get m frame.0) empty ∙ finite.get-empty nat_cmp frame.0) in
+    let wrong : true ≡ false = sym (ap is_some frame.2) ∙ same frame.0
+    ∙ ap is_some (ap (λ (m : Memory). finite.get m frame.0) empty ∙ finite.get-empty nat_cmp frame.0) in
     absurd (cc))
     (cases_eq (finite.len new) 0)
 same_len (suc n) old new same many =

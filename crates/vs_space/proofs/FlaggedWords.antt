@@ -83,7 +83,8 @@ module _ {old new : ℕ} (is : IsAlike old new) where
   same_leaf : (level : ℕ) → is_leaf level new ≡ is_leaf level old
   same_leaf level = ap (λ b. (level == 1) || (nat_le level 3 && (b == 1))) bit_7
 
-  same_address : (below : ℕ) → new % 2 ^ 52 / entry_bytes (suc below) * entry_bytes (suc below) ≡ old % 2 ^ 52 / entry_bytes (suc below) * entry_bytes (suc below)
+  same_address : (below : ℕ) → new % 2 ^ 52 / entry_bytes (suc below) * entry_bytes (suc below)
+      ≡ old % 2 ^ 52 / entry_bytes (suc below) * entry_bytes (suc below)
   same_address below =
       let exponent : 3 + 9 * suc below ≡ 12 + 9 * below = omega arith in
       let by : new % 2 ^ 52 / 2 ^ (12 + 9 * below) ≡ old % 2 ^ 52 / 2 ^ (12 + 9 * below) =
@@ -147,7 +148,8 @@ unchanged word = record { absent = λ none. refl; bits = λ bit apart other. ref
 
 -- ---- the words of a frame
 
-pub flagged_at : (before after : List ℕ) → AllZip IsSameButFlags before after → (index : ℕ) → IsSameButFlags (slice_index before index) (slice_index after index)
+pub flagged_at : (before after : List ℕ) → AllZip IsSameButFlags before after → (index : ℕ)
+    → IsSameButFlags (slice_index before index) (slice_index after index)
 flagged_at before after are index = ⊎_elim
     (λ (within : index < length before). AllZip-get_or IsSameButFlags before after index 0 0 are within)
     (λ (past : length before ≤ index).

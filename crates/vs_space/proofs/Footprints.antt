@@ -75,7 +75,8 @@ found_kept : (less more : Memory) → Keeps less more → (level n a : ℕ) (e :
 found_kept less more keeps level n a e other found =
     let words = words_found level less n a e found in
     let word = slice_index words.0 (index_at level a) in
-    let kept = keeps n (index_at level a) word (record { there = word_of less n (index_at level a) (Some words.0) words.1; some = λ none. other (sym words.2 ∙ ap (meaning level) none) }) in
+    let kept = keeps n (index_at level a) word
+    (record { there = word_of less n (index_at level a) (Some words.0) words.1; some = λ none. other (sym words.2 ∙ ap (meaning level) none) }) in
     entry_read level more n a kept.there refl (sym words.2)
 
 -- so are the tables on each path

@@ -222,7 +222,8 @@ same_but_memory old now new m is same =
 
 -- ---- the numbers of the frames in use
 
-pub numbers_stored : (store : Store) {base base' limit limit' : ℕ} {lenders lenders' : Lenders} {m : Memory} → limit' ≡ limit → base' ≡ base → lenders' ≡ lenders
+pub numbers_stored : (store : Store) {base base' limit limit' : ℕ} {lenders lenders' : Lenders} {m : Memory} → limit' ≡ limit → base' ≡ base
+    → lenders' ≡ lenders
     → numbered base store ≡ m → AreNumbered (held lenders base limit m) → AreNumbered (held lenders' base' limit' (numbered base' store))
 numbers_stored store same_limit same_base same_lenders e is = subst AreNumbered (sym (stored store same_limit same_base same_lenders e)) is
 

@@ -50,7 +50,7 @@ searching_start start = record {
 }
 
 -- an address of an aligned stretch of 512 parts, by its part
-part : (e base b : ℕ) → base % 2 ^ (e + 9) ≡ 0 → base ≤ b → b < base + 2 ^ (e + 9)
+pub part : (e base b : ℕ) → base % 2 ^ (e + 9) ≡ 0 → base ≤ b → b < base + 2 ^ (e + 9)
     → (base + b / 2 ^ e % 512 * 2 ^ e ≤ b) × (b < base + (b / 2 ^ e % 512 + 1) * 2 ^ e)
 part e base b at low high =
     let same = in_block (e + 9) base b at low high in

@@ -112,7 +112,8 @@ one_protected words a b p q first second =
     let same = sym first.words_are ∙ second.words_are in
     (one_address first.word second.word a b (cc) first.base_is second.base_is, one_rights p q (cc))
 
-pub one_accessed : (words : List (List ℕ)) (a b : ℕ) (m n : Mode) (f g : Access) → SpellsAccess words a m f → SpellsAccess words b n g → (a ≡ b) × (m ≡ n) × (f ≡ g)
+pub one_accessed : (words : List (List ℕ)) (a b : ℕ) (m n : Mode) (f g : Access) → SpellsAccess words a m f → SpellsAccess words b n g
+    → (a ≡ b) × (m ≡ n) × (f ≡ g)
 one_accessed words a b m n f g first second =
     let same = sym first.words_are ∙ second.words_are in
     (one_address first.word second.word a b (cc) first.address_is second.address_is, one_mode m n (cc), one_access f g (cc))

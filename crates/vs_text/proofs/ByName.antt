@@ -62,7 +62,8 @@ unmap_kind words = record {
   made (queries.Resolve address) is spelled = cc
   made (queries.Access address mode access) is spelled = cc
 
-pub protect_kind : (words : List (List ℕ)) → Kind names.Protect words (ℕ × Rights) (λ it. queries.Update (Protect it.0 it.1)) (λ it. SpellsRights words it.0 it.1)
+pub protect_kind : (words : List (List ℕ))
+    → Kind names.Protect words (ℕ × Rights) (λ it. queries.Update (Protect it.0 it.1)) (λ it. SpellsRights words it.0 it.1)
 protect_kind words = record {
   named = λ a. refl;
   arguments = λ a spelled. spelled;
@@ -72,7 +73,8 @@ protect_kind words = record {
   both : (a b : ℕ × Rights) → SpellsRights words a.0 a.1 → SpellsRights words b.0 b.1 → a ≡ b
   both a b first second = let same = one_protected words a.0 b.0 a.1 b.1 first second in pair same.0 same.1
 
-  made : (query : Query) → name_of query ≡ names.Protect → AreArguments words query → (it : ℕ × Rights) × (query ≡ queries.Update (Protect it.0 it.1)) × SpellsRights words it.0 it.1
+  made : (query : Query) → name_of query ≡ names.Protect → AreArguments words query
+      → (it : ℕ × Rights) × (query ≡ queries.Update (Protect it.0 it.1)) × SpellsRights words it.0 it.1
   made (queries.Update (Map page)) is spelled = cc
   made (queries.Update (Unmap base)) is spelled = cc
   made (queries.Update (Protect base rights)) is spelled = ((base, rights), refl, spelled)
@@ -93,7 +95,8 @@ resolve_kind words = record {
   made (queries.Resolve address) is spelled = (address, refl, spelled)
   made (queries.Access address mode access) is spelled = cc
 
-pub access_kind : (words : List (List ℕ)) → Kind names.Access words (ℕ × Mode × Access) (λ it. queries.Access it.0 it.1 it.2) (λ it. SpellsAccess words it.0 it.1 it.2)
+pub access_kind : (words : List (List ℕ))
+    → Kind names.Access words (ℕ × Mode × Access) (λ it. queries.Access it.0 it.1 it.2) (λ it. SpellsAccess words it.0 it.1 it.2)
 access_kind words = record {
   named = λ a. refl;
   arguments = λ a spelled. spelled;
@@ -103,7 +106,8 @@ access_kind words = record {
   all : (a b : ℕ × Mode × Access) → SpellsAccess words a.0 a.1 a.2 → SpellsAccess words b.0 b.1 b.2 → a ≡ b
   all a b first second = let same = one_accessed words a.0 b.0 a.1 b.1 a.2 b.2 first second in triple same.0 same.1 same.2
 
-  made : (query : Query) → name_of query ≡ names.Access → AreArguments words query → (it : ℕ × Mode × Access) × (query ≡ queries.Access it.0 it.1 it.2) × SpellsAccess words it.0 it.1 it.2
+  made : (query : Query) → name_of query ≡ names.Access → AreArguments words query
+      → (it : ℕ × Mode × Access) × (query ≡ queries.Access it.0 it.1 it.2) × SpellsAccess words it.0 it.1 it.2
   made (queries.Update (Map page)) is spelled = cc
   made (queries.Update (Unmap base)) is spelled = cc
   made (queries.Update (Protect base rights)) is spelled = cc
@@ -122,7 +126,8 @@ abbrev pub IsLaw : Type 0
 IsLaw = (depth : Depth) (query : Query) → (query_fault depth query ≡ None) ↔ IsQuery depth query
 
 -- the arguments are read, and then tested
-pub tested : {A : Type 0} {make : A → Query} {Spelled : A → Type 0} (depth : Depth) (name : Name) (words : List (List ℕ)) → Kind name words A make Spelled → IsLaw
+pub tested : {A : Type 0} {make : A → Query} {Spelled : A → Type 0} (depth : Depth) (name : Name) (words : List (List ℕ))
+    → Kind name words A make Spelled → IsLaw
     → (a : A) → Spelled a → (r : Result Query BadOp) → GivesUnless (query_fault depth (make a)) (make a) r → Finds (IsNamed depth name words) (result_ok r)
 tested {make = make} {Spelled = Spelled} depth name words kind law a spelled (Ok query) given =
     let P : Query → Type 0 = IsNamed depth name words in

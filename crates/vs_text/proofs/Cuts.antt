@@ -18,12 +18,14 @@ pub cut_at : (separator : ℕ) (text : List ℕ) (i : ℕ) → i < length text �
 cut_at separator text i within before here =
     let p : ℕ → Bool = λ byte. byte == separator in
     let first : position_or_len p text ≡ i =
-    position_or_len_is p text i 0 (omega arith) (λ k below. other (get_or text k 0) separator (before k below)) (λ _. eq-eqb (get_or text i 0) separator here) in
+    position_or_len_is p text i 0 (omega arith) (λ k below. other (get_or text k 0) separator (before k below))
+    (λ _. eq-eqb (get_or text i 0) separator here) in
     let cut = slice_split_first p text 0 (subst (λ j. j < length text) (sym first) within) in
     subst (λ j. parts separator text ≡ take j text ∷ parts separator (drop (j + 1) text)) first cut
 
 pub uncut : (separator : ℕ) (text : List ℕ) → ((k : ℕ) → k < length text → get_or text k 0 ≡ separator → ⊥) → parts separator text ≡ text ∷ []
-uncut separator text none = slice_split_none (λ byte. byte == separator) text (λ k d below. other (get_or text k d) separator (λ same. none k below (get_or_default text k 0 d below ∙ same)))
+uncut separator text none = slice_split_none (λ byte. byte == separator) text
+    (λ k d below. other (get_or text k d) separator (λ same. none k below (get_or_default text k 0 d below ∙ same)))
 
 -- a word has no space
 abbrev pub HasNoSpace : List ℕ → Type 0

@@ -50,7 +50,8 @@ by_last fuel k n after below rest false is =
 length_written : (fuel k n : ℕ) (after : List ℕ) → n < 16 ^ suc k → length (digits_onto fuel 16 false n after) ≤ suc k + length after
 length_written zero k n after below = omega arith
 length_written (suc fuel) k n after below =
-    by_last fuel k n after below (λ j small. let few = length_written fuel j (n / 16) (digit_glyph false (n % 16) ∷ after) small in omega arith) (n / 16 == 0) refl
+    by_last fuel k n after below (λ j small. let few = length_written fuel j (n / 16) (digit_glyph false (n % 16) ∷ after) small in
+    omega arith) (n / 16 == 0) refl
 
 few_digits : (n : ℕ) → n < 2 ^ 64 → length (digits 16 false n) ≤ 16
 unfolding digits

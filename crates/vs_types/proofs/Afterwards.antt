@@ -1,9 +1,14 @@
--- The space after one operation more.
-use Rattle.std.proofs.Common.{◌≡◌, ℕ, zero, suc, ◌+◌, List, [], ◌∷◌, take, slice_get, Option, Some, None, ap, ◌∙◌, add-one}
+-- The space after one operation more, or after more of them.
+use Rattle.std.proofs.Common.{◌≡◌, ℕ, zero, suc, ◌+◌, List, [], ◌∷◌, ◌++◌, take, slice_get, Option, Some, None, refl, ap, ◌∙◌, add-one}
 use Rattle.vs_types.specs.Space.{Space, no_pages}
 use Rattle.vs_types.specs.Step.{step, after_all, after}
 use Rattle.vs_types.specs.declared.depth.Depth.{Depth}
 use Rattle.vs_types.specs.declared.op.Action.{Action}
+
+pub after_all-append : (depth : Depth) (limit : ℕ) (space : Space) (xs ys : List Action)
+    → after_all depth limit space (xs ++ ys) ≡ after_all depth limit (after_all depth limit space xs) ys
+after_all-append depth limit space [] ys = refl
+after_all-append depth limit space (x ∷ xs) ys = after_all-append depth limit (step depth limit space x).space xs ys
 
 next_from : (depth : Depth) (limit : ℕ) (space : Space) (n : ℕ) (actions : List Action) (action : Action) → slice_get actions n ≡ Some action
     → after_all depth limit space (take (suc n) actions) ≡ (step depth limit (after_all depth limit space (take n actions)) action).space

@@ -17,3 +17,4 @@ pub mod Tables
 pub mod TableCounts
 pub mod Overlaps
 pub mod Refusals
+pub mod AnswerEquality

@@ -53,7 +53,7 @@ found_above low q (x ∷ es) v h e =
     ] refl e
 
 -- each value is found at some key
-value_found : (es : List (ℕ × Page)) (v : Page) → T (entries.is_sorted nat_cmp es) → Contains (map (λ e. e.1) es) v
+pub value_found : (es : List (ℕ × Page)) (v : Page) → T (entries.is_sorted nat_cmp es) → Contains (map (λ e. e.1) es) v
     → (q : ℕ) × (entries.find nat_cmp q es ≡ Some v)
 value_found [] v s h = absurd (not_in_nil v h)
 value_found (x ∷ es) v s h =

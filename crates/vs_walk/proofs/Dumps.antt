@@ -43,7 +43,7 @@ less_is x y h = elim (nat_cmp x y) as (λ r. r ≡ nat_cmp x y → IsTrue (is_lt
 is_less : (x y : ℕ) → x < y → IsTrue (is_lt (nat_cmp x y))
 is_less x y h = subst (λ r. IsTrue (is_lt r)) (nat_cmp_is x y Less h) refl
 
-put_last : (es : List (ℕ × List ℕ)) (k : ℕ) (v : List ℕ) → All (λ held. held < k) (map (λ e. e.0) es) → put nat_cmp k v es ≡ es ++ (k, v) ∷ []
+pub put_last : (es : List (ℕ × List ℕ)) (k : ℕ) (v : List ℕ) → All (λ held. held < k) (map (λ e. e.0) es) → put nat_cmp k v es ≡ es ++ (k, v) ∷ []
 put_last [] k v h = refl
 put_last (e ∷ es) k v h =
     subst (λ r. by_order r ((k, v) ∷ e ∷ es) ((e.0, v) ∷ es) (e ∷ put nat_cmp k v es) ≡ (e ∷ es) ++ (k, v) ∷ [])

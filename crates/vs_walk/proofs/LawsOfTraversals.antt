@@ -48,7 +48,8 @@ each_walk depth memory root address whole canonical fine there =
     same_unfaulted (walk depth memory root address) fine there ∙ walk_is_found depth memory root address whole canonical
 
 pub none_covers : (depth : Depth) (memory : Memory) (root address : ℕ) → AreWhole memory → IsCanonical depth address
-    → (walk depth memory root address ≡ Reserved) ⊎ (walk depth memory root address ≡ Missing) → page_covering address (found (traversal depth memory root)) ≡ None
+    → (walk depth memory root address ≡ Reserved) ⊎ (walk depth memory root address ≡ Missing)
+    → page_covering address (found (traversal depth memory root)) ≡ None
 none_covers depth memory root address whole canonical wrong =
     nothing_found address (page_covering address (found (traversal depth memory root)))
     (sym (⊎_elim (λ is. ap unfaulted is) (λ is. ap unfaulted is) wrong) ∙ walk_is_found depth memory root address whole canonical)

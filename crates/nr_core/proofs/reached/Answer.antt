@@ -13,7 +13,7 @@ use Rattle.nr_core.specs.declared.stage.Collected.{Collected}
 use Rattle.nr_core.specs.declared.stage.Stage.{Stage}
 use Rattle.nr_core.specs.declared.stage.Stage.TheVariants.{Taken, Ready}
 use Rattle.nr_core.specs.Laws.{IsTaken}
-use Rattle.nr_core.specs.inside.Reached.{At, call_at, made_of, FitsStage, open_in, IsRight, IsCollected, AreCollected, IsReached}
+use Rattle.nr_core.specs.inside.Reached.{At, call_at, made_of, shared_in, FitsStage, open_in, IsRight, IsCollected, AreCollected, IsReached}
 use Rattle.nr_core.proofs.reached.Places.{each_set, in_map, in_mapped}
 use Rattle.nr_core.proofs.reached.Growth.{call_within, replies_have_calls, right_stays, then_parts}
 use Rattle.nr_core.proofs.reached.Changes.{thread_changes, replica_changes, replica_grows, nothing_grows, still_collected, collected_stays, taken_keeps}
@@ -77,11 +77,11 @@ answered state r s call replica other u a reached there here i of_s noted is =
           (λ h e. h (unplaced_before replica.placed later.batch v j e)) (in_filter stays v replica.batch j).0)
           (distinct_left stays replica.batch (reached.batches r replica there))
 
-      item : IsCollected state.layout state.events state.log state.completed state.replicas state.threads r replica.placed u
+      item : IsCollected state.layout (shared_in state) state.threads r replica.placed u
       item = reached.collected r replica u there i
 
       noted_call : (a.call ≡ u.entry.call)
-          × IsRight state.layout state.events state.log state.completed state.replicas (made_of state.layout u.thread (Update u.entry.op)) a.call a.at a.answer
+          × IsRight state.layout (shared_in state) (made_of state.layout u.thread (Update u.entry.op)) a.call a.at a.answer
       noted_call = item.noted a noted
 
       taken : IsTaken state.threads u.thread u.entry.call → other.stage ≡ Taken u.entry.call
@@ -92,16 +92,16 @@ answered state r s call replica other u a reached there here i of_s noted is =
       same : Some a.call ≡ open_in other.stage
       same = ap Some noted_call.0 ∙ sym (ap open_in (taken item.taken))
 
-      fits : FitsStage state.layout state.events state.log state.completed (slice_set state.replicas r later) s (Ready a)
+      fits : FitsStage state.layout (shared_in (with_replica state r later)) s (Ready a)
       fits = (
         Update u.entry.op,
         ap (call_at state.events) noted_call.0 ∙ item.asks ∙ ap (λ n. Some (made_of state.layout n (Update u.entry.op))) of_s,
-        subst (λ n. IsRight state.layout state.events state.log state.completed (slice_set state.replicas r later)
+        subst (λ n. IsRight state.layout (shared_in (with_replica state r later))
             (made_of state.layout n (Update u.entry.op)) a.call a.at a.answer) of_s
-            (right_stays state.layout state.events state.events state.log state.log state.completed state.completed state.replicas
-            (slice_set state.replicas r later) (made_of state.layout u.thread (Update u.entry.op)) a.call a.at a.answer
+            (right_stays state.layout (shared_in state) (shared_in (with_replica state r later))
+            (made_of state.layout u.thread (Update u.entry.op)) a.call a.at a.answer
             (replica_grows state r replica later there (omega arith))
-            (replies_have_calls state.layout state.events state.log state.completed state.replicas reached.replies) reached.completed
+            (replies_have_calls state.layout (shared_in state) reached.replies) reached.completed
             (subst (λ (n : ℕ). n < length state.events) (sym noted_call.0) (call_within state.events u.entry.call _ item.asks)) noted_call.1),
       )
 
@@ -110,11 +110,10 @@ answered state r s call replica other u a reached there here i of_s noted is =
           (λ k. other_thread v.thread s (in_filter stays v replica.batch k).1 e)
           (λ n y out f k. out (sym (reached.collected n y v f k).home ∙ ap (λ m. m % state.layout.replicas) (e ∙ sym of_s) ∙ item.home)) q x at j
 
-      left : AreCollected state.layout state.events state.log state.completed (slice_set state.replicas r later) (slice_set state.threads s next)
-      left q x v at j = collected_stays state.layout state.events state.events state.log state.log state.completed state.completed
-          (slice_set state.replicas r later) (slice_set state.replicas r later) state.threads (slice_set state.threads s next) q x.placed x.placed v
-          (nothing_grows state.events state.log state.completed (slice_set state.replicas r later))
-          (replies_have_calls state.layout state.events state.log state.completed (slice_set state.replicas r later) first.replies) first.completed
+      left : AreCollected state.layout (shared_in (with_replica state r later)) (slice_set state.threads s next)
+      left q x v at j = collected_stays state.layout (shared_in (with_replica state r later)) (shared_in (with_replica state r later)) state.threads
+          (slice_set state.threads s next) q x.placed x.placed v (nothing_grows (shared_in (with_replica state r later)))
+          (replies_have_calls state.layout (shared_in (with_replica state r later)) first.replies) first.completed
           (taken_keeps state.threads s v.thread v.entry.call other next here (λ e f. absurd (not_of_s q x v at j e))) (λ h. h)
           (first.collected q x v at j)
 

@@ -18,7 +18,7 @@ use Rattle.nr_core.specs.State.{State, Replica, with_replica}
 use Rattle.nr_core.specs.Steps.{apply, when, note, with_entry}
 use Rattle.nr_core.specs.declared.stage.Answered.{Answered}
 use Rattle.nr_core.specs.declared.stage.Collected.{Collected}
-use Rattle.nr_core.specs.inside.Reached.{At, call_at, made_of, space_at, IsRight, IsCollected, IsReplicaOf, IsReached}
+use Rattle.nr_core.specs.inside.Reached.{At, call_at, made_of, space_at, shared_in, IsRight, IsCollected, IsReplicaOf, IsReached}
 use Rattle.nr_core.proofs.reached.Places.{at_set, in_map}
 use Rattle.nr_core.proofs.reached.Changes.{replica_changes, still_collected}
 use Rattle.nr_core.proofs.reached.Kept.{Keeps, keeps_by_holder, keeps_then, keeps_when}
@@ -82,11 +82,11 @@ applied state r replica entry reached there stands less =
           (ap operation_in (sym e) ∙ ap (λ (m : Invocation). operation_in m.request) one ∙ ap operation_in f)
 
       base : (u : Collected) → In u replica.batch
-          → IsCollected state.layout state.events state.log state.completed (slice_set state.replicas r later) state.threads r replica.placed u
+          → IsCollected state.layout (shared_in (with_replica state r later)) state.threads r replica.placed u
       base u i = still_collected state r replica later u reached there (omega arith) (λ h. h) i
 
       right : (u : Collected) → In u replica.batch → u.entry.call ≡ entry.call
-          → IsRight state.layout state.events state.log state.completed (slice_set state.replicas r later) (made_of state.layout u.thread (Update u.entry.op))
+          → IsRight state.layout (shared_in (with_replica state r later)) (made_of state.layout u.thread (Update u.entry.op))
           entry.call replica.applied a.answer
       right u i e =
           let item = reached.collected r replica u there i in
@@ -110,7 +110,7 @@ applied state r replica entry reached there stands less =
             here x one = let f : replica.applied + 1 ≡ x.applied = ap (λ (y : Replica). y.applied) one in omega arith
 
       noted : (u : Collected) → In u replica.batch → (b : Bool) → (u.entry.call == a.call) ≡ b
-          → IsCollected state.layout state.events state.log state.completed (slice_set state.replicas r later) state.threads r replica.placed
+          → IsCollected state.layout (shared_in (with_replica state r later)) state.threads r replica.placed
           (if b then record u { noted = Some a } else u)
       noted u i true e =
           let same = eqb-true u.entry.call a.call e in
@@ -119,17 +119,17 @@ applied state r replica entry reached there stands less =
             home = old.home;
             taken = old.taken;
             asks = old.asks;
-            noted = λ b f. subst (λ (x : Answered). (x.call ≡ u.entry.call) × IsRight state.layout state.events state.log state.completed
-                (slice_set state.replicas r later) (made_of state.layout u.thread (Update u.entry.op)) x.call x.at x.answer) (same_Some a b f)
+            noted = λ b f. subst (λ (x : Answered). (x.call ≡ u.entry.call) × IsRight state.layout
+                (shared_in (with_replica state r later)) (made_of state.layout u.thread (Update u.entry.op)) x.call x.at x.answer) (same_Some a b f)
                 (sym same, right u i same);
             fresh = old.fresh;
           }
       noted u i false e = base u i
 
       each : (v : Collected) → (u : Collected) × In u replica.batch × (note a u ≡ v)
-          → IsCollected state.layout state.events state.log state.completed (slice_set state.replicas r later) state.threads r replica.placed v
+          → IsCollected state.layout (shared_in (with_replica state r later)) state.threads r replica.placed v
       each v (u, i, e) = subst (λ (x : Collected).
-          IsCollected state.layout state.events state.log state.completed (slice_set state.replicas r later) state.threads r replica.placed x) e
+          IsCollected state.layout (shared_in (with_replica state r later)) state.threads r replica.placed x) e
           (noted u i (u.entry.call == a.call) refl)
 
 pub apply_keeps : (state : State) (t : ℕ) → IsReached state → Keeps (apply state t)

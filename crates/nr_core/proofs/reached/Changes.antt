@@ -1,5 +1,5 @@
 -- A reached state where one thread, one replica, the completed tail or the log changes.
-use Rattle.std.proofs.Common.{◌≡◌, ℕ, zero, suc, ◌+◌, ◌<◌, ◌≤◌, ◌⊎◌, inl, inr, Bool, true, false, nat_eq, List, [], ◌∷◌, ◌++◌, length, take, map, slice_get, Option, Some, None, refl, ap, sym, ◌∙◌, subst, arith}
+use Rattle.std.proofs.Common.{◌≡◌, ℕ, ◌+◌, ◌<◌, ◌≤◌, ◌⊎◌, inl, inr, Bool, false, nat_eq, List, [], ◌++◌, length, map, slice_get, Some, refl, ap, sym, ◌∙◌, subst, arith}
 use Rattle.std.specs.Prelude.{slice_set}
 use Rattle.std.specs.List.{IsDistinct}
 use Rattle.std.proofs.lemmas.Bool.{cases_eq}
@@ -16,10 +16,10 @@ use Rattle.nr_core.specs.declared.stage.Collected.{Collected}
 use Rattle.nr_core.specs.declared.stage.Answered.{Answered}
 use Rattle.nr_core.specs.declared.stage.Stage.TheVariants.{Taken}
 use Rattle.nr_core.specs.Laws.{IsTaken}
-use Rattle.nr_core.specs.inside.Reached.{At, call_at, RepliesTo, made_of, Behind, calls_of, IsRight, FitsStage, open_in, waiting_in}
+use Rattle.nr_core.specs.inside.Reached.{At, call_at, RepliesTo, made_of, Behind, calls_of, Shared, shared_in, IsRight, FitsStage, open_in, waiting_in}
 use Rattle.nr_core.specs.inside.Reached.{IsUnanswered, HasOpen, IsFresh, IsCollected, IsReplicaOf, AreCalls, AreCollected, IsReached}
 use Rattle.nr_core.proofs.reached.Places.{each_set, at_set, at_other, at_front, at_either}
-use Rattle.nr_core.proofs.reached.Growth.{Longer, Grows, HaveCalls, call_within, replies_have_calls, behind_completed, behind_more, space_stays, right_stays}
+use Rattle.nr_core.proofs.reached.Growth.{Longer, Grows, HaveCalls, call_within, call_stays, replies_have_calls, behind_completed, behind_more, space_stays, right_stays}
 use Rattle.nr_core.proofs.reached.Growth.{stage_fits, replies_stay}
 
 pub same_events : (events : List Event) → Longer events events
@@ -67,40 +67,30 @@ taken_keeps threads t u call thread next at same (other, there, is) = by_case (c
       )
   by_case (inr out) = (other, at_other threads t u other next out there, is)
 
-pub collected_stays : (layout : Layout) (events events' : List Event) (log log' : List LogEntry) (completed completed' : ℕ) (replicas replicas' : List Replica)
-    (threads threads' : List Thread) (r : ℕ) (placed placed' : Bool) (update : Collected)
-    → Grows events events' log log' completed completed' replicas replicas' → HaveCalls events → completed ≤ length log
+pub collected_stays : (layout : Layout) (before after : Shared) (threads threads' : List Thread) (r : ℕ) (placed placed' : Bool) (update : Collected)
+    → Grows before after → HaveCalls before.events → before.completed ≤ length before.log
     → (IsTaken threads update.thread update.entry.call → IsTaken threads' update.thread update.entry.call)
-    → ((placed ≡ false → IsFresh log update.entry.call) → placed' ≡ false → IsFresh log' update.entry.call)
-    → IsCollected layout events log completed replicas threads r placed update
-    → IsCollected layout events' log' completed' replicas' threads' r placed' update
-collected_stays layout events events' log log' completed completed' replicas replicas' threads threads' r placed placed' update grows have l taken fresh h =
-    record {
-      home = h.home;
-      taken = taken h.taken;
-      asks = longer_asks;
-      noted = λ a e. later a (h.noted a e);
-      fresh = fresh h.fresh;
-    } where
-      longer_asks : call_at events' update.entry.call ≡ Some (made_of layout update.thread (Update update.entry.op))
-      longer_asks = Rattle.nr_core.proofs.reached.Growth.call_stays events events' update.entry.call _ grows.longer h.asks
-
-      later : (a : Answered) → (a.call ≡ update.entry.call)
-          × IsRight layout events log completed replicas (made_of layout update.thread (Update update.entry.op)) a.call a.at a.answer
-          → (a.call ≡ update.entry.call)
-          × IsRight layout events' log' completed' replicas' (made_of layout update.thread (Update update.entry.op)) a.call a.at a.answer
-      later a (is, right) = (
-        is,
-        right_stays layout events events' log log' completed completed' replicas replicas' (made_of layout update.thread (Update update.entry.op)) a.call a.at
-            a.answer grows have l
-            (subst (λ (n : ℕ). n < length events) (sym is) (call_within events update.entry.call _ h.asks)) right,
-      )
+    → ((placed ≡ false → IsFresh before.log update.entry.call) → placed' ≡ false → IsFresh after.log update.entry.call)
+    → IsCollected layout before threads r placed update → IsCollected layout after threads' r placed' update
+collected_stays layout before after threads threads' r placed placed' update grows have l taken fresh h = record {
+  home = h.home;
+  taken = taken h.taken;
+  asks = call_stays before.events after.events update.entry.call _ grows.longer h.asks;
+  noted = λ a e. later a (h.noted a e);
+  fresh = fresh h.fresh;
+} where
+  later : (a : Answered) → (a.call ≡ update.entry.call) × IsRight layout before (made_of layout update.thread (Update update.entry.op)) a.call a.at a.answer
+      → (a.call ≡ update.entry.call) × IsRight layout after (made_of layout update.thread (Update update.entry.op)) a.call a.at a.answer
+  later a (is, right) = (
+    is,
+    right_stays layout before after (made_of layout update.thread (Update update.entry.op)) a.call a.at a.answer grows have l
+        (subst (λ (n : ℕ). n < length before.events) (sym is) (call_within before.events update.entry.call _ h.asks)) right,
+  )
 
 -- nothing goes on but one thread
-pub nothing_grows : (events : List Event) (log : List LogEntry) (completed : ℕ) (replicas : List Replica)
-    → Grows events events log log completed completed replicas replicas
-nothing_grows events log completed replicas = record {
-  longer = same_events events;
+pub nothing_grows : (shared : Shared) → Grows shared shared
+nothing_grows shared = record {
+  longer = same_events shared.events;
   entry_stays = λ i entry e. e;
   rises = omega arith;
   goes_on = λ r later e. (later, e, omega arith);
@@ -109,24 +99,23 @@ nothing_grows events log completed replicas = record {
 -- items stay collected where a thread's call stays taken
 pub collected_keep : (state : State) (t : ℕ) (thread next : Thread) → IsReached state → At state.threads t thread
     → ((call : ℕ) → thread.stage ≡ Taken call → next.stage ≡ Taken call)
-    → AreCollected state.layout state.events state.log state.completed state.replicas (slice_set state.threads t next)
+    → AreCollected state.layout (shared_in state) (slice_set state.threads t next)
 collected_keep state t thread next reached at same r replica update there i =
-    collected_stays state.layout state.events state.events state.log state.log state.completed state.completed state.replicas state.replicas
-    state.threads (slice_set state.threads t next) r replica.placed replica.placed update
-    (nothing_grows state.events state.log state.completed state.replicas)
-    (replies_have_calls state.layout state.events state.log state.completed state.replicas reached.replies) reached.completed
+    collected_stays state.layout (shared_in state) (shared_in state) state.threads (slice_set state.threads t next) r replica.placed replica.placed update
+    (nothing_grows (shared_in state))
+    (replies_have_calls state.layout (shared_in state) reached.replies) reached.completed
     (taken_keeps state.threads t update.thread update.entry.call thread next at (λ _. same update.entry.call)) (λ h. h)
     (reached.collected r replica update there i)
 
 pub thread_changes : (state : State) (t : ℕ) (thread next : Thread) → IsReached state → At state.threads t thread → open_in next.stage ≡ open_in thread.stage
-    → FitsStage state.layout state.events state.log state.completed state.replicas t next.stage
+    → FitsStage state.layout (shared_in state) t next.stage
     → ((call : ℕ) → waiting_in next.stage ≡ Some call → waiting_in thread.stage ≡ Some call)
-    → AreCollected state.layout state.events state.log state.completed state.replicas (slice_set state.threads t next)
+    → AreCollected state.layout (shared_in state) (slice_set state.threads t next)
     → IsReached (with_thread state t next)
 thread_changes state t thread next reached at same fits waits collected = record {
   calls = calls_keep state.events state.threads t thread next at same reached.calls;
   replies = reached.replies;
-  threads = each_set (λ u (x : Thread). FitsStage state.layout state.events state.log state.completed state.replicas u x.stage) state.threads t next fits
+  threads = each_set (λ u (x : Thread). FitsStage state.layout (shared_in state) u x.stage) state.threads t next fits
       (λ u x out e. reached.threads u x e);
   waiting = λ u other call there is. each_set (λ v (x : Thread). waiting_in x.stage ≡ Some call → IsFresh state.log call) state.threads t next
       (λ e. reached.waiting t thread call at (waits call e)) (λ v x out e is. reached.waiting v x call e is) u other there is;
@@ -141,7 +130,7 @@ thread_changes state t thread next reached at same fits waits collected = record
 -- ---- one replica
 
 pub replica_grows : (state : State) (r : ℕ) (replica next : Replica) → At state.replicas r replica → replica.applied ≤ next.applied
-    → Grows state.events state.events state.log state.log state.completed state.completed state.replicas (slice_set state.replicas r next)
+    → Grows (shared_in state) (shared_in (with_replica state r next))
 replica_grows state r replica next at more = record {
   longer = same_events state.events;
   entry_stays = λ i entry e. e;
@@ -155,46 +144,47 @@ pub still_collected : (state : State) (r : ℕ) (replica next : Replica) (update
     → replica.applied ≤ next.applied
     → ((replica.placed ≡ false → IsFresh state.log update.entry.call) → next.placed ≡ false → IsFresh state.log update.entry.call)
     → In update replica.batch
-    → IsCollected state.layout state.events state.log state.completed (slice_set state.replicas r next) state.threads r next.placed update
+    → IsCollected state.layout (shared_in (with_replica state r next)) state.threads r next.placed update
 still_collected state r replica next update reached at more fresh i =
-    collected_stays state.layout state.events state.events state.log state.log state.completed state.completed state.replicas
-    (slice_set state.replicas r next) state.threads state.threads r replica.placed next.placed update (replica_grows state r replica next at more)
-    (replies_have_calls state.layout state.events state.log state.completed state.replicas reached.replies) reached.completed (λ h. h) fresh
+    collected_stays state.layout (shared_in state) (shared_in (with_replica state r next)) state.threads state.threads r replica.placed next.placed update
+    (replica_grows state r replica next at more)
+    (replies_have_calls state.layout (shared_in state) reached.replies) reached.completed (λ h. h) fresh
     (reached.collected r replica update at i)
 
 pub replica_changes : (state : State) (r : ℕ) (replica next : Replica) → IsReached state → At state.replicas r replica → replica.applied ≤ next.applied
     → IsReplicaOf state.layout state.log state.completed next
     → ((update : Collected) → In update next.batch
-    → IsCollected state.layout state.events state.log state.completed (slice_set state.replicas r next) state.threads r next.placed update)
+    → IsCollected state.layout (shared_in (with_replica state r next)) state.threads r next.placed update)
     → IsDistinct nat_eq (map (λ update. update.entry.call) next.batch)
     → IsReached (with_replica state r next)
 replica_changes state r replica next reached at more is collected distinct = record {
   calls = reached.calls;
-  replies = replies_stay state.layout state.events state.log state.log state.completed state.completed state.replicas (slice_set state.replicas r next)
-      grows reached.completed reached.replies;
-  threads = λ t thread e. stage_fits state.layout state.events state.events state.log state.log state.completed state.completed state.replicas
-      (slice_set state.replicas r next) t thread.stage grows have reached.completed (reached.threads t thread e);
+  replies = replies_stay state.layout (shared_in state) later refl grows reached.completed reached.replies;
+  threads = λ t thread e. stage_fits state.layout (shared_in state) later t thread.stage grows have reached.completed (reached.threads t thread e);
   waiting = reached.waiting;
   entries = reached.entries;
   distinct = reached.distinct;
   completed = reached.completed;
   replicas = each_set (λ q (x : Replica). IsReplicaOf state.layout state.log state.completed x) state.replicas r next is (λ q x out e. reached.replicas q x e);
   collected = λ q x update e i. each_set (λ v (y : Replica). In update y.batch
-      → IsCollected state.layout state.events state.log state.completed (slice_set state.replicas r next) state.threads v y.placed update)
+      → IsCollected state.layout (shared_in (with_replica state r next)) state.threads v y.placed update)
       state.replicas r next (collected update) (λ v y out f j. others v y update f j) q x e i;
   batches = each_set (λ q (x : Replica). IsDistinct nat_eq (map (λ update. update.entry.call) x.batch)) state.replicas r next distinct
       (λ q x out e. reached.batches q x e);
 } where
-  grows : Grows state.events state.events state.log state.log state.completed state.completed state.replicas (slice_set state.replicas r next)
+  later : Shared
+  later = shared_in (with_replica state r next)
+
+  grows : Grows (shared_in state) later
   grows = replica_grows state r replica next at more
 
   have : HaveCalls state.events
-  have = replies_have_calls state.layout state.events state.log state.completed state.replicas reached.replies
+  have = replies_have_calls state.layout (shared_in state) reached.replies
 
   others : (q : ℕ) (x : Replica) (update : Collected) → At state.replicas q x → In update x.batch
-      → IsCollected state.layout state.events state.log state.completed (slice_set state.replicas r next) state.threads q x.placed update
-  others q x update e i = collected_stays state.layout state.events state.events state.log state.log state.completed state.completed state.replicas
-      (slice_set state.replicas r next) state.threads state.threads q x.placed x.placed update grows have reached.completed (λ h. h) (λ h. h)
+      → IsCollected state.layout (shared_in (with_replica state r next)) state.threads q x.placed update
+  others q x update e i = collected_stays state.layout (shared_in state) later state.threads state.threads q x.placed x.placed update grows have
+      reached.completed (λ h. h) (λ h. h)
       (reached.collected q x update e i)
 
 -- ---- the completed tail
@@ -202,20 +192,22 @@ replica_changes state r replica next reached at more is collected distinct = rec
 pub completed_rises : (state : State) (n : ℕ) → IsReached state → state.completed ≤ n → n ≤ length state.log → IsReached (record state { completed = n })
 completed_rises state n reached more l = record {
   calls = reached.calls;
-  replies = replies_stay state.layout state.events state.log state.log state.completed n state.replicas state.replicas grows reached.completed reached.replies;
-  threads = λ t thread e. stage_fits state.layout state.events state.events state.log state.log state.completed n state.replicas
-      state.replicas t thread.stage grows have reached.completed (reached.threads t thread e);
+  replies = replies_stay state.layout (shared_in state) after refl grows reached.completed reached.replies;
+  threads = λ t thread e. stage_fits state.layout (shared_in state) after t thread.stage grows have reached.completed (reached.threads t thread e);
   waiting = reached.waiting;
   entries = reached.entries;
   distinct = reached.distinct;
   completed = l;
   replicas = λ r replica e. later replica (reached.replicas r replica e);
-  collected = λ r replica update e i. collected_stays state.layout state.events state.events state.log state.log state.completed n state.replicas
-      state.replicas state.threads state.threads r replica.placed replica.placed update grows have reached.completed (λ h. h) (λ h. h)
+  collected = λ r replica update e i. collected_stays state.layout (shared_in state) after state.threads state.threads r replica.placed replica.placed update
+      grows have reached.completed (λ h. h) (λ h. h)
       (reached.collected r replica update e i);
   batches = reached.batches;
 } where
-  grows : Grows state.events state.events state.log state.log state.completed n state.replicas state.replicas
+  after : Shared
+  after = shared_in (record state { completed = n })
+
+  grows : Grows (shared_in state) after
   grows = record {
     longer = same_events state.events;
     entry_stays = λ i entry e. e;
@@ -224,7 +216,7 @@ completed_rises state n reached more l = record {
   }
 
   have : HaveCalls state.events
-  have = replies_have_calls state.layout state.events state.log state.completed state.replicas reached.replies
+  have = replies_have_calls state.layout (shared_in state) reached.replies
 
   later : (replica : Replica) → IsReplicaOf state.layout state.log state.completed replica → IsReplicaOf state.layout state.log n replica
   later replica h = let k = h.known in record { fetched = h.fetched; known = omega arith; space = h.space }
@@ -252,18 +244,16 @@ pub log_grows : (state : State) (entries : List LogEntry) → IsReached state �
     → IsReached (record state { log = state.log ++ entries })
 log_grows state entries reached new = record {
   calls = reached.calls;
-  replies = replies_stay state.layout state.events state.log (state.log ++ entries) state.completed state.completed state.replicas state.replicas grows
-      reached.completed reached.replies;
-  threads = λ t thread e. stage_fits state.layout state.events state.events state.log (state.log ++ entries) state.completed state.completed state.replicas
-      state.replicas t thread.stage grows have reached.completed (reached.threads t thread e);
+  replies = replies_stay state.layout (shared_in state) after refl grows reached.completed reached.replies;
+  threads = λ t thread e. stage_fits state.layout (shared_in state) after t thread.stage grows have reached.completed (reached.threads t thread e);
   waiting = λ t thread call e is. fresh_in_both state.log entries call (reached.waiting t thread call e is) (new.not_waiting t thread call e is);
   entries = λ place entry e. each place entry (at_either state.log entries place entry e);
   distinct = subst (IsDistinct nat_eq) (sym (calls_of_both state.log entries))
       (distinct_append (calls_of state.log) (calls_of entries) reached.distinct new.once (λ call i j. new.fresh call j i));
   completed = longer reached.completed (Rattle.std.proofs.Common.length-append state.log entries);
   replicas = λ r replica e. later replica (reached.replicas r replica e);
-  collected = λ r replica update e i. collected_stays state.layout state.events state.events state.log (state.log ++ entries) state.completed state.completed
-      state.replicas state.replicas state.threads state.threads r replica.placed replica.placed update grows have reached.completed (λ h. h)
+  collected = λ r replica update e i. collected_stays state.layout (shared_in state) after state.threads state.threads r replica.placed replica.placed update
+      grows have reached.completed (λ h. h)
       (λ h f. fresh_in_both state.log entries update.entry.call (h f) (new.in_no_other r replica update e i f))
       (reached.collected r replica update e i);
   batches = reached.batches;
@@ -271,7 +261,10 @@ log_grows state entries reached new = record {
   stays : (i : ℕ) (entry : LogEntry) → At state.log i entry → At (state.log ++ entries) i entry
   stays i entry e = at_front state.log entries i entry e
 
-  grows : Grows state.events state.events state.log (state.log ++ entries) state.completed state.completed state.replicas state.replicas
+  after : Shared
+  after = shared_in (record state { log = state.log ++ entries })
+
+  grows : Grows (shared_in state) after
   grows = record {
     longer = same_events state.events;
     entry_stays = stays;
@@ -280,12 +273,14 @@ log_grows state entries reached new = record {
   }
 
   have : HaveCalls state.events
-  have = replies_have_calls state.layout state.events state.log state.completed state.replicas reached.replies
+  have = replies_have_calls state.layout (shared_in state) reached.replies
 
-  longer : state.completed ≤ length state.log → length (state.log ++ entries) ≡ length state.log + length entries → state.completed ≤ length (state.log ++ entries)
+  longer : state.completed ≤ length state.log → length (state.log ++ entries) ≡ length state.log + length entries
+      → state.completed ≤ length (state.log ++ entries)
   longer h e = omega arith
 
-  later : (replica : Replica) → IsReplicaOf state.layout state.log state.completed replica → IsReplicaOf state.layout (state.log ++ entries) state.completed replica
+  later : (replica : Replica) → IsReplicaOf state.layout state.log state.completed replica
+      → IsReplicaOf state.layout (state.log ++ entries) state.completed replica
   later replica h = record {
     fetched = h.fetched;
     known = h.known;
@@ -303,7 +298,7 @@ log_grows state entries reached new = record {
         e,
         asks,
         behind_more state.events entry.call state.completed place (more reached.completed l)
-            (behind_completed state.layout state.events state.log state.completed state.replicas entry.call reached.replies),
+            (behind_completed state.layout (shared_in state) entry.call reached.replies),
       ) where
         more : state.completed ≤ length state.log → length state.log ≤ place → state.completed ≤ place
         more a b = omega arith

@@ -37,7 +37,8 @@ clean state version dumps reached = record {
       let (reply, before, answers) = reached.calls.in_turn h.earlier index h.earlier_made h.made h.is_earlier h.is_earlier_made h.is_made h.same_thread in
       h.not_answered reply before (answers_to state version dumps reply h.earlier answers)
 
-  not_an_update : (place call : ℕ) → (IsUpdate (recording state version dumps) call → ⊥) → (entry : LogEntry) × At state.log place entry × (entry.call ≡ call) → ⊥
+  not_an_update : (place call : ℕ) → (IsUpdate (recording state version dumps) call → ⊥)
+      → (entry : LogEntry) × At state.log place entry × (entry.call ≡ call) → ⊥
   not_an_update place call h (entry, at, e) =
       let (made, is, asks, behind) = reached.entries place entry at in
       h (is_some_from (operation_of (recording state version dumps) call) entry.op

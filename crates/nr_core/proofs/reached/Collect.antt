@@ -12,7 +12,7 @@ use Rattle.nr_core.specs.Steps.{by_thread, collect, has_place, with_collected}
 use Rattle.nr_core.specs.declared.stage.Collected.{Collected}
 use Rattle.nr_core.specs.declared.stage.Stage.{Stage}
 use Rattle.nr_core.specs.declared.stage.Stage.TheVariants.{Posted, Taken}
-use Rattle.nr_core.specs.inside.Reached.{At, FitsStage, IsCollected, open_in, waiting_in, IsReached}
+use Rattle.nr_core.specs.inside.Reached.{At, shared_in, FitsStage, IsCollected, open_in, waiting_in, IsReached}
 use Rattle.nr_core.proofs.reached.Places.{at_set, in_map}
 use Rattle.nr_core.proofs.reached.Changes.{thread_changes, replica_changes, still_collected, collected_keep}
 use Rattle.nr_core.proofs.reached.Kept.{Keeps, keeps_by_holder, keeps_then, keeps_when, waiting_not_collected}
@@ -45,21 +45,21 @@ collected state r s call replica other action reached there here is at_home =
       first = thread_changes state s other next reached here (sym (ap open_in is)) tt (λ c e. absurd (none-some c e))
           (collected_keep state s other next reached here (λ c e. cc))
 
-      new : IsCollected state.layout state.events state.log state.completed (slice_set state.replicas r later) (slice_set state.threads s next) r replica.placed
+      new : IsCollected state.layout (shared_in (with_replica state r later)) (slice_set state.threads s next) r replica.placed
           update
       new = record {
         home = at_home;
         taken = (next, at_set state.threads s other next here, refl);
-        asks = subst (FitsStage state.layout state.events state.log state.completed state.replicas s) is (reached.threads s other here);
+        asks = subst (FitsStage state.layout (shared_in state) s) is (reached.threads s other here);
         noted = λ a e. absurd (none-some a e);
         fresh = λ e. reached.waiting s other call here (ap waiting_in is);
       }
 
       each : (u : Collected) → In u replica.batch ⊎ In u (update ∷ [])
-          → IsCollected state.layout state.events state.log state.completed (slice_set state.replicas r later) (slice_set state.threads s next) r replica.placed u
+          → IsCollected state.layout (shared_in (with_replica state r later)) (slice_set state.threads s next) r replica.placed u
       each u (inl i) = still_collected (with_thread state s next) r replica later u first there (omega arith) (λ h. h) i
       each u (inr (inl e)) = subst (λ (v : Collected).
-          IsCollected state.layout state.events state.log state.completed (slice_set state.replicas r later) (slice_set state.threads s next) r replica.placed v) e new
+          IsCollected state.layout (shared_in (with_replica state r later)) (slice_set state.threads s next) r replica.placed v) e new
       each u (inr (inr i)) = absurd i
 
       apart : (c : ℕ) → (u : Collected) × In u replica.batch × (u.entry.call ≡ c) → In c (call ∷ []) → ⊥

@@ -7,7 +7,7 @@ use Rattle.nr_trace.specs.Calls.{Invocation, made_by, Response, reply_in}
 use Rattle.nr_trace.specs.declared.event.Event.{Event}
 use Rattle.nr_core.specs.State.{State, Thread, with_thread}
 use Rattle.nr_core.specs.declared.stage.Stage.TheVariants.{Taken}
-use Rattle.nr_core.specs.inside.Reached.{At, call_at, reply_at, RepliesTo, Behind, FitsStage, IsRight, IsFresh, waiting_in, AreCalls, IsReached}
+use Rattle.nr_core.specs.inside.Reached.{At, call_at, reply_at, RepliesTo, Behind, Shared, shared_in, FitsStage, IsRight, IsFresh, waiting_in, AreCalls, IsReached}
 use Rattle.nr_core.proofs.reached.Places.{each_set, at_front, at_last, at_end}
 use Rattle.nr_core.proofs.reached.Growth.{Longer, Grows, HaveCalls, then_parts, then_from, call_within, call_stays, replies_have_calls, behind_stays, right_stays}
 use Rattle.nr_core.proofs.reached.Growth.{stage_fits}
@@ -64,24 +64,23 @@ pub event_recorded : (state : State) (t : ℕ) (thread next : Thread) (event : E
     → AreCalls (state.events ++ event ∷ []) (slice_set state.threads t next)
     → ((reply : Response) → reply_in event ≡ Some reply → (made : Invocation) × (reply.call < length state.events)
     × (call_at state.events reply.call ≡ Some made)
-    × IsRight state.layout state.events state.log state.completed state.replicas made reply.call reply.at reply.answer)
-    → FitsStage state.layout (state.events ++ event ∷ []) state.log state.completed state.replicas t next.stage
+    × IsRight state.layout (shared_in state) made reply.call reply.at reply.answer)
+    → FitsStage state.layout (shared_in (record state { events = state.events ++ event ∷ [] })) t next.stage
     → ((call : ℕ) → waiting_in next.stage ≡ Some call → IsFresh state.log call)
     → IsReached (record (with_thread state t next) { events = state.events ++ event ∷ [] })
 event_recorded state t thread next event reached at not_taken calls right fits fresh = record {
   calls = calls;
   replies = λ index reply e. each index reply (reply_last state.events event index reply e);
-  threads = each_set (λ u (x : Thread). FitsStage state.layout later state.log state.completed state.replicas u x.stage) state.threads t next fits
-      (λ u x out e. stage_fits state.layout state.events later state.log state.log state.completed state.completed state.replicas state.replicas u x.stage
-      grows have reached.completed (reached.threads u x e));
+  threads = each_set (λ u (x : Thread). FitsStage state.layout after u x.stage) state.threads t next fits
+      (λ u x out e. stage_fits state.layout (shared_in state) after u x.stage grows have reached.completed (reached.threads u x e));
   waiting = λ u other call there is. each_set (λ v (x : Thread). waiting_in x.stage ≡ Some call → IsFresh state.log call) state.threads t next
       (λ e. fresh call e) (λ v x out e is. reached.waiting v x call e is) u other there is;
   entries = λ place entry e. entered place entry (reached.entries place entry e);
   distinct = reached.distinct;
   completed = reached.completed;
   replicas = reached.replicas;
-  collected = λ r replica update there i. collected_stays state.layout state.events later state.log state.log state.completed state.completed
-      state.replicas state.replicas state.threads (slice_set state.threads t next) r replica.placed replica.placed update grows have reached.completed
+  collected = λ r replica update there i. collected_stays state.layout (shared_in state) after state.threads (slice_set state.threads t next) r
+      replica.placed replica.placed update grows have reached.completed
       (taken_keeps state.threads t update.thread update.entry.call thread next at (λ _ f. absurd (not_taken update.entry.call f))) (λ h. h)
       (reached.collected r replica update there i);
   batches = reached.batches;
@@ -92,7 +91,10 @@ event_recorded state t thread next event reached at not_taken calls right fits f
   longer : Longer state.events later
   longer = one_longer state.events event
 
-  grows : Grows state.events later state.log state.log state.completed state.completed state.replicas state.replicas
+  after : Shared
+  after = shared_in (record state { events = later })
+
+  grows : Grows (shared_in state) after
   grows = record {
     longer = longer;
     entry_stays = λ i entry e. e;
@@ -101,17 +103,17 @@ event_recorded state t thread next event reached at not_taken calls right fits f
   }
 
   have : HaveCalls state.events
-  have = replies_have_calls state.layout state.events state.log state.completed state.replicas reached.replies
+  have = replies_have_calls state.layout (shared_in state) reached.replies
 
   grown : (made : Invocation) (reply : Response) → call_at state.events reply.call ≡ Some made
-      → IsRight state.layout state.events state.log state.completed state.replicas made reply.call reply.at reply.answer
-      → IsRight state.layout later state.log state.completed state.replicas made reply.call reply.at reply.answer
-  grown made reply is h = right_stays state.layout state.events later state.log state.log state.completed state.completed state.replicas state.replicas
-      made reply.call reply.at reply.answer grows have reached.completed (call_within state.events reply.call made is) h
+      → IsRight state.layout (shared_in state) made reply.call reply.at reply.answer
+      → IsRight state.layout after made reply.call reply.at reply.answer
+  grown made reply is h = right_stays state.layout (shared_in state) after made reply.call reply.at reply.answer grows have reached.completed
+      (call_within state.events reply.call made is) h
 
   each : (index : ℕ) (reply : Response) → (reply_at state.events index ≡ Some reply) ⊎ ((index ≡ length state.events) × (reply_in event ≡ Some reply))
       → (made : Invocation) × (reply.call < index) × (call_at later reply.call ≡ Some made)
-      × IsRight state.layout later state.log state.completed state.replicas made reply.call reply.at reply.answer
+      × IsRight state.layout after made reply.call reply.at reply.answer
   each index reply (inl e) =
       let (made, before, is, h) = reached.replies index reply e in
       (made, before, call_stays state.events later reply.call made longer is, grown made reply is h)

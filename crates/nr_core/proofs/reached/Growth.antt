@@ -15,7 +15,7 @@ use Rattle.nr_trace.specs.declared.event.Event.{Event}
 use Rattle.nr_core.specs.State.{Replica}
 use Rattle.nr_core.specs.declared.stage.Stage.{Stage}
 use Rattle.nr_core.specs.declared.stage.Stage.TheVariants.{Idle, Called, Posted, Taken, Ready, Looked, HasRead}
-use Rattle.nr_core.specs.inside.Reached.{At, call_at, reply_at, RepliesTo, made_of, reach, Behind, space_at, IsRight, FitsStage, AreReplies}
+use Rattle.nr_core.specs.inside.Reached.{At, call_at, reply_at, RepliesTo, made_of, reach, Behind, space_at, Shared, IsRight, FitsStage, AreReplies}
 use Rattle.nr_core.proofs.reached.Places.{same_front}
 
 -- ---- calls and replies by their events
@@ -76,9 +76,8 @@ answer_stood events later index call longer l h = (h.0, reply_stood events later
 abbrev pub HaveCalls : List Event → Type 0
 HaveCalls events = (index : ℕ) (reply : Response) → reply_at events index ≡ Some reply → (made : Invocation) × (call_at events reply.call ≡ Some made)
 
-pub replies_have_calls : (layout : Layout) (events : List Event) (log : List LogEntry) (completed : ℕ) (replicas : List Replica)
-    → AreReplies layout events log completed replicas → HaveCalls events
-replies_have_calls layout events log completed replicas replies index reply e =
+pub replies_have_calls : (layout : Layout) (shared : Shared) → AreReplies layout shared → HaveCalls shared.events
+replies_have_calls layout shared replies index reply e =
     let (made, before, is, right) = replies index reply e in
     (made, is)
 
@@ -94,12 +93,11 @@ pub behind_more : (events : List Event) (call m n : ℕ) → m ≤ n → Behind 
 behind_more events call m n l h index reply made less e f = let k = h index reply made less e f in omega arith
 
 -- what is known by any reply is completed
-pub behind_completed : (layout : Layout) (events : List Event) (log : List LogEntry) (completed : ℕ) (replicas : List Replica) (call : ℕ)
-    → AreReplies layout events log completed replicas → Behind events call completed
-behind_completed layout events log completed replicas call replies index reply made less e f =
+pub behind_completed : (layout : Layout) (shared : Shared) (call : ℕ) → AreReplies layout shared → Behind shared.events call shared.completed
+behind_completed layout shared call replies index reply made less e f =
     let (first, before, is, right) = replies index reply e in
     let same : first ≡ made = same_Some first made (sym is ∙ f) in
-    subst (λ (m : Invocation). reach m.request reply.at ≤ completed) same right.known
+    subst (λ (m : Invocation). reach m.request reply.at ≤ shared.completed) same right.known
 
 -- ---- answers
 
@@ -110,12 +108,11 @@ at_of_reach (Some action) n = omega arith
 pub at_within_reach : (request : Query) (n : ℕ) → n ≤ reach request n
 at_within_reach request n = at_of_reach (operation_in request) n
 
-pub record Grows (events events_later : List Event) (log log_later : List LogEntry) (completed completed_later : ℕ) (replicas replicas_later : List Replica)
-    : Type 0 where
-  pub longer : Longer events events_later
-  pub entry_stays : (i : ℕ) (entry : LogEntry) → At log i entry → At log_later i entry
-  pub rises : completed ≤ completed_later
-  pub goes_on : (r : ℕ) (later : Replica) → At replicas_later r later → (replica : Replica) × At replicas r replica × (replica.applied ≤ later.applied)
+pub record Grows (before after : Shared) : Type 0 where
+  pub longer : Longer before.events after.events
+  pub entry_stays : (i : ℕ) (entry : LogEntry) → At before.log i entry → At after.log i entry
+  pub rises : before.completed ≤ after.completed
+  pub goes_on : (r : ℕ) (later : Replica) → At after.replicas r later → (replica : Replica) × At before.replicas r replica × (replica.applied ≤ later.applied)
 
 pub space_stays : (layout : Layout) (log later : List LogEntry) (n : ℕ) → ((i : ℕ) (entry : LogEntry) → At log i entry → At later i entry) → n ≤ length log
     → space_at layout log n ≡ space_at layout later n
@@ -123,75 +120,68 @@ space_stays layout log later n h l =
     ap (λ (entries : List LogEntry). after_all layout.depth layout.tables no_pages (map (λ (entry : LogEntry). entry.op) entries))
     (sym (same_front log later n h l))
 
-pub right_stays : (layout : Layout) (events events' : List Event) (log log' : List LogEntry) (completed completed' : ℕ) (replicas replicas' : List Replica)
-    (made : Invocation) (call n : ℕ) (answer : Answer) → Grows events events' log log' completed completed' replicas replicas' → HaveCalls events
-    → completed ≤ length log → call < length events
-    → IsRight layout events log completed replicas made call n answer → IsRight layout events' log' completed' replicas' made call n answer
-right_stays layout events events' log log' completed completed' replicas replicas' made call n answer grows have l within right = record {
+pub right_stays : (layout : Layout) (before after : Shared) (made : Invocation) (call n : ℕ) (answer : Answer) → Grows before after
+    → HaveCalls before.events → before.completed ≤ length before.log → call < length before.events
+    → IsRight layout before made call n answer → IsRight layout after made call n answer
+right_stays layout before after made call n answer grows have l within right = record {
   placed = λ action e. placed_later (right.placed action e);
   known = known_later right.known grows.rises;
   here = λ replica at. here_later replica (grows.goes_on made.replica replica at);
-  answered = right.answered ∙ ap (λ space. answer_in layout space made.request) (space_stays layout log log' n grows.entry_stays (short right.known));
-  in_time = behind_stays events events' call n grows.longer have (weak within) right.in_time;
+  answered = right.answered
+      ∙ ap (λ space. answer_in layout space made.request) (space_stays layout before.log after.log n grows.entry_stays (short right.known));
+  in_time = behind_stays before.events after.events call n grows.longer have (weak within) right.in_time;
 } where
-  placed_later : (entry : LogEntry) × At log n entry × (entry.call ≡ call) → (entry : LogEntry) × At log' n entry × (entry.call ≡ call)
+  placed_later : (entry : LogEntry) × At before.log n entry × (entry.call ≡ call) → (entry : LogEntry) × At after.log n entry × (entry.call ≡ call)
   placed_later (entry, at, is) = (entry, grows.entry_stays n entry at, is)
 
-  known_later : reach made.request n ≤ completed → completed ≤ completed' → reach made.request n ≤ completed'
+  known_later : reach made.request n ≤ before.completed → before.completed ≤ after.completed → reach made.request n ≤ after.completed
   known_later h k = omega arith
 
-  weak : call < length events → call ≤ length events
+  weak : call < length before.events → call ≤ length before.events
   weak h = omega arith
 
-  here_later : (replica : Replica) → (first : Replica) × At replicas made.replica first × (first.applied ≤ replica.applied)
+  here_later : (replica : Replica) → (first : Replica) × At before.replicas made.replica first × (first.applied ≤ replica.applied)
       → reach made.request n ≤ replica.applied
   here_later replica (first, at, less) = let h = right.here first at in omega arith
 
-  short : reach made.request n ≤ completed → n ≤ length log
+  short : reach made.request n ≤ before.completed → n ≤ length before.log
   short h = let k = at_within_reach made.request n in omega arith
 
 -- ---- stages
 
-pub stage_fits : (layout : Layout) (events events' : List Event) (log log' : List LogEntry) (completed completed' : ℕ) (replicas replicas' : List Replica)
-    (t : ℕ) (stage : Stage) → Grows events events' log log' completed completed' replicas replicas' → HaveCalls events
-    → completed ≤ length log
-    → FitsStage layout events log completed replicas t stage → FitsStage layout events' log' completed' replicas' t stage
-stage_fits layout events events' log log' completed completed' replicas replicas' t Idle grows have l fits = fits
-stage_fits layout events events' log log' completed completed' replicas replicas' t (Called call request) grows have l fits =
-    call_stays events events' call _ grows.longer fits
-stage_fits layout events events' log log' completed completed' replicas replicas' t (Posted call action) grows have l fits =
-    call_stays events events' call _ grows.longer fits
-stage_fits layout events events' log log' completed completed' replicas replicas' t (Taken call) grows have l fits = fits
-stage_fits layout events events' log log' completed completed' replicas replicas' t (Ready a) grows have l (request, asks, right) = (
+pub stage_fits : (layout : Layout) (before after : Shared) (t : ℕ) (stage : Stage) → Grows before after → HaveCalls before.events
+    → before.completed ≤ length before.log → FitsStage layout before t stage → FitsStage layout after t stage
+stage_fits layout before after t Idle grows have l fits = fits
+stage_fits layout before after t (Called call request) grows have l fits = call_stays before.events after.events call _ grows.longer fits
+stage_fits layout before after t (Posted call action) grows have l fits = call_stays before.events after.events call _ grows.longer fits
+stage_fits layout before after t (Taken call) grows have l fits = fits
+stage_fits layout before after t (Ready a) grows have l (request, asks, right) = (
   request,
-  call_stays events events' a.call _ grows.longer asks,
-  right_stays layout events events' log log' completed completed' replicas replicas' (made_of layout t request) a.call a.at a.answer grows have l
-      (call_within events a.call _ asks) right,
+  call_stays before.events after.events a.call _ grows.longer asks,
+  right_stays layout before after (made_of layout t request) a.call a.at a.answer grows have l (call_within before.events a.call _ asks) right,
 )
-stage_fits layout events events' log log' completed completed' replicas replicas' t (Looked call request noted) grows have l (asks, reads, behind) = (
-  call_stays events events' call _ grows.longer asks,
+stage_fits layout before after t (Looked call request noted) grows have l (asks, reads, behind) = (
+  call_stays before.events after.events call _ grows.longer asks,
   reads,
-  behind_stays events events' call noted grows.longer have (weak (call_within events call _ asks)) behind,
+  behind_stays before.events after.events call noted grows.longer have (weak (call_within before.events call _ asks)) behind,
 ) where
-  weak : call < length events → call ≤ length events
+  weak : call < length before.events → call ≤ length before.events
   weak h = omega arith
-stage_fits layout events events' log log' completed completed' replicas replicas' t (HasRead a) grows have l (request, asks, right) = (
+stage_fits layout before after t (HasRead a) grows have l (request, asks, right) = (
   request,
-  call_stays events events' a.call _ grows.longer asks,
-  right_stays layout events events' log log' completed completed' replicas replicas' (made_of layout t request) a.call a.at a.answer grows have l
-      (call_within events a.call _ asks) right,
+  call_stays before.events after.events a.call _ grows.longer asks,
+  right_stays layout before after (made_of layout t request) a.call a.at a.answer grows have l (call_within before.events a.call _ asks) right,
 )
 
 -- ---- replies
 
-pub replies_stay : (layout : Layout) (events : List Event) (log log' : List LogEntry) (completed completed' : ℕ) (replicas replicas' : List Replica)
-    → Grows events events log log' completed completed' replicas replicas' → completed ≤ length log
-    → AreReplies layout events log completed replicas → AreReplies layout events log' completed' replicas'
-replies_stay layout events log log' completed completed' replicas replicas' grows l replies index reply e =
-    let (made, before, is, right) = replies index reply e in (
+pub replies_stay : (layout : Layout) (before after : Shared) → before.events ≡ after.events → Grows before after → before.completed ≤ length before.log
+    → AreReplies layout before → AreReplies layout after
+replies_stay layout before after same grows l replies index reply e =
+    let (made, earlier, is, right) = replies index reply (ap (λ events. reply_at events index) same ∙ e) in (
       made,
-      before,
-      is,
-      right_stays layout events events log log' completed completed' replicas replicas' made reply.call reply.at reply.answer grows
-          (replies_have_calls layout events log completed replicas replies) l (call_within events reply.call made is) right,
+      earlier,
+      call_stays before.events after.events reply.call made grows.longer is,
+      right_stays layout before after made reply.call reply.at reply.answer grows (replies_have_calls layout before replies) l
+          (call_within before.events reply.call made is) right,
     )

@@ -11,7 +11,7 @@ use Rattle.nr_trace.specs.declared.fault.Fault.TheVariants.{Early}
 use Rattle.nr_trace.proofs.LawsOfCalls.{reply_event}
 use Rattle.nr_trace.proofs.LawsOfSteps.{floor_at_start, floor_after_reply, floor_after_other}
 use Rattle.nr_core.specs.State.{State}
-use Rattle.nr_core.specs.inside.Reached.{At, reply_at, Behind, IsReached}
+use Rattle.nr_core.specs.inside.Reached.{At, reply_at, Behind, shared_in, IsReached}
 use Rattle.nr_core.proofs.reached.Growth.{HaveCalls, replies_have_calls}
 use Rattle.nr_core.proofs.reached.Recorded.{recording, at_map, known_is_reach}
 
@@ -39,7 +39,7 @@ none_early state version dumps call reached (entries, stands, early) = by_kind s
   trace = recording state version dumps
 
   have : HaveCalls state.events
-  have = replies_have_calls state.layout state.events state.log state.completed state.replicas reached.replies
+  have = replies_have_calls state.layout (shared_in state) reached.replies
 
   not_before : Behind state.events call entries → ⊥
   not_before behind = let l = floor_within state version dumps call entries call have behind (omega arith) in absurd (omega arith)

@@ -8,7 +8,7 @@ use Rattle.nr_core.specs.State.{State, Thread, with_thread}
 use Rattle.nr_core.specs.Steps.{look, with_look}
 use Rattle.nr_core.specs.declared.stage.Stage.{Stage}
 use Rattle.nr_core.specs.declared.stage.Stage.TheVariants.{Called, Looked}
-use Rattle.nr_core.specs.inside.Reached.{At, FitsStage, open_in, IsReached}
+use Rattle.nr_core.specs.inside.Reached.{At, shared_in, FitsStage, open_in, IsReached}
 use Rattle.nr_core.proofs.reached.Changes.{thread_changes, collected_keep}
 use Rattle.nr_core.proofs.reached.Growth.{behind_completed}
 use Rattle.nr_core.proofs.reached.Kept.{Keeps, keeps_then}
@@ -21,9 +21,9 @@ look_keeps state t reached =
       looked thread call request at is reads =
           let next : Thread = record thread { stage = Looked call request state.completed } in
           thread_changes state t thread next reached at (sym (ap open_in is)) (
-            subst (FitsStage state.layout state.events state.log state.completed state.replicas t) is (reached.threads t thread at),
+            subst (FitsStage state.layout (shared_in state) t) is (reached.threads t thread at),
             reads,
-            behind_completed state.layout state.events state.log state.completed state.replicas call reached.replies,
+            behind_completed state.layout (shared_in state) call reached.replies,
           )
           (λ c e. absurd (none-some c e)) (collected_keep state t thread next reached at (λ c e. cc))
 

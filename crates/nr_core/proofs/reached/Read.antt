@@ -12,7 +12,7 @@ use Rattle.nr_core.specs.Steps.{read, with_read}
 use Rattle.nr_core.specs.declared.stage.Answered.{Answered}
 use Rattle.nr_core.specs.declared.stage.Stage.{Stage}
 use Rattle.nr_core.specs.declared.stage.Stage.TheVariants.{Looked, HasRead}
-use Rattle.nr_core.specs.inside.Reached.{At, made_of, reach, Behind, FitsStage, IsRight, IsReplicaOf, open_in, IsReached}
+use Rattle.nr_core.specs.inside.Reached.{At, made_of, reach, Behind, shared_in, FitsStage, IsRight, IsReplicaOf, open_in, IsReached}
 use Rattle.nr_core.proofs.reached.Changes.{thread_changes, collected_keep}
 use Rattle.nr_core.proofs.reached.Growth.{behind_more}
 use Rattle.nr_core.proofs.reached.Kept.{Keeps, keeps_then, keeps_when}
@@ -29,7 +29,7 @@ read_keeps state t reached =
       right : (replica : Replica) (call completed : ℕ) (request : Query) → At state.replicas (home state t) replica → completed ≤ replica.applied
           → operation_in request ≡ None → Behind state.events call completed
           → IsReplicaOf state.layout state.log state.completed replica
-          → IsRight state.layout state.events state.log state.completed state.replicas (made_of state.layout t request) call replica.applied
+          → IsRight state.layout (shared_in state) (made_of state.layout t request) call replica.applied
           (answer_in state.layout replica.space request)
       right replica call completed request there less reads behind is = record {
         placed = λ action e. absurd (none-some action (sym reads ∙ e));
@@ -53,7 +53,7 @@ read_keeps state t reached =
       by_stage thread replica at there (Looked call request completed) is =
           let a : Answered = record { call = call; at = replica.applied; answer = answer_in state.layout replica.space request } in
           let next : Thread = record thread { stage = HasRead a } in
-          let (asks, reads, behind) = subst (FitsStage state.layout state.events state.log state.completed state.replicas t) is (reached.threads t thread at) in
+          let (asks, reads, behind) = subst (FitsStage state.layout (shared_in state) t) is (reached.threads t thread at) in
           keeps_when (is_none replica.holder && nat_le completed replica.applied) (with_thread state t next)
           (λ test. thread_changes state t thread next reached at (sym (ap open_in is)) (
             request,

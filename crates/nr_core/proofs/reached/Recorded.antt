@@ -30,7 +30,8 @@ recording state version dumps = record {
 
 -- what holds of such a recording, with dumps of the replicas, holds of each recording of the state
 pub of_recording : (P : Recording → Type 0) (state : State) (trace : Recording) → IsRecordingOf state trace
-    → ((version : Version) (dumps : List Image) → AllZip (IsDumpOfReplica state.layout.depth) state.replicas dumps → P (recording state version dumps)) → P trace
+    → ((version : Version) (dumps : List Image) → AllZip (IsDumpOfReplica state.layout.depth) state.replicas dumps → P (recording state version dumps))
+    → P trace
 of_recording P state trace is h = subst P same (h trace.version trace.dumps is.dumps) where
   same : recording state trace.version trace.dumps ≡ trace
   same = λ i. record {
@@ -64,7 +65,8 @@ pub distinct_apart : (xs : List ℕ) (i j x : ℕ) → IsDistinct nat_eq xs → 
 unfolding IsDistinct
 distinct_apart [] i j x h l e f = none-some x e
 distinct_apart (y ∷ xs) i zero x h l e f = absurd (omega arith)
-distinct_apart (y ∷ xs) zero (suc j) x h l e f = absent_not_in y xs h.0 (subst (λ z. Rattle.nr_trace.proofs.LawsOfLists.In z xs) (sym (same_Some y x e)) (in_at xs j x f))
+distinct_apart (y ∷ xs) zero (suc j) x h l e f =
+    absent_not_in y xs h.0 (subst (λ z. Rattle.nr_trace.proofs.LawsOfLists.In z xs) (sym (same_Some y x e)) (in_at xs j x f))
 distinct_apart (y ∷ xs) (suc i) (suc j) x h l e f = distinct_apart xs i j x h.1 (omega arith) e f
 
 -- no more is known by a reply than what its answer reaches; by one to a touch nothing is
@@ -79,10 +81,12 @@ known_by_call made at = by_kind (operation_in made.request) made.touch where
   by_kind None true = omega arith
   by_kind None false = omega arith
 
-pub known_is_reach : (state : State) (version : Version) (dumps : List Image) (reply : Response) (made : Invocation) → call_at state.events reply.call ≡ Some made
+pub known_is_reach : (state : State) (version : Version) (dumps : List Image) (reply : Response) (made : Invocation)
+    → call_at state.events reply.call ≡ Some made
     → known_by (recording state version dumps) reply ≤ reach made.request reply.at
 known_is_reach state version dumps reply made e =
-    let given : (o : Option Invocation) → ℕ = λ o. option_map_or (λ (action : Action). reply.at + 1) (option_and_then (λ (m : Invocation). operation_in m.request) o)
+    let given : (o : Option Invocation) → ℕ =
+    λ o. option_map_or (λ (action : Action). reply.at + 1) (option_and_then (λ (m : Invocation). operation_in m.request) o)
     (option_map_or (λ (touch : Query). 0) (option_and_then (λ (m : Invocation). if m.touch then Some m.request else None) o) reply.at) in
     let same : known_by (recording state version dumps) reply ≡ given (Some made) = ap given e in
     subst (λ (n : ℕ). n ≤ reach made.request reply.at) (sym same) (known_by_call made reply.at)

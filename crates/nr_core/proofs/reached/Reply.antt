@@ -12,7 +12,7 @@ use Rattle.nr_core.specs.Steps.{reply, reply_at as replied_at}
 use Rattle.nr_core.specs.declared.stage.Answered.{Answered}
 use Rattle.nr_core.specs.declared.stage.Stage.{Stage}
 use Rattle.nr_core.specs.declared.stage.Stage.TheVariants.{Idle, Ready, HasRead, Taken}
-use Rattle.nr_core.specs.inside.Reached.{At, call_at, RepliesTo, made_of, FitsStage, IsRight, open_in, IsUnanswered, HasOpen, AreCalls, IsReached}
+use Rattle.nr_core.specs.inside.Reached.{At, call_at, RepliesTo, made_of, shared_in, FitsStage, IsRight, open_in, IsUnanswered, HasOpen, AreCalls, IsReached}
 use Rattle.nr_core.proofs.reached.Places.{each_set, at_other}
 use Rattle.nr_core.proofs.reached.Growth.{Longer, call_within, reply_within, call_stays, call_stood, answer_stays, answer_stood}
 use Rattle.nr_core.proofs.reached.Events.{one_longer, call_last, answer_last, last_reply, event_recorded}
@@ -21,7 +21,7 @@ use Rattle.nr_core.proofs.reached.Kept.{Keeps, keeps_then}
 replied : (state : State) (t : ℕ) (thread : Thread) (a : Answered) (request : Query) → IsReached state → At state.threads t thread
     → open_in thread.stage ≡ Some a.call → ((call : ℕ) → thread.stage ≡ Taken call → ⊥)
     → call_at state.events a.call ≡ Some (made_of state.layout t request)
-    → IsRight state.layout state.events state.log state.completed state.replicas (made_of state.layout t request) a.call a.at a.answer
+    → IsRight state.layout (shared_in state) (made_of state.layout t request) a.call a.at a.answer
     → IsReached (record (with_thread state t (record thread { stage = Idle })) { events = state.events ++ events.Reply a.call a.at a.answer ∷ [] })
 replied state t thread a request reached at is not_taken asks right =
     event_recorded state t thread next event reached at not_taken calls (λ r e. answers r (same_Some response r e)) tt (λ c e. absurd (none-some c e)) where
@@ -41,9 +41,9 @@ replied state t thread a request reached at is not_taken asks right =
       longer = one_longer state.events event
 
       answers : (r : Response) → response ≡ r → (made : Invocation) × (r.call < length state.events) × (call_at state.events r.call ≡ Some made)
-          × IsRight state.layout state.events state.log state.completed state.replicas made r.call r.at r.answer
+          × IsRight state.layout (shared_in state) made r.call r.at r.answer
       answers r one = subst (λ (x : Response). (made : Invocation) × (x.call < length state.events) × (call_at state.events x.call ≡ Some made)
-          × IsRight state.layout state.events state.log state.completed state.replicas made x.call x.at x.answer) one
+          × IsRight state.layout (shared_in state) made x.call x.at x.answer) one
           (made_of state.layout t request, call_within state.events a.call _ asks, asks, right)
 
       opened : IsUnanswered state.events t a.call
@@ -126,10 +126,10 @@ reply_keeps state t reached =
       by_stage : (thread : Thread) → At state.threads t thread → (stage : Stage) → thread.stage ≡ stage → Keeps (replied_at state t thread stage)
       by_stage thread at (Ready a) is =
           let (request, asks, right) =
-          subst (FitsStage state.layout state.events state.log state.completed state.replicas t) is (reached.threads t thread at) in
+          subst (FitsStage state.layout (shared_in state) t) is (reached.threads t thread at) in
           replied state t thread a request reached at (ap open_in is) (λ c e. cc) asks right
       by_stage thread at (HasRead a) is =
           let (request, asks, right) =
-          subst (FitsStage state.layout state.events state.log state.completed state.replicas t) is (reached.threads t thread at) in
+          subst (FitsStage state.layout (shared_in state) t) is (reached.threads t thread at) in
           replied state t thread a request reached at (ap open_in is) (λ c e. cc) asks right
       by_stage thread at stage is = tt

@@ -7,7 +7,7 @@ use Rattle.vs_types.specs.declared.request.Query.{Query}
 use Rattle.nr_trace.proofs.LawsOfLists.{option_distinct}
 use Rattle.nr_core.specs.State.{Thread, Replica, new_thread, new_replica, start}
 use Rattle.nr_core.specs.declared.stage.Stage.TheVariants.{Idle}
-use Rattle.nr_core.specs.inside.Reached.{At, FitsStage, open_in, waiting_in, IsReplicaOf, IsReached}
+use Rattle.nr_core.specs.inside.Reached.{At, shared_in, FitsStage, open_in, waiting_in, IsReplicaOf, IsReached}
 
 at_map_idle : (scripts : List (List Query)) (t : ℕ) (thread : Thread) → At (map new_thread scripts) t thread → Idle ≡ thread.stage
 at_map_idle [] t thread e = absurd (none-some thread e)
@@ -28,7 +28,7 @@ start_is_reached layout scripts = record {
     in_turn = λ earlier later first second l e f same. absurd (none-some first e);
   };
   replies = λ index reply e. absurd (none-some reply e);
-  threads = λ t thread e. subst (FitsStage layout [] [] 0 (replicate layout.replicas new_replica) t) (at_map_idle scripts t thread e) tt;
+  threads = λ t thread e. subst (FitsStage layout (shared_in (start layout scripts)) t) (at_map_idle scripts t thread e) tt;
   waiting = λ t thread call e is. absurd (none-some call (ap waiting_in (at_map_idle scripts t thread e) ∙ is));
   entries = λ place entry e. absurd (none-some entry e);
   distinct = option_distinct None;

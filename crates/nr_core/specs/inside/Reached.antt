@@ -56,28 +56,37 @@ calls_of log = map (λ entry. entry.call) log
 abbrev pub space_at : Layout → List LogEntry → ℕ → Space
 space_at layout log n = after_all layout.depth layout.tables no_pages (map (λ entry. entry.op) (take n log))
 
+-- what the threads of a state share
+pub record Shared : Type 0 where
+  pub events : List Event
+  pub log : List LogEntry
+  pub completed : ℕ
+  pub replicas : List Replica
+
+abbrev pub shared_in : State → Shared
+shared_in state = record { events = state.events; log = state.log; completed = state.completed; replicas = state.replicas }
+
 -- an answer of a call: an update's place has the call; all entries that are known by it are completed, and applied at the
 -- call's replica; it is what the space gives before its place; and no more were known when the call was made
-pub record IsRight (layout : Layout) (events : List Event) (log : List LogEntry) (completed : ℕ) (replicas : List Replica) (made : Invocation) (call at : ℕ)
-    (answer : Answer) : Type 0 where
-  pub placed : (action : Action) → operation_in made.request ≡ Some action → (entry : LogEntry) × At log at entry × (entry.call ≡ call)
-  pub known : reach made.request at ≤ completed
-  pub here : (replica : Replica) → At replicas made.replica replica → reach made.request at ≤ replica.applied
-  pub answered : answer ≡ answer_in layout (space_at layout log at) made.request
-  pub in_time : Behind events call at
+pub record IsRight (layout : Layout) (shared : Shared) (made : Invocation) (call at : ℕ) (answer : Answer) : Type 0 where
+  pub placed : (action : Action) → operation_in made.request ≡ Some action → (entry : LogEntry) × At shared.log at entry × (entry.call ≡ call)
+  pub known : reach made.request at ≤ shared.completed
+  pub here : (replica : Replica) → At shared.replicas made.replica replica → reach made.request at ≤ replica.applied
+  pub answered : answer ≡ answer_in layout (space_at layout shared.log at) made.request
+  pub in_time : Behind shared.events call at
 
 -- what a stage says of the call, its request and its answer
-abbrev pub FitsStage : Layout → List Event → List LogEntry → ℕ → List Replica → ℕ → Stage → Type 0
-FitsStage layout events log completed replicas t Idle = ⊤
-FitsStage layout events log completed replicas t (Called call request) = call_at events call ≡ Some (made_of layout t request)
-FitsStage layout events log completed replicas t (Posted call action) = call_at events call ≡ Some (made_of layout t (Update action))
-FitsStage layout events log completed replicas t (Taken call) = ⊤
-FitsStage layout events log completed replicas t (Ready a) = (request : Query) × (call_at events a.call ≡ Some (made_of layout t request))
-    × IsRight layout events log completed replicas (made_of layout t request) a.call a.at a.answer
-FitsStage layout events log completed replicas t (Looked call request noted) = (call_at events call ≡ Some (made_of layout t request))
-    × (operation_in request ≡ None) × Behind events call noted
-FitsStage layout events log completed replicas t (HasRead a) = (request : Query) × (call_at events a.call ≡ Some (made_of layout t request))
-    × IsRight layout events log completed replicas (made_of layout t request) a.call a.at a.answer
+abbrev pub FitsStage : Layout → Shared → ℕ → Stage → Type 0
+FitsStage layout shared t Idle = ⊤
+FitsStage layout shared t (Called call request) = call_at shared.events call ≡ Some (made_of layout t request)
+FitsStage layout shared t (Posted call action) = call_at shared.events call ≡ Some (made_of layout t (Update action))
+FitsStage layout shared t (Taken call) = ⊤
+FitsStage layout shared t (Ready a) = (request : Query) × (call_at shared.events a.call ≡ Some (made_of layout t request))
+    × IsRight layout shared (made_of layout t request) a.call a.at a.answer
+FitsStage layout shared t (Looked call request noted) = (call_at shared.events call ≡ Some (made_of layout t request))
+    × (operation_in request ≡ None) × Behind shared.events call noted
+FitsStage layout shared t (HasRead a) = (request : Query) × (call_at shared.events a.call ≡ Some (made_of layout t request))
+    × IsRight layout shared (made_of layout t request) a.call a.at a.answer
 
 -- the call that is open in a stage; and the one that no combiner has taken yet
 abbrev pub open_in : Stage → Option ℕ
@@ -112,14 +121,13 @@ IsFresh log call = In call (calls_of log) → ⊥
 
 -- an update in the batch of replica r: of a thread of r, whose call is taken; its answer, if one is noted, is right; and it is
 -- in the log only if the batch does
-pub record IsCollected (layout : Layout) (events : List Event) (log : List LogEntry) (completed : ℕ) (replicas : List Replica) (threads : List Thread) (r : ℕ)
-    (placed : Bool) (update : Collected) : Type 0 where
+pub record IsCollected (layout : Layout) (shared : Shared) (threads : List Thread) (r : ℕ) (placed : Bool) (update : Collected) : Type 0 where
   pub home : update.thread % layout.replicas ≡ r
   pub taken : IsTaken threads update.thread update.entry.call
-  pub asks : call_at events update.entry.call ≡ Some (made_of layout update.thread (Update update.entry.op))
+  pub asks : call_at shared.events update.entry.call ≡ Some (made_of layout update.thread (Update update.entry.op))
   pub noted : (a : Answered) → update.noted ≡ Some a → (a.call ≡ update.entry.call)
-      × IsRight layout events log completed replicas (made_of layout update.thread (Update update.entry.op)) a.call a.at a.answer
-  pub fresh : placed ≡ false → IsFresh log update.entry.call
+      × IsRight layout shared (made_of layout update.thread (Update update.entry.op)) a.call a.at a.answer
+  pub fresh : placed ≡ false → IsFresh shared.log update.entry.call
 
 -- a replica has applied no more than it has fetched, and that is completed; its space is that after what is applied
 pub record IsReplicaOf (layout : Layout) (log : List LogEntry) (completed : ℕ) (replica : Replica) : Type 0 where
@@ -136,29 +144,29 @@ pub record AreCalls (events : List Event) (threads : List Thread) : Type 0 where
   pub in_turn : (earlier later : ℕ) (first second : Invocation) → earlier < later → call_at events earlier ≡ Some first → call_at events later ≡ Some second
       → first.thread ≡ second.thread → (index : ℕ) × (index < later) × RepliesTo events index earlier
 
-abbrev pub AreReplies : Layout → List Event → List LogEntry → ℕ → List Replica → Type 0
-AreReplies layout events log completed replicas = (index : ℕ) (reply : Response) → reply_at events index ≡ Some reply
-    → (made : Invocation) × (reply.call < index) × (call_at events reply.call ≡ Some made)
-    × IsRight layout events log completed replicas made reply.call reply.at reply.answer
+abbrev pub AreReplies : Layout → Shared → Type 0
+AreReplies layout shared = (index : ℕ) (reply : Response) → reply_at shared.events index ≡ Some reply
+    → (made : Invocation) × (reply.call < index) × (call_at shared.events reply.call ≡ Some made)
+    × IsRight layout shared made reply.call reply.at reply.answer
 
 -- the log's entries are calls of updates, and none is known at a place after its own when it is called
 abbrev pub AreEntries : List Event → List LogEntry → Type 0
 AreEntries events log = (place : ℕ) (entry : LogEntry) → At log place entry
     → (made : Invocation) × (call_at events entry.call ≡ Some made) × (made.request ≡ Update entry.op) × Behind events entry.call place
 
-abbrev pub AreCollected : Layout → List Event → List LogEntry → ℕ → List Replica → List Thread → Type 0
-AreCollected layout events log completed replicas threads = (r : ℕ) (replica : Replica) (update : Collected) → At replicas r replica → In update replica.batch
-    → IsCollected layout events log completed replicas threads r replica.placed update
+abbrev pub AreCollected : Layout → Shared → List Thread → Type 0
+AreCollected layout shared threads = (r : ℕ) (replica : Replica) (update : Collected) → At shared.replicas r replica → In update replica.batch
+    → IsCollected layout shared threads r replica.placed update
 
 -- of each state that steps can reach, whatever they are
 pub record IsReached (state : State) : Type 0 where
   -- each call is open or answered, none is answered twice, and a thread makes one after the other
   pub calls : AreCalls state.events state.threads
   -- each reply answers a call before it, and rightly
-  pub replies : AreReplies state.layout state.events state.log state.completed state.replicas
+  pub replies : AreReplies state.layout (shared_in state)
   -- what the stage of a thread says of its open call is so
   pub threads : (t : ℕ) (thread : Thread) → At state.threads t thread
-      → FitsStage state.layout state.events state.log state.completed state.replicas t thread.stage
+      → FitsStage state.layout (shared_in state) t thread.stage
   -- a call that no combiner has taken isn't in the log
   pub waiting : (t : ℕ) (thread : Thread) (call : ℕ) → At state.threads t thread → waiting_in thread.stage ≡ Some call → IsFresh state.log call
   -- each entry of the log is the call of an update, and comes after all that was known when that was made
@@ -170,6 +178,6 @@ pub record IsReached (state : State) : Type 0 where
   -- each replica has the space after what it has applied; it has fetched that, and what it has fetched is completed
   pub replicas : (r : ℕ) (replica : Replica) → At state.replicas r replica → IsReplicaOf state.layout state.log state.completed replica
   -- each update of a batch is taken from a thread of that replica, and the answer that is noted for it is right
-  pub collected : AreCollected state.layout state.events state.log state.completed state.replicas state.threads
+  pub collected : AreCollected state.layout (shared_in state) state.threads
   -- no call is twice in a batch
   pub batches : (r : ℕ) (replica : Replica) → At state.replicas r replica → IsDistinct nat_eq (map (λ update. update.entry.call) replica.batch)

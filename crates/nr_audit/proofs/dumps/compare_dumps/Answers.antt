@@ -20,11 +20,13 @@ loop-replica-preserved c =
           let same : dump.applied ≡ c.args.applied = sym c.applied.ensures ∙ w.if-applied.true in
           let within : replica < length c.loop-replica.faults =
           omega (arith, low, are.as_many, c.told-faults, c.dumps.ensures.in_range.one_dump_each, c.dumps.ensures.in_range.layout.few_replicas) in
-          subst (λ (faults : List (Option DumpFault)). AreCompared trace c.args.space.now c.args.applied (replica + 1) c.args.faults.now faults) (sym w.faults-is)
+          subst (λ (faults : List (Option DumpFault)). AreCompared trace c.args.space.now c.args.applied (replica + 1) c.args.faults.now faults)
+          (sym w.faults-is)
           (compared_with trace c.args.space.now c.args.applied replica c.args.faults.now c.loop-replica.faults dump is are w.in_ok-found.found same within
           w.in_ok-found.ensures)
       | else-applied w ↦
-          subst (λ (faults : List (Option DumpFault)). AreCompared trace c.args.space.now c.args.applied (replica + 1) c.args.faults.now faults) (sym w.faults-is)
+          subst (λ (faults : List (Option DumpFault)). AreCompared trace c.args.space.now c.args.applied (replica + 1) c.args.faults.now faults)
+          (sym w.faults-is)
           (compared_without trace c.args.space.now c.args.applied replica c.args.faults.now c.loop-replica.faults dump is are
           (λ same. w.if-applied.false (c.applied.ensures ∙ same)))
     ]

@@ -67,7 +67,8 @@ loop-index-preserved c =
           let known = w.entries_known-known.ensures w.in-Reply.answer in
           record {
             few = omega (arith, w.count-is, old.few);
-            floor = w.floor-is ∙ w.max-floor.ensures ∙ greater_is c.loop-index.floor w.entries_known-known.result ∙ ap (λ n. max n w.entries_known-known.result) old.floor
+            floor = w.floor-is ∙ w.max-floor.ensures ∙ greater_is c.loop-index.floor w.entries_known-known.result
+                ∙ ap (λ n. max n w.entries_known-known.result) old.floor
                 ∙ ap (λ n. max (floor trace index) n) known
                 ∙ sym (floor_after_reply trace index reply (reply_here trace index _ _ _ is));
             positions = more_of IsPositionFaultAt trace index old.positions

@@ -13,7 +13,8 @@ loop-replica-preserved c =
     let y = c.in_ok-dump_of.field-0 in
     let pushed : c.push.new.self.items ≡ xs ++ y ∷ [] = search rules in
     rw pushed (
-      zipped_more (IsDumpOfReplica c.args.config.depth) replica_in c.args.replicas.now xs c.loop-replica.replica-index c.replica-item.result y c.loop-replica-test.true (search rules)
+      zipped_more (IsDumpOfReplica c.args.config.depth) replica_in c.args.replicas.now xs c.loop-replica.replica-index c.replica-item.result
+          y c.loop-replica-test.true (search rules)
           c.loop-replica.invariant.0 c.in_ok-dump_of.ensures.is,
       All-push (HasFrames V1) xs y c.loop-replica.invariant.1 c.in_ok-dump_of.ensures.frames,
     )

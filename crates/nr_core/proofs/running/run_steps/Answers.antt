@@ -10,7 +10,8 @@ use Rattle.nr_core.proofs.running.run_steps.Goals as goal
 
 pub loop-step-preserved : goal.loop-step-preserved
 loop-step-preserved c =
-    stepped_more (start c.args.config (map (λ script. script.items) c.args.scripts.items)) c.loop-step.core c.step.new.self c.args.steps.now c.loop-step.step-index _
+    stepped_more (start c.args.config (map (λ script. script.items) c.args.scripts.items)) c.loop-step.core c.step.new.self c.args.steps.now
+    c.loop-step.step-index _
     c.in_ok-step.field-0 c.loop-step-test.true c.loop-step.invariant c.in_ok-step.ensures
 
 pub returns-clause-recording : goal.returns-clause-recording

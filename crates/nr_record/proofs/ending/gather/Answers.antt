@@ -21,7 +21,8 @@ loop-pen-init c =
     let all = c.args.pens.items in
     let parts = sym c.into_iter-pens.ensures.rest ∙ c.in-Some.ensures.items
     ∙ ap (λ it. first ∷ it.rest.items) (sym c.into_iter-pen-iterator.ensures.into_iter_gives) in
-    let clock = of_first (λ (p : PenState). p.clock ≡ c.args.clock) first _ (subst (λ ps. All (λ (p : PenState). p.clock ≡ c.args.clock) ps) parts c.requires.pens.of_clock) in
+    let clock = of_first (λ (p : PenState). p.clock ≡ c.args.clock) first _
+    (subst (λ ps. All (λ (p : PenState). p.clock ≡ c.args.clock) ps) parts c.requires.pens.of_clock) in
     let items = c.in_ok-push.ensures.items ∙ ap (λ v. v ++ c.first.inside.made ∷ []) c.in_ok-notes.ensures.items in
     let flat : flat_map (λ made. made.items) c.push.new.self.items ≡ first.made =
     ap (λ v. flat_map (λ made. made.items) v) items ∙ flat_map-cons (λ made. made.items) c.first.inside.made [] ∙ append-nil c.first.inside.made.items
@@ -59,7 +60,8 @@ loop-pen-preserved c =
     let flat : flat_map (λ made. made.items) c.push-in-loop-pen.new.self.items ≡ kept ++ pen.made =
     ap (λ v. flat_map (λ made. made.items) v) c.in_ok-push-2.ensures.items
     ∙ flat_map-append (λ made. made.items) c.loop-pen.notes.items (c.pen.inside.made ∷ [])
-    ∙ ap (λ (xs : List Stamped). kept ++ xs) (flat_map-cons (λ made. made.items) c.pen.inside.made [] ∙ append-nil c.pen.inside.made.items ∙ ap (λ (p : PenState). p.made) is) in
+    ∙ ap (λ (xs : List Stamped). kept ++ xs)
+    (flat_map-cons (λ made. made.items) c.pen.inside.made [] ∙ append-nil c.pen.inside.made.items ∙ ap (λ (p : PenState). p.made) is) in
     let gathered = gathered_more all rest c.loop-pen.seat.me.0 other kept pen before (ap (λ (p : PenState). p.quota) is)
     (sym held.same ∙ ap stamps_of is) (true_of _ _ _ _ _ _ _ _ held is) in (
       tt,
@@ -72,19 +74,22 @@ loop-pen-preserved c =
 pub close-requires-clause-whole : goal.close-requires-clause-whole
 close-requires-clause-whole c =
     let none = empty_rest _ _ c.loop-pen.pen-iterator.rest.ok.0 c.in-None.ensures.steps.0 in
-    let end = subst (λ (rest : List PenState). IsGathered c.args.pens.items rest c.loop-pen.seat.me.0 (flat_map (λ made. made.items) c.loop-pen.notes.items)) none c.loop-pen.invariant.3 in
+    let end = subst (λ (rest : List PenState). IsGathered c.args.pens.items rest c.loop-pen.seat.me.0 (flat_map (λ made. made.items) c.loop-pen.notes.items))
+    none c.loop-pen.invariant.3 in
     end.quota ∙ ap (λ ps. sum_by (λ (p : PenState). p.quota) ps) (sym (all_done _ _ _ end)) ∙ c.requires.pens.quotas
 
 pub returns-clause-notes : goal.returns-clause-notes
 returns-clause-notes c =
     let none = empty_rest _ _ c.loop-pen.pen-iterator.rest.ok.0 c.in-None.ensures.steps.0 in
-    let end = subst (λ (rest : List PenState). IsGathered c.args.pens.items rest c.loop-pen.seat.me.0 (flat_map (λ made. made.items) c.loop-pen.notes.items)) none c.loop-pen.invariant.3 in
+    let end = subst (λ (rest : List PenState). IsGathered c.args.pens.items rest c.loop-pen.seat.me.0 (flat_map (λ made. made.items) c.loop-pen.notes.items))
+    none c.loop-pen.invariant.3 in
     end.notes ∙ ap (λ ps. flat_map (λ (p : PenState). p.made) ps) (sym (all_done _ _ _ end))
 
 pub returns-clause-stamps : goal.returns-clause-stamps
 returns-clause-stamps c =
     let none = empty_rest _ _ c.loop-pen.pen-iterator.rest.ok.0 c.in-None.ensures.steps.0 in
-    let end = subst (λ (rest : List PenState). IsGathered c.args.pens.items rest c.loop-pen.seat.me.0 (flat_map (λ made. made.items) c.loop-pen.notes.items)) none c.loop-pen.invariant.3 in
+    let end = subst (λ (rest : List PenState). IsGathered c.args.pens.items rest c.loop-pen.seat.me.0 (flat_map (λ made. made.items) c.loop-pen.notes.items))
+    none c.loop-pen.invariant.3 in
     let same = end.stamps ∙ ap (λ ps. flat_map stamps_of ps) (sym (all_done _ _ _ end)) in (
       subst (λ (xs : List ℕ). AreBelow c.close.result xs) same c.close.ensures.stamps,
       sym (ap (λ (xs : List ℕ). length xs) same) ∙ c.close.ensures.count.0,
@@ -94,5 +99,6 @@ returns-clause-stamps c =
 pub returns-clause-each : goal.returns-clause-each
 returns-clause-each c =
     let none = empty_rest _ _ c.loop-pen.pen-iterator.rest.ok.0 c.in-None.ensures.steps.0 in
-    let end = subst (λ (rest : List PenState). IsGathered c.args.pens.items rest c.loop-pen.seat.me.0 (flat_map (λ made. made.items) c.loop-pen.notes.items)) none c.loop-pen.invariant.3 in
+    let end = subst (λ (rest : List PenState). IsGathered c.args.pens.items rest c.loop-pen.seat.me.0 (flat_map (λ made. made.items) c.loop-pen.notes.items))
+    none c.loop-pen.invariant.3 in
     subst (λ ps. All IsTrueOf ps) (sym (all_done _ _ _ end)) end.each

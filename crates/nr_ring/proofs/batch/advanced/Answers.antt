@@ -10,9 +10,11 @@ use Rattle.nr_ring.proofs.batch.advanced.Goals as goal
 
 pub returns-clause-code : goal.returns-clause-code
 returns-clause-code c = λ log are may.
-    let moved : set c.locals_in-locals.result c.from.result c.args.to ≡ set (locals_in c.args.head.now) c.args.replica c.args.to = λ i. set (c.locals_in-locals.ensures i) (c.from.ensures i) c.args.to in
+    let moved : set c.locals_in-locals.result c.from.result c.args.to ≡ set (locals_in c.args.head.now) c.args.replica c.args.to =
+    λ i. set (c.locals_in-locals.ensures i) (c.from.ensures i) c.args.to in
     c.code_of-code.ensures
-    ∙ advance_code log c.args.head.now c.args.replica c.args.to _ _ _ are may.there (omega (arith, are.replicas_are, c.requires.small.0.replicas)) refl moved refl
+    ∙ advance_code log c.args.head.now c.args.replica c.args.to _ _ _ are may.there
+    (omega (arith, are.replicas_are, c.requires.small.0.replicas)) refl moved refl
 
 pub returns-clause-next : goal.returns-clause-next
 returns-clause-next c = λ log words are is may.

@@ -31,7 +31,8 @@ loop-entry-preserved c =
           subst Up (sym written)
           (subst At (sym at_is)
           (subst Two (sym c.pack.ensures)
-          (one_more_written first n batch c.entry-item.result words (changed words items) (is.1 words long) (omega (arith, c.loop-entry-test.true, c.requires.small.1)) there))),
+          (one_more_written first n batch c.entry-item.result words (changed words items) (is.1 words long)
+          (omega (arith, c.loop-entry-test.true, c.requires.small.1)) there))),
       omega (arith, ap (λ (l : List (ℕ × ℕ)). length l) listed, two_more items (at, slice_index two 0) (at + 1, slice_index two 1), is.2),
       subst Within (sym listed)
           (one_more_within (items ++ (at, slice_index two 0) ∷ []) (at + 1) (slice_index two 1)
@@ -47,7 +48,8 @@ returns-clause-appended c =
     let whole : c.loop-entry.entry-index ≡ length batch = omega (arith, c.loop-entry-test.false, c.loop-entry.auto.entry-index-end) in
     λ log words are tail_is.
     let Up : ℕ → Type 0 = λ n. IsWritten c.args.tail n batch words (changed words items) in
-    let written : changed words c.push-2.new.self.items ≡ set (changed words items) 0 end = ap (changed words) c.push-2.ensures.items ∙ changed_last words items (0, end) in
+    let written : changed words c.push-2.new.self.items ≡ set (changed words items) 0 end = ap (changed words) c.push-2.ensures.items
+    ∙ changed_last words items (0, end) in
     let Is : List ℕ → Type 0 = λ ws. IsAppended log batch words ws in
     subst Is (sym written)
     (all_written log batch words (changed words items) c.args.tail end (sym tail_is)

@@ -29,7 +29,8 @@ loop-place-preserved c =
     let entry = c.entry_of.result in
     let one_more : place + 1 - c.args.from ≡ n + 1 = omega arith in
     record {
-      count = ap (λ (l : List LogEntry). length l) c.push.ensures.items ∙ length-append c.loop-place.entries.items (entry ∷ []) ∙ ap (λ k. k + 1) is.count ∙ sym one_more;
+      count = ap (λ (l : List LogEntry). length l) c.push.ensures.items ∙ length-append c.loop-place.entries.items (entry ∷ [])
+          ∙ ap (λ k. k + 1) is.count ∙ sym one_more;
       are = λ depth log have ends fit.
           let lt : place < tail log = omega (arith, ends, c.loop-place-test.true) in
           let at : place ≡ c.args.from + n = omega arith in

@@ -21,7 +21,8 @@ says_nothing : (it : Line) → Says Four (codes "0  resolve 0x0") it → ⊥
 says_nothing says.PassedOver (inl empty) = omega (arith, ap length empty)
 says_nothing says.PassedOver (inr comment) = omega (arith, ap (λ (text : List ℕ). get_or text 0 0) comment.1)
 says_nothing (says.Request thread query) said =
-    let name : codes "" ≡ name_text (name_of query) = ap (λ (words : List (List ℕ)). get_or words 1 []) said.words_are ∙ ap (λ (asks : List (List ℕ)). get_or asks 0 []) said.query_is.words_are in
+    let name : codes "" ≡ name_text (name_of query) = ap (λ (words : List (List ℕ)). get_or words 1 []) said.words_are
+    ∙ ap (λ (asks : List (List ℕ)). get_or asks 0 []) said.query_is.words_are in
     omega (arith, no_empty_name (name_of query), ap length name)
 says_nothing (says.Step step) said = omega (arith, ap (λ (words : List (List ℕ)). length (get_or words 0 [])) said.words_are)
 

@@ -15,7 +15,8 @@ returns-in_err-thread c =
     let rest = texts (take (length c.args.words.now - 1) (drop 1 c.args.words.now)) in
     let split = split_off c.args.words.now _ c.in-len1-up.len_at_least in
     rw c.from_residual-in_err-thread.ensures
-    (no_request c.args.depth _ (texts c.args.words.now) rest split (λ is. let no : false ≡ true = c.if-is_step.ensures.1 is in cc) (λ it spelled. c.in_err-thread.ensures it spelled))
+    (no_request c.args.depth _ (texts c.args.words.now) rest split (λ is. let no : false ≡ true = c.if-is_step.ensures.1 is in cc)
+    (λ it spelled. c.in_err-thread.ensures it spelled))
 
 pub returns-in_ok-step : goal.returns-in_ok-step
 returns-in_ok-step c =

@@ -16,7 +16,8 @@ returns-then-last-first c = λ start trace are whole places.
     let fits = c.first_allowed-first.ensures.in_range in
     let first = c.first_allowed-first.result in
     let last = c.last_allowed-last.result in
-    let ahead = subst (λ m. IsAhead changes (λ change. Covers touch.address change × (touch.answered < change.made)) m last) places c.last_allowed-last.ensures in (
+    let ahead = subst (λ m. IsAhead changes (λ change. Covers touch.address change × (touch.answered < change.made)) m last) places
+    c.last_allowed-last.ensures in (
       λ t. absurd (false≢true t),
       λ (n, is, answered). absurd (
           let low = allowed_from start trace changes are touch first last n fits past ahead is in
@@ -33,7 +34,8 @@ returns-then-answers c = λ start trace are whole places.
     let fits = c.first_allowed-first.ensures.in_range in
     let first = c.first_allowed-first.result in
     let last = c.last_allowed-last.result in
-    let ahead = subst (λ m. IsAhead changes (λ change. Covers touch.address change × (touch.answered < change.made)) m last) places c.last_allowed-last.ensures in
+    let ahead = subst (λ m. IsAhead changes (λ change. Covers touch.address change × (touch.answered < change.made)) m last) places
+    c.last_allowed-last.ensures in
     let is = allowed start trace changes are touch first last first fits past ahead (omega arith) (omega (arith, c.if-last-first.false)) in
     let seen = shown_from start trace changes are touch.address first first next c.args.space.now.space c.next-next.ensures.next whole (omega arith) is.within
     (next_up changes (Covers touch.address) first next c.next-next.ensures.next) in
@@ -49,7 +51,8 @@ returns-then-not-lies_before c = λ start trace are whole places.
     let fits = c.first_allowed-first.ensures.in_range in
     let first = c.first_allowed-first.result in
     let last = c.last_allowed-last.result in
-    let ahead = subst (λ m. IsAhead changes (λ change. Covers touch.address change × (touch.answered < change.made)) m last) places c.last_allowed-last.ensures in
+    let ahead = subst (λ m. IsAhead changes (λ change. Covers touch.address change × (touch.answered < change.made)) m last) places
+    c.last_allowed-last.ensures in
     let never : (now : Space) → page_at now touch.address ≡ shown next c.args.space.now.space touch.address
     → touch.answer ≡ allow now touch.address touch.mode touch.access → ⊥ =
     λ now seen is. let yes = (c.answers.ensures now (c.look_until.ensures now seen)).1 is in let not = c.if-answers.false in cc in
@@ -72,7 +75,8 @@ returns-then-answers-2 c = λ start trace are whole places.
     let fits = c.first_allowed-first.ensures.in_range in
     let first = c.first_allowed-first.result in
     let last = c.last_allowed-last.result in
-    let ahead = subst (λ m. IsAhead changes (λ change. Covers touch.address change × (touch.answered < change.made)) m last) places c.last_allowed-last.ensures in
+    let ahead = subst (λ m. IsAhead changes (λ change. Covers touch.address change × (touch.answered < change.made)) m last) places
+    c.last_allowed-last.ensures in
     let is = allowed start trace changes are touch first last last fits past ahead (omega (arith, c.if-last-first.false)) (omega arith) in
     let seen = shown_from start trace changes are touch.address last last later c.args.space.now.space c.next-later.ensures.next whole (omega arith) is.within
     (next_up changes (Covers touch.address) last later c.next-later.ensures.next) in
@@ -88,7 +92,8 @@ returns c = λ start trace are whole places.
     let fits = c.first_allowed-first.ensures.in_range in
     let first = c.first_allowed-first.result in
     let last = c.last_allowed-last.result in
-    let ahead = subst (λ m. IsAhead changes (λ change. Covers touch.address change × (touch.answered < change.made)) m last) places c.last_allowed-last.ensures in
+    let ahead = subst (λ m. IsAhead changes (λ change. Covers touch.address change × (touch.answered < change.made)) m last) places
+    c.last_allowed-last.ensures in
     let within = last_within start trace changes are touch first last last fits past ahead in
     let seen = shown_from start trace changes are touch.address last last later c.args.space.now.space c.next-later.ensures.next whole (omega arith) within
     (next_up changes (Covers touch.address) last later c.next-later.ensures.next) in

@@ -1,4 +1,4 @@
-use Rattle.nr_touch.proofs.AnswerEquality.{same_answers}
+use Rattle.vs_types.proofs.AnswerEquality.{same_answers}
 use Rattle.nr_touch.proofs.stale.is_same.Goals as goal
 
 pub returns : goal.returns

@@ -17,4 +17,5 @@ returns-then-not-has_frames-clause-no c =
 pub loop-dump-preserved : goal.loop-dump-preserved
 loop-dump-preserved c =
     All-more (IsImage c.args.version) c.args.dumps.now c.loop-dump.dump-index c.dump-item.result c.loop-dump-test.true c.loop-dump.invariant
-    (subst (IsImage c.args.version) c.dump-item.is (image_of c.args.version c.dump-item.result c.has_frames.ensures.is_dump (c.has_frames.ensures.count.0 c.if-not-has_frames.false)))
+    (subst (IsImage c.args.version) c.dump-item.is
+    (image_of c.args.version c.dump-item.result c.has_frames.ensures.is_dump (c.has_frames.ensures.count.0 c.if-not-has_frames.false)))

@@ -7,8 +7,11 @@ use Rattle.version_cell.specs.inside.Steps.{Written}
 use Rattle.version_cell.proofs.seats.store_word.Goals as goal
 
 pub store-requires : goal.store-requires
-store-requires g c =
-    (search rules, omega (arith, c.requires.place, c.requires.table.1), puts _ _ _ _ _ _ _ _ _ _ _ _ _ c.requires.taken.3 (omega (arith, c.requires.place, c.requires.table.2)))
+store-requires g c = (
+  search rules,
+  omega (arith, c.requires.place, c.requires.table.1),
+  puts _ _ _ _ _ _ _ _ _ _ _ _ _ c.requires.taken.3 (omega (arith, c.requires.place, c.requires.table.2)),
+)
 
 pub returns-then-place-clause-stored : goal.returns-then-place-clause-stored
 returns-then-place-clause-stored g c = λ version old words long is.

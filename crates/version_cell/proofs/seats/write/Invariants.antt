@@ -7,4 +7,5 @@ use Rattle.version_cell.proofs.seats.write.Given as goal
 abbrev pub invariant-loop-change : goal.invariant-loop-change
 invariant-loop-change g l =
     Stays l.initial.seat l.seat
-    × HasWritten g.row.H l.version (words_of l.initial.seat.me.0.stage) (changed (words_of l.initial.seat.me.0.stage) (take l.change-index l.changes)) l.seat.me.0.stage
+    × HasWritten g.row.H l.version (words_of l.initial.seat.me.0.stage)
+    (changed (words_of l.initial.seat.me.0.stage) (take l.change-index l.changes)) l.seat.me.0.stage

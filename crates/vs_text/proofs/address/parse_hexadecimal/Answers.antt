@@ -29,7 +29,8 @@ loop-digit-preserved c =
     let i = c.loop-digit.digit-index in
     let within = c.loop-digit-test.true in
     let is_digit : digit_value (get_or digits i 0) < 16 = rw (sym c.from.ensures) c.in_ok-value.ensures.value.0 in
-    let value : c.from-in-loop-digit.result ≡ digit_value (get_or digits i 0) = c.from-in-loop-digit.ensures ∙ c.in_ok-value.ensures.value.1 ∙ ap digit_value c.from.ensures in (
+    let value : c.from-in-loop-digit.result ≡ digit_value (get_or digits i 0) = c.from-in-loop-digit.ensures ∙ c.in_ok-value.ensures.value.1
+    ∙ ap digit_value c.from.ensures in (
       digits_more 16 digits i within c.loop-digit.invariant.0 is_digit,
       omega (arith, digits_value_more 16 digits i within, c.loop-digit.invariant.1, value),
     )

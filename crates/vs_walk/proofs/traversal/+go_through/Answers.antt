@@ -35,7 +35,8 @@ loop-index-init g t c =
     let memory = g.F.Frames.memory c.args.frames.now in
     let words = c.in-Some.words in
     let some : finite.get memory c.args.place.number ≡ Some words = sym c.in-Some.ensures in
-    let passed = zeros_met c.args.depth memory c.args.place.level (table_at c.args.place) words 0 c.next_nonzero-index.result c.next_nonzero-index.ensures.behind
+    let passed = zeros_met c.args.depth memory c.args.place.level (table_at c.args.place) words 0 c.next_nonzero-index.result
+    c.next_nonzero-index.ensures.behind
     (omega (arith, c.next_nonzero-index.ensures.within, c.next_nonzero-index.ensures.whole)) c.next_nonzero-index.ensures.zeros in
     record {
       goes_on = subst (GoesOn memory c.args.marks.now c.add.new.self) (sym passed)
@@ -51,7 +52,8 @@ returns-in-Reserved-clause-stops g t c =
     let words = c.in-Some.words in
     let table = table_at c.args.place in
     let some : finite.get memory c.args.place.number ≡ Some words = sym c.in-Some.ensures in
-    let is : meaning c.args.place.level (get_or words c.loop-index.index 0) ≡ entry.Reserved = ap (meaning c.args.place.level) (sym (c.new.ensures ∙ c.word.ensures))
+    let is : meaning c.args.place.level (get_or words c.loop-index.index 0) ≡ entry.Reserved =
+    ap (meaning c.args.place.level) (sym (c.new.ensures ∙ c.word.ensures))
     ∙ sym c.read.ensures ∙ c.in-Reserved.is in
     stops_at_word c.args.depth memory c.args.place.level table words c.loop-index.index c.args.marks.now c.loop-index.marks _
     (Reserved c.args.place.number c.loop-index.index)
@@ -93,7 +95,8 @@ loop-index-preserved g t c =
     let table = table_at c.args.place in
     let index = c.loop-index.index in
     let within : index < length words = omega (arith, c.loop-index-test.true, c.next_nonzero-index.ensures.whole) in
-    let read : meaning c.args.place.level (get_or words index 0) ≡ c.read.result = ap (meaning c.args.place.level) (sym (c.new.ensures ∙ c.word.ensures)) ∙ sym c.read.ensures in
+    let read : meaning c.args.place.level (get_or words index 0) ≡ c.read.result =
+    ap (meaning c.args.place.level) (sym (c.new.ensures ∙ c.word.ensures)) ∙ sym c.read.ensures in
     let next = c.next_nonzero-index-in-loop-index.result in
     let passed = zeros_met c.args.depth memory c.args.place.level table words (index + 1) next c.next_nonzero-index-in-loop-index.ensures.behind
     (omega (arith, c.next_nonzero-index-in-loop-index.ensures.within, c.next_nonzero-index.ensures.whole)) c.next_nonzero-index-in-loop-index.ensures.zeros in
@@ -135,7 +138,8 @@ returns-clause-pages g t c =
     let words = c.in-Some.words in
     let some : finite.get memory c.args.place.number ≡ Some words = sym c.in-Some.ensures in
     subst (TakesFound (g.V.PageVisitor.HasTaken c.args.visitor.now) (g.V.PageVisitor.HasTaken c.loop-index.visitor))
-    (sym (all_met c.args.depth memory c.args.place.level (table_at c.args.place) words c.loop-index.index c.requires.lowest some (omega (arith, c.loop-index-test.false, c.next_nonzero-index.ensures.whole))))
+    (sym (all_met c.args.depth memory c.args.place.level (table_at c.args.place) words c.loop-index.index c.requires.lowest some
+    (omega (arith, c.loop-index-test.false, c.next_nonzero-index.ensures.whole))))
     c.loop-index.invariant.takes
 
 pub returns-clause-goes_on : goal.returns-clause-goes_on
@@ -144,5 +148,6 @@ returns-clause-goes_on g t c =
     let words = c.in-Some.words in
     let some : finite.get memory c.args.place.number ≡ Some words = sym c.in-Some.ensures in
     subst (GoesOn memory c.args.marks.now c.loop-index.marks)
-    (sym (all_met c.args.depth memory c.args.place.level (table_at c.args.place) words c.loop-index.index c.requires.lowest some (omega (arith, c.loop-index-test.false, c.next_nonzero-index.ensures.whole))))
+    (sym (all_met c.args.depth memory c.args.place.level (table_at c.args.place) words c.loop-index.index c.requires.lowest some
+    (omega (arith, c.loop-index-test.false, c.next_nonzero-index.ensures.whole))))
     c.loop-index.invariant.goes_on

@@ -10,7 +10,8 @@ invariant_of-self c =
     let replicas = c.self.inside.replicas.items in
     let x = c.index_mut-stored.result.now in
     let at : x ≡ slice_index_or replicas c.args.replica x = search rules in
-    let within = seen_within replica_in replicas c.args.replica c.requires.replica (ap (λ s. slice_get s.replicas c.args.replica) c.self.view_is ∙ c.requires.there) in
+    let within = seen_within replica_in replicas c.args.replica c.requires.replica
+    (ap (λ s. slice_get s.replicas c.args.replica) c.self.view_is ∙ c.requires.there) in
     let good = one_of (IsReplica c.self.inside.config) replicas c.args.replica x within at c.self.invariant.each_replica in
     with_other_replica _ _ c.self.invariant (c.apply_to.ensures.each c.self.inside.config good)
 

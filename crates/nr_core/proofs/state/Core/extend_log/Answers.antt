@@ -26,7 +26,8 @@ invariant_of-self c =
     elim c.match-push_entries.branch [
       | in-Ok w ↦
           let items : c.push_entries.new.log.items ≡ c.self.inside.log.items ++ map (λ (u : Collected). u.entry) x.batch.items = search rules in
-          let fit : All (λ (e : LogEntry). IsAction depth e.op) (map (λ (u : Collected). u.entry) x.batch.items) = All-map (λ (e : LogEntry). IsAction depth e.op) (λ (u : Collected). u.entry) x.batch.items good.batch in
+          let fit : All (λ (e : LogEntry). IsAction depth e.op) (map (λ (u : Collected). u.entry) x.batch.items) =
+          All-map (λ (e : LogEntry). IsAction depth e.op) (λ (u : Collected). u.entry) x.batch.items good.batch in
           with_log items (with_entries _ c.self.invariant fit (rw (length-map x.batch.items (λ (u : Collected). u.entry)) room))
       | in-Err w ↦
           let items : c.push_entries.new.log.items ≡ c.self.inside.log.items = search rules in

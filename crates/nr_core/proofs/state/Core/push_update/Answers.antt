@@ -17,11 +17,13 @@ invariant_of-self c =
     let within : c.args.replica < length replicas =
     some_seen replica_in replicas c.args.replica (subst (λ s. IsSome (slice_get s.replicas c.args.replica)) (sym c.self.view_is) c.requires.there) in
     let good = one_of (IsReplica c.self.inside.config) replicas c.args.replica x within at c.self.invariant.each_replica in
-    let update : IsAction c.self.inside.config.depth c.args.update.entry.op = subst (λ s. IsAction s.layout.depth c.args.update.entry.op) (sym c.self.view_is) c.requires.fits in
+    let update : IsAction c.self.inside.config.depth c.args.update.entry.op =
+    subst (λ s. IsAction s.layout.depth c.args.update.entry.op) (sym c.self.view_is) c.requires.fits in
     let batch : All (λ (u : Collected). IsAction c.self.inside.config.depth u.entry.op) c.push.new.self.items = elim c.match-push.branch [
       | in-Ok w ↦
           let items : c.push.new.self.items ≡ x.batch.items ++ c.args.update ∷ [] = search rules in
-          subst (All (λ (u : Collected). IsAction c.self.inside.config.depth u.entry.op)) (sym items) (All-push (λ (u : Collected). IsAction c.self.inside.config.depth u.entry.op) x.batch.items c.args.update good.batch update)
+          subst (All (λ (u : Collected). IsAction c.self.inside.config.depth u.entry.op)) (sym items)
+          (All-push (λ (u : Collected). IsAction c.self.inside.config.depth u.entry.op) x.batch.items c.args.update good.batch update)
       | in-Err w ↦
           let items : c.push.new.self.items ≡ x.batch.items = search rules in
           subst (All (λ (u : Collected). IsAction c.self.inside.config.depth u.entry.op)) (sym items) good.batch

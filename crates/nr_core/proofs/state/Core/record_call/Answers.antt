@@ -38,7 +38,8 @@ invariant_of-self-2 c =
     let next = drop_next x.script.items x.made c.args.request c.requires.left script in
     let good = one_of (IsThread c.self.inside.config.depth) threads c.args.thread x within at c.self.invariant.each_thread in
     let fits : IsQuery c.self.inside.config.depth c.args.request = subst (λ s. IsQuery s.layout.depth c.args.request) (sym c.self.view_is) c.requires.fits in
-    let pushed : c.push.new.self.items ≡ c.self.inside.events.items ++ Call (c.args.thread % c.self.inside.config.replicas) c.args.thread c.args.request ∷ [] = search rules in
+    let pushed : c.push.new.self.items ≡ c.self.inside.events.items ++ Call (c.args.thread % c.self.inside.config.replicas) c.args.thread c.args.request ∷ [] =
+    search rules in
     let now : length (drop (x.made + 1) x.script.items) ≡ length c.requires.left = ap length next.1 in
     let old : length (drop x.made x.script.items) ≡ length c.requires.left + 1 = ap length script ∙ (omega arith) in
     let none : stage_left x.stage ≡ 0 = ap stage_left idle in

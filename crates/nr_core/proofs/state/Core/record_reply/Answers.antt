@@ -27,5 +27,6 @@ returns c before there =
     let at : x ≡ slice_index_or threads c.args.thread x = search rules in
     let is = seen_is thread_in threads c.args.thread x before (ap (λ s. slice_get s.threads c.args.thread) c.self.view_is ∙ there) at in
     let seen : thread_in (record x { stage = Idle }) ≡ record before { stage = Idle } = rw is refl in
-    let pushed : c.push.new.self.items ≡ c.self.inside.events.items ++ Reply c.args.answered.call c.args.answered.at c.args.answered.answer ∷ [] = search rules in
+    let pushed : c.push.new.self.items ≡ c.self.inside.events.items ++ Reply c.args.answered.call c.args.answered.at c.args.answered.answer ∷ [] =
+    search rules in
     ap Some (set_recorded c.self.inside _ _ _ c.self.view_is c.from.ensures seen pushed)

@@ -9,7 +9,8 @@ invariant_of-self c =
     let threads = c.self.inside.threads.items in
     let x = c.index_mut.result.now in
     let at : x ≡ slice_index_or threads c.args.thread x = search rules in
-    let within : c.args.thread < length threads = some_seen thread_in threads c.args.thread (subst (λ s. IsSome (slice_get s.threads c.args.thread)) (sym c.self.view_is) c.requires) in
+    let within : c.args.thread < length threads = some_seen thread_in threads c.args.thread
+    (subst (λ s. IsSome (slice_get s.threads c.args.thread)) (sym c.self.view_is) c.requires) in
     let good = one_of (IsThread c.self.inside.config.depth) threads c.args.thread x within at c.self.invariant.each_thread in
     rw c.from.ensures (with_other_thread c.args.thread x _ c.self.invariant within at (record { script = good.script; stage = good.stage }) (omega arith))
 

@@ -8,7 +8,8 @@ pub invariant_of-self : goal.invariant_of-self
 invariant_of-self c =
     let threads = c.self.inside.threads.items in
     let x = c.index_mut.result.now in
-    let there : slice_get (map thread_in threads) c.args.thread ≡ Some c.requires.thread = ap (λ s. slice_get s.threads c.args.thread) c.self.view_is ∙ c.requires.there in
+    let there : slice_get (map thread_in threads) c.args.thread ≡ Some c.requires.thread =
+    ap (λ s. slice_get s.threads c.args.thread) c.self.view_is ∙ c.requires.there in
     let at : x ≡ slice_index_or threads c.args.thread x = search rules in
     let within = seen_within thread_in threads c.args.thread c.requires.thread there in
     let before = seen_is thread_in threads c.args.thread x c.requires.thread there at in

@@ -21,5 +21,6 @@ returns-clause-set c before there =
     let at : x ≡ slice_index_or replicas c.args.replica x = search rules in
     let there' = ap (λ s. slice_get s.replicas c.args.replica) c.self.view_is ∙ there in
     let is = seen_is replica_in replicas c.args.replica x before there' at in
-    let seen : replica_in c.take_from.new.stored ≡ steps.without c.args.thread before = c.take_from.ensures.seen ∙ ap (λ r. steps.without c.args.thread r) (sym is) in
+    let seen : replica_in c.take_from.new.stored ≡ steps.without c.args.thread before = c.take_from.ensures.seen
+    ∙ ap (λ r. steps.without c.args.thread r) (sym is) in
     set_replica c.self.inside _ _ c.self.view_is c.from.ensures seen

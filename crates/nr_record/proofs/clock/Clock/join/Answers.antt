@@ -11,6 +11,7 @@ join_seat-requires c = (
   c.requires.held,
   omega (arith, c.self.invariant),
   λ s is at differ there.
-      join_keeps _ _ _ _ _ _ _ is at (sym (set_else s.views c.args.seat.now.id c.args.other.id (joint_seat c.args.seat.now.me.0 c.args.other.me.0) differ) ∙ there)
+      join_keeps _ _ _ _ _ _ _ is at (sym
+      (set_else s.views c.args.seat.now.id c.args.other.id (joint_seat c.args.seat.now.me.0 c.args.other.me.0) differ) ∙ there)
       differ,
 )

@@ -9,9 +9,11 @@ try_advance-requires-clause-may g c =
     let words = c.pass.inside.inner.words in
     let view = c.args.pass.now.view in
     let r = c.in-Some.replica in
-    let is = owner_remembers g.J.LogName.depth g.J.LogName.replicas words c.pass.inside.replica r c.pass.inside.inner.view view c.pass.invariant (ap (λ (k : Known). k.view) c.pass.view_is) c.in-Some.is in
+    let is = owner_remembers g.J.LogName.depth g.J.LogName.replicas words c.pass.inside.replica r c.pass.inside.inner.view view
+    c.pass.invariant (ap (λ (k : Known). k.view) c.pass.view_is) c.in-Some.is in
     let other : slice_index words (2 + r) ≡ c.args.to → ⊥ =
-    λ e. c.if-head-local.false (ap (λ n. slice_index c.head.result.now (2 + n)) c.from-local.ensures ∙ c.head.ensures (2 + r) (omega (arith, low_replica _ _ words r _ is)) ∙ e ∙ sym c.from-place.ensures) in
+    λ e. c.if-head-local.false (ap (λ n. slice_index c.head.result.now (2 + n)) c.from-local.ensures
+    ∙ c.head.ensures (2 + r) (omega (arith, low_replica _ _ words r _ is)) ∙ e ∙ sym c.from-place.ensures) in
     let may = may_advance _ _ words r view c.args.to is c.requires.to other in
     (low_replica _ _ words r view is, may.0, may.1)
 
@@ -19,7 +21,9 @@ pub returns-then-try_advance-clause-taken : goal.returns-then-try_advance-clause
 returns-then-try_advance-clause-taken g c =
     let words = c.pass.inside.inner.words in
     let r = c.in-Some.replica in
-    let is = owner_remembers g.J.LogName.depth g.J.LogName.replicas words c.pass.inside.replica r c.pass.inside.inner.view c.args.pass.now.view c.pass.invariant (ap (λ (k : Known). k.view) c.pass.view_is) c.in-Some.is in
+    let is = owner_remembers g.J.LogName.depth g.J.LogName.replicas words c.pass.inside.replica r c.pass.inside.inner.view
+    c.args.pass.now.view c.pass.invariant (ap (λ (k : Known). k.view) c.pass.view_is) c.in-Some.is in
     let other : slice_index words (2 + r) ≡ c.args.to → ⊥ =
-    λ e. c.if-head-local.false (ap (λ n. slice_index c.head.result.now (2 + n)) c.from-local.ensures ∙ c.head.ensures (2 + r) (omega (arith, low_replica _ _ words r _ is)) ∙ e ∙ sym c.from-place.ensures) in
+    λ e. c.if-head-local.false (ap (λ n. slice_index c.head.result.now (2 + n)) c.from-local.ensures
+    ∙ c.head.ensures (2 + r) (omega (arith, low_replica _ _ words r _ is)) ∙ e ∙ sym c.from-place.ensures) in
     taken_now _ _ words r c.args.pass.now.view _ c.args.to is other c.if-try_advance.ensures.view

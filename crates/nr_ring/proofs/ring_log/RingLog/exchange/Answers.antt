@@ -44,7 +44,8 @@ exchange_as-requires g c =
 
 pub returns-clause-view : goal.returns-clause-view
 returns-clause-view g c =
-    (exchange_tells g.J.LogName.depth g.J.LogName.replicas _ _ _ _ _ _ g.E.Happening.event c.exchange_as.result c.requires.known.1 c.requires.event.0 c.requires.next
+    (exchange_tells g.J.LogName.depth g.J.LogName.replicas _ _ _ _ _ _ g.E.Happening.event c.exchange_as.result c.requires.known.1
+    c.requires.event.0 c.requires.next
     c.exchange_as.ensures.rule).1
 
 pub returns-clause-known : goal.returns-clause-known

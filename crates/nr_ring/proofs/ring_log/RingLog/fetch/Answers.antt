@@ -10,5 +10,8 @@ returns-then-try_fetch-clause-looked g c =
     looked_twice _ _ _ _ _ c.refresh.ensures.looked (looked_twice _ _ _ _ _ c.loop.invariant.1 c.try_fetch.ensures.looked)
 
 pub loop-preserved : goal.loop-preserved
-loop-preserved g c =
-    (c.try_fetch.ensures.log ∙ c.loop.invariant.0, looked_twice _ _ _ _ _ c.loop.invariant.1 c.try_fetch.ensures.looked, c.try_fetch.ensures.none c.if-try_fetch.false)
+loop-preserved g c = (
+  c.try_fetch.ensures.log ∙ c.loop.invariant.0,
+  looked_twice _ _ _ _ _ c.loop.invariant.1 c.try_fetch.ensures.looked,
+  c.try_fetch.ensures.none c.if-try_fetch.false,
+)

@@ -14,7 +14,17 @@ meet_as-requires g c =
       search rules,
       (
         search rules,
-        (search rules, (copy_forks _ _ _ _ _, ((λ part. join_merges _ _ _ _ _ _ copy refl), λ words further. meeting_recalls _ _ _ _ _ c.pass.inside.inner.view copy _ _ words _ _ c.told.invariant c.pass.invariant refl further))),
+        (
+          search rules,
+          (
+            copy_forks _ _ _ _ _,
+            (
+              (λ part. join_merges _ _ _ _ _ _ copy refl),
+              λ words further. meeting_recalls _ _ _ _ _ c.pass.inside.inner.view copy _ _ words _ _ c.told.invariant c.pass.invariant
+                  refl further,
+            ),
+          ),
+        ),
       ),
     )
 

@@ -35,7 +35,15 @@ new-requires g c =
             (
               omega arith,
               (
-                (c.code_of-code.ensures, omega (arith, small, code_is (new_log replicas) (new_words replicas) (new_is replicas), small_code (new_log replicas) fits few)),
+                (
+                  c.code_of-code.ensures,
+                  omega (
+                    arith,
+                    small,
+                    code_is (new_log replicas) (new_words replicas) (new_is replicas),
+                    small_code (new_log replicas) fits few,
+                  ),
+                ),
                 subst Q (sym count) (words_are_coded (new_log replicas) fits few (new_words replicas) (new_is replicas)),
               ),
             ),

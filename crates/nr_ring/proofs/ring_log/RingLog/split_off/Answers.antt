@@ -12,7 +12,8 @@ split_pass-pass-requires g c =
     let replicas = g.J.LogName.replicas in
     let P : View → Type 0 = λ v. IsCut v.owns (drop 1 v.owns) (take 1 v.owns) in
     let view = c.args.first.now.view in
-    let shares : AreCut view (view.rights - 1) 1 = record { all = omega (arith, c.requires.right); of_makers = λ _. ap (λ (v : View). v.mine) c.requires.first.1 } in (
+    let shares : AreCut view (view.rights - 1) 1 =
+    record { all = omega (arith, c.requires.right); of_makers = λ _. ap (λ (v : View). v.mine) c.requires.first.1 } in (
       search rules,
       (
         search rules,
@@ -28,7 +29,8 @@ new-requires g c =
     let P : View → Type 0 = λ v. Remembers g.J.LogName.depth replicas (new_words replicas) c.args.replica v in
     let Q : List ℕ → Type 0 = λ ws. Remembers g.J.LogName.depth replicas ws c.args.replica
     c.split_pass-pass.result.view in
-    subst Q (sym (c.split_pass-pass.ensures.given.2 ∙ c.requires.words)) (subst P (sym view) (new_remembers g.J.LogName.depth replicas c.args.replica c.requires.few.0 c.requires.few.1))
+    subst Q (sym (c.split_pass-pass.ensures.given.2 ∙ c.requires.words))
+    (subst P (sym view) (new_remembers g.J.LogName.depth replicas c.args.replica c.requires.few.0 c.requires.few.1))
 
 pub returns-clause-first : goal.returns-clause-first
 returns-clause-first g c =
@@ -45,5 +47,6 @@ returns-clause-pass g c =
     let replicas = g.J.LogName.replicas in
     let given = c.split_pass-pass.ensures.given in
     let log = given.0 ∙ c.self.view_is in
-    let view = given.1 ∙ ap (λ (v : View). offshoot v (take 1 v.owns) 1) c.requires.first.1 ∙ ap (λ owns. new_view owns 1) (gives_first replicas c.args.replica c.requires.few.1) in
+    let view = given.1 ∙ ap (λ (v : View). offshoot v (take 1 v.owns) 1) c.requires.first.1
+    ∙ ap (λ owns. new_view owns 1) (gives_first replicas c.args.replica c.requires.few.1) in
     λ i. record { log = (c.new.ensures.0 ∙ log) i; view = (c.new.ensures.1 ∙ view) i }

@@ -16,7 +16,8 @@ try_take-requires-clause-few g c =
     let head = c.head-head.result.now in
     let view = c.refresh.new.pass.view in
     let is = owner_remembers _ _ words _ r _ view c.pass.invariant (ap (λ (k : Known). k.view) c.pass.view_is) c.in-Some.is in
-    let ring = in_ring _ _ head words r (slice_index head (2 + c.from-local.result)) view is c.head-head.ensures (ap (λ n. slice_index head (2 + n)) c.from-local.ensures) in
+    let ring = in_ring _ _ head words r (slice_index head (2 + c.from-local.result)) view is c.head-head.ensures
+    (ap (λ n. slice_index head (2 + n)) c.from-local.ensures) in
     (ring.low, ring.near)
 
 pub try_take-requires-clause-may : goal.try_take-requires-clause-may
@@ -31,8 +32,10 @@ try_take-requires-clause-may g c =
     let from_is = ap (λ n. slice_index head (2 + n)) c.from-local.ensures in
     let ring = in_ring _ _ head words r from view is c.head-head.ensures from_is in
     let local = from_local _ _ head words r from view is c.head-head.ensures from_is in
-    let may : MayTake replicas view (slice_index head 0) = record { replica = r; owns = is.owns; above = omega (arith, ring.low, local); written = omega (arith, ring.ends_at) } in
-    let can = may_advance _ _ words r view (slice_index head 0) is may (λ e. c.if-from-to.false (from_is ∙ c.head-head.ensures (2 + r) (omega (arith, low_replica _ _ words r _ is)) ∙ e)) in
+    let may : MayTake replicas view (slice_index head 0) =
+    record { replica = r; owns = is.owns; above = omega (arith, ring.low, local); written = omega (arith, ring.ends_at) } in
+    let can = may_advance _ _ words r view (slice_index head 0) is may
+    (λ e. c.if-from-to.false (from_is ∙ c.head-head.ensures (2 + r) (omega (arith, low_replica _ _ words r _ is)) ∙ e)) in
     (low_replica _ _ words r view is, can.0, can.1)
 
 pub returns-then-from-to-clause-taken : goal.returns-then-from-to-clause-taken
@@ -83,7 +86,8 @@ returns-then-try_take-clause-taken g c =
       taken = Rattle.std.proofs.Common.subst To (sym ring.ends_at) (taken_now _ _ words r view _ (slice_index head 0) is other c.if-try_take.ensures.view);
       entries_are = λ replica owns.
           c.try_take.ensures.taken c.if-try_take.true
-          ∙ ap (λ p. Rattle.nr_ring.specs.Entries.to_take (log_after replicas view.seen) p) (sym (same_replica view.owns replica r (looked.owns ∙ owns) is.owns));
+          ∙ ap (λ p. Rattle.nr_ring.specs.Entries.to_take (log_after replicas view.seen) p)
+          (sym (same_replica view.owns replica r (looked.owns ∙ owns) is.owns));
       history = c.try_take.ensures.history;
     }
 

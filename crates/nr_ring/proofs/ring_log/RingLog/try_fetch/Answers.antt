@@ -17,13 +17,22 @@ list_places-requires-clause-few g c =
     let head = c.head-head.result.now in
     let view = c.args.pass.now.view in
     let is = owner_remembers _ _ words _ r _ view c.pass.invariant (ap (λ (k : Known). k.view) c.pass.view_is) c.in-Some.is in
-    let ring = in_ring _ _ head words r (slice_index head (2 + c.from.result)) view is c.head-head.ensures (ap (λ n. slice_index head (2 + n)) c.from.ensures) in
+    let ring = in_ring _ _ head words r (slice_index head (2 + c.from.result)) view is c.head-head.ensures
+    (ap (λ n. slice_index head (2 + n)) c.from.ensures) in
     (ring.low, ring.near)
 
 pub load_as-requires : goal.load_as-requires
 load_as-requires g c =
-    let Within : List ℕ → Type 0 = λ places. All (λ place. (7 ≤ place) × (place < 39)) places in
-    (omega arith, (omega arith, (omega arith, (search rules, (subst Within (sym c.as_slice-places.ensures.value) c.list_places.ensures.within, look_turns _ _ _ _ _)))))
+    let Within : List ℕ → Type 0 = λ places. All (λ place. (7 ≤ place) × (place < 39)) places in (
+      omega arith,
+      (
+        omega arith,
+        (
+          omega arith,
+          (search rules, (subst Within (sym c.as_slice-places.ensures.value) c.list_places.ensures.within, look_turns _ _ _ _ _)),
+        ),
+      ),
+    )
 
 pub invariant_of-pass : goal.invariant_of-pass
 invariant_of-pass g c = look_remembers _ _ _ _ _ _ _ c.pass.invariant c.load_as.ensures.rule
@@ -78,6 +87,7 @@ returns-clause-fetched g c =
     let have = have_loaded log from (slice_index head 0) c.list_places.new.places.items c.load_as.new.words words ring c.list_places.ensures.listed
     (subst Alike c.as_slice-places.ensures.value loaded.1) is.words_are in
     λ _ replica owns.
-    let same : replica ≡ r = same_replica view.owns replica r (c.load_as.ensures.rule.looked.owns ∙ ap (λ (k : Known). k.view.owns) c.pass.view_is ∙ owns) is.owns in
+    let same : replica ≡ r = same_replica view.owns replica r
+    (c.load_as.ensures.rule.looked.owns ∙ ap (λ (k : Known). k.view.owns) c.pass.view_is ∙ owns) is.owns in
     c.read_entries.ensures depth log have ring.ends_at fit
     ∙ ap (λ n. drop n log.entries) (from_local depth replicas head words r from view is begins at ∙ ap (λ p. local_of log p) (sym same))

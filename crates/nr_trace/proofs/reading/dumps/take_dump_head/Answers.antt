@@ -1,5 +1,5 @@
 use Rattle.std.proofs.Common.{arith}
-use Rattle.nr_trace.proofs.Frames.{head_belongs, head_refused, head_taken, head_whole}
+use Rattle.nr_trace.proofs.DumpHeads.{head_belongs, head_refused, head_taken, head_whole}
 use Rattle.nr_trace.proofs.reading.dumps.take_dump_head.Goals as goal
 
 pub put_dump-requires : goal.put_dump-requires

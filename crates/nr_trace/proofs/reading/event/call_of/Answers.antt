@@ -3,7 +3,7 @@ use Rattle.vs_types.specs.Finds.{Finds}
 use Rattle.vs_types.specs.declared.fields.RequestFields.{RequestFields}
 use Rattle.nr_trace.specs.inside.Reading.{IsAskedIn, SpellsEvent}
 use Rattle.nr_trace.specs.declared.reading.event.Asked.{Asked}
-use Rattle.nr_trace.proofs.LawsOfUnits.{call_bytes, CallFits}
+use Rattle.nr_trace.proofs.EventsApart.{call_bytes, CallFits}
 use Rattle.nr_trace.proofs.Events.{no_call}
 use Rattle.nr_trace.proofs.Touches.{call_spelled}
 use Rattle.nr_trace.proofs.reading.event.call_of.Goals as goal

@@ -48,6 +48,7 @@ returns c =
     let parts = c.args.parts in
     let are = subst (λ (l : List Event). AreRecorded parts.version parts.layout l c.args.run.now c.push_events.new.events.items) c.make_room.ensures.same
     c.in_ok-push_events.ensures in
-    events_taken parts.form parts.version parts.layout (front_of parts (length parts.log.items)) c.args.events parts.log.items parts.events.items c.push_events.new.events.items parts.dumps.items
+    events_taken parts.form parts.version parts.layout (front_of parts (length parts.log.items)) c.args.events parts.log.items
+    parts.events.items c.push_events.new.events.items parts.dumps.items
     c.args.run.now (length c.args.run.now / 24) c.at_events.result
     (omega (arith, c.requires.run.few, c.requires.run.all)) (omega (arith, c.requires.run.all)) c.requires.ready.3 are c.at_events.ensures

@@ -16,7 +16,8 @@ magic_same (forms.Segment before) = refl
 
 pub returns-else-eq : goal.returns-else-eq
 returns-else-eq c = λ rest.
-    refused {A = Unit {0}} 4 (Some BadMagic) (λ _. ⊤) (λ _. magic_of c.args.form) (λ _. Ahead (Version c.args.alloc c.args.form)) BadMagic c.args.unit.now rest c.requires refl
+    refused {A = Unit {0}} 4 (Some BadMagic) (λ _. ⊤) (λ _. magic_of c.args.form) (λ _. Ahead (Version c.args.alloc c.args.form)) BadMagic
+    c.args.unit.now rest c.requires refl
     (λ _ _ e.
     let same : false ≡ true = c.if-eq.ensures ∙ ap (λ l. pointwise eqb l c.as_slice.result.now) e
     ∙ ap (pointwise eqb (magic_of c.args.form)) (c.as_slice.ensures ∙ c.magic_of-wanted.ensures) ∙ magic_same c.args.form in

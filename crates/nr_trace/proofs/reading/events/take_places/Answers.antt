@@ -28,6 +28,7 @@ pub returns : goal.returns
 returns c =
     let parts = c.args.parts in
     let placed = subst (λ (l : List ℕ). ArePlaced l c.args.run.now c.push_places.new.log.items) c.make_room.ensures.same c.in_ok-push_places.ensures in
-    places_taken parts.form parts.version parts.layout (λ n. front_of parts n c.args.events) c.args.places c.args.events parts.log.items c.push_places.new.log.items parts.events.items parts.dumps.items
+    places_taken parts.form parts.version parts.layout (λ n. front_of parts n c.args.events) c.args.places c.args.events parts.log.items
+    c.push_places.new.log.items parts.events.items parts.dumps.items
     c.args.run.now (length c.args.run.now / 4) c.at_log.result
     (omega (arith, c.requires.run.few, c.requires.run.all)) (omega (arith, c.requires.run.all)) c.requires.ready.4 c.requires.ready.5 placed c.at_log.ensures

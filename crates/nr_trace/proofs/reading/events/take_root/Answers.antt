@@ -1,5 +1,5 @@
 use Rattle.std.proofs.Common.{arith}
-use Rattle.nr_trace.proofs.Frames.{root_taken}
+use Rattle.nr_trace.proofs.DumpHeads.{root_taken}
 use Rattle.nr_trace.proofs.Taken.{only_front}
 use Rattle.nr_trace.proofs.reading.events.take_root.Goals as goal
 

@@ -10,7 +10,8 @@ invariant_of-pass g c =
     let words = words_of c.pass.inside.seat.me.0.stage in
     let changes = c.args.changes.now in
     let seen = c.pass.invariant.0 in (
-      exchanged_seen g.row.H g.row.N (2 * c.args.code) (changed words changes) c.change_head.new.head c.load_and_exchange.new.seat.me.0.stage c.if-load_and_exchange.ensures.exchanged.0
+      exchanged_seen g.row.H g.row.N (2 * c.args.code) (changed words changes) c.change_head.new.head
+          c.load_and_exchange.new.seat.me.0.stage c.if-load_and_exchange.ensures.exchanged.0
           (changed_long words changes ∙ seen.long) (c.change_head.ensures words (omega (arith, seen.long, c.self.invariant.2)) seen.begin_so),
       omega arith,
     )

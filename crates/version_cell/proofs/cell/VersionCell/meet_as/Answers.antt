@@ -17,8 +17,12 @@ split_seat-part-requires g c =
     let kept = c.tally.ensures.seat in
     let number : c.tally.new.seat.id ≡ c.args.pass.now.number = kept.0.1 ∙ ap (λ (k : CellPass V). k.number) c.pass.view_is in
     let view : c.tally.new.seat.me.0.client ≡ c.args.pass.now.view = kept.1 ∙ ap (λ (k : CellPass V). k.view) c.pass.view_is in
-    let Cut : ℕ × V → Type 0 = λ z. Forks g.P.CellRule.holds z.0 z.1 (g.S.Split.left z.1) (g.S.Split.right z.1) in
-    (search rules, search rules, splits _ _ _ _ _ _ _ _ _ _ _ _ (c.tally.ensures.stage ∙ c.pass.invariant.0.seen) (subst Cut (λ i. (sym number i, sym view i)) c.requires.cut))
+    let Cut : ℕ × V → Type 0 = λ z. Forks g.P.CellRule.holds z.0 z.1 (g.S.Split.left z.1) (g.S.Split.right z.1) in (
+      search rules,
+      search rules,
+      splits _ _ _ _ _ _ _ _ _ _ _ _ (c.tally.ensures.stage ∙ c.pass.invariant.0.seen)
+          (subst Cut (λ i. (sym number i, sym view i)) c.requires.cut),
+    )
 
 pub join_seat-requires : goal.join_seat-requires
 join_seat-requires g c =
@@ -51,19 +55,25 @@ load-requires g c =
     let number : seat.id ≡ c.args.told.now.number = c.join_seat.ensures.1 ∙ mine.0.1 ∙ ap (λ (k : CellPass V). k.number) c.told.view_is in
     let own : c.tally-2.new.seat.me.0.client ≡ c.args.told.now.view = mine.1 ∙ ap (λ (k : CellPass V). k.view) c.told.view_is in
     let view : c.tally.new.seat.me.0.client ≡ c.args.pass.now.view = c.tally.ensures.seat.1 ∙ ap (λ (k : CellPass V). k.view) c.pass.view_is in
-    let given : part.me.0.client ≡ g.S.Split.right c.args.pass.now.view = ap (λ (m : Me (Unit {0}) (Doing V)). m.0.client) c.split_seat-part.ensures.4 ∙ ap g.S.Split.right view in
+    let given : part.me.0.client ≡ g.S.Split.right c.args.pass.now.view =
+    ap (λ (m : Me (Unit {0}) (Doing V)). m.0.client) c.split_seat-part.ensures.4 ∙ ap g.S.Split.right view in
     let at : part.me.0.stage ≡ second = ap (λ (m : Me (Unit {0}) (Doing V)). m.0.stage) c.split_seat-part.ensures.4 ∙ c.tally.ensures.stage in
-    let stage : seat.me.0.stage ≡ later first second = ap (λ (m : Me (Unit {0}) (Doing V)). m.0.stage) c.join_seat.ensures.2 ∙ (λ i. later (c.tally-2.ensures.stage i) (at i)) in
+    let stage : seat.me.0.stage ≡ later first second = ap (λ (m : Me (Unit {0}) (Doing V)). m.0.stage) c.join_seat.ensures.2
+    ∙ (λ i. later (c.tally-2.ensures.stage i) (at i)) in
     let client : seat.me.0.client ≡ g.S.Join.both c.args.told.now.view (g.S.Split.right c.args.pass.now.view) =
     ap (λ (m : Me (Unit {0}) (Doing V)). m.0.client) c.join_seat.ensures.2 ∙ (λ i. g.S.Join.both (own i) (given i)) in
-    let further = come_further code first second c.told.inside.version c.pass.inside.version (c.told.invariant.0.last, c.told.invariant.0.seen) (c.pass.invariant.0.last, c.pass.invariant.0.seen)
+    let further = come_further code first second c.told.inside.version c.pass.inside.version
+    (c.told.invariant.0.last, c.told.invariant.0.seen) (c.pass.invariant.0.last, c.pass.invariant.0.seen)
     c.tally-2.ensures.twice c.tally.ensures.twice in
     let told = ap (λ (k : CellPass V). k.words) c.told.view_is in
     let pass = ap (λ (k : CellPass V). k.words) c.pass.view_is in
     let words = words_of (later first second) in
     let asked = c.requires.recall words (subst (λ (z : List ℕ × List ℕ). HaveComeFurther code z.0 z.1 words) (λ i. (told i, pass i)) further) in
-    let Asks : ℕ × V × List ℕ → Type 0 = λ z. Recalls holds z.0 z.1 z.2 g.M.CellOutcome.then in
-    (search rules, search rules, recalls _ _ _ _ _ g.M.CellOutcome.then _ _ seat.me (subst Asks (λ i. (sym number i, sym client i, words_of (sym stage i))) asked))
+    let Asks : ℕ × V × List ℕ → Type 0 = λ z. Recalls holds z.0 z.1 z.2 g.M.CellOutcome.then in (
+      search rules,
+      search rules,
+      recalls _ _ _ _ _ g.M.CellOutcome.then _ _ seat.me (subst Asks (λ i. (sym number i, sym client i, words_of (sym stage i))) asked),
+    )
 
 pub returns-clause-words : goal.returns-clause-words
 returns-clause-words g c =
@@ -73,8 +83,10 @@ returns-clause-words g c =
     let second = c.pass.inside.seat.me.0.stage in
     let part = c.split_seat-part.result in
     let at : part.me.0.stage ≡ second = ap (λ (m : Me (Unit {0}) (Doing V)). m.0.stage) c.split_seat-part.ensures.4 ∙ c.tally.ensures.stage in
-    let stage : c.join_seat.new.seat.me.0.stage ≡ later first second = ap (λ (m : Me (Unit {0}) (Doing V)). m.0.stage) c.join_seat.ensures.2 ∙ (λ i. later (c.tally-2.ensures.stage i) (at i)) in
-    let further = come_further code first second c.told.inside.version c.pass.inside.version (c.told.invariant.0.last, c.told.invariant.0.seen) (c.pass.invariant.0.last, c.pass.invariant.0.seen)
+    let stage : c.join_seat.new.seat.me.0.stage ≡ later first second = ap (λ (m : Me (Unit {0}) (Doing V)). m.0.stage) c.join_seat.ensures.2
+    ∙ (λ i. later (c.tally-2.ensures.stage i) (at i)) in
+    let further = come_further code first second c.told.inside.version c.pass.inside.version
+    (c.told.invariant.0.last, c.told.invariant.0.seen) (c.pass.invariant.0.last, c.pass.invariant.0.seen)
     c.tally-2.ensures.twice c.tally.ensures.twice in
     let told = ap (λ (k : CellPass V). k.words) c.told.view_is in
     let pass = ap (λ (k : CellPass V). k.words) c.pass.view_is in

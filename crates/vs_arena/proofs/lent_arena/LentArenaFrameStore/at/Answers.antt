@@ -22,4 +22,5 @@ returns-else-index-self-clause-unknown c = λ f named.
       | else-index-self-via-else-index-self w ↦ is_past c.self.invariant c.in_ok-index.index w.if-index-self.false
     ] in
     rw (← at) (subst (λ (a : LentFrames). IsFree a.frames c.in_ok-index.index) c.self.view_is
-    (IsFree-from_mark (uses_of_first c.self.inside.taken c.self.inside.marks.now) (take c.self.inside.taken c.self.inside.words.now) c.in_ok-index.index unmarked))
+    (IsFree-from_mark (uses_of_first c.self.inside.taken c.self.inside.marks.now) (take c.self.inside.taken c.self.inside.words.now)
+    c.in_ok-index.index unmarked))

@@ -10,12 +10,14 @@ use Rattle.vs_arena.proofs.lent_arena.LentArenaFrameStore.note.Goals as goal
 
 pub bounds-self-inside-index : goal.bounds-self-inside-index
 bounds-self-inside-index c =
-    let here = marked_here (uses_of_first c.self.inside.taken c.self.inside.marks.now) (take c.self.inside.taken c.self.inside.words.now) (ap (λ (a : LentFrames). a.frames) c.self.view_is) c.requires c.index.ensures.reads in
+    let here = marked_here (uses_of_first c.self.inside.taken c.self.inside.marks.now) (take c.self.inside.taken c.self.inside.words.now)
+    (ap (λ (a : LentFrames). a.frames) c.self.view_is) c.requires c.index.ensures.reads in
     omega (arith, was_taken c.self.invariant here, taken_marks c.self.invariant)
 
 pub returns : goal.returns
 returns c =
-    let here = marked_here (uses_of_first c.self.inside.taken c.self.inside.marks.now) (take c.self.inside.taken c.self.inside.words.now) (ap (λ (a : LentFrames). a.frames) c.self.view_is) c.requires c.index.ensures.reads in
+    let here = marked_here (uses_of_first c.self.inside.taken c.self.inside.marks.now) (take c.self.inside.taken c.self.inside.words.now)
+    (ap (λ (a : LentFrames). a.frames) c.self.view_is) c.requires c.index.ensures.reads in
     let marks = uses_of_first c.self.inside.taken c.self.inside.marks.now in
     let kept = notes_of_first c.self.inside.taken c.self.inside.marks.now in
     sym (note_at c.self.invariant here)

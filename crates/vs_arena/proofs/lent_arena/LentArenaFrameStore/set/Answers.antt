@@ -11,18 +11,23 @@ use Rattle.vs_arena.proofs.lent_arena.LentArenaFrameStore.set.Goals as goal
 
 pub bounds-self-inside-index : goal.bounds-self-inside-index
 bounds-self-inside-index c =
-    let here = marked_here (uses_of_first c.self.inside.taken c.self.inside.marks.now) (take c.self.inside.taken c.self.inside.words.now) (ap (λ (a : LentFrames). a.frames) c.self.view_is) c.requires.in_use c.index.ensures.reads in
+    let here = marked_here (uses_of_first c.self.inside.taken c.self.inside.marks.now) (take c.self.inside.taken c.self.inside.words.now)
+    (ap (λ (a : LentFrames). a.frames) c.self.view_is) c.requires.in_use c.index.ensures.reads in
     was_lent c.self.invariant here
 
 pub invariant_of-self : goal.invariant_of-self
 invariant_of-self c =
-    let here = marked_here (uses_of_first c.self.inside.taken c.self.inside.marks.now) (take c.self.inside.taken c.self.inside.words.now) (ap (λ (a : LentFrames). a.frames) c.self.view_is) c.requires.in_use c.index.ensures.reads in
-    let whole : IsFrame (get_or c.self.inside.words.now c.index.result []) = rw (← words_at c.self.invariant here) (c.self.invariant.arena.whole_frames c.index.result [] (in_words c.self.invariant.arena here)) in
+    let here = marked_here (uses_of_first c.self.inside.taken c.self.inside.marks.now) (take c.self.inside.taken c.self.inside.words.now)
+    (ap (λ (a : LentFrames). a.frames) c.self.view_is) c.requires.in_use c.index.ensures.reads in
+    let whole : IsFrame (get_or c.self.inside.words.now c.index.result []) =
+    rw (← words_at c.self.invariant here)
+    (c.self.invariant.arena.whole_frames c.index.result [] (in_words c.self.invariant.arena here)) in
     IsLentArena-write c.self.invariant _ (IsFrame-set _ c.args.index c.args.word whole (omega (arith, c.ranges.word))) here
 
 pub returns-clause-written : goal.returns-clause-written
 returns-clause-written c =
-    let here = marked_here (uses_of_first c.self.inside.taken c.self.inside.marks.now) (take c.self.inside.taken c.self.inside.words.now) (ap (λ (a : LentFrames). a.frames) c.self.view_is) c.requires.in_use c.index.ensures.reads in
+    let here = marked_here (uses_of_first c.self.inside.taken c.self.inside.marks.now) (take c.self.inside.taken c.self.inside.words.now)
+    (ap (λ (a : LentFrames). a.frames) c.self.view_is) c.requires.in_use c.index.ensures.reads in
     let marks = uses_of_first c.self.inside.taken c.self.inside.marks.now in
     let words = take c.self.inside.taken c.self.inside.words.now in
     let at = words_at c.self.invariant here in

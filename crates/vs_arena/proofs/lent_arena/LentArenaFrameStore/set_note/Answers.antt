@@ -10,7 +10,8 @@ use Rattle.vs_arena.proofs.lent_arena.LentArenaFrameStore.set_note.Goals as goal
 
 pub bounds-self-inside-index : goal.bounds-self-inside-index
 bounds-self-inside-index c =
-    let here = marked_here (uses_of_first c.self.inside.taken c.self.inside.marks.now) (take c.self.inside.taken c.self.inside.words.now) (ap (λ (a : LentFrames). a.frames) c.self.view_is) c.requires c.index.ensures.reads in
+    let here = marked_here (uses_of_first c.self.inside.taken c.self.inside.marks.now) (take c.self.inside.taken c.self.inside.words.now)
+    (ap (λ (a : LentFrames). a.frames) c.self.view_is) c.requires c.index.ensures.reads in
     omega (arith, was_taken c.self.invariant here, taken_marks c.self.invariant)
 
 pub invariant_of-self : goal.invariant_of-self
@@ -18,7 +19,8 @@ invariant_of-self c = IsLentArena-note c.self.invariant c.index.result c.args.no
 
 pub returns-clause-written : goal.returns-clause-written
 returns-clause-written c =
-    let here = marked_here (uses_of_first c.self.inside.taken c.self.inside.marks.now) (take c.self.inside.taken c.self.inside.words.now) (ap (λ (a : LentFrames). a.frames) c.self.view_is) c.requires c.index.ensures.reads in
+    let here = marked_here (uses_of_first c.self.inside.taken c.self.inside.marks.now) (take c.self.inside.taken c.self.inside.words.now)
+    (ap (λ (a : LentFrames). a.frames) c.self.view_is) c.requires c.index.ensures.reads in
     let marks = uses_of_first c.self.inside.taken c.self.inside.marks.now in
     let kept = notes_of_first c.self.inside.taken c.self.inside.marks.now in
     let noted = set c.self.inside.marks.now c.index.result (noted_mark c.self.inside.marks.now c.index.result c.args.note) in

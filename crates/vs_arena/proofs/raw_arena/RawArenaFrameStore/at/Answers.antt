@@ -7,7 +7,9 @@ use Rattle.vs_arena.proofs.MarkedFrames.{used_if_marked, free_if_unmarked}
 use Rattle.vs_arena.proofs.raw_arena.RawArenaFrameStore.at.Goals as goal
 
 pub marked_at-requires : goal.marked_at-requires
-marked_at-requires c = rw c.deref.ensures.value (let few : length c.self.inside.marks.items ≤ TABLES = omega (arith, c.self.invariant.0.arena.few_frames, c.self.invariant.0.arena.ever_taken) in few)
+marked_at-requires c = rw c.deref.ensures.value
+    (let few : length c.self.inside.marks.items ≤ TABLES = omega
+    (arith, c.self.invariant.0.arena.few_frames, c.self.invariant.0.arena.ever_taken) in few)
 
 pub returns-clause-numbered : goal.returns-clause-numbered
 returns-clause-numbered c = subst (λ (a : Arena). IfSome c.marked_at.result (λ f. a.base + f ≡ c.args.number)) c.self.view_is c.marked_at.ensures.numbered

@@ -12,13 +12,15 @@ use Rattle.vs_arena.proofs.raw_arena.RawArenaFrameStore.give.Goals as goal
 
 pub get_mut-words-requires : goal.get_mut-words-requires
 get_mut-words-requires c =
-    let here = marked_here c.self.inside.marks.items (values c.self.inside.region.places) (ap (λ (a : Arena). a.frames) c.self.view_is) c.requires c.index.ensures.reads in
+    let here = marked_here c.self.inside.marks.items (values c.self.inside.region.places) (ap (λ (a : Arena). a.frames) c.self.view_is)
+    c.requires c.index.ensures.reads in
     let within : c.index.result < length (values c.self.inside.region.places) = omega (arith, here.in_marks, c.self.invariant.0.arena.words_for_each) in
     IsFilled-within c.self.inside.size c.self.inside.region.places c.self.invariant.0.laid c.index.result [] within
 
 pub invariant_of-self : goal.invariant_of-self
 invariant_of-self c =
-    let here = marked_here c.self.inside.marks.items (values c.self.inside.region.places) (ap (λ (a : Arena). a.frames) c.self.view_is) c.requires c.index.ensures.reads in (
+    let here = marked_here c.self.inside.marks.items (values c.self.inside.region.places) (ap (λ (a : Arena). a.frames) c.self.view_is)
+    c.requires c.index.ensures.reads in (
       rw c.cleared_words.ensures (IsRawArena-write c.self.invariant.0 zeros IsFrame-zeros here),
       c.self.invariant.1,
       length-set c.self.inside.region.places c.index.result _ ∙ c.self.invariant.2,
@@ -29,12 +31,14 @@ invariant_of-self c =
 
 pub give_zeroed-requires-clause-in_use : goal.give_zeroed-requires-clause-in_use
 give_zeroed-requires-clause-in_use c =
-    let here = marked_here c.self.inside.marks.items (values c.self.inside.region.places) (ap (λ (a : Arena). a.frames) c.self.view_is) c.requires c.index.ensures.reads in
+    let here = marked_here c.self.inside.marks.items (values c.self.inside.region.places) (ap (λ (a : Arena). a.frames) c.self.view_is)
+    c.requires c.index.ensures.reads in
     rw (← c.index.ensures.reads) (IsInUse-from_mark c.self.inside.marks.items _ c.index.result here.mark)
 
 pub give_zeroed-requires-clause-zeroed : goal.give_zeroed-requires-clause-zeroed
 give_zeroed-requires-clause-zeroed c =
-    let here = marked_here c.self.inside.marks.items (values c.self.inside.region.places) (ap (λ (a : Arena). a.frames) c.self.view_is) c.requires c.index.ensures.reads in
+    let here = marked_here c.self.inside.marks.items (values c.self.inside.region.places) (ap (λ (a : Arena). a.frames) c.self.view_is)
+    c.requires c.index.ensures.reads in
     let within : c.index.result < length (values c.self.inside.region.places) = omega (arith, here.in_marks, c.self.invariant.0.arena.words_for_each) in
     let marks = c.self.inside.marks.items in let places = c.self.inside.region.places in
     let cleared = set (values places) c.index.result c.cleared_words.result in
@@ -44,12 +48,15 @@ give_zeroed-requires-clause-zeroed c =
 
 pub returns-clause-removed : goal.returns-clause-removed
 returns-clause-removed c =
-    let here = marked_here c.self.inside.marks.items (values c.self.inside.region.places) (ap (λ (a : Arena). a.frames) c.self.view_is) c.requires c.index.ensures.reads in
+    let here = marked_here c.self.inside.marks.items (values c.self.inside.region.places) (ap (λ (a : Arena). a.frames) c.self.view_is)
+    c.requires c.index.ensures.reads in
     let within : c.index.result < length (values c.self.inside.region.places) = omega (arith, here.in_marks, c.self.invariant.0.arena.words_for_each) in
     let marks = c.self.inside.marks.items in let places = c.self.inside.region.places in
     c.give_zeroed.ensures.removed
-    ∙ ap (λ l. finite.remove (marked_frames marks l) c.args.frame) (values-set c.self.inside.size places c.self.invariant.0.laid c.index.result c.cleared_words.result within)
+    ∙ ap (λ l. finite.remove (marked_frames marks l) c.args.frame)
+    (values-set c.self.inside.size places c.self.invariant.0.laid c.index.result c.cleared_words.result within)
     ∙ ap (λ m. finite.remove m c.args.frame) (marked_frames-write marks (values places) c.index.result c.cleared_words.result here.mark within)
-    ∙ ap (λ i. finite.remove (finite.insert (marked_frames c.self.inside.marks.items (values c.self.inside.region.places)) i c.cleared_words.result) c.args.frame) c.index.ensures.reads
+    ∙ ap (λ i. finite.remove (finite.insert (marked_frames c.self.inside.marks.items (values c.self.inside.region.places)) i c.cleared_words.result)
+    c.args.frame) c.index.ensures.reads
     ∙ remove-insert (marked_frames c.self.inside.marks.items (values c.self.inside.region.places)) c.args.frame c.cleared_words.result
     ∙ ap (λ (a : Arena). finite.remove a.frames c.args.frame) c.self.view_is

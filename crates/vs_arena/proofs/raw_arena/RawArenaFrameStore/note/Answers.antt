@@ -10,13 +10,15 @@ use Rattle.vs_arena.proofs.raw_arena.RawArenaFrameStore.note.Goals as goal
 
 pub index-requires-2 : goal.index-requires-2
 index-requires-2 c =
-    let here = marked_here c.self.inside.marks.items (values c.self.inside.region.places) (ap (λ (a : Arena). a.frames) c.self.view_is) c.requires c.index.ensures.reads in
+    let here = marked_here c.self.inside.marks.items (values c.self.inside.region.places) (ap (λ (a : Arena). a.frames) c.self.view_is)
+    c.requires c.index.ensures.reads in
     omega (arith, here.in_marks, c.self.invariant.0.arena.notes_for_each, c.self.inside.notes.ok.0)
 
 pub returns : goal.returns
 returns c =
     let notes = c.self.inside.notes.items in
-    let here = marked_here c.self.inside.marks.items (values c.self.inside.region.places) (ap (λ (a : Arena). a.frames) c.self.view_is) c.requires c.index.ensures.reads in
+    let here = marked_here c.self.inside.marks.items (values c.self.inside.region.places) (ap (λ (a : Arena). a.frames) c.self.view_is)
+    c.requires c.index.ensures.reads in
     get_or_read notes c.index.result c.index-2.result.now (omega (arith, here.in_marks, c.self.invariant.0.arena.notes_for_each)) c.index-2.ensures 0
     ∙ sym (note_of-marked c.self.inside.marks.items notes c.index.result here.mark)
     ∙ ap (λ i. note_of (marked_notes c.self.inside.marks.items notes) i) c.index.ensures.reads

@@ -30,7 +30,8 @@ invariant_of-self c = (
 pub returns-in-Some-clause-was_free : goal.returns-in-Some-clause-was_free
 returns-in-Some-clause-was_free c =
     rw c.at_index.ensures (subst (λ (a : Arena). IsFree a.frames c.in-Some.index) c.self.view_is
-    (IsFree-from_mark c.self.inside.marks.items (values c.self.inside.region.places) c.in-Some.index (last_given c.self.invariant.0.arena c.pop.new.self.items c.in-Some.index c.in-Some.ensures.items).unmarked))
+    (IsFree-from_mark c.self.inside.marks.items (values c.self.inside.region.places) c.in-Some.index
+    (last_given c.self.invariant.0.arena c.pop.new.self.items c.in-Some.index c.in-Some.ensures.items).unmarked))
 
 pub returns-in-Some-clause-cleared : goal.returns-in-Some-clause-cleared
 returns-in-Some-clause-cleared c =
@@ -40,7 +41,8 @@ returns-in-Some-clause-cleared c =
 pub returns-in-Some-clause-noted : goal.returns-in-Some-clause-noted
 returns-in-Some-clause-noted c =
     let within = (last_given c.self.invariant.0.arena c.pop.new.self.items c.in-Some.index c.in-Some.ensures.items).within in
-    rw c.at_index.ensures (marked-mark 0 c.self.inside.marks.items c.self.inside.notes.items c.in-Some.index 0 within (omega (arith, within, c.self.invariant.0.arena.notes_for_each)))
+    rw c.at_index.ensures (marked-mark 0 c.self.inside.marks.items c.self.inside.notes.items c.in-Some.index 0 within
+    (omega (arith, within, c.self.invariant.0.arena.notes_for_each)))
     ∙ ap (λ (a : Arena). finite.insert a.notes c.at_index.result 0) c.self.view_is
 
 -- ---- a frame that was never taken
@@ -90,11 +92,13 @@ pub returns-clause-was_free : goal.returns-clause-was_free
 returns-clause-was_free c =
     let at : c.len-index.result ≡ length c.self.inside.marks.items = omega (arith, c.len-index.ensures, c.self.inside.marks.ok.0) in
     let room : length c.self.inside.marks.items < c.self.inside.size = omega (arith, at, c.if-index-self.false, c.self.invariant.0.arena.ever_taken) in
-    rw (c.at_index-2.ensures, at) (subst (λ (a : Arena). IsFree a.frames (length c.self.inside.marks.items)) c.self.view_is (IsFree-past c.self.inside.marks.items (values c.self.inside.region.places)))
+    rw (c.at_index-2.ensures, at) (subst (λ (a : Arena). IsFree a.frames (length c.self.inside.marks.items)) c.self.view_is
+    (IsFree-past c.self.inside.marks.items (values c.self.inside.region.places)))
 
 pub returns-clause-noted : goal.returns-clause-noted
 returns-clause-noted c =
     let at : c.len-index.result ≡ length c.self.inside.marks.items = omega (arith, c.len-index.ensures, c.self.inside.marks.ok.0) in
     let room : length c.self.inside.marks.items < c.self.inside.size = omega (arith, at, c.if-index-self.false, c.self.invariant.0.arena.ever_taken) in
-    rw (c.push_reserved.ensures.items, c.push_reserved-2.ensures.items, c.at_index-2.ensures, at) (marked-push 0 c.self.inside.marks.items c.self.inside.notes.items 0 c.self.invariant.0.arena.notes_for_each)
+    rw (c.push_reserved.ensures.items, c.push_reserved-2.ensures.items, c.at_index-2.ensures, at)
+    (marked-push 0 c.self.inside.marks.items c.self.inside.notes.items 0 c.self.invariant.0.arena.notes_for_each)
     ∙ ap (λ (a : Arena). finite.insert a.notes c.at_index-2.result 0) c.self.view_is

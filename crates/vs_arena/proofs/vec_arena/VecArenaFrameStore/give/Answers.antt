@@ -16,7 +16,8 @@ index_mut-requires c =
 
 pub invariant_of-self : goal.invariant_of-self
 invariant_of-self c =
-    let here = marked_here c.self.inside.marks.items c.self.inside.words.items (ap (λ (a : Arena). a.frames) c.self.view_is) c.requires c.index.ensures.reads in (
+    let here = marked_here c.self.inside.marks.items c.self.inside.words.items (ap (λ (a : Arena). a.frames) c.self.view_is) c.requires
+    c.index.ensures.reads in (
       rw c.cleared_words.ensures (IsArena-write c.self.invariant.0 zeros IsFrame-zeros here),
       c.self.invariant.1,
       c.self.invariant.2,
@@ -43,6 +44,7 @@ returns-clause-removed c =
     c.give_zeroed.ensures.removed
     ∙ ap (λ m. finite.remove m c.args.frame) (marked_frames-write c.self.inside.marks.items c.self.inside.words.items c.index.result c.cleared_words.result
     here.mark within)
-    ∙ ap (λ i. finite.remove (finite.insert (marked_frames c.self.inside.marks.items c.self.inside.words.items) i c.cleared_words.result) c.args.frame) c.index.ensures.reads
+    ∙ ap (λ i. finite.remove (finite.insert (marked_frames c.self.inside.marks.items c.self.inside.words.items) i c.cleared_words.result) c.args.frame)
+    c.index.ensures.reads
     ∙ remove-insert (marked_frames c.self.inside.marks.items c.self.inside.words.items) c.args.frame c.cleared_words.result
     ∙ ap (λ (a : Arena). finite.remove a.frames c.args.frame) c.self.view_is

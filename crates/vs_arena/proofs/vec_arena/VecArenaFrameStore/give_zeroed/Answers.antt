@@ -9,17 +9,20 @@ use Rattle.vs_arena.proofs.vec_arena.VecArenaFrameStore.give_zeroed.Goals as goa
 
 pub index_mut-requires : goal.index_mut-requires
 index_mut-requires c =
-    let here = marked_here c.self.inside.marks.items c.self.inside.words.items (ap (λ (a : Arena). a.frames) c.self.view_is) c.requires.in_use c.index-index.ensures.reads in
+    let here = marked_here c.self.inside.marks.items c.self.inside.words.items (ap (λ (a : Arena). a.frames) c.self.view_is)
+    c.requires.in_use c.index-index.ensures.reads in
     omega (arith, here.in_marks, c.self.inside.marks.ok.0)
 
 pub push_reserved-requires : goal.push_reserved-requires
 push_reserved-requires c =
-    let here = marked_here c.self.inside.marks.items c.self.inside.words.items (ap (λ (a : Arena). a.frames) c.self.view_is) c.requires.in_use c.index-index.ensures.reads in
+    let here = marked_here c.self.inside.marks.items c.self.inside.words.items (ap (λ (a : Arena). a.frames) c.self.view_is)
+    c.requires.in_use c.index-index.ensures.reads in
     omega (arith, room_for_one c.self.invariant.0 here, c.self.invariant.0.ever_taken, c.self.invariant.1.free, c.self.inside.free.ok.0)
 
 pub invariant_of-self : goal.invariant_of-self
 invariant_of-self c =
-    let here = marked_here c.self.inside.marks.items c.self.inside.words.items (ap (λ (a : Arena). a.frames) c.self.view_is) c.requires.in_use c.index-index.ensures.reads in
+    let here = marked_here c.self.inside.marks.items c.self.inside.words.items (ap (λ (a : Arena). a.frames) c.self.view_is)
+    c.requires.in_use c.index-index.ensures.reads in
     let zeroed = subst (λ (a : Arena). words_of a.frames c.args.frame ≡ zeros) (sym c.self.view_is) c.requires.zeroed in
     let own = sym here.own ∙ ap (λ i. words_of (marked_frames c.self.inside.marks.items c.self.inside.words.items) i) c.index-index.ensures.reads ∙ zeroed in (
       rw c.push_reserved.ensures.items (IsArena-give c.self.invariant.0 here own),
@@ -33,12 +36,14 @@ invariant_of-self c =
 
 pub returns-clause-removed : goal.returns-clause-removed
 returns-clause-removed c =
-    let here = marked_here c.self.inside.marks.items c.self.inside.words.items (ap (λ (a : Arena). a.frames) c.self.view_is) c.requires.in_use c.index-index.ensures.reads in
+    let here = marked_here c.self.inside.marks.items c.self.inside.words.items (ap (λ (a : Arena). a.frames) c.self.view_is)
+    c.requires.in_use c.index-index.ensures.reads in
     rw (← c.index-index.ensures.reads) (marked_frames-unmark c.self.inside.marks.items c.self.inside.words.items c.index-index.result here.in_marks)
     ∙ ap (λ (a : Arena). finite.remove a.frames c.args.frame) c.self.view_is
 
 pub returns-clause-removed_note : goal.returns-clause-removed_note
 returns-clause-removed_note c =
-    let here = marked_here c.self.inside.marks.items c.self.inside.words.items (ap (λ (a : Arena). a.frames) c.self.view_is) c.requires.in_use c.index-index.ensures.reads in
+    let here = marked_here c.self.inside.marks.items c.self.inside.words.items (ap (λ (a : Arena). a.frames) c.self.view_is)
+    c.requires.in_use c.index-index.ensures.reads in
     rw (← c.index-index.ensures.reads) (marked-unmark 0 c.self.inside.marks.items c.self.inside.notes.items c.index-index.result here.in_marks)
     ∙ ap (λ (a : Arena). finite.remove a.notes c.args.frame) c.self.view_is

@@ -59,13 +59,19 @@ fill-requires-clause-absent g c =
     ap (word_at c.extend-number.new.self.memory c.extend-number.result) c.index_at.ensures.is ∙ c.extend-number.ensures.absent
 
 pub fill-requires-clause-some : goal.fill-requires-clause-some
-fill-requires-clause-some g c = some_word (level_of c.args.page.size) (ap (meaning (level_of c.args.page.size)) c.word.ensures ∙ c.requires.leaf_read) (λ none. cc)
+fill-requires-clause-some g c =
+    some_word (level_of c.args.page.size) (ap (meaning (level_of c.args.page.size)) c.word.ensures ∙ c.requires.leaf_read) (λ none. cc)
 
 pub invariant_of-self : goal.invariant_of-self
 invariant_of-self g c =
     let good = subst (λ (t : PageTable). IsPage t.depth c.args.page) (sym c.self.view_is) c.requires.page in
     let written = c.fill.ensures.written ∙ ap (λ (h : Held). let r : Held =
-    record { base = h.base; limit = h.limit; memory = with_word c.extend-number.new.self.memory c.extend-number.result c.index_at.result c.word.result; lenders = h.lenders }
+    record {
+      base = h.base;
+      limit = h.limit;
+      memory = with_word c.extend-number.new.self.memory c.extend-number.result c.index_at.result c.word.result;
+      lenders = h.lenders;
+    }
     in r) c.extend-number.ensures.same in (
       subst (λ (h : Held). IsPageTable (table_in_store c.self.inside.depth h c.self.inside.root)) (sym written)
           (added good (met_inside c.self.view_is c.requires.absent) c.level-lowest.ensures c.extend-number.ensures.extended c.fill.ensures.whole
@@ -78,7 +84,12 @@ pub returns : goal.returns
 returns g c =
     let good = subst (λ (t : PageTable). IsPage t.depth c.args.page) (sym c.self.view_is) c.requires.page in
     let written = c.fill.ensures.written ∙ ap (λ (h : Held). let r : Held =
-    record { base = h.base; limit = h.limit; memory = with_word c.extend-number.new.self.memory c.extend-number.result c.index_at.result c.word.result; lenders = h.lenders }
+    record {
+      base = h.base;
+      limit = h.limit;
+      memory = with_word c.extend-number.new.self.memory c.extend-number.result c.index_at.result c.word.result;
+      lenders = h.lenders;
+    }
     in r) c.extend-number.ensures.same in
     seen c.self.view_is written
     (added good (met_inside c.self.view_is c.requires.absent) c.level-lowest.ensures c.extend-number.ensures.extended c.fill.ensures.whole

@@ -6,7 +6,9 @@ use Rattle.vs_space.proofs.space.Space.into_parts.Goals as goal
 
 pub returns-clause-keeps : goal.returns-clause-keeps
 returns-clause-keeps g c = record {
-  table = relent [] (subst (λ (h : Held). IsPageTable (table_in_store c.self.inside.depth h c.self.inside.root)) (sym c.into_store.ensures.same) c.self.invariant.0);
+  table =
+      relent [] (subst (λ (h : Held). IsPageTable (table_in_store c.self.inside.depth h c.self.inside.root)) (sym c.into_store.ensures.same)
+      c.self.invariant.0);
   in_range = c.into_store.ensures.numbers;
   whole = c.into_store.ensures.whole;
   counted = c.into_store.ensures.counted;

@@ -41,7 +41,8 @@ pub write-requires-clause-present : goal.write-requires-clause-present
 write-requires-clause-present g c =
     let ended = ended_inside c.self.view_is c.requires.ended in
     let found = (descended refl (sym c.in-Leaf.ensures) ended.descent).is in
-    subst (λ n. word_at c.self.inside.tables.memory n c.index_at.result ≢ Some 0) (sym ended.last) (present_word _ _ _ c.args.base found (λ none. cc) c.index_at.ensures.is)
+    subst (λ n. word_at c.self.inside.tables.memory n c.index_at.result ≢ Some 0) (sym ended.last)
+    (present_word _ _ _ c.args.base found (λ none. cc) c.index_at.ensures.is)
 
 pub write-requires-clause-some : goal.write-requires-clause-some
 write-requires-clause-some g c = some_word (level_of c.at_level-size.result) c.leaf-leaf.ensures.read_back (λ none. cc)
@@ -53,7 +54,8 @@ invariant_of-self g c =
     let ended = ended_inside c.self.view_is c.requires.ended in
     let descent = descended refl (sym c.in-Leaf.ensures) ended.descent in
     let written = c.write.ensures.written ∙ ap
-    (λ n. held inside.tables.lenders inside.tables.base inside.tables.limit (with_word inside.tables.memory n c.index_at.result c.leaf-leaf.result)) ended.last in (
+    (λ n. held inside.tables.lenders inside.tables.base inside.tables.limit (with_word inside.tables.memory n c.index_at.result c.leaf-leaf.result))
+    ended.last in (
       subst (λ (h : Held). IsPageTable (table_in_store inside.depth h inside.root)) (sym written)
           (protected c.self.invariant.0 canonical descent c.at_level-size.ensures c.bytes.ensures c.requires.base.aligned
           c.leaf-leaf.ensures.read_back c.leaf-leaf.ensures.written c.index_at.ensures.is c.if-offset-ne0.false).0,
@@ -67,7 +69,8 @@ returns g c =
     let ended = ended_inside c.self.view_is c.requires.ended in
     let descent = descended refl (sym c.in-Leaf.ensures) ended.descent in
     let written = c.write.ensures.written ∙ ap
-    (λ n. held inside.tables.lenders inside.tables.base inside.tables.limit (with_word inside.tables.memory n c.index_at.result c.leaf-leaf.result)) ended.last in
+    (λ n. held inside.tables.lenders inside.tables.base inside.tables.limit (with_word inside.tables.memory n c.index_at.result c.leaf-leaf.result))
+    ended.last in
     seen c.self.view_is written
     (protected c.self.invariant.0 canonical descent c.at_level-size.ensures c.bytes.ensures c.requires.base.aligned
     c.leaf-leaf.ensures.read_back c.leaf-leaf.ensures.written c.index_at.ensures.is c.if-offset-ne0.false).1

@@ -56,7 +56,8 @@ invariant_of-self g c =
     let pruned = pruned_here c.self.invariant.0 canonical descent (ap (λ (h : Held). h.memory) c.clear.ensures.written) c.index_at.ensures.is
     (path_root descent) c.prune-stop.ensures.pruned in
     let same = c.prune-stop.ensures.same
-    ∙ ap (λ (h : Held). let r : Held = record { base = h.base; limit = h.limit; memory = c.prune-stop.new.self.memory; lenders = h.lenders } in r) c.clear.ensures.written in (
+    ∙ ap (λ (h : Held). let r : Held = record { base = h.base; limit = h.limit; memory = c.prune-stop.new.self.memory; lenders = h.lenders } in r)
+    c.clear.ensures.written in (
       subst (λ (h : Held). IsPageTable (table_in_store c.self.inside.depth h c.self.inside.root)) (sym same)
           (unmapped c.self.invariant.0 canonical descent pruned c.requires.base.aligned c.at_level-size.ensures c.bytes.ensures c.if-offset-ne0.false).0,
       c.prune-stop.ensures.numbers,
@@ -70,6 +71,7 @@ returns g c =
     let pruned = pruned_here c.self.invariant.0 canonical descent (ap (λ (h : Held). h.memory) c.clear.ensures.written) c.index_at.ensures.is
     (path_root descent) c.prune-stop.ensures.pruned in
     let same = c.prune-stop.ensures.same
-    ∙ ap (λ (h : Held). let r : Held = record { base = h.base; limit = h.limit; memory = c.prune-stop.new.self.memory; lenders = h.lenders } in r) c.clear.ensures.written in
+    ∙ ap (λ (h : Held). let r : Held = record { base = h.base; limit = h.limit; memory = c.prune-stop.new.self.memory; lenders = h.lenders } in r)
+    c.clear.ensures.written in
     seen c.self.view_is same
     (unmapped c.self.invariant.0 canonical descent pruned c.requires.base.aligned c.at_level-size.ensures c.bytes.ensures c.if-offset-ne0.false).1

@@ -17,5 +17,6 @@ pub returns-clause-present : goal.returns-clause-present
 returns-clause-present g c = λ some level written.
     let own = ap (λ (h : Held). finite.get h.memory c.args.number) (sym c.self.view_is)
     ∙ some_at _ _ c.args.number _ c.frame_of.ensures.numbered c.frame_of.ensures.in_use in
-    let other = some_if_counted c.self.invariant.2 _ c.frame_of.ensures.in_use c.self.invariant.0 (λ none. eqb-false c.note.result 0 some (c.note.ensures ∙ none)) in
+    let other = some_if_counted c.self.invariant.2 _ c.frame_of.ensures.in_use c.self.invariant.0
+    (λ none. eqb-false c.note.result 0 some (c.note.ensures ∙ none)) in
     entry_other level c.args.self.now.memory c.args.number other.0 _ own written other.1 other.2

@@ -14,7 +14,8 @@ returns-then-not-is_empty-clause-pruned g c =
     let going = c.loop-level.invariant.pruning in
     pruned_by going.cut going (λ deep.
     something_here going.cut c.requires.canonical (λ b is_b reserved. c.requires.faultless b is_b (sym (going.walks b is_b) ∙ reserved))
-    (omega (arith, c.loop-level-test.true, c.levels.ensures)) (c.is_empty.ensures.present c.if-not-is_empty.true c.loop-level.level (emptied_written going.cut)))
+    (omega (arith, c.loop-level-test.true, c.levels.ensures))
+    (c.is_empty.ensures.present c.if-not-is_empty.true c.loop-level.level (emptied_written going.cut)))
 
 pub is_empty-requires : goal.is_empty-requires
 is_empty-requires g c = in_use_here c.loop-level.invariant.pruning.cut

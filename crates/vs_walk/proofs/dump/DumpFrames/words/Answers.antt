@@ -34,6 +34,7 @@ returns-in-Ok c =
     get_or-map (words_at words) spans c.in-Ok.k span [] (omega (arith, bound, c.self.invariant.as_many))
     ∙ ap (words_at words) (sym c.index-span.ensures) in
     let lent : c.among_zeros.result ≡ words_at words span =
-    c.among_zeros.ensures ∙ ap (λ (ws : List ℕ). spread span.before (take (span.start + span.len - span.start) (drop span.start ws))) c.deref-in-Ok.ensures.value
+    c.among_zeros.ensures ∙ ap (λ (ws : List ℕ). spread span.before (take (span.start + span.len - span.start) (drop span.start ws)))
+    c.deref-in-Ok.ensures.value
     ∙ ap (λ (n : ℕ). spread span.before (take n (drop span.start words))) (omega arith) in
     ap (λ (ws : List ℕ). Some ws) (lent ∙ sym at) ∙ sym found ∙ sym (get_of _ _ c.args.number stands)

@@ -18,7 +18,8 @@ pub returns-then-word-eq0 : goal.returns-then-word-eq0
 returns-then-word-eq0 c =
     let words = drop c.self.inside.start c.self.inside.words.items in
     let coming : among c.self.inside.before words (c.self.inside.zeros + 1) ≡ c.args.self.now.coming ++ c.args.word ∷ [] =
-    zero_comes c.self.inside.before words c.self.inside.zeros ∙ ap (λ word. among c.self.inside.before words c.self.inside.zeros ++ word ∷ []) (sym c.if-word-eq0.true)
+    zero_comes c.self.inside.before words c.self.inside.zeros
+    ∙ ap (λ word. among c.self.inside.before words c.self.inside.zeros ++ word ∷ []) (sym c.if-word-eq0.true)
     ∙ ap (λ (d : OpenImage). d.coming ++ c.args.word ∷ []) c.self.view_is in
     λ i. record { dump = (c.self.view_is i).dump; number = (c.self.view_is i).number; coming = coming i }
 

@@ -12,4 +12,5 @@ returns-then-place-self c =
 
 pub returns-else-place-self : goal.returns-else-place-self
 returns-else-place-self c =
-    rw (← c.self.view_is) (sym (zero_behind c.self.inside.before c.self.inside.some.now _ c.args.index (omega (arith, c.if-index-self.false, c.if-place-self.false))))
+    rw (← c.self.view_is) (sym (zero_behind c.self.inside.before c.self.inside.some.now _ c.args.index
+    (omega (arith, c.if-index-self.false, c.if-place-self.false))))

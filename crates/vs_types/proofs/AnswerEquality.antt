@@ -10,13 +10,13 @@ use Rattle.vs_types.specs.contracts.page.SizePartialEq.TheImpl as sizes
 use Rattle.vs_types.specs.contracts.page.RightsPartialEq.TheImpl as rights
 use Rattle.vs_types.specs.contracts.answer.AnswerPartialEq.TheImpl as answers
 
-same_size : (s t : Size) → sizes.ghosts.eq s t ≡ true → s ≡ t
+pub same_size : (s t : Size) → sizes.ghosts.eq s t ≡ true → s ≡ t
 same_size K4 K4 e = refl
 same_size M2 M2 e = refl
 same_size G1 G1 e = refl
 same_size s t e = absurd (false≢true e)
 
-size_itself : (s : Size) → sizes.ghosts.eq s s ≡ true
+pub size_itself : (s : Size) → sizes.ghosts.eq s s ≡ true
 size_itself K4 = refl
 size_itself M2 = refl
 size_itself G1 = refl
@@ -45,10 +45,10 @@ bits_itself false true false = refl
 bits_itself false false true = refl
 bits_itself false false false = refl
 
-same_rights : (p q : Rights) → rights.ghosts.eq p q ≡ true → p ≡ q
+pub same_rights : (p q : Rights) → rights.ghosts.eq p q ≡ true → p ≡ q
 same_rights p q e = same_bits p.write p.user p.exec q.write q.user q.exec e
 
-rights_itself : (p : Rights) → rights.ghosts.eq p p ≡ true
+pub rights_itself : (p : Rights) → rights.ghosts.eq p p ≡ true
 rights_itself p = bits_itself p.write p.user p.exec
 
 -- a number, a size and rights are compared one after another
