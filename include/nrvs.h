@@ -30,7 +30,8 @@
  * What a kernel that runs on these tables has to keep beside (examples/kernel does, under QEMU, and says more):
  *   - the processor's settings, on which the answers rest: CR0.WP and EFER.NXE are 1. CR4.SMEP, SMAP, PKE and PKS are 0: where one is 1
  *     the processor refuses more than nrvs_table_access says. CR4.LA57 is 1 where the table has five levels, and 0 where it has four. The
- *     processor has as many bits of physical address as the frames and pages need: nothing below 2^51 is refused here;
+ *     processor has as many bits of physical address as the frames and pages need: nothing below 2^51 is refused here. Where it has no
+ *     pages of 1 GiB (CPUID 80000001H, EDX bit 26 is 0), none is mapped;
  *   - XMM registers: the archive is built for x86-64-v2 and moves words by them. So CR0.EM and CR0.TS are 0 and CR4.OSFXSR is 1 before the
  *     first call, and who calls from a handler, or preempts a call, saves them (FXSAVE; kernel_fpu_begin in Linux);
  *   - the red zone: a call keeps words within 128 bytes below RSP. So interrupts and faults that may come during a call run on a stack of

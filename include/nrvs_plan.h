@@ -47,22 +47,34 @@
  *   - a store writes the page's entry, clears a link to a table that is unlinked, or writes a word of a frame that was given; by a join it
  *     writes the page's entry in the place of such a link. No other present entry changes [meant], and each store changes its word
  *     [changing]. A protect keeps all bits of the page's entry but 1, 2 and 63; a map writes just the bits that it was given, and links to
- *     new tables that allow everything [written]. The bits that are answered are those of the page's entry [`told`];
+ *     new tables that allow everything [written]. Where a protect or a remap of a page plans no store, its entry is already as it would be
+ *     written [already]. The bits that are answered are those of the page's entry [`told`];
  *   - a remap is at most one store, which keeps all bits of the page's entry but its address and its rights. A split fills a frame that was
  *     given with the entries of 512 pages of the next smaller size, which have the page's rights, its flags and its other bits, and then
  *     links it by one store; no other plan fills a frame. A join is one store, of an entry with the address, the rights and the bits of the
  *     first page and with both flags set, so that no processor sets one that could be lost [put: IsRemapped, IsSplit, IsJoined];
- *   - no flag of a page is lost where a store is made again: it is in what is stored, or by a split in what the frame is filled with, and in
- *     the bits that are answered; a join's entry has both already [nrvs_plan_again: again; flags_keep_plans_safe: protects, splits, bits];
+ *   - no flag of a page is lost where a store is made again: it is in what is stored, or by a split in what the frame is filled with, and
+ *     in the bits that are answered. A join's entry has both already, whatever flags were found, and the bits that it answers have those
+ *     of the first page as it was shown. The flags of a link are dropped with it [the law flags_keep_plans_safe: protects, remaps, splits,
+ *     joins, bits]. The plan is right then, in all that is said here, for the memory with the word that was found [the laws
+ *     plans_are_made_again, plans_are_right_again];
  *   - a processor that was up to date is so again after the flush that is named: it keeps nothing that leads elsewhere than a walk of the
- *     memory, and nothing that leads into an unlinked frame [flushed; the law flushes_of_right_plans_suffice]. An invlpg of the base does
- *     it, for NRVS_FLUSH_PAGE and NRVS_FLUSH_PAGE_AND_TABLES (SDM volume 3A, 4.10.4.1). NRVS_FLUSH_RANGE, after a split or a join, takes an
- *     invlpg for each of the 512 smaller pages, or a load of CR3. Pages that are global or of other PCIDs are the caller's;
+ *     memory, and nothing that leads into an unlinked frame [flushed; the law flushes_of_right_plans_suffice], whatever flags are set
+ *     meanwhile [the law flags_keep_processors_up_to_date]. An invlpg of the base does it, for NRVS_FLUSH_PAGE and
+ *     NRVS_FLUSH_PAGE_AND_TABLES (SDM volume 3A, 4.10.4.1). NRVS_FLUSH_RANGE, after a split or a join, takes an invlpg for each of the 512
+ *     smaller pages (read in the SDM), or a load of CR3. Pages that are global or of other PCIDs are the caller's;
  *   - an unlinked frame was a table on the way of the address, is none now, and is named once. Its words are all 0, but by a join, where
- *     they stay as they were: clear them before the frame is given again [unlinked, named_once];
- *   - what the caller has to keep of the memory holds again after the stores [whole, own];
- *   - the words of a frame are asked for once a level at most, and by a map a frame once for each level [nrvs_plan_see, nrvs_plan_give:
- *     fewer]; by a split one frame (read in the code).
+ *     they stay as they were, but for flags: clear them before the frame is given again [unlinked, named_once];
+ *   - what the caller has to keep of the memory holds again after the stores, so that plans follow one another, from a root of zeros on
+ *     [whole, own; the law premises_hold_again];
+ *   - where other roots lead to tables that this root leads to, processors that walk from them find the old translation or the new one too,
+ *     and the same flush suffices for them, unless the root's own entry for the address is in common and `pinned` is 0 [the law
+ *     plans_are_right_beside_their_root]. What a plan through such a root asks of the memory holds again; but that the pages of both still
+ *     make one address space, the caller has to know [the law roots_stay_beside];
+ *   - the words of a frame are asked for once a level at most [nrvs_plan_see: fewer]; then by a map a frame once for each level below the
+ *     root's at most, by a split once [IsSound], and no words any more [nrvs_plan_give, nrvs_plan_give_none: fewer, ends];
+ *   - outside of what is listed below, where a reserved bit is set or the words shown are others, nothing is said of a plan but its size:
+ *     at most NRVS_MOST_STORES stores and NRVS_MOST_UNLINKED frames [IsSound; named].
  *
  * What the caller has to keep, which no call can test:
  *   - pointers are not null, aligned as their types are; nobody else reads or writes the plan meanwhile; each call but the first is given
@@ -80,7 +92,10 @@
  *     the unlinked frames may be freed, or given again;
  *   - the processor: CR0.WP and EFER.NXE are 1; where NXE is 0, bit 63 is reserved, so map with NRVS_EXEC. CR4.SMEP, SMAP, PKE and PKS are
  *     0, or it refuses more than the rights say. CR4.LA57 is 1 where there are five levels, and 0 where there are four. `phys_bits` is how
- *     many bits its physical addresses have (CPUID 80000008H). Attributes PWT, PCD and PAT, and memory types, are the caller's;
+ *     many bits its physical addresses have (CPUID 80000008H). Attributes PWT, PCD and PAT, and memory types, are the caller's. Where it
+ *     has no pages of 1 GiB (CPUID 80000001H, EDX bit 26 is 0), map none, and join no pages of 2 MiB: bit 7 is reserved there. Where a
+ *     change of an executable page's size may raise a machine check (IA32_ARCH_CAPABILITIES, PSCHANGE_MC_NO is 0), split and join no such
+ *     page: unmap, flush and map instead. Address bits that encrypt memory (AMD's C, TDX's shared) are left out: links have none;
  *   - the archive: XMM registers and linking are as in nrvs.h. The stack is aligned to 16 and has 4 KiB left: some 3 KiB are used, whatever
  *     is asked. No word is kept below RSP. There are jumps by tables and no calls by register; none is marked for CET, so CR4.CET is 0.
  */
@@ -135,36 +150,45 @@ struct nrvs_plan {
 	uint64_t own[20];         /* the library's */
 };
 
-/* What comes next. Each call but nrvs_plan_again returns one of these, where it isn't refused (read in the code). */
+/* What comes next. Each call but nrvs_plan_again returns one of these, where it isn't refused, and the plan waits for just that [status;
+ * begun of the calls that begin a plan].
+ */
 enum {
-	NRVS_PLANNED = 0, /* the plan is there */
+	NRVS_PLANNED = 0, /* the plan is there [ended] */
 	NRVS_SEE = 32,    /* the words of `plan->frame` are to be shown: nrvs_plan_see */
 	NRVS_GIVE = 33    /* an empty frame is to be given: nrvs_plan_give, or nrvs_plan_give_none */
 };
 
-/* What a call is refused for, beside what nrvs.h has: NRVS_BAD_LEVELS, NRVS_BAD_SIZE, NRVS_BAD_RIGHTS, NRVS_NOT_CANONICAL, NRVS_UNALIGNED,
- * NRVS_PHYS_UNALIGNED, and NRVS_PHYS_RANGE where the page doesn't lie below physical 2^51 and 2^phys_bits. The plan is then as it was.
+/* What a call is refused for, the first that holds [status, asked], beside what nrvs.h has: NRVS_BAD_LEVELS, NRVS_BAD_SIZE,
+ * NRVS_BAD_RIGHTS, NRVS_NOT_CANONICAL, NRVS_UNALIGNED, NRVS_PHYS_UNALIGNED, and NRVS_PHYS_RANGE where the page doesn't lie below physical
+ * 2^51 and 2^phys_bits. The plan is then as it was [refused].
  */
 enum {
 	NRVS_PHYS_BITS = 14, /* `phys_bits` is none of 36 to 52 */
 	NRVS_BAD_BITS = 15,  /* a bit is set that is none of NRVS_ATTRIBUTES */
 	NRVS_BAD_ROOT = 16,  /* the root's frame lies beyond phys_bits */
-	NRVS_NOT_ASKED = 17  /* the plan doesn't ask for that; of nrvs_plan_again: no such store, or more than flags differ */
+	NRVS_NOT_ASKED = 17  /* the plan doesn't ask for that; of nrvs_plan_again: no plan or no such store, or more than flags differ */
 };
 
-/* Codes of replies, beside those of nrvs.h. No store is planned then. */
+/* Codes of replies, beside those of nrvs.h. No store is planned then [nothing]. Each is given only where it holds [reply]; of 15 to 19 the
+ * first that holds is given wherever one does, and nothing else then [due].
+ */
 enum {
 	NRVS_NO_FRAME = 10,    /* none was given; those that were are free */
 	NRVS_FRAME_RANGE = 11, /* number: a frame that was given, and lies beyond phys_bits; all that were given are free */
-	NRVS_NARROW = 12,      /* the entries that lead to the page's table allow less than the page is to allow */
-	NRVS_EMPTY = 13,       /* number: the frame of a table with no present entry, which is where the page would be mapped */
-	NRVS_RESERVED = 14,    /* number: the frame of a word with a reserved bit set; bits: the word's index */
-	NRVS_MISPLACED = 15,   /* the physical address is no multiple of the size of the page that is there, or that is to be there */
-	NRVS_BEYOND = 16,      /* the page would not lie below physical 2^51 and 2^phys_bits */
-	NRVS_SMALLEST = 17,    /* the page has 4 KiB: it can't be split */
-	NRVS_LARGEST = 18,     /* the page has 1 GiB: it can't be joined with others */
-	NRVS_NOT_FIRST = 19,   /* the base is no multiple of the next larger size than that of the page that begins there */
-	NRVS_APART = 20        /* number: the least index, 0 to 511, of an entry of the table that is no page that follows on from the first */
+	NRVS_NARROW = 12,      /* the entries that lead to the page's table allow less than the page is to allow [WantsMore] */
+	NRVS_EMPTY = 13,       /* number: the frame of a table with no present entry, where the page would be mapped [LiesOverEmpty]; behind
+				* it a page may be overlapped */
+	NRVS_RESERVED = 14,    /* number: the frame of a word with a reserved bit set; bits: the word's index. Never where the caller keeps
+				* what is listed above [reply]; else that no store is planned is as compiled */
+	NRVS_MISPLACED = 15,   /* the physical address is no multiple of the size of the page that is there, or that is to be there: a remap's
+				* [remap_refusal], a join's [join_refusal] */
+	NRVS_BEYOND = 16,      /* the page would not lie below physical 2^51 and 2^phys_bits [remap_refusal] */
+	NRVS_SMALLEST = 17,    /* the page has 4 KiB: it can't be split [split_refusal] */
+	NRVS_LARGEST = 18,     /* the page has 1 GiB: it can't be joined with others [join_refusal] */
+	NRVS_NOT_FIRST = 19,   /* the base is no multiple of the next larger size than that of the page that begins there [join_refusal] */
+	NRVS_APART = 20        /* number: the least index, 0 to 511, of an entry of the table that is no page that follows on from the first
+				* [KeepsApart; what follows on: the law entries_follow_on_by_their_parts] */
 };
 
 /* What the processors that use this table have to forget once the last store is carried out. */
@@ -180,44 +204,54 @@ enum {
  */
 #define NRVS_ATTRIBUTES UINT64_C(0x7ff0000000000ff8)
 
-/* Maps a page: NRVS_DONE, NRVS_OVERLAP, or a code of this header. */
+/* Maps a page [reply, written]: NRVS_DONE, NRVS_OVERLAP (number: the least overlapped page), NRVS_NARROW, NRVS_EMPTY, NRVS_NO_FRAME,
+ * NRVS_FRAME_RANGE.
+ */
 uint32_t nrvs_plan_map(struct nrvs_plan *plan, const struct nrvs_target *target, uint64_t base, uint32_t size, uint64_t physical,
 		       uint32_t rights, uint64_t bits);
 
-/* Unmaps the page that begins at an address: NRVS_REMOVED, NRVS_INSIDE, NRVS_NOT_MAPPED. */
+/* Unmaps the page that begins at an address, and unlinks the tables that are emptied [reply, put, pruned]: NRVS_REMOVED, NRVS_INSIDE,
+ * NRVS_NOT_MAPPED.
+ */
 uint32_t nrvs_plan_unmap(struct nrvs_plan *plan, const struct nrvs_target *target, uint64_t base);
 
-/* Gives the page that begins at an address these rights and no others: NRVS_CHANGED, NRVS_INSIDE, NRVS_NOT_MAPPED, NRVS_NARROW. */
+/* Gives the page that begins at an address these rights and no others [reply, written, already]: NRVS_CHANGED (with the rights that it
+ * had), NRVS_INSIDE, NRVS_NOT_MAPPED, NRVS_NARROW.
+ */
 uint32_t nrvs_plan_protect(struct nrvs_plan *plan, const struct nrvs_target *target, uint64_t base, uint32_t rights);
 
-/* Lets the page that begins at an address lead to another physical address, with these rights; its size stays: NRVS_CHANGED (with the rights
- * that it had), NRVS_INSIDE, NRVS_NOT_MAPPED, NRVS_MISPLACED, NRVS_BEYOND, NRVS_NARROW.
+/* Lets the page that begins at an address lead to another physical address, with these rights; its size stays [reply, due, put, already]:
+ * NRVS_CHANGED (with the rights that it had), NRVS_INSIDE, NRVS_NOT_MAPPED, NRVS_MISPLACED, NRVS_BEYOND, NRVS_NARROW. The physical address
+ * that it had is in `old_word` of the store alone; where no store is planned it is the new one.
  */
 uint32_t nrvs_plan_remap(struct nrvs_plan *plan, const struct nrvs_target *target, uint64_t base, uint64_t physical, uint32_t rights);
 
 /* Puts 512 pages of the next smaller size in the place of the page that begins at an address; they translate as it does, and an empty frame
- * is asked for: NRVS_CHANGED (with the rights, which stay), NRVS_INSIDE, NRVS_NOT_MAPPED, NRVS_SMALLEST, NRVS_NO_FRAME, NRVS_FRAME_RANGE.
+ * is asked for [reply, due, put; the law splits_keep_translations]: NRVS_CHANGED (with the rights, which stay), NRVS_INSIDE,
+ * NRVS_NOT_MAPPED, NRVS_SMALLEST, NRVS_NO_FRAME, NRVS_FRAME_RANGE.
  */
 uint32_t nrvs_plan_split(struct nrvs_plan *plan, const struct nrvs_target *target, uint64_t base);
 
 /* Puts one page in the place of 512, the first of which begins at an address, where they follow on from each other in memory and are alike
- * but for flags 5 and 6: NRVS_CHANGED (with the rights, which stay), NRVS_INSIDE, NRVS_NOT_MAPPED, NRVS_LARGEST, NRVS_NOT_FIRST,
- * NRVS_MISPLACED, NRVS_APART.
+ * but for flags 5 and 6 [reply, due, put, fits; the law joins_keep_translations]: NRVS_CHANGED (with the rights, which stay), NRVS_INSIDE,
+ * NRVS_NOT_MAPPED, NRVS_LARGEST, NRVS_NOT_FIRST, NRVS_MISPLACED, NRVS_APART.
  */
 uint32_t nrvs_plan_join(struct nrvs_plan *plan, const struct nrvs_target *target, uint64_t base);
 
-/* Looks at an address: NRVS_MAPPED, with the physical address of this very address, or NRVS_NOT_MAPPED. No store is planned. */
+/* Looks at an address: NRVS_MAPPED, with the physical address of this very address, or NRVS_NOT_MAPPED. No store is planned [reply,
+ * nothing].
+ */
 uint32_t nrvs_plan_ask(struct nrvs_plan *plan, const struct nrvs_target *target, uint64_t address);
 
-/* Shows the words of `plan->frame`. */
+/* Shows the words of `plan->frame` [next]. NRVS_NOT_ASKED where no words are waited for [asked]. */
 uint32_t nrvs_plan_see(struct nrvs_plan *plan, const uint64_t words[512]);
 
-/* Gives a frame all of whose words are 0; says that there is none. */
+/* Gives a frame all of whose words are 0; says that there is none [next]. NRVS_NOT_ASKED where no frame is waited for [asked]. */
 uint32_t nrvs_plan_give(struct nrvs_plan *plan, uint64_t frame);
 uint32_t nrvs_plan_give_none(struct nrvs_plan *plan);
 
-/* Store `index` finds `found` in place of `old_word`, which differs by flags that a processor set: the plan with that word in its place.
- * Where it fills a frame, that has to be filled again.
+/* Store `index` finds `found` in place of `old_word`, which differs by flags that a processor set: NRVS_OK, and the plan has that word in
+ * its place [flags, again]; wherever that is so [done], and only there [asked]. Where it fills a frame, that has to be filled again.
  */
 uint32_t nrvs_plan_again(struct nrvs_plan *plan, uint64_t index, uint64_t found);
 

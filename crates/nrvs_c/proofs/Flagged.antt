@@ -109,7 +109,8 @@ module _ (handle : Table) (words after : Words) (marks : List FrameMark) (are : 
   pub status_stays : lent_status handle after marks ≡ lent_status handle words marks
   status_stays = rw long refl
 
-  laid_out : IsLentArena handle.base handle.taken handle.given handle.last words marks → IsLentArena handle.base handle.taken handle.given handle.last after marks
+  laid_out : IsLentArena handle.base handle.taken handle.given handle.last words marks
+      → IsLentArena handle.base handle.taken handle.given handle.last after marks
   laid_out is = record {
     arena = rw long (arena_stays (uses_of_first handle.taken marks) (take handle.taken words) (take handle.taken after)
         (take_flagged handle.taken words after are) is.arena);

@@ -91,7 +91,8 @@ get_lent base words index = get_numbered base _ index ∙ get-all_below (length 
     ]
 
 -- what there is at a number
-pub lent_from : (base : ℕ) (words : List (List ℕ)) (number index : ℕ) → base + index ≡ number → finite.get (lent_memory base words) number ≡ slice_get words index
+pub lent_from : (base : ℕ) (words : List (List ℕ)) (number index : ℕ) → base + index ≡ number
+    → finite.get (lent_memory base words) number ≡ slice_get words index
 lent_from base words number index at = subst (λ n. finite.get (lent_memory base words) n ≡ slice_get words index) at (get_lent base words index)
 
 pub lent_below : (base : ℕ) (words : List (List ℕ)) (number : ℕ) → number < base → finite.get (lent_memory base words) number ≡ None

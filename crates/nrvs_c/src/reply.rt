@@ -1,3 +1,5 @@
+//! An answer, as C gets it.
+
 ghost use Rattle.std.specs.Prelude.{◌≡◌};
 ghost use Rattle.nrvs_c.specs.Reply.{reply_for};
 

@@ -1,3 +1,5 @@
+//! The statuses of the calls from C.
+
 ghost use Rattle.std.specs.Prelude.{◌≡◌};
 ghost use Rattle.nrvs_c.specs.Status.{status_of};
 

@@ -3,6 +3,8 @@ use Rattle.std.specs.Prelude.{◌≡◌, ℕ, List, Option}
 use Rattle.vs_types.specs.Space.{Space}
 use Rattle.vs_walk.specs.Memory.{Memory}
 use Rattle.vs_plan.specs.declared.plan.Plan as plans
+use Rattle.vs_plan.specs.declared.planner.Phase.{Phase}
+use Rattle.vs_plan.specs.declared.planner.Phase.TheVariants.{Descent, Search, Growth, Division, Ended}
 use Rattle.vs_plan.specs.Premise.{IsPremise}
 use Rattle.vs_plan.specs.Request.{address_of}
 use Rattle.vs_plan.specs.Right.{IsRight}
@@ -16,6 +18,14 @@ abbrev pub IsPlanned : Memory → Plan → List (Option ℕ) → Type 0
 IsPlanned memory plan offered = (space : Space)
     → IsPremise (target_in plan.call).depth memory (target_in plan.call).root (address_of (request_in plan.call)) space
     → (made : plans.Plan) × IsRight (target_in plan.call) (request_in plan.call) memory space offered made × IsTold plan made
+
+-- the status that says what a phase waits for: 32 the words of a frame, 33 a frame, 0 nothing, since the plan is there
+abbrev pub status_in : Phase → ℕ
+status_in Descent = 32
+status_in Search = 32
+status_in Growth = 33
+status_in Division = 33
+status_in Ended = 0
 
 -- of 32 and 33 what is kept is so in the memory; of 0 the plan is there
 pub record IsNextOf (memory : Memory) (plan : Plan) (offered : List (Option ℕ)) (status : ℕ) : Type 0 where

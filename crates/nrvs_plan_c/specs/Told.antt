@@ -1,12 +1,13 @@
 -- A plan in numbers.
-use Rattle.std.specs.Prelude.{◌≡◌, ℕ, ◌&&◌, ◌||◌, Bool, not, Option, Some, None, nat_eq, length, take, slice_index_or, if◌then◌else◌}
+use Rattle.std.specs.Prelude.{◌≡◌, ℕ, ◌&&◌, ◌||◌, Bool, not, Option, Some, None, nat_eq, length, take, slice_index_or, slice_set, [], if◌then◌else◌}
 use Rattle.vs_types.specs.Codes.{size_code, rights_code}
 use Rattle.vs_types.specs.declared.answer.Answer.{Answer}
 use Rattle.vs_types.specs.declared.answer.Answer.TheVariants as answers
 use Rattle.vs_plan.specs.declared.plan.Fill.{Fill}
 use Rattle.vs_plan.specs.declared.plan.Flush.{Flush}
 use Rattle.vs_plan.specs.declared.plan.Flush.TheVariants as flushes
-use Rattle.vs_plan.specs.Again.{flags_into, with_flags_of}
+use Rattle.vs_plan.specs.Again.{IsPlanAgain, flags_into, with_flags_of}
+use Rattle.vs_plan.specs.Right.{Changes}
 use Rattle.vs_plan.specs.declared.plan.Plan as plans
 use Rattle.vs_plan.specs.declared.plan.Reply as outcomes
 use Rattle.vs_plan.specs.declared.plan.Reply.TheVariants as replies
@@ -95,3 +96,16 @@ abbrev pub bits_again : Plan → ℕ → Store → ℕ → ℕ
 bits_again plan index store found =
     if nat_eq index 0 && (nat_eq plan.unlinked_count 0 || nat_eq store.new 0) then flags_into found plan.bits
     else plan.bits
+
+-- the numbers after a store at an index found a word with other flags
+abbrev pub plan_again : Plan → ℕ → ℕ → Plan
+plan_again plan index found = record plan {
+  stores = slice_set plan.stores index (store_again plan (store_at plan index) found);
+  fill = fill_again plan found;
+  bits = bits_again plan index (store_at plan index) found;
+}
+
+-- of each plan whose numbers these are, and that has no store where nothing changes, those are the numbers with these flags (`Plan::again`)
+abbrev pub IsMadeAgain : Plan → ℕ → ℕ → Type 0
+IsMadeAgain plan index found = (made : plans.Plan) → IsTold plan made → ((Changes made.reply → ⊥) → made.stores.items ≡ [])
+    → (again : plans.Plan) × IsPlanAgain made index found again × IsTold (plan_again plan index found) again

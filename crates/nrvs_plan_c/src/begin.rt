@@ -3,7 +3,8 @@ ghost use Rattle.std.specs.Prelude.{◌≡◌, ◌≢◌, MatchResult};
 ghost use Rattle.vs_walk.specs.Memory.{Memory};
 ghost use Rattle.vs_plan.specs.Request.{request_fault};
 ghost use Rattle.vs_plan.specs.Shown.{IsShown};
-ghost use Rattle.nrvs_plan_c.specs.Kept.{IsSound, planner_in, request_in, target_in, target_of};
+ghost use Rattle.nrvs_plan_c.specs.Kept.{IsSound, phase_in, planner_in, request_in, target_in, target_of};
+ghost use Rattle.nrvs_plan_c.specs.Next.{status_in};
 ghost use Rattle.nrvs_plan_c.specs.Status.{begun_status, target_status};
 
 use crate::kept::{Call, Plan, Target, keep};
@@ -48,6 +49,7 @@ pub(crate) fn begin(plan: &mut Plan, call: Call) -> u32
     ensures status { result ≡ begun_status (request_fault (target_in call) (request_in call)) }
     ensures call { result ≡ 32 → plan.new.call ≡ call }
     ensures sound { result ≡ 32 → IsSound plan.new }
+    ensures begun { result ≡ 32 → status_in (phase_in plan.new.way.phase) ≡ 32 }
     ensures shown { result ≡ 32 → (memory : Memory) → IsShown memory (planner_in plan.new) }
     ensures refused { result ≢ 32 → plan.new ≡ plan.old }
 {

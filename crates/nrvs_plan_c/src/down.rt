@@ -32,6 +32,7 @@ pub(crate) fn go_down(plan: &mut Plan, words: &Words) -> bool
     ensures stays { IsFalse result → plan.new ≡ plan.old }
     ensures sound { IsSound plan.new }
     ensures call { plan.new.call ≡ plan.old.call }
+    ensures phase { plan.new.way.phase ≡ plan.old.way.phase }
     ensures fewer { IsTrue result → plan.new.way.level < plan.old.way.level }
     ensures shown { IsTrue result → (memory : Memory) → IsShown memory (planner_in plan.old)
         → finite.get memory plan.old.frame ≡ Some words.now.word

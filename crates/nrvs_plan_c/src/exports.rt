@@ -1,16 +1,17 @@
 //! The calls for C.
-ghost use Rattle.std.specs.Prelude.{◌≡◌, ◌≢◌, ◌↔◌, ◌<◌, ◌-◌, ◌⊎◌, ◌≤◌, ℕ, [], ◌∷◌, ◌++◌, Some, None, IfSome, IsFalse, nat_lt, slice_set, if◌then◌else◌};
+ghost use Rattle.std.specs.Prelude.{◌≡◌, ◌≢◌, ◌↔◌, ◌<◌, ◌-◌, ◌⊎◌, ◌≤◌, ℕ, [], ◌∷◌, ◌++◌, Some, None, IfSome, IsFalse, nat_lt, if◌then◌else◌};
 ghost use Rattle.std.specs.FinMap as finite;
 ghost use Rattle.vs_walk.specs.Memory.{Memory};
 ghost use Rattle.vs_plan.specs.declared.request.Request.{Request};
+ghost use Rattle.vs_plan.specs.declared.plan.TheConstants.{MOST_UNLINKED};
 ghost use Rattle.vs_plan.specs.Again.{HasFlagsSet};
 ghost use Rattle.vs_plan.specs.Planner.{IsSpareFor, frames_given};
 ghost use Rattle.vs_plan.specs.Request.{request_fault};
 ghost use Rattle.vs_plan.specs.Shown.{IsShown};
 ghost use Rattle.nrvs_plan_c.specs.declared.codes.TheConstants.{ENDED, SEARCH};
-ghost use Rattle.nrvs_plan_c.specs.Kept.{IsSound, page_in, planner_in, request_in, rights_in, takes_frame, target_in, target_of};
-ghost use Rattle.nrvs_plan_c.specs.Next.{IsNextOf};
-ghost use Rattle.nrvs_plan_c.specs.Told.{bits_again, fill_again, store_again, store_at};
+ghost use Rattle.nrvs_plan_c.specs.Kept.{IsSound, page_in, phase_in, planner_in, request_in, rights_in, takes_frame, target_in, target_of};
+ghost use Rattle.nrvs_plan_c.specs.Next.{IsNextOf, status_in};
+ghost use Rattle.nrvs_plan_c.specs.Told.{plan_again, store_at};
 ghost use Rattle.nrvs_plan_c.specs.Status.{begun_status, target_status};
 
 use crate::begin::{begin, call_of};
@@ -19,7 +20,7 @@ use crate::down::go_down;
 use crate::kept::{Call, Plan, Target, Words, open};
 use crate::next::go_on;
 use crate::status::{BAD_RIGHTS, BAD_SIZE, NOT_ASKED, PLANNED, SEE};
-use crate::told::{bits_again, store_again};
+use crate::told::{bits_again, is_linking};
 
 /// Begins the plan of a map.
 #[unsafe(no_mangle)]
@@ -40,6 +41,7 @@ pub extern "C" fn nrvs_plan_map(
     ensures request { result ≡ 32 → request_in plan.new.call
         ≡ Request.Map (page_in base size physical rights) bits }
     ensures sound { result ≡ 32 → IsSound plan.new }
+    ensures begun { result ≡ 32 → status_in (phase_in plan.new.way.phase) ≡ 32 }
     ensures shown { result ≡ 32 → (memory : Memory) → IsShown memory (planner_in plan.new) }
     ensures refused { result ≢ 32 → plan.new ≡ plan.old }
 {
@@ -71,6 +73,7 @@ pub extern "C" fn nrvs_plan_unmap(plan: &mut Plan, target: &Target, base: u64) -
     ensures target { result ≡ 32 → target_in plan.new.call ≡ target_of target.now }
     ensures request { result ≡ 32 → request_in plan.new.call ≡ Request.Unmap base }
     ensures sound { result ≡ 32 → IsSound plan.new }
+    ensures begun { result ≡ 32 → status_in (phase_in plan.new.way.phase) ≡ 32 }
     ensures shown { result ≡ 32 → (memory : Memory) → IsShown memory (planner_in plan.new) }
     ensures refused { result ≢ 32 → plan.new ≡ plan.old }
 {
@@ -90,6 +93,7 @@ pub extern "C" fn nrvs_plan_protect(plan: &mut Plan, target: &Target, base: u64,
     ensures request { result ≡ 32 → request_in plan.new.call
         ≡ Request.Protect base (rights_in rights) }
     ensures sound { result ≡ 32 → IsSound plan.new }
+    ensures begun { result ≡ 32 → status_in (phase_in plan.new.way.phase) ≡ 32 }
     ensures shown { result ≡ 32 → (memory : Memory) → IsShown memory (planner_in plan.new) }
     ensures refused { result ≢ 32 → plan.new ≡ plan.old }
 {
@@ -123,6 +127,7 @@ pub extern "C" fn nrvs_plan_remap(
     ensures request { result ≡ 32 → request_in plan.new.call
         ≡ Request.Remap base physical (rights_in rights) }
     ensures sound { result ≡ 32 → IsSound plan.new }
+    ensures begun { result ≡ 32 → status_in (phase_in plan.new.way.phase) ≡ 32 }
     ensures shown { result ≡ 32 → (memory : Memory) → IsShown memory (planner_in plan.new) }
     ensures refused { result ≢ 32 → plan.new ≡ plan.old }
 {
@@ -149,6 +154,7 @@ pub extern "C" fn nrvs_plan_split(plan: &mut Plan, target: &Target, base: u64) -
     ensures target { result ≡ 32 → target_in plan.new.call ≡ target_of target.now }
     ensures request { result ≡ 32 → request_in plan.new.call ≡ Request.Split base }
     ensures sound { result ≡ 32 → IsSound plan.new }
+    ensures begun { result ≡ 32 → status_in (phase_in plan.new.way.phase) ≡ 32 }
     ensures shown { result ≡ 32 → (memory : Memory) → IsShown memory (planner_in plan.new) }
     ensures refused { result ≢ 32 → plan.new ≡ plan.old }
 {
@@ -166,6 +172,7 @@ pub extern "C" fn nrvs_plan_join(plan: &mut Plan, target: &Target, base: u64) ->
     ensures target { result ≡ 32 → target_in plan.new.call ≡ target_of target.now }
     ensures request { result ≡ 32 → request_in plan.new.call ≡ Request.Join base }
     ensures sound { result ≡ 32 → IsSound plan.new }
+    ensures begun { result ≡ 32 → status_in (phase_in plan.new.way.phase) ≡ 32 }
     ensures shown { result ≡ 32 → (memory : Memory) → IsShown memory (planner_in plan.new) }
     ensures refused { result ≢ 32 → plan.new ≡ plan.old }
 {
@@ -183,6 +190,7 @@ pub extern "C" fn nrvs_plan_ask(plan: &mut Plan, target: &Target, address: u64) 
     ensures target { result ≡ 32 → target_in plan.new.call ≡ target_of target.now }
     ensures request { result ≡ 32 → request_in plan.new.call ≡ Request.Ask address }
     ensures sound { result ≡ 32 → IsSound plan.new }
+    ensures begun { result ≡ 32 → status_in (phase_in plan.new.way.phase) ≡ 32 }
     ensures shown { result ≡ 32 → (memory : Memory) → IsShown memory (planner_in plan.new) }
     ensures refused { result ≢ 32 → plan.new ≡ plan.old }
 {
@@ -197,6 +205,9 @@ pub extern "C" fn nrvs_plan_ask(plan: &mut Plan, target: &Target, address: u64) 
 pub extern "C" fn nrvs_plan_see(plan: &mut Plan, words: &Words) -> u32
     requires { IsSound plan.old }
     ensures asked { (result ≡ 17) ↔ (SEARCH < plan.old.way.phase) }
+    ensures status { result ≢ 17 → result ≡ status_in (phase_in plan.new.way.phase) }
+    ensures ended { result ≡ 0 → plan.new.way.phase ≡ ENDED }
+    ensures named { result ≡ 0 → plan.new.unlinked_count ≤ MOST_UNLINKED }
     ensures sound { IsSound plan.new }
     ensures call { plan.new.call ≡ plan.old.call }
     ensures refused { result ≡ 17 → plan.new ≡ plan.old }
@@ -220,6 +231,10 @@ pub extern "C" fn nrvs_plan_see(plan: &mut Plan, words: &Words) -> u32
 pub extern "C" fn nrvs_plan_give(plan: &mut Plan, frame: u64) -> u32
     requires { IsSound plan.old }
     ensures asked { (result ≡ 17) ↔ (IsFalse (takes_frame plan.old.way.phase)) }
+    ensures status { result ≢ 17 → result ≡ status_in (phase_in plan.new.way.phase) }
+    ensures ended { result ≡ 0 → plan.new.way.phase ≡ ENDED }
+    ensures named { result ≡ 0 → plan.new.unlinked_count ≤ MOST_UNLINKED }
+    ensures ends { result ≢ 32 }
     ensures sound { IsSound plan.new }
     ensures call { plan.new.call ≡ plan.old.call }
     ensures refused { result ≡ 17 → plan.new ≡ plan.old }
@@ -239,9 +254,15 @@ pub extern "C" fn nrvs_plan_give(plan: &mut Plan, frame: u64) -> u32
 pub extern "C" fn nrvs_plan_give_none(plan: &mut Plan) -> u32
     requires { IsSound plan.old }
     ensures asked { (result ≡ 17) ↔ (IsFalse (takes_frame plan.old.way.phase)) }
+    ensures status { result ≢ 17 → result ≡ status_in (phase_in plan.new.way.phase) }
+    ensures ended { result ≡ 0 → plan.new.way.phase ≡ ENDED }
+    ensures named { result ≡ 0 → plan.new.unlinked_count ≤ MOST_UNLINKED }
+    ensures ends { result ≢ 32 }
     ensures sound { IsSound plan.new }
     ensures call { plan.new.call ≡ plan.old.call }
     ensures refused { result ≡ 17 → plan.new ≡ plan.old }
+    ensures fewer { result ≡ 33 → plan.new.way.level - plan.new.way.height
+        < plan.old.way.level - plan.old.way.height }
     ensures next { result ≢ 17 → (memory : Memory) → IsShown memory (planner_in plan.old)
         → IsNextOf memory plan.new (None ∷ []) result }
 {
@@ -256,14 +277,10 @@ pub extern "C" fn nrvs_plan_again(plan: &mut Plan, index: usize, found: u64) -> 
     requires { IsSound plan.old }
     ensures sound { IsSound plan.new }
     ensures status { (result ≡ 0) ⊎ (result ≡ 17) }
+    ensures asked { result ≡ 0 → (plan.old.way.phase ≡ ENDED) × (index < plan.old.store_count) }
     ensures refused { result ≡ 17 → plan.new ≡ plan.old }
     ensures flags { result ≡ 0 → HasFlagsSet (store_at plan.old index).old found }
-    ensures again { result ≡ 0 → plan.new ≡ record plan.old {
-      stores = slice_set plan.old.stores index
-          (store_again plan.old (store_at plan.old index) found);
-      fill = fill_again plan.old found;
-      bits = bits_again plan.old index (store_at plan.old index) found;
-    } }
+    ensures again { result ≡ 0 → plan.new ≡ plan_again plan.old index found }
     ensures done { plan.old.way.phase ≡ ENDED → index < plan.old.store_count
         → HasFlagsSet (store_at plan.old index).old found → result ≡ 0 }
 {
@@ -271,10 +288,10 @@ pub extern "C" fn nrvs_plan_again(plan: &mut Plan, index: usize, found: u64) -> 
         return NOT_ASKED;
     }
     let store = plan.stores[index];
-    let Some(again) = store.again(found) else {
+    let Some(again) = store.again(found, is_linking(plan)) else {
         return NOT_ASKED;
     };
-    plan.stores[index] = store_again(plan, store, again);
+    plan.stores[index] = again;
     plan.bits = bits_again(plan, index, store, found);
     if plan.fills != 0 {
         plan.fill = plan.fill.again(found);
@@ -287,6 +304,9 @@ fn see(plan: &mut Plan, words: &Words) -> u32
     requires sound { IsSound plan.old }
     requires waits { plan.old.way.phase ≤ SEARCH }
     ensures asked { result ≢ 17 }
+    ensures status { result ≡ status_in (phase_in plan.new.way.phase) }
+    ensures ended { result ≡ 0 → plan.new.way.phase ≡ ENDED }
+    ensures named { result ≡ 0 → plan.new.unlinked_count ≤ MOST_UNLINKED }
     ensures sound { IsSound plan.new }
     ensures call { plan.new.call ≡ plan.old.call }
     ensures fewer { result ≡ 32 → plan.new.way.level < plan.old.way.level }
@@ -304,6 +324,10 @@ fn see(plan: &mut Plan, words: &Words) -> u32
 fn give(plan: &mut Plan, frame: Option<u64>) -> u32
     requires { IsSound plan.old }
     ensures asked { (result ≡ 17) ↔ (IsFalse (takes_frame plan.old.way.phase)) }
+    ensures status { result ≢ 17 → result ≡ status_in (phase_in plan.new.way.phase) }
+    ensures ended { result ≡ 0 → plan.new.way.phase ≡ ENDED }
+    ensures named { result ≡ 0 → plan.new.unlinked_count ≤ MOST_UNLINKED }
+    ensures ends { result ≢ 32 }
     ensures sound { IsSound plan.new }
     ensures call { plan.new.call ≡ plan.old.call }
     ensures refused { result ≡ 17 → plan.new ≡ plan.old }

@@ -9,6 +9,7 @@ mod codes;
 mod down;
 mod exports;
 mod kept;
+pub mod laws;
 mod next;
 mod status;
 mod told;

@@ -1,16 +1,19 @@
 //! What comes next, once a planner has answered.
-ghost use Rattle.std.specs.Prelude.{◌≡◌, ◌≢◌, ◌-◌, ℕ, List, Option};
+ghost use Rattle.std.specs.Prelude.{◌≡◌, ◌≢◌, ◌≤◌, ◌-◌, ℕ, List, Option};
+ghost use Rattle.vs_types.specs.Depth.{levels};
 ghost use Rattle.vs_walk.specs.Memory.{Memory};
+ghost use Rattle.vs_plan.specs.declared.plan.TheConstants.{MOST_UNLINKED};
 ghost use Rattle.vs_plan.specs.Planner.{Awaits, HasGiven, frames_given, gives_left, sees_left};
 ghost use Rattle.vs_plan.specs.Shown.{IsNext};
-ghost use Rattle.nrvs_plan_c.specs.Kept.{IsSound, planner_in, request_in, target_in};
-ghost use Rattle.nrvs_plan_c.specs.Next.{IsNextOf};
+ghost use Rattle.nrvs_plan_c.specs.declared.codes.TheConstants.{ENDED};
+ghost use Rattle.nrvs_plan_c.specs.Kept.{IsSound, phase_in, planner_in, request_in, target_in};
+ghost use Rattle.nrvs_plan_c.specs.Next.{IsNextOf, status_in};
 
-use crate::codes::code_of;
+use crate::codes::ENDED;
 use crate::kept::{Plan, keep};
 use crate::status::{GIVE, PLANNED, SEE};
 use crate::told::write;
-use vs_plan::{Phase, Planner, Step};
+use vs_plan::{Planner, Step};
 
 /// Keeps the planner, or writes its plan.
 pub(crate) fn go_on(plan: &mut Plan, planner: &Planner, step: &Step) -> u32
@@ -19,8 +22,12 @@ pub(crate) fn go_on(plan: &mut Plan, planner: &Planner, step: &Step) -> u32
     requires awaits { Awaits planner.now step.now }
     ensures sound { IsSound plan.new }
     ensures call { plan.new.call ≡ plan.old.call }
-    ensures status { result ≢ 17 }
+    ensures asked { result ≢ 17 }
+    ensures status { result ≡ status_in (phase_in plan.new.way.phase) }
+    ensures ended { result ≡ 0 → plan.new.way.phase ≡ ENDED }
+    ensures named { result ≡ 0 → plan.new.unlinked_count ≤ MOST_UNLINKED }
     ensures level { result ≡ 32 → plan.new.way.level ≡ sees_left planner.now step.now }
+    ensures sees { result ≡ 32 → gives_left planner.now step.now ≡ levels planner.now.target.depth }
     ensures height { result ≡ 33 → plan.new.way.level - plan.new.way.height
         ≡ gives_left planner.now step.now }
     ensures given { (frames : List ℕ) → result ≡ 33 → HasGiven planner.now frames step.now
@@ -38,7 +45,7 @@ pub(crate) fn go_on(plan: &mut Plan, planner: &Planner, step: &Step) -> u32
             GIVE
         }
         Step::Planned(made) => {
-            plan.way.phase = code_of(Phase::Ended);
+            plan.way.phase = ENDED;
             write(plan, made);
             PLANNED
         }

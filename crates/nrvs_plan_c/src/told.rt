@@ -1,8 +1,7 @@
 //! A plan in numbers.
 ghost use Rattle.std.specs.Prelude.{◌≡◌, ◌≤◌};
-ghost use Rattle.vs_plan.specs.declared.plan.TheConstants.{MOST_STORES};
-ghost use Rattle.vs_plan.specs.Again.{with_flags_of};
-ghost use Rattle.nrvs_plan_c.specs.Told.{IsTold, answer_numbers, bits_again, bits_told, fill_numbers, flush_numbers, reply_numbers, store_again};
+ghost use Rattle.vs_plan.specs.declared.plan.TheConstants.{MOST_STORES, MOST_UNLINKED};
+ghost use Rattle.nrvs_plan_c.specs.Told.{IsTold, answer_numbers, bits_again, bits_told, fill_numbers, flush_numbers, is_linking, reply_numbers};
 
 use crate::kept::Plan;
 use vs_plan::{Fill, Flush, Reply as Outcome, Store};
@@ -117,6 +116,7 @@ pub(crate) fn write(plan: &mut Plan, made: &vs_plan::Plan)
     ensures call { plan.new.call ≡ plan.old.call }
     ensures way { plan.new.way ≡ plan.old.way }
     ensures room { plan.new.store_count ≤ MOST_STORES }
+    ensures named { plan.new.unlinked_count ≤ MOST_UNLINKED }
 {
     plan.reply = Reply::of(made.reply);
     plan.bits = bits_told(made.reply, made.bits);
@@ -128,19 +128,11 @@ pub(crate) fn write(plan: &mut Plan, made: &vs_plan::Plan)
     plan.unlinked[..made.unlinked.len()].copy_from_slice(made.unlinked.as_slice());
 }
 
-/// What a store becomes that found other flags, where it becomes this one by itself: what it links, or writes in the place of a link,
-/// stays.
-pub(crate) fn store_again(plan: &Plan, store: Store, again: Store) -> Store
-    requires { again ≡ record store { old = again.old; new = with_flags_of again.old store.new } }
-    ensures { result ≡ store_again plan.now store again.old }
+/// Whether a store writes a link to the table that is filled, or in the place of the link to a table that is unlinked.
+pub(crate) fn is_linking(plan: &Plan) -> bool
+    ensures { result ≡ is_linking plan.now }
 {
-    if plan.fills != 0 || plan.unlinked_count != 0 {
-        return Store {
-            old: again.old,
-            ..store
-        };
-    }
-    again
+    plan.fills != 0 || plan.unlinked_count != 0
 }
 
 /// The bits that are said of a page's entry, once the store at an index found it with other flags.

@@ -1,7 +1,6 @@
 use crate::carried::{TARGET, carried, plan_for};
 use crate::memory::Memory;
 use crate::worked::{A, C, Row, Said, WRITE, is_so, page};
-use std::test::Fail;
 use vs_plan::{Fill, Flush, Reply, Request, Store};
 use vs_types::{Answer, Rights, Size};
 
@@ -15,7 +14,7 @@ fn store(old: u64, new: u64) -> Store {
     }
 }
 
-// A store whose word was given flags meanwhile keeps them; one that finds anything else isn't made again.
+// A store whose word was given flags meanwhile keeps them, but where it links; one that finds anything else isn't made again.
 #[test]
 fn stores_again(rt: HostRuntime) {
     let narrow = store(0x1007, 0x8000_0000_0000_1003);
@@ -30,10 +29,13 @@ fn stores_again(rt: HostRuntime) {
         (0, None),
     ];
     for (word, again) in cases {
-        assert!(rt; narrow.again(word) == again);
+        assert!(rt; narrow.again(word, false) == again);
     }
-    assert!(rt; store(0x1007, 0).again(0x1067) == Some(store(0x1067, 0)));
-    assert!(rt; store(0, 0x1007).again(0) == None);
+    assert!(rt; store(0x1007, 0).again(0x1067, false) == Some(store(0x1067, 0)));
+    assert!(rt; store(0, 0x1007).again(0, false) == None);
+    let joined = store(0x1007, 0x2000E7);
+    assert!(rt; joined.again(0x1027, true) == Some(store(0x1027, 0x2000E7)));
+    assert!(rt; joined.again(0x2027, true) == None);
     let fill = Fill {
         frame: 7,
         first: 0x600003,
@@ -48,10 +50,10 @@ fn stores_again(rt: HostRuntime) {
 
 // A whole plan, whose store found flags: of a protect they are in what is stored, of a split in the fill; of a join both were set.
 #[test]
-fn plans_again(rt: HostRuntime) -> Result<(), Fail> {
-    let mut memory = Memory::new(rt.alloc(), 8)?;
+fn plans_again(rt: HostRuntime) {
+    let mut memory = Memory::new(&rt, rt.alloc(), 8);
     let large = page(0x200000, Size::M2, 0x600000, WRITE);
-    let _plan = carried(&rt, &mut memory, TARGET, Request::Map(large, 0))?;
+    let _plan = carried(&rt, &mut memory, TARGET, Request::Map(large, 0));
     let word = 0x8000_0000_0060_0083;
     let was = Reply::Answer(Answer::Changed(WRITE));
     let mut plan = plan_for(
@@ -77,10 +79,9 @@ fn plans_again(rt: HostRuntime) -> Result<(), Fail> {
     };
     assert!(rt; plan.fill == Some(fill));
     memory.write(&rt, A, 1, word + 0x20);
-    memory.carry_out(&rt, &plan)?;
+    memory.carry_out(&rt, &plan);
     let mut plan = plan_for(&rt, &mut memory, TARGET, Request::Join(0x200000));
     assert!(rt; plan.again(0, 0x1_0000_3027));
     let rows = [Row(A, 1, 0x1_0000_3027, word + 0x60)];
     assert!(rt; is_so(&plan, Said(was, 0x20, flush, &rows, &[C])));
-    Ok(())
 }

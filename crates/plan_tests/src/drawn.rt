@@ -2,7 +2,6 @@ use crate::carried::{TARGET, carried};
 use crate::memory::Memory;
 use crate::worked::page;
 use std::process::Abort;
-use std::test::Fail;
 use vs_arena::{FrameStore, VecArena};
 use vs_plan::{Reply, Request, Target};
 use vs_space::Space;
@@ -30,7 +29,7 @@ const SIZES: [Size; 8] = [
 ];
 
 /// Numbers that look random, each from the one before.
-#[derive(Drop)]
+#[derive(Clone, Copy)]
 struct Draws(u64);
 
 impl Draws {
@@ -240,29 +239,27 @@ fn draw_all<S: FrameStore + Drop>(
     mut memory: Memory,
     mut space: Space<S>,
     target: Target,
-) -> Result<(), Fail> {
+) {
     let mut draws = Draws(0x9E3779B97F4A7C15);
     for place in 0..CALLS {
         let (request, reply) = draw(rt, &mut draws, &mut space);
-        let plan = carried(rt, &mut memory, target, request)?;
+        let plan = carried(rt, &mut memory, target, request);
         assert!(rt; plan.reply == reply, "call {place}");
         for _ in 0..4u8 {
             let address = draws.base(Size::K4).wrapping_add(draws.below(4096));
-            let asked = carried(rt, &mut memory, target, Request::Ask(address))?;
+            let asked = carried(rt, &mut memory, target, Request::Ask(address));
             let wanted = Reply::Answer(resolved(rt, &space, address));
             assert!(rt; asked.reply == wanted, "an address after call {place}");
         }
     }
-    Ok(())
 }
 
 #[test]
-fn as_the_space(rt: HostRuntime) -> Result<(), Fail> {
+fn as_the_space(rt: HostRuntime) {
     for depth in [Depth::Four, Depth::Five] {
-        let arena = VecArena::new(rt.alloc(), 1 << 39, 512)?;
-        let space = Space::new(arena, depth)?;
+        let arena = VecArena::new(rt.alloc(), 1 << 39, 512).expect(&rt, "memory");
+        let space = Space::new(arena, depth).ok().expect(&rt, "a space");
         let target = Target { depth, ..TARGET };
-        draw_all(&rt, Memory::new(rt.alloc(), 512)?, space, target)?;
+        draw_all(&rt, Memory::new(&rt, rt.alloc(), 512), space, target);
     }
-    Ok(())
 }

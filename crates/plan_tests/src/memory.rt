@@ -1,4 +1,4 @@
-use std::alloc::{AllocError, Global};
+use std::alloc::Global;
 use std::process::Abort;
 use vs_plan::{Fill, Plan, Store};
 use vs_types::FRAME_WORDS;
@@ -18,16 +18,16 @@ pub struct Memory {
 
 impl Memory {
     /// So many frames of zeros, all but the first of which are free; the lowest is taken first.
-    pub fn new(alloc: Global, count: u32) -> Result<Memory, AllocError> {
+    pub fn new(rt: &impl Abort, alloc: Global, count: u32) -> Memory {
         let mut frames = Vec::new(alloc);
         let mut free = Vec::new(alloc);
         for _ in 0..count {
-            frames.push(ZEROS)?;
+            frames.push(ZEROS).expect(rt, "memory");
         }
         for index in (1..count).rev() {
-            free.push(FIRST + u64::from(index))?;
+            free.push(FIRST + u64::from(index)).expect(rt, "memory");
         }
-        Ok(Memory { frames, free })
+        Memory { frames, free }
     }
 
     /// The words of a frame.
@@ -61,9 +61,8 @@ impl Memory {
     }
 
     /// Offers a frame of this number, which is taken next.
-    pub fn offer(&mut self, number: u64) -> Result<(), AllocError> {
-        self.free.push(number)?;
-        Ok(())
+    pub fn offer(&mut self, rt: &impl Abort, number: u64) {
+        self.free.push(number).expect(rt, "memory");
     }
 
     /// How many frames are free.
@@ -72,12 +71,11 @@ impl Memory {
     }
 
     /// Clears a frame, which is free then.
-    pub fn release(&mut self, rt: &impl Abort, number: u64) -> Result<(), AllocError> {
+    pub fn release(&mut self, rt: &impl Abort, number: u64) {
         for index in 0..FRAME_WORDS {
             self.write(rt, number, index, 0);
         }
-        self.free.push(number)?;
-        Ok(())
+        self.offer(rt, number);
     }
 
     /// Makes a store, which must find its old word.
@@ -97,7 +95,7 @@ impl Memory {
     }
 
     /// Carries a plan out: the fill, the stores in their order; then the frames that are unlinked are free.
-    pub fn carry_out(&mut self, rt: &impl Abort, plan: &Plan) -> Result<(), AllocError> {
+    pub fn carry_out(&mut self, rt: &impl Abort, plan: &Plan) {
         if let Some(fill) = plan.fill {
             self.fill(rt, fill);
         }
@@ -105,9 +103,8 @@ impl Memory {
             self.store(rt, *store);
         }
         for number in plan.unlinked.as_slice() {
-            self.release(rt, *number)?;
+            self.release(rt, *number);
         }
-        Ok(())
     }
 }
 

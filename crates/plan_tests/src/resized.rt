@@ -1,8 +1,8 @@
 use crate::carried::{TARGET, carried};
 use crate::memory::Memory;
 use crate::worked::{A, B, C, Row, Said, WRITE, is_so, page};
+use std::alloc::Global;
 use std::process::Abort;
-use std::test::Fail;
 use vs_plan::{Fill, Flush, Reply, Request};
 use vs_types::{Answer, Rights, Size};
 
@@ -16,20 +16,20 @@ const LARGE: u64 = 0x8800_0000_0060_1193;
 const PART: u64 = 0x8800_0000_0060_0193;
 
 /// A memory in which that page lies at 2 MiB: its entry is in frame A.
-fn with_large(rt: &impl Abort, memory: &mut Memory) -> Result<(), Fail> {
+fn with_large(rt: &impl Abort, alloc: Global, count: u32) -> Memory {
+    let mut memory = Memory::new(rt, alloc, count);
     let large = page(0x200000, Size::M2, 0x600000, WRITE);
-    let plan = carried(rt, memory, TARGET, Request::Map(large, BITS))?;
+    let plan = carried(rt, &mut memory, TARGET, Request::Map(large, BITS));
     assert!(rt; plan.reply == Reply::Answer(Answer::Done));
     assert!(rt; memory.word(rt, A, 1) == LARGE);
-    Ok(())
+    memory
 }
 
 // A page of 2 MiB becomes 512 of 4 KiB, which become one again, with both flags.
 #[test]
-fn split_and_joined(rt: HostRuntime) -> Result<(), Fail> {
-    let mut memory = Memory::new(rt.alloc(), 8)?;
-    with_large(&rt, &mut memory)?;
-    let plan = carried(&rt, &mut memory, TARGET, Request::Split(0x200000))?;
+fn split_and_joined(rt: HostRuntime) {
+    let mut memory = with_large(&rt, rt.alloc(), 8);
+    let plan = carried(&rt, &mut memory, TARGET, Request::Split(0x200000));
     let was = Reply::Answer(Answer::Changed(WRITE));
     let flush = Flush::Range(0x200000, Size::M2);
     let rows = [Row(A, 1, LARGE, 0x1_0000_3007)];
@@ -41,63 +41,62 @@ fn split_and_joined(rt: HostRuntime) -> Result<(), Fail> {
     };
     assert!(rt; plan.fill == Some(fill));
     assert!(rt; memory.word(&rt, C, 511) == PART + 0x1FF000);
-    let plan = carried(&rt, &mut memory, TARGET, Request::Ask(0x3FFFFF))?;
+    let plan = carried(&rt, &mut memory, TARGET, Request::Ask(0x3FFFFF));
     let last = Reply::Answer(Answer::Mapped(0x7FFFFF, Size::K4, WRITE));
     assert!(rt; is_so(&plan, Said(last, BITS, Flush::Nothing, &[], &[])));
     memory.write(&rt, C, 7, PART + 0x7060);
-    let plan = carried(&rt, &mut memory, TARGET, Request::Join(0x200000))?;
+    let plan = carried(&rt, &mut memory, TARGET, Request::Join(0x200000));
     let rows = [Row(A, 1, 0x1_0000_3007, LARGE + 0x60)];
     assert!(rt; is_so(&plan, Said(was, BITS, flush, &rows, &[C])));
     assert!(rt; plan.fill.is_none());
-    Ok(())
 }
 
-// Why pages can't be split, joined or led elsewhere.
-#[test]
-fn refused_by_the_page(rt: HostRuntime) -> Result<(), Fail> {
-    let mut memory = Memory::new(rt.alloc(), 16)?;
-    with_large(&rt, &mut memory)?;
-    let split = carried(&rt, &mut memory, TARGET, Request::Split(0x200000))?;
+/// The page at 2 MiB is split, one of its parts is narrowed; beside it are a page of 4 KiB at 4 MiB and one of 1 GiB at 1 GiB.
+fn with_pages(rt: &impl Abort, alloc: Global) -> Memory {
+    let mut memory = with_large(rt, alloc, 16);
+    let split = carried(rt, &mut memory, TARGET, Request::Split(0x200000));
     assert!(rt; split.fill.is_some());
     let small = page(0x400000, Size::K4, 0x1000, Rights::ALL);
     let gigabyte = page(0x40000000, Size::G1, 0x40000000, Rights::ALL);
-    let maps = [Request::Map(small, 0), Request::Map(gigabyte, 0)];
-    for map in maps {
-        let plan = carried(&rt, &mut memory, TARGET, map)?;
+    for map in [Request::Map(small, 0), Request::Map(gigabyte, 0)] {
+        let plan = carried(rt, &mut memory, TARGET, map);
         assert!(rt; plan.reply == Reply::Answer(Answer::Done));
     }
     let narrow = Request::Protect(0x205000, Rights::NONE);
-    let plan = carried(&rt, &mut memory, TARGET, narrow)?;
+    let plan = carried(rt, &mut memory, TARGET, narrow);
     assert!(rt; plan.reply == Reply::Answer(Answer::Changed(WRITE)));
-    let cases = [
-        (Request::Split(0x200000), Reply::Smallest),
-        (Request::Split(0x800000), Reply::Answer(Answer::NotMapped)),
-        (
-            Request::Split(0x40001000),
-            Reply::Answer(Answer::Inside(0x40000000)),
-        ),
-        (Request::Join(0x200000), Reply::Apart(5)),
-        (Request::Join(0x201000), Reply::Unaligned),
-        (Request::Join(0x400000), Reply::PhysUnaligned),
-        (Request::Join(0x40000000), Reply::Largest),
-        (Request::Join(0x800000), Reply::Answer(Answer::NotMapped)),
-        (
-            Request::Remap(0x40000000, 0x200000, WRITE),
-            Reply::PhysUnaligned,
-        ),
-        (Request::Remap(0x200000, 1 << 40, WRITE), Reply::PhysRange),
-        (
-            Request::Remap(0x40001000, 0, WRITE),
-            Reply::Answer(Answer::Inside(0x40000000)),
-        ),
-    ];
-    for (place, (request, reply)) in cases.iter().enumerate() {
-        let plan = carried(&rt, &mut memory, TARGET, *request)?;
-        assert!(rt;
-            is_so(&plan, Said(*reply, 0, Flush::Nothing, &[], &[])),
-            "row {place}"
-        );
+    memory
+}
+
+const MISSING: Reply = Reply::Answer(Answer::NotMapped);
+
+const INSIDE: Reply = Reply::Answer(Answer::Inside(0x40000000));
+
+/// Requests there, and why pages can't be split, joined or led elsewhere.
+static REFUSED: [(Request, Reply); 11] = [
+    (Request::Split(0x200000), Reply::Smallest),
+    (Request::Split(0x800000), MISSING),
+    (Request::Split(0x40001000), INSIDE),
+    (Request::Join(0x200000), Reply::Apart(5)),
+    (Request::Join(0x201000), Reply::Unaligned),
+    (Request::Join(0x400000), Reply::PhysUnaligned),
+    (Request::Join(0x40000000), Reply::Largest),
+    (Request::Join(0x800000), MISSING),
+    (
+        Request::Remap(0x40000000, 0x200000, WRITE),
+        Reply::PhysUnaligned,
+    ),
+    (Request::Remap(0x200000, 1 << 40, WRITE), Reply::PhysRange),
+    (Request::Remap(0x40001000, 0, WRITE), INSIDE),
+];
+
+#[test]
+fn refused_by_the_page(rt: HostRuntime) {
+    let mut memory = with_pages(&rt, rt.alloc());
+    for (place, (request, reply)) in REFUSED.iter().enumerate() {
+        let plan = carried(&rt, &mut memory, TARGET, *request);
+        let said = Said(*reply, 0, Flush::Nothing, &[], &[]);
+        assert!(rt; is_so(&plan, said), "row {place}");
     }
     assert!(rt; memory.word(&rt, B, 1) == 0x4000_0087);
-    Ok(())
 }

@@ -1,7 +1,6 @@
 use crate::carried::{TARGET, carried};
 use crate::memory::{FIRST, Memory};
 use std::process::Abort;
-use std::test::Fail;
 use vs_plan::{Flush, Plan, Reply, Request, Store, Target};
 use vs_types::{Answer, Depth, Page, Rights, Size};
 
@@ -80,8 +79,8 @@ static UNLINKED: [u64; 3] = [A, B, C];
 
 // One page is mapped, protected, translated, remapped and removed.
 #[test]
-fn one_page(rt: HostRuntime) -> Result<(), Fail> {
-    let mut memory = Memory::new(rt.alloc(), 8)?;
+fn one_page(rt: HostRuntime) {
+    let mut memory = Memory::new(&rt, rt.alloc(), 8);
     let base = 0x400000;
     let flush = Flush::Page(base, Size::K4);
     let none = Flush::Nothing;
@@ -111,25 +110,24 @@ fn one_page(rt: HostRuntime) -> Result<(), Fail> {
         ),
     ];
     for (place, (request, said)) in steps.iter().enumerate() {
-        let plan = carried(&rt, &mut memory, TARGET, *request)?;
+        let plan = carried(&rt, &mut memory, TARGET, *request);
         assert!(rt; is_so(&plan, *said), "step {place}");
     }
     assert!(rt; memory.free() == 7);
-    Ok(())
 }
 
 // The table that the root leads to stays where it is pinned.
 #[test]
-fn pinned_table(rt: HostRuntime) -> Result<(), Fail> {
-    let mut memory = Memory::new(rt.alloc(), 8)?;
+fn pinned_table(rt: HostRuntime) {
+    let mut memory = Memory::new(&rt, rt.alloc(), 8);
     let target = Target {
         pinned: true,
         ..TARGET
     };
     let base = 0x400000;
     let map = Request::Map(page(base, Size::K4, 0x1000, ALL), 0);
-    let _plan = carried(&rt, &mut memory, target, map)?;
-    let plan = carried(&rt, &mut memory, target, Request::Unmap(base))?;
+    let _plan = carried(&rt, &mut memory, target, map);
+    let plan = carried(&rt, &mut memory, target, Request::Unmap(base));
     let removed = Reply::Answer(Answer::Removed(0x1000, Size::K4, ALL));
     let flush = Flush::PageAndTables(base, Size::K4);
     let rows = [
@@ -139,19 +137,18 @@ fn pinned_table(rt: HostRuntime) -> Result<(), Fail> {
     ];
     assert!(rt; is_so(&plan, Said(removed, 0, flush, &rows, &[A, B])));
     assert!(rt; memory.word(&rt, FIRST, 0) == 0x1_0000_3007);
-    Ok(())
 }
 
 // At five levels: the first page of the high half, under index 256 of the root; and a page of 1 GiB takes two tables.
 #[test]
-fn five_levels(rt: HostRuntime) -> Result<(), Fail> {
-    let mut memory = Memory::new(rt.alloc(), 8)?;
+fn five_levels(rt: HostRuntime) {
+    let mut memory = Memory::new(&rt, rt.alloc(), 8);
     let target = Target {
         depth: Depth::Five,
         ..TARGET
     };
     let high = page(0xFF00000000000000, Size::K4, 0x3000, ALL);
-    let plan = carried(&rt, &mut memory, target, Request::Map(high, 0x20))?;
+    let plan = carried(&rt, &mut memory, target, Request::Map(high, 0x20));
     let rows = [
         Row(A, 0, 0, 0x3027),
         Row(B, 0, 0, 0x1_0000_1007),
@@ -162,15 +159,14 @@ fn five_levels(rt: HostRuntime) -> Result<(), Fail> {
     let done = Reply::Answer(Answer::Done);
     assert!(rt; is_so(&plan, Said(done, 0, Flush::Nothing, &rows, &[])));
     let gigabyte = page(0x40000000, Size::G1, 0x40000000, WRITE);
-    let plan = carried(&rt, &mut memory, target, Request::Map(gigabyte, 0))?;
+    let plan = carried(&rt, &mut memory, target, Request::Map(gigabyte, 0));
     let rows = [
         Row(FIRST + 5, 1, 0, 0x8000_0000_4000_0083),
         Row(FIRST + 6, 0, 0, 0x1_0000_5007),
         Row(FIRST, 0, 0, 0x1_0000_6007),
     ];
     assert!(rt; is_so(&plan, Said(done, 0, Flush::Nothing, &rows, &[])));
-    let plan = carried(&rt, &mut memory, target, Request::Unmap(0x40001000))?;
+    let plan = carried(&rt, &mut memory, target, Request::Unmap(0x40001000));
     let inside = Reply::Answer(Answer::Inside(0x40000000));
     assert!(rt; is_so(&plan, Said(inside, 0, Flush::Nothing, &[], &[])));
-    Ok(())
 }

@@ -96,7 +96,7 @@ module _ {p : Planner} {word : ℕ} (end : IsAtEnd p) where
       let absent = absent_end ended premise no_map (meaning p.level word) refl other in
       let nothing = absent_here ended.way end.some ended.word_is premise.is_space premise.translates end.request.canonical absent in
       let stays = stepped_none p.target space p.request no_map nothing in
-      nothing_right premise (no_refusal p.target space p.request (λ q here. let both : Some q ≡ None = sym here ∙ nothing in absurd (cc))) plan none
+      nothing_right premise (no_refusal p.target space p.request (λ q here. let both : Some q ≡ None = sym here ∙ nothing in absurd (cc))) plan none tt
       (sym (ap (λ (s : Stepped). s.answer) stays))
       (subst (λ (s : Space). TranslatesAs p.target.depth memory p.target.root s) (sym (ap (λ (s : Stepped). s.space) stays)) premise.translates) refl
 
@@ -136,7 +136,7 @@ module _ {p : Planner} {word : ℕ} (end : IsAtEnd p) {phys : ℕ} {own : Rights
   ask_right {address} is plan none memory ended space premise =
       let here = page_here ended.way end.some ended.word_is premise.is_space premise.translates end.request.canonical says in
       let place : address_of p.request ≡ address = ap address_of is in
-      nothing_right premise (due_as p.target space is refl) plan none
+      nothing_right premise (due_as p.target space is refl) plan none tt
       (subst (λ r. answers.Mapped (phys + address % bytes_of (size_at p.level)) (size_at p.level) (intersection p.rights own)
       ≡ (stepped p.target.depth space r).answer) (sym is)
       (subst (λ a. answers.Mapped (phys + a % bytes_of (size_at p.level)) (size_at p.level) (intersection p.rights own) ≡ look space a) place
@@ -168,7 +168,7 @@ module _ {p : Planner} {word : ℕ} (end : IsAtEnd p) {phys : ℕ} {own : Rights
       let base_is : q.base ≡ base - base % bytes_of (size_at p.level) = omega (arith, begins) in
       let other : (z : Page) → page_at space (address_of p.request) ≡ Some z → z.base ≢ address_of p.request = λ z at same.
       let one : z ≡ q = cc (at, here.1.here) in inside (omega (arith, begins, place, same, ap (λ (x : Page). x.base) one)) in
-      nothing_right premise (no_refusal p.target space p.request other) plan none
+      nothing_right premise (no_refusal p.target space p.request other) plan none tt
       (sym (ap (λ (s : Stepped). s.answer) is ∙ ap answers.Inside base_is))
       (subst (λ (s : Space). TranslatesAs p.target.depth memory p.target.root s) (sym (ap (λ (s : Stepped). s.space) is)) premise.translates) refl
 

@@ -59,7 +59,7 @@ store_of : {target : Target} {memory : Memory} {base : ℕ} {unlinked : List ℕ
     → IsMeant target memory base unlinked s → IsStore target memory base other s
 store_of other keeps (OfPage on ends) = OnWay on.level on.reached (λ top. inl ends)
 store_of other keeps (OfLink on below leads named high new) = link_store other keeps on high
-store_of other keeps (OfSpare spare) = OffWays spare.unreached
+store_of other keeps (OfSpare spare low) = OffWays spare.unreached
 
 store_by : (target : Target) (memory : Memory) (request : Request) (unlinked : List ℕ) (other : ℕ) (s : Store)
     → Keeps target memory (address_of request) other → IsMeantBy target memory request unlinked s → IsStore target memory (address_of request) other s
@@ -72,7 +72,7 @@ store_by target memory (Split base) unlinked other s keeps meant = store_of othe
 store_by target memory (Join base) unlinked other s keeps meant = link_store other keeps meant.on meant.may
 
 -- an address whose way from the other root meets no table on its own way from the root isn't shared
-meets_unshared : (depth : Depth) (memory : Memory) (root other base : ℕ) → MeetsNone depth memory root other base base
+pub meets_unshared : (depth : Depth) (memory : Memory) (root other base : ℕ) → MeetsNone depth memory root other base base
     → IsShared depth memory root other base → ⊥
 meets_unshared depth memory root other base none shared =
     none (levels depth - 1) (levels depth - 1) shared.table (leads other shared.there) (leads root shared.here)
@@ -98,7 +98,7 @@ module _ (target : Target) (memory start : Memory) (same : HasSameTables target.
   root_table = unread_table target.depth target.root memory start same
 
   module _ (other : ℕ) (other_same : HasSameTables target.depth other memory start) where
-    other_table : (level address : ℕ) → table_at (levels target.depth) start other level address ≡ table_at (levels target.depth) memory other level address
+    pub other_table : (level address : ℕ) → table_at (levels target.depth) start other level address ≡ table_at (levels target.depth) memory other level address
     other_table = unread_table target.depth other memory start other_same
 
     root_found : (root address : ℕ) → HasSameTables target.depth root memory start
@@ -106,7 +106,7 @@ module _ (target : Target) (memory start : Memory) (same : HasSameTables target.
     root_found root address alike = found_alike (levels target.depth) memory start root address
         (alike (levels target.depth) address root (table_first (levels target.depth) root memory address))
 
-    begins_shared : (address : ℕ) → IsShared target.depth memory target.root other address → IsShared target.depth start target.root other address
+    pub begins_shared : (address : ℕ) → IsShared target.depth memory target.root other address → IsShared target.depth start target.root other address
     begins_shared address shared = record {
       table = shared.table;
       rights = shared.rights;
@@ -129,7 +129,7 @@ module _ (target : Target) (memory start : Memory) (same : HasSameTables target.
         (keeps top))
     begins_store base s (OffWays unreached) = OffWays (λ level address at. unreached level address (sym (root_table level address) ∙ at))
 
-    begins_none : (base address : ℕ) → MeetsNone target.depth memory target.root other base address
+    pub begins_none : (base address : ℕ) → MeetsNone target.depth memory target.root other base address
         → MeetsNone target.depth start target.root other base address
     begins_none base address none level height number at on =
         none level height number (sym (other_table level address) ∙ at) (sym (root_table height base) ∙ on)
@@ -157,10 +157,10 @@ fill_same target memory base plan other beside = by plan.fill refl where
 module _ (target : Target) (request : Request) (memory : Memory) (space : Space) (offered : List (Option ℕ)) (plan : Plan) (other : ℕ)
     (premise : IsPremise target.depth memory target.root (address_of request) space) (right : IsRight target request memory space offered plan)
     (beside : IsBeside target memory (address_of request) plan other) where
-  filled_other : HasSameTables target.depth other memory (begun memory plan)
+  pub filled_other : HasSameTables target.depth other memory (begun memory plan)
   filled_other = fill_same target memory (address_of request) plan other beside
 
-  filled_root : HasSameTables target.depth target.root memory (begun memory plan)
+  pub filled_root : HasSameTables target.depth target.root memory (begun memory plan)
   filled_root = (parts_of premise right).same
 
   gone_there : (number : ℕ) → Contains plan.unlinked.items number
@@ -175,7 +175,7 @@ module _ (target : Target) (request : Request) (memory : Memory) (space : Space)
         unreached = was.unreached;
       }
 
-  are : AreMeant target (begun memory plan) (address_of request) other plan.stores.items plan.unlinked.items
+  pub are : AreMeant target (begun memory plan) (address_of request) other plan.stores.items plan.unlinked.items
   are = record {
     own = begins_own target.depth target.root memory (begun memory plan) filled_root (address_of request) premise.own;
     meant = All-weaker (IsMeantBy target memory request plan.unlinked.items) (IsStore target (begun memory plan) (address_of request) other)
@@ -185,7 +185,7 @@ module _ (target : Target) (request : Request) (memory : Memory) (space : Space)
     gone = gone_there;
   }
 
-  is_other : IsOther target (begun memory plan) (address_of request) plan.stores.items other
+  pub is_other : IsOther target (begun memory plan) (address_of request) plan.stores.items other
   is_other = begins_beside target memory (begun memory plan) filled_root other filled_other (address_of request) plan beside
 
   pub right_beside : IsRightBeside target memory (address_of request) plan other

@@ -69,7 +69,7 @@ module _ {p : Planner} {word : ℕ} (end : IsAtEnd p) {phys : ℕ} {own : Rights
       let due : refusal p.target space p.request ≡ Some replies.Smallest =
       ap (refusal p.target space) is
       ∙ refused_there space base q (subst (λ a. page_at space a ≡ Some q) place here.1.here) begins ∙ small in
-      nothing_right premise due plan none due premise.translates refl
+      nothing_right premise due plan none tt due premise.translates refl
 
   -- the split waits for a frame
   pub division_begins : base % bytes_of (size_at p.level) ≡ 0 → 1 < p.level → {memory : Memory} → HasEnded memory p word → (height : ℕ) (stores : ArrayVec Store)

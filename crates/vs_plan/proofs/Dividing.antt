@@ -1,5 +1,5 @@
 -- A plan that splits a page.
-use Rattle.std.proofs.Common.{◌≡◌, ◌≢◌, ℕ, zero, suc, ◌+◌, ◌%◌, ◌^◌, ◌<◌, ◌≤◌, List, [], ◌∷◌, Some, None, refl, sym, ap, subst, ◌∙◌, arith}
+use Rattle.std.proofs.Common.{◌≡◌, ◌≢◌, ℕ, zero, suc, ◌+◌, ◌%◌, ◌^◌, ◌<◌, ◌≤◌, List, [], ◌∷◌, Some, None, inl, inr, ⊎_elim, refl, sym, ap, subst, ◌∙◌, arith}
 use Rattle.std.proofs.lemmas.List.Elements.{All-nil, All-cons}
 use Rattle.vs_types.specs.Depth.{levels, entry_bytes, index_at}
 use Rattle.vs_types.specs.Entry.{meaning, size_at, table_word, all_rights}
@@ -29,7 +29,7 @@ use Rattle.vs_plan.specs.declared.target.Target.{Target}
 use Rattle.vs_plan.specs.Bits.{bits_in, page_word}
 use Rattle.vs_plan.specs.Changes.{smaller, smallest, split_refusal}
 use Rattle.vs_plan.specs.Premise.{IsSpare}
-use Rattle.vs_plan.specs.Right.{IsEntryOf, IsMeantBy, OfPage}
+use Rattle.vs_plan.specs.Right.{IsEntryOf, IsMeantBy, OfPage, IsNewTable}
 use Rattle.vs_plan.specs.Stores.{stepping, filled, stored}
 use Rattle.vs_plan.specs.Target.{frames_end}
 use Rattle.vs_plan.proofs.Asking.{entry_of}
@@ -39,7 +39,7 @@ use Rattle.vs_plan.proofs.PartSpaces.{refused_there}
 use Rattle.vs_plan.proofs.Pages.{table_from, level_back, page_here}
 use Rattle.vs_plan.proofs.Parts.{none_named, Parts, safe_one, store_at, words_apart, EndAt}
 use Rattle.vs_plan.proofs.Runs.{IsRun}
-use Rattle.vs_plan.proofs.Splitting.{LiesLarge, are_bits_in, large_at, own_parts, run_filled, smaller_at, split_is, split_translates, stepping_long, walk_parts}
+use Rattle.vs_plan.proofs.Splitting.{LiesLarge, are_bits_in, large_at, own_parts, parts_reached, run_filled, smaller_at, split_is, split_translates, stepping_long, walk_parts}
 use Rattle.vs_plan.proofs.Stored.{used_word}
 use Rattle.vs_plan.proofs.Ways.{way_table}
 
@@ -145,6 +145,7 @@ module _ (target : Target) {memory : Memory} {space : Space} {base low number wo
           at = refl;
           aligned = aligned;
           says = ap (λ l. meaning l word) back ∙ says;
+          large = large_at low some;
           given = Contains-head (Some frame) [];
           within = within;
           spare = spare;
@@ -152,6 +153,7 @@ module _ (target : Target) {memory : Memory} {space : Space} {base low number wo
           step = refl;
           link = refl;
         },
+        refl,
       );
       safe = safe_one s (translates_as target.depth memory target.root frame words spare.unreached space end.premise.translates)
           (split_translates table page.1 some few aligned (stored m s)
@@ -162,6 +164,7 @@ module _ (target : Target) {memory : Memory} {space : Space} {base low number wo
           (OfPage (record { level = suc low; reached = reached; index = refl }) (ap (λ e. table_in (Some e)) says)) (All-nil _);
       nothing = λ none. absurd (none (λ e. cc));
       written = refl;
+      already = tt;
       changing = All-cons (λ (t : Store). t.old ≢ t.new) s [] (words_apart (suc low) word (table_word frame) (λ same. let both = sym says ∙ same ∙ leads in cc))
           (All-nil _);
       one_way = tt;
@@ -173,6 +176,12 @@ module _ (target : Target) {memory : Memory} {space : Space} {base low number wo
       whole = whole_store here (table_word frame);
       own = λ a has. own_parts here (way_as target.depth memory target.root frame words spare.unreached end.way) frame low phys (table_word frame) own refl some leads run (unreached_as target.depth memory target.root frame words spare.unreached) a
           (own_as target.depth memory target.root frame words spare.unreached a has);
+      reaches = λ j b q at. ⊎_elim
+          (λ old. inl (sym (table_as target.depth memory target.root frame words spare.unreached j b) ∙ old))
+          (λ same. inr (subst (IsNewTable target memory (Some fill) (s ∷ [])) same
+          (record { spare = spare; written = Contains-head frame (number ∷ []) })))
+          (parts_reached here (way_as target.depth memory target.root frame words spare.unreached end.way) frame low phys (table_word frame) own refl some
+          leads run (unreached_as target.depth memory target.root frame words spare.unreached) b j q at);
     }
 
 parts_by : (target : Target) (level : ℕ) {memory : Memory} {space : Space} {base number word phys : ℕ} {given own : Rights}

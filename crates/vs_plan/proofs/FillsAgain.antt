@@ -15,14 +15,14 @@ use Rattle.vs_space.specs.Flags.{IsSameButFlags, AreSameButFlags}
 use Rattle.vs_space.proofs.Numbered.{get-insert_same, get-insert_other}
 use Rattle.vs_plan.specs.declared.plan.Fill.{Fill}
 use Rattle.vs_plan.specs.Again.{HasFlagsSet, fill_again, flags_into}
-use Rattle.vs_plan.specs.Bits.{bits_in, page_word, placed}
+use Rattle.vs_plan.specs.Bits.{bits_in, flagged, page_word, placed}
 use Rattle.vs_plan.specs.Stores.{filled, stepping}
 use Rattle.vs_plan.proofs.OtherFlags.{bits_after, flags_set}
 use Rattle.vs_plan.proofs.Splitting.{are_bits_in}
 
 -- ---- the words
 
-zip_steps : (first other step count : ℕ) → HasFlagsSet first other → step % 2 ^ 7 ≡ 0
+pub zip_steps : (first other step count : ℕ) → HasFlagsSet first other → step % 2 ^ 7 ≡ 0
     → AllZip IsSameButFlags (stepping first step count) (stepping other step count)
 unfolding stepping
 zip_steps first other step zero is even = tt
@@ -39,7 +39,7 @@ one_list : (x y : List ℕ) → Some x ≡ Some y → x ≡ y
 one_list x y e = cc
 
 -- memories that differ in flags alone still do once a frame has words that do
-same_filled : {old new : Memory} → AreSameButFlags old new → (n : ℕ) (xs ys : List ℕ) → AllZip IsSameButFlags xs ys
+pub same_filled : {old new : Memory} → AreSameButFlags old new → (n : ℕ) (xs ys : List ℕ) → AllZip IsSameButFlags xs ys
     → AreSameButFlags (finite.insert old n xs) (finite.insert new n ys)
 same_filled {old} {new} is n xs ys zipped = record {
   frames = λ f. ⊎_elim
@@ -65,11 +65,11 @@ same_fills is fill word odd even =
 
 -- ---- the first word
 
-second_low : (b : Bool) → cond b (2 ^ 1) 0 ≤ 2
+pub second_low : (b : Bool) → cond b (2 ^ 1) 0 ≤ 2
 second_low true = omega arith
 second_low false = omega arith
 
-third_low : (b : Bool) → cond b (2 ^ 2) 0 ≤ 4
+pub third_low : (b : Bool) → cond b (2 ^ 2) 0 ≤ 4
 third_low true = omega arith
 third_low false = omega arith
 
@@ -95,3 +95,16 @@ split_again page size old word at is =
     let are = are_bits_in size old in
     placed_again page.size (leaf_word page.size page.phys page.rights) (bits_in size old) word (leaf_low page.size page.phys page.rights at) are.above
     ∙ ap (λ bits. leaf_word page.size page.phys page.rights + placed page.size bits) (bits_after size word old is)
+
+-- a join's word
+both_flags : (number : ℕ) → flagged number ≡ flags_into 96 number
+both_flags number = omega arith
+
+pub join_flags : (page : Page) (size : Size) (first : ℕ) → page.phys % 2 ^ 12 ≡ 0
+    → page_word page (flagged (bits_in size first)) ≡ flagged (page_word page (bits_in size first))
+join_flags page size first at =
+    let are = are_bits_in size first in
+    ap (λ bits. leaf_word page.size page.phys page.rights + placed page.size bits) (both_flags (bits_in size first))
+    ∙ sym (placed_again page.size (leaf_word page.size page.phys page.rights) (bits_in size first) 96
+    (leaf_low page.size page.phys page.rights at) are.above)
+    ∙ sym (both_flags (page_word page (bits_in size first)))

@@ -69,8 +69,8 @@ filled_same target request memory offered (Some fill) stores unlinked put =
           → (level b : ℕ) → table_at (levels target.depth) memory target.root level b ≢ Some fill.frame
       by request [] none = absurd (cc)
       by (Map page bits) (s ∷ later) none = absurd (cc)
-      by (Unmap base) (s ∷ later) none = absurd (cc)
-      by (Protect base rights) (s ∷ later) none = absurd (cc)
+      by (Unmap base) (s ∷ later) put = let none = put.0 in absurd (cc)
+      by (Protect base rights) (s ∷ later) put = let none = put.0 in absurd (cc)
       by (Ask address) (s ∷ later) none = absurd (cc)
       by (Remap base phys rights) (s ∷ later) put = let none = put.0 in absurd (cc)
       by (Split base) (s ∷ later) put =

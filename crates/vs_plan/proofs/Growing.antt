@@ -50,7 +50,7 @@ all_of rights = rw (both rights.write, both rights.user, both rights.exec) refl
 
 -- ---- what is stored in spare frames changes no walk
 
-frame_among : (stores : List Store) (q : ℕ) → Contains (frames_of stores) q → (P : ℕ → Type 0) → All (λ (s : Store). P s.frame) stores → P q
+pub frame_among : (stores : List Store) (q : ℕ) → Contains (frames_of stores) q → (P : ℕ → Type 0) → All (λ (s : Store). P s.frame) stores → P q
 frame_among [] q among P are = absurd (not_in_nil q among)
 frame_among (s ∷ stores) q among P are = ⊎_elim
     (λ (here : s.frame ≡ q). subst P here (All-head (λ (t : Store). P t.frame) s stores are))

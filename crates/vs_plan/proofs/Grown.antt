@@ -1,7 +1,7 @@
 -- The growth of new tables, as the code has it.
 use Rattle.std.proofs.Common.{◌≡◌, ◌≢◌, ℕ, ◌+◌, ◌-◌, ◌%◌, ◌<◌, ◌≤◌, List, [], ◌∷◌, ◌++◌, length, Option, Some, None, refl, sym, ap, subst, ◌∙◌, arith}
-use Rattle.std.specs.Prelude.{slice_index}
-use Rattle.std.proofs.lemmas.List.Elements.{All-nil}
+use Rattle.std.specs.Prelude.{slice_index, All}
+use Rattle.std.proofs.lemmas.List.Elements.{All-nil, All-push}
 use Rattle.arrayvec.specs.ArrayVec.{ArrayVec}
 use Rattle.std.specs.FinMap as finite
 use Rattle.vs_types.specs.Depth.{index_at}
@@ -31,6 +31,7 @@ use Rattle.vs_plan.specs.Premise.{IsPremise}
 use Rattle.vs_plan.specs.Request.{IsRequest, IsMapped, IsWhole, address_of, stepped}
 use Rattle.vs_plan.specs.Right.{IsRight, WantsMore}
 use Rattle.vs_plan.specs.Shown.{AreFilled, IsGrown}
+use Rattle.vs_plan.specs.Target.{frames_end}
 use Rattle.vs_plan.specs.Way.{IsWay}
 use Rattle.vs_plan.specs.inside.Ended.{IsAtEnd, HasEnded, IsRightAt, ChangesNothing}
 use Rattle.vs_plan.proofs.Asking.{page_met, offset_met}
@@ -45,6 +46,7 @@ pub record GrownAt (memory : Memory) (p : Planner) (page : Page) (bits : ℕ) : 
   pub word_is : word_at memory p.number (index_at p.level page.base) ≡ Some (slice_index p.words p.level)
   pub absent : meaning p.level (slice_index p.words p.level) ≡ entry.Absent
   pub allows : intersection p.rights page.rights ≡ page.rights
+  pub within : All (λ (store : Store). store.frame < frames_end p.target) p.stores.items
   pub filled : AreFilled p.target.depth memory p.target.root page bits p.height p.below p.stores.items
 
 same_page : (page page' : Page) (bits bits' : ℕ) → Map page bits ≡ Map page' bits' → page ≡ page'
@@ -58,15 +60,15 @@ grown_at {memory} {p} {page} {bits} grown is =
     let e : Map grown.page grown.bits ≡ Map page bits = sym grown.request ∙ is in
     subst (λ b. GrownAt memory p page b) (same_bits grown.page page grown.bits bits e)
     (subst (λ g. GrownAt memory p g grown.bits) (same_page grown.page page grown.bits bits e)
-    (record { way = grown.way; word_is = grown.word_is; absent = grown.absent; allows = grown.allows; filled = grown.filled }))
+    (record { way = grown.way; word_is = grown.word_is; absent = grown.absent; allows = grown.allows; within = grown.within; filled = grown.filled }))
 
 pub grown_more : {memory : Memory} {p : Planner} {page : Page} {bits number index w : ℕ} {stores : ArrayVec Store} → IsGrown memory p → p.request ≡ Map page bits
-    → level_of page.size ≤ p.height → length p.stores.items + level_of page.size ≡ p.height → IsSpareFor memory p number
+    → level_of page.size ≤ p.height → length p.stores.items + level_of page.size ≡ p.height → IsSpareFor memory p number → number < frames_end p.target
     → (p.height ≡ level_of page.size → (w ≡ page_word page bits) × (meaning (level_of page.size) w ≡ entry.Leaf page.phys page.rights))
     → (level_of page.size < p.height → (w ≡ table_word p.below) × (meaning p.height w ≡ entry.Table p.below all_rights))
     → index ≡ index_at p.height page.base → stores.items ≡ p.stores.items ++ store_at number index 0 w ∷ []
     → IsGrown memory (record p { height = p.height + 1; below = number; stores = stores })
-grown_more {memory} {p} {page} {bits} {number} {index} {w} {stores} grown is lowest count spare at above place are =
+grown_more {memory} {p} {page} {bits} {number} {index} {w} {stores} grown is lowest count spare low at above place are =
     let here = grown_at grown is in
     record {
       page = page;
@@ -76,6 +78,8 @@ grown_more {memory} {p} {page} {bits} {number} {index} {w} {stores} grown is low
       word_is = here.word_is;
       absent = here.absent;
       allows = here.allows;
+      within = subst (λ (xs : List Store). All (λ (s : Store). s.frame < frames_end p.target) xs) (sym are)
+          (All-push (λ (s : Store). s.frame < frames_end p.target) p.stores.items (store_at number index 0 w) here.within low);
       filled = subst (λ (xs : List Store). AreFilled p.target.depth memory p.target.root page bits (p.height + 1) number xs)
           (sym (are ∙ ap (λ i. p.stores.items ++ store_at number i 0 w ∷ []) place))
           (filled_more here.filled lowest count spare.spare spare.new w at above);
@@ -101,6 +105,7 @@ module _ (p : Planner) {page : Page} {bits : ℕ} (request : IsRequest p.target 
           (ended.word_is ∙ ap Some (sym ended.last));
       absent = ap (meaning p.level) ended.last ∙ says;
       allows = allows;
+      within = subst (λ (xs : List Store). All (λ (s : Store). s.frame < frames_end p.target) xs) (sym none) (All-nil _);
       filled = subst (λ h. AreFilled p.target.depth memory p.target.root page bits h 0 stores.items) (sym is_low)
           (subst (λ (xs : List Store). AreFilled p.target.depth memory p.target.root page bits (level_of page.size) 0 xs) (sym none)
           (record { found = tt; spare = All-nil _; written = tt; hang = λ deep. absurd (omega arith); ends = tt; absent = All-nil _; changing = All-nil _; lone = λ deep. absurd (omega arith) }));
@@ -118,7 +123,7 @@ module _ (p : Planner) {page : Page} {bits : ℕ} (request : IsRequest p.target 
     -- the entries above allow less
     pub wants_more : intersection p.rights page.rights ≢ page.rights → (plan : Plan) → ChangesNothing replies.Rights 0 plan → IsRightAt p word plan
     wants_more less plan none memory ended space premise =
-        nothing_right premise (due_as p.target space is refl) plan none (
+        nothing_right premise (due_as p.target space is refl) plan none tt (
           subst (WantsMore p.target memory) (sym is) (record {
             level = p.level;
             number = p.number;
@@ -151,7 +156,7 @@ module _ (p : Planner) {page : Page} {bits : ℕ} (request : IsRequest p.target 
       ap (stepped p.target.depth space) is
       ∙ map_overlaps p.target.depth (table_count p.target.depth (finite.insert space page.base page)) space page (page.base - page.base % bytes)
       (least ∙ ap Some base_is) in
-      nothing_right premise (due_as p.target space is refl) plan none (sym (ap (λ (s : Stepped). s.answer) stays))
+      nothing_right premise (due_as p.target space is refl) plan none tt (sym (ap (λ (s : Stepped). s.answer) stays))
       (subst (λ (s : Space). TranslatesAs p.target.depth memory p.target.root s) (sym (ap (λ (s : Stepped). s.space) stays)) premise.translates) refl
 
   -- ---- the new tables are linked
@@ -174,4 +179,4 @@ module _ (p : Planner) {page : Page} {bits : ℕ} (request : IsRequest p.target 
       subst (λ r. IsRight p.target r memory space offered plan) (sym is)
       (right_as plan reply told fill stores flush unlinked
       (link_parts p.target bits end some mapped.good here.absent (omega (arith, deep)) here.allows
-      (subst (λ h. AreFilled p.target.depth memory p.target.root page bits h p.below p.stores.items) height_is here.filled) deep w link_is leads offered))
+      (subst (λ h. AreFilled p.target.depth memory p.target.root page bits h p.below p.stores.items) height_is here.filled) here.within deep w link_is leads offered))

@@ -87,6 +87,9 @@ module _ (own : Rights) (new : ℕ) {depth : Depth} {m : Memory} {root base leve
   pub own_joined : (a : ℕ) → HasOwnWay depth m root a → HasOwnWay depth after_join root a
   own_joined a before = own_on linked.way own_way used new whole ends (omega arith) a before
 
+  pub fewer_joined : (j b q : ℕ) → table_at (levels depth) after_join root j b ≡ Some q → table_at (levels depth) m root j b ≡ Some q
+  fewer_joined j b q at = fewer linked.way own_way used new whole ends (omega arith) j b q at
+
   -- no way leads to the table any more
   pub unreached : (j b : ℕ) → table_at (levels depth) after_join root j b ≢ Some number
   unreached j b reached =

@@ -1,11 +1,12 @@
 -- A plan that joins the pages of a table.
-use Rattle.std.proofs.Common.{◌≡◌, ◌≢◌, Bool, true, false, ℕ, zero, suc, ◌+◌, ◌-◌, ◌*◌, ◌%◌, ◌<◌, ◌≤◌, List, [], ◌∷◌, Option, Some, None, ⊎_elim, cond, refl, sym, ap, subst, ◌∙◌, arith}
+use Rattle.std.proofs.Common.{◌≡◌, ◌≢◌, Bool, true, false, ℕ, zero, suc, ◌+◌, ◌-◌, ◌*◌, ◌%◌, ◌<◌, ◌≤◌, List, [], ◌∷◌, Option, Some, None, inl, ⊎_elim, cond, refl, sym, ap, subst, ◌∙◌, arith}
 use Rattle.std.proofs.lemmas.Bool.{cases_eq, eq-eqb, ne_eqb}
 use Rattle.std.proofs.lemmas.List.Elements.{All-nil, All-cons}
 use Rattle.std.specs.Prelude.{slice_index}
 use Rattle.std.specs.FinMap as finite
 use Rattle.vs_types.specs.Depth.{levels, entry_bytes, index_at}
 use Rattle.vs_types.specs.Entry.{meaning, size_at}
+use Rattle.vs_types.specs.Laws.{changes}
 use Rattle.vs_types.specs.Page.{level_of, bytes_of, intersection}
 use Rattle.vs_types.specs.Space.{Space}
 use Rattle.vs_types.specs.Step.{Stepped}
@@ -46,9 +47,9 @@ use Rattle.vs_plan.specs.Shown.{IsTableMet}
 use Rattle.vs_plan.specs.Stores.{stored}
 use Rattle.vs_plan.specs.inside.Ended.{IsAtEnd, IsFirstApart, IsRightAt, IsRightWith, IsWholeStore, HasEnded, ChangesNothing}
 use Rattle.vs_plan.proofs.Asking.{entry_of, inside_right}
-use Rattle.vs_plan.proofs.Changing.{change_inside, why_here}
+use Rattle.vs_plan.proofs.Changing.{change_here, change_inside, why_here}
 use Rattle.vs_plan.proofs.Following.{follows_reads, flagged_are}
-use Rattle.vs_plan.proofs.JoinedMemory.{IsLinkedBy, linked_by, walk_run, walk_joined, walk_apart, whole_joined, own_joined, unreached}
+use Rattle.vs_plan.proofs.JoinedMemory.{IsLinkedBy, linked_by, walk_run, walk_joined, walk_apart, whole_joined, own_joined, fewer_joined, unreached}
 use Rattle.vs_plan.proofs.JoinedSpace.{in_place, large, larger_at, join_after, join_is, joined_translates, parts_there, small_walked}
 use Rattle.vs_plan.proofs.Pages.{table_from, found_word, level_back, page_here}
 use Rattle.vs_plan.proofs.Parts.{Parts, due_as, right_as, nothing_right, safe_one, store_at, words_apart, EndAt, end_at}
@@ -149,6 +150,10 @@ module _ (target : Target) {memory : Memory} {space : Space} {base level number 
       ∙ ap (λ b. not_first b page.0.phys page.0.size) (begins aligned)
       ∙ ap (λ n. not_first base n page.0.size) page.1.phys_is
       ∙ ap (not_first base phys) page.1.size
+
+  pub would_join : base % bytes_of (size_at level) ≡ 0 → (join space base).answer ≡ answers.Changed (intersection given own)
+  would_join aligned = ap (λ (s : Stepped). s.answer) (change_here space base (join_after space) page.0 page.1.here (begins aligned))
+      ∙ ap answers.Changed page.1.rights
 
   -- ---- the page may be joined with those that follow on
 
@@ -280,6 +285,7 @@ module _ (target : Target) {memory : Memory} {space : Space} {base level number 
           }) (All-nil _);
           nothing = λ none. absurd (none (λ e. cc));
           written = refl;
+          already = tt;
           changing = All-cons (λ (t : Store). t.old ≢ t.new) s []
               (words_apart (suc level) link entry_new (λ same. let both = sym leads ∙ same ∙ new_says in cc)) (All-nil _);
           one_way = tt;
@@ -296,6 +302,7 @@ module _ (target : Target) {memory : Memory} {space : Space} {base level number 
           named_once = λ i j d lt within. absurd (omega arith);
           whole = whole_joined own entry_new end.premise.own end.premise.whole end.way linked met.word_is new_says;
           own = own_joined own entry_new end.premise.own end.premise.whole end.way linked met.word_is new_says;
+          reaches = λ l b q at. inl (fewer_joined own entry_new end.premise.own end.premise.whole end.way linked met.word_is new_says l b q at);
         } where
           highest : (pinned : Bool) → suc level ≤ cond pinned (levels target.depth - 1) (levels target.depth)
           highest true = omega (arith, few, four_levels target.depth)
@@ -322,11 +329,11 @@ module _ {p : Planner} {word : ℕ} (end : IsAtEnd p) {phys : ℕ} {own : Rights
     first_right reply refused plan none memory ended space premise =
         first_cases (λ o. not_first base phys (size_at p.level) ≡ o → o ≡ Some reply → IsRight p.target p.request memory space [] plan) base phys (size_at p.level)
         (λ e same. let one : replies.Largest ≡ reply = cc in refused_as replies.Largest one (due_by ended premise ∙ e) (λ due none.
-        nothing_right premise {reply = replies.Largest} due plan none due premise.translates refl))
+        nothing_right premise {reply = replies.Largest} due plan none tt due premise.translates refl))
         (λ e same. let one : replies.Unaligned ≡ reply = cc in refused_as replies.Unaligned one (due_by ended premise ∙ e) (λ due none.
-        nothing_right premise {reply = replies.Unaligned} due plan none due premise.translates refl))
+        nothing_right premise {reply = replies.Unaligned} due plan none tt due premise.translates refl))
         (λ e same. let one : replies.PhysUnaligned ≡ reply = cc in refused_as replies.PhysUnaligned one (due_by ended premise ∙ e) (λ due none.
-        nothing_right premise {reply = replies.PhysUnaligned} due plan none due premise.translates refl))
+        nothing_right premise {reply = replies.PhysUnaligned} due plan none tt due premise.translates refl))
         (λ small aligned phys_aligned e same. absurd (cc))
         refl refused
       where
@@ -348,24 +355,26 @@ module _ {p : Planner} {word : ℕ} (end : IsAtEnd p) {phys : ℕ} {own : Rights
           let place : address_of p.request ≡ base = ap address_of is in
           let here = end_at end ended premise place in
           let one = is_first ended there in
-          nothing_right premise {reply = replies.Apart index} (due_by ended premise ∙ first) plan none
-          (subst (λ r. KeepsApart p.target memory r index) (sym is) (record {
-            level = p.level;
-            number = p.number;
-            first = word;
-            word = slice_index words index;
-            reached = way_table p.level p.number p.rights here.way;
-            first_is = here.word_is;
-            leaf = (phys, own, says);
-            within = found.within;
-            word_is = word_in memory p.number index words there;
-            apart = subst (λ w. Follows (size_at p.level) w index (slice_index words index) → ⊥) one found.apart;
-            before = λ i low. (
-              slice_index words i,
-              word_in memory p.number i words there,
-              subst (λ w. Follows (size_at p.level) w i (slice_index words i)) one (found.before i low),
-            );
-          }))
+          nothing_right premise {reply = replies.Apart index} (due_by ended premise ∙ first) plan none tt (
+            subst (λ r. KeepsApart p.target memory r index) (sym is) (record {
+              level = p.level;
+              number = p.number;
+              first = word;
+              word = slice_index words index;
+              reached = way_table p.level p.number p.rights here.way;
+              first_is = here.word_is;
+              leaf = (phys, own, says);
+              within = found.within;
+              word_is = word_in memory p.number index words there;
+              apart = subst (λ w. Follows (size_at p.level) w index (slice_index words index) → ⊥) one found.apart;
+              before = λ i low. (
+                slice_index words i,
+                word_in memory p.number i words there,
+                subst (λ w. Follows (size_at p.level) w i (slice_index words i)) one (found.before i low),
+              );
+            }),
+            ap (λ r. changes (stepped p.target.depth space r).answer) is ∙ ap changes (would_join p.target here end.some says starts),
+          )
           premise.translates refl
 
       -- each entry follows on

@@ -12,6 +12,7 @@ pub mod Apart
 pub mod PlansSuffice
 pub mod OtherRoots
 pub mod BesidePlans
+mod BesideRoots
 pub mod UnstoredJoins
 pub mod FirstRoots
 pub mod EntryStores
@@ -20,6 +21,12 @@ pub mod Words
 pub mod RunWords
 pub mod PartSpaces
 mod OtherFlags
+mod FlagsKept
+mod FlaggedEntries
+mod RightAgain
+mod PutAgain
+mod ToldAgain
+mod AgainParts
 pub mod Ways
 pub mod Stored
 pub mod Filled
@@ -54,3 +61,4 @@ pub mod JoinedSpace
 pub mod Joining
 pub mod JoinedParts
 pub mod FollowParts
+mod WrittenFrames

@@ -142,7 +142,7 @@ module _ {depth : Depth} {m : Memory} {root level a n : ℕ} (here : IsOwnTable 
       ∙ ap table_in (found_stored here w b same ∙ ap Some leads)
 
   -- each table was reached before, or is one of the new ones
-  old_or_new : (b j q : ℕ) → table_at (levels depth) (after_store here w) root j b ≡ Some q → (table_at (levels depth) m root j b ≡ Some q)
+  pub old_or_new : (b j q : ℕ) → table_at (levels depth) (after_store here w) root j b ≡ Some q → (table_at (levels depth) m root j b ≡ Some q)
       ⊎ (Contains frames q × SamePath (levels depth) (suc j) a b × (table_at low (after_store here w) next j b ≡ Some q))
   old_or_new b j q r = ⊎_elim
       (λ same. ⊎_elim

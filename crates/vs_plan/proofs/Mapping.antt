@@ -1,8 +1,8 @@
 -- A plan that adds a page.
-use Rattle.std.proofs.Common.{◌≡◌, ℕ, suc, ◌+◌, ◌-◌, ◌%◌, ◌<◌, ◌≤◌, List, [], ◌∷◌, ◌++◌, take, Option, Some, None, Contains, ⊎_elim, refl, sym, ap, subst, ◌∙◌, arith, ◌≢◌}
-use Rattle.std.specs.Prelude.{IsSome, option_map, slice_index}
+use Rattle.std.proofs.Common.{◌≡◌, ℕ, suc, ◌+◌, ◌-◌, ◌%◌, ◌<◌, ◌≤◌, List, [], ◌∷◌, ◌++◌, take, Option, Some, None, Contains, inl, inr, ⊎_elim, refl, sym, ap, subst, ◌∙◌, arith, ◌≢◌}
+use Rattle.std.specs.Prelude.{IsSome, option_map, slice_index, All}
 use Rattle.std.proofs.lemmas.Bool.{cases_lt}
-use Rattle.std.proofs.lemmas.List.Elements.{All-nil, All-cons, All-push, All-take, All-weaker}
+use Rattle.std.proofs.lemmas.List.Elements.{All-nil, All-cons, All-push, All-take, Contains-append_left}
 use Rattle.std.specs.FinMap as finite
 use Rattle.vs_types.specs.Depth.{levels, entry_bytes, index_at, IsCanonical}
 use Rattle.vs_types.specs.Entry.{meaning, size_at, all_rights, table_word}
@@ -19,7 +19,7 @@ use Rattle.vs_walk.specs.Memory.{Memory, AreWhole}
 use Rattle.vs_walk.specs.Walk.{walk, walk_from, TranslatesAs}
 use Rattle.vs_walk.specs.declared.walk.Walk.TheVariants.{NotMapped, Mapped}
 use Rattle.vs_space.specs.Held.{word_at}
-use Rattle.vs_space.specs.Path.{found_at, table_in, SamePath}
+use Rattle.vs_space.specs.Path.{found_at, table_in, table_at, SamePath}
 use Rattle.vs_space.specs.Table.{IsTableOf}
 use Rattle.vs_space.proofs.Paths.{found_same, walk_found}
 use Rattle.vs_space.proofs.Writes.{get_written_other, found_alike, same_or_not}
@@ -31,15 +31,16 @@ use Rattle.vs_plan.specs.declared.request.Request.TheVariants.{Map}
 use Rattle.vs_plan.specs.declared.target.Target.{Target}
 use Rattle.vs_plan.specs.Bits.{page_word}
 use Rattle.vs_plan.specs.Premise.{HasOwnWay, IsSpare}
-use Rattle.vs_plan.specs.Right.{IsMeant, OfPage, OfSpare, IsWritten, IsPut, Fits, IsFlushed, IsPruned}
+use Rattle.vs_plan.specs.Right.{IsMeant, OfPage, OfSpare, IsWritten, IsPut, Fits, IsAlready, IsFlushed, IsPruned, ReachesNoOther}
 use Rattle.vs_plan.specs.Shown.{EndsAt, frames_of, LeadsToPage, AreFilled}
 use Rattle.vs_plan.specs.Stores.{stored, stored_all}
+use Rattle.vs_plan.specs.Target.{frames_end}
 use Rattle.vs_plan.specs.Way.{IsWay}
-use Rattle.vs_plan.proofs.Growing.{links_push, all_of, not_spare, walk_filled, table_filled, alike, whole_filled}
-use Rattle.vs_plan.proofs.OneStore.{walk_off, walk_on, walk_leaf, own_on}
+use Rattle.vs_plan.proofs.Growing.{frame_among, links_push, all_of, not_spare, walk_filled, table_filled, alike, whole_filled}
+use Rattle.vs_plan.proofs.OneStore.{walk_off, walk_on, walk_leaf, fewer, own_on}
 use Rattle.vs_plan.proofs.Pages.{table_from, found_word}
 use Rattle.vs_plan.proofs.EntryStores.{IsOwnTable}
-use Rattle.vs_plan.proofs.Linking.{own_linked}
+use Rattle.vs_plan.proofs.Linking.{old_or_new, own_linked}
 use Rattle.vs_plan.proofs.Parts.{words_apart, none_named, Parts, safe_one, safe_last, store_at, EndAt}
 use Rattle.vs_plan.proofs.Steps.{added_answer, added_translates}
 use Rattle.vs_plan.proofs.Stored.{stored_push, found_push, used_word, whole_stored}
@@ -48,6 +49,15 @@ use Rattle.vs_plan.proofs.Ways.{way_table, way_within, way_walk, way_kept}
 word_same : (m m' : Memory) (n i : ℕ) → finite.get m' n ≡ finite.get m n → word_at m' n i ≡ word_at m n i
 unfolding word_at
 word_same m m' n i same = ap (option_map (λ (words : List ℕ). slice_index words i)) same
+
+-- the frames of more stores
+frames_push : (stores : List Store) (s : Store) → frames_of (stores ++ s ∷ []) ≡ frames_of stores ++ s.frame ∷ []
+frames_push [] s = refl
+frames_push (t ∷ stores) s = ap (λ (ns : List ℕ). t.frame ∷ ns) (frames_push stores s)
+
+frames_more : (stores : List Store) (s : Store) (q : ℕ) → Contains (frames_of stores) q → Contains (frames_of (stores ++ s ∷ [])) q
+frames_more stores s q among =
+    subst (λ (ns : List ℕ). Contains ns q) (sym (frames_push stores s)) (Contains-append_left (frames_of stores) (s.frame ∷ []) q among)
 
 -- the bit of a word that is absent
 absent_even : (level word : ℕ) → meaning level word ≡ entry.Absent → word % 2 ≡ 0
@@ -88,6 +98,10 @@ module _ (target : Target) (bits : ℕ) {memory : Memory} {space : Space} {page 
     flushed_map [] = refl
     flushed_map (s ∷ stores) = refl
 
+    already_map : (stores : List Store) → IsAlready target memory (Map page bits) (replies.Answer answers.Done) stores
+    already_map [] = tt
+    already_map (s ∷ stores) = tt
+
     put_map : (offered : List (Option ℕ)) (stores : List Store) → IsPut target (Map page bits) memory offered None stores []
     put_map offered [] = refl
     put_map offered (s ∷ stores) = refl
@@ -121,6 +135,7 @@ module _ (target : Target) (bits : ℕ) {memory : Memory} {space : Space} {page 
               (OfPage (record { level = level; reached = way_table level number given end.way; index = refl }) (ap (λ e. table_in (Some e)) says)) (All-nil _);
           nothing = λ none. absurd (none (λ e. cc));
           written = (is, tt);
+          already = tt;
           changing = All-cons (λ (t : Store). t.old ≢ t.new) (store_at number (index_at level page.base) word w) []
               (words_apart level word w (λ same. let both = sym says ∙ same ∙ says_new in cc)) (All-nil _);
           one_way = All-cons (λ (t : Store). t.old % 2 ≡ 0) (store_at number (index_at level page.base) word w) [] (absent_even level word says) (All-nil _);
@@ -131,11 +146,13 @@ module _ (target : Target) (bits : ℕ) {memory : Memory} {space : Space} {page 
           named_once = none_named;
           whole = whole_stored memory number (index_at level page.base) w end.premise.whole used;
           own = own_on end.way end.premise.own used w end.premise.whole (ap (λ e. table_in (Some e)) says_new) some;
+          reaches = λ l b q at. inl (fewer end.way end.premise.own used w end.premise.whole (ap (λ e. table_in (Some e)) says_new) some l b q at);
         }
 
     -- ---- new tables are linked
 
-    module _ {below : ℕ} {stores : List Store} (filled : AreFilled target.depth memory target.root page bits level below stores) (deep : level_of page.size < level)
+    module _ {below : ℕ} {stores : List Store} (filled : AreFilled target.depth memory target.root page bits level below stores) (within : All (λ (t : Store). t.frame < frames_end target) stores)
+        (deep : level_of page.size < level)
         (w : ℕ) (link_is : w ≡ table_word below) (leads : meaning level w ≡ entry.Table below all_rights) where
       abbrev s : Store
       s = store_at number (index_at level page.base) word w
@@ -218,6 +235,19 @@ module _ (target : Target) (bits : ℕ) {memory : Memory} {space : Space} {page 
           (λ e. number_apart (subst (Contains (frames_of stores)) e among))))
           (λ q among j b r. not_spare stores filled.spare j b q (sym (table_filled stores filled.spare j b) ∙ r) among) a (own_filled a has))
 
+      reaches_link : ReachesNoOther target memory (stored_all memory (stores ++ s ∷ [])) None (stores ++ s ∷ [])
+      reaches_link j b q at = ⊎_elim
+          (λ old. inl (sym (table_filled stores filled.spare j b) ∙ old))
+          (λ new. inr (record {
+            spare = frame_among stores q new.0 (λ n. IsSpare target.depth memory target.root n) filled.spare;
+            written = frames_more stores s q new.0;
+          }))
+          (old_or_new own_table w below (level - 1) all_rights leads (omega arith) (frames_of stores)
+          (filled.lone deep m' (λ q among. get_written_other mk number (index_at level page.base) w q
+          (λ e. number_apart (subst (Contains (frames_of stores)) e among))))
+          (λ q among j b r. not_spare stores filled.spare j b q (sym (table_filled stores filled.spare j b) ∙ r) among)
+          b j q (subst (λ (n : Memory). table_at (levels target.depth) n target.root j b ≡ Some q) (sym here) at))
+
       pub link_parts : (offered : List (Option ℕ))
           → Parts target (Map page bits) memory space offered (replies.Answer answers.Done) 0 None (stores ++ s ∷ []) flushes.Nothing []
       link_parts offered = record {
@@ -233,11 +263,11 @@ module _ (target : Target) (bits : ℕ) {memory : Memory} {space : Space} {page 
             (finite.insert space page.base page)) space (actions.Map page)).space) here (added_translates table good nothing m' there elsewhere));
         found = found_push memory stores s filled.found word_filled;
         meant = All-push (IsMeant target memory page.base []) stores s
-            (All-weaker (λ (t : Store). IsSpare target.depth memory target.root t.frame) (IsMeant target memory page.base []) (λ t is. OfSpare is)
-            stores filled.spare)
+            (λ k d low. OfSpare (filled.spare k d low) (within k d low))
             (OfPage (record { level = level; reached = way_table level number given end.way; index = refl }) (ap (λ e. table_in (Some e)) says));
         nothing = λ none. absurd (none (λ e. cc));
         written = written_link stores filled.written filled.ends some_store;
+        already = already_map (stores ++ s ∷ []);
         changing = All-push (λ (t : Store). t.old ≢ t.new) stores s filled.changing
             (words_apart level word w (λ same. let both = sym says ∙ same ∙ leads in cc));
         one_way = All-push (λ (t : Store). t.old % 2 ≡ 0) stores s filled.absent (absent_even level word says);
@@ -248,4 +278,5 @@ module _ (target : Target) (bits : ℕ) {memory : Memory} {space : Space} {page 
         named_once = none_named;
         whole = subst AreWhole here (whole_stored mk number (index_at level page.base) w whole_mk used_filled);
         own = own_link;
+        reaches = reaches_link;
       }

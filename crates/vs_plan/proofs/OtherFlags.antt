@@ -16,7 +16,7 @@ use Rattle.vs_types.specs.declared.page.Rights.{Rights}
 use Rattle.vs_types.specs.declared.page.Size.{Size}
 use Rattle.vs_types.specs.declared.page.Size.TheVariants.{K4, M2, G1}
 use Rattle.vs_plan.specs.Again.{HasFlagsSet, flags_into, with_flags_of}
-use Rattle.vs_plan.specs.Bits.{bits_in, with_rights}
+use Rattle.vs_plan.specs.Bits.{bits_in, with_address, with_rights}
 use Rattle.vs_space.specs.Held.{with_word}
 use Rattle.vs_space.specs.Flags.{IsSameButFlags, AreSameButFlags}
 use Rattle.vs_space.specs.Path.{found_at}
@@ -35,14 +35,14 @@ module _ {old new : Memory} (is : AreSameButFlags old new) where
   used_after n used = is.frames n ∙ used
 
   -- the words of a frame in use before and after
-  both : (n : ℕ) → IsSome (finite.get old n)
+  pub both : (n : ℕ) → IsSome (finite.get old n)
       → (before : List ℕ) × (after : List ℕ) × (finite.get old n ≡ Some before) × (finite.get new n ≡ Some after) × AllZip IsSameButFlags before after
   both n used =
       let first = words_in old n used in
       let second = words_in new n (used_after n used) in
       (_, _, first, second, is.words n _ _ first second)
 
-  same_found : (level n a : ℕ) → 1 ≤ level → found_at level new n a ≡ found_at level old n a
+  pub same_found : (level n a : ℕ) → 1 ≤ level → found_at level new n a ≡ found_at level old n a
   unfolding found_at
   same_found level n a some = by (finite.get old n) refl where
     by : (o : Option (List ℕ)) → finite.get old n ≡ o → found_at level new n a ≡ found_at level old n a
@@ -99,7 +99,7 @@ module _ {old new : Memory} (is : AreSameButFlags old new) (n i w v : ℕ) (used
 
 -- ---- one store that found other flags
 
-bit_above : (n k i : ℕ) → bit_at (n / 2 ^ k) i ≡ bit_at n (k + i)
+pub bit_above : (n k i : ℕ) → bit_at (n / 2 ^ k) i ≡ bit_at n (k + i)
 bit_above n k i = ap (λ x. x % 2) (shr-shr n k i)
 
 low_bit : (old new : ℕ) → old % 32 ≡ new % 32 → (bit : ℕ) → bit < 5 → bit_at new bit ≡ bit_at old bit
@@ -155,6 +155,39 @@ kept_rights word old false false false is = kept_bits word old 0 0 1 is (omega a
 
 pub protect_again : (word old : ℕ) (rights : Rights) → HasFlagsSet old word → with_flags_of word (with_rights old rights) ≡ with_rights word rights
 protect_again word old rights is = kept_rights word old rights.write rights.user rights.exec is
+
+-- a remap's entry
+moved_flags : (size : Size) (word old phys : ℕ) → phys % 2 ^ 12 ≡ 0 → HasFlagsSet old word
+    → HasFlagsSet (with_address size old phys) (with_address size word phys)
+moved_flags K4 word old phys at is = record {
+  present = omega (arith, at, is.present);
+  below = omega (arith, at, is.below);
+  above = omega (arith, at, is.below, is.above);
+}
+moved_flags M2 word old phys at is = record {
+  present = omega (arith, at, is.present);
+  below = omega (arith, at, is.below);
+  above = omega (arith, at, is.below, is.above);
+}
+moved_flags G1 word old phys at is = record {
+  present = omega (arith, at, is.present);
+  below = omega (arith, at, is.below);
+  above = omega (arith, at, is.below, is.above);
+}
+
+moved_low : (size : Size) (word phys : ℕ) → phys % 2 ^ 12 ≡ 0 → with_address size word phys % 2 ^ 7 / 2 ^ 5 ≡ word % 2 ^ 7 / 2 ^ 5
+moved_low K4 word phys at = omega (arith, at)
+moved_low M2 word phys at = omega (arith, at)
+moved_low G1 word phys at = omega (arith, at)
+
+same_flags : (word other entry : ℕ) → word % 2 ^ 7 / 2 ^ 5 ≡ other % 2 ^ 7 / 2 ^ 5 → with_flags_of word entry ≡ with_flags_of other entry
+same_flags word other entry same = ap (λ f. cond (nat_eq (entry % 2) 0) entry (entry % 2 ^ 5 + f * 2 ^ 5 + entry / 2 ^ 7 * 2 ^ 7)) same
+
+pub remap_again : (size : Size) (word old phys : ℕ) (rights : Rights) → phys % 2 ^ 12 ≡ 0 → HasFlagsSet old word
+    → with_flags_of word (with_rights (with_address size old phys) rights) ≡ with_rights (with_address size word phys) rights
+remap_again size word old phys rights at is =
+    same_flags word (with_address size word phys) (with_rights (with_address size old phys) rights) (sym (moved_low size word phys at))
+    ∙ protect_again (with_address size word phys) (with_address size old phys) rights (moved_flags size word old phys at is)
 
 pub bits_after : (size : Size) (word old : ℕ) → HasFlagsSet old word → flags_into word (bits_in size old) ≡ bits_in size word
 bits_after K4 word old is = omega (arith, is.below, is.above)

@@ -98,7 +98,7 @@ pub data IsStore (target : Target) (memory : Memory) (base other : ℕ) (s : Sto
   OffWays : LeadsNotTo target.depth memory target.root s.frame → IsStore target memory base other s
 
 -- addresses with one index in the roots are shared alike
-shared_alike : {depth : Depth} {memory : Memory} {root other address : ℕ} → IsShared depth memory root other address → (base : ℕ)
+pub shared_alike : {depth : Depth} {memory : Memory} {root other address : ℕ} → IsShared depth memory root other address → (base : ℕ)
     → index_at (levels depth) base ≡ index_at (levels depth) address → IsShared depth memory root other base
 shared_alike {depth} {memory} {root} {other} {address} shared base same = record {
   table = shared.table;
@@ -217,14 +217,19 @@ module _ (target : Target) (memory : Memory) (base : ℕ) (stores : List Store) 
   all_stores : after (length stores) ≡ stored_all memory stores
   all_stores = ap (stored_all memory) (take-length stores)
 
-  shared_after : (address : ℕ) → IsShared target.depth memory target.root other address
+  pub shared_after : (address : ℕ) → IsShared target.depth memory target.root other address
       → IsShared target.depth (stored_all memory stores) target.root other address
   shared_after address shared = subst (λ m. IsShared target.depth m target.root other address) all_stores (shared_stays (length stores) address shared)
 
-  apart_after : (address : ℕ) → MeetsNone target.depth memory target.root other base address
+  pub apart_after : (address : ℕ) → MeetsNone target.depth memory target.root other base address
       → walk target.depth (stored_all memory stores) other address ≡ walk target.depth memory other address
   apart_after address apart = subst (λ m. walk target.depth m other address ≡ walk target.depth memory other address) all_stores
       (apart_walk (length stores) address apart)
+
+  pub table_after : (address level : ℕ) → MeetsNone target.depth memory target.root other base address
+      → table_at (levels target.depth) (stored_all memory stores) other level address ≡ table_at (levels target.depth) memory other level address
+  table_after address level apart = subst (λ m. table_at (levels target.depth) m other level address
+      ≡ table_at (levels target.depth) memory other level address) all_stores (apart_table (length stores) address level apart)
 
   pub other_switched : IsSwitched target.depth target.root memory stores → IsSwitched target.depth other memory stores
   other_switched switched done address low canonical = ⊎_elim

@@ -1,5 +1,5 @@
 -- A plan is right by its parts.
-use Rattle.std.proofs.Common.{AllPairs, ◌≡◌, ◌≢◌, ℕ, zero, suc, ◌<◌, ◌≤◌, List, [], ◌∷◌, ◌++◌, length, take, Option, Some, None, All, refl, sym, ap, subst, ◌∙◌, arith}
+use Rattle.std.proofs.Common.{AllPairs, ◌≡◌, ◌≢◌, ℕ, zero, suc, ◌<◌, ◌≤◌, List, [], ◌∷◌, ◌++◌, length, take, Option, Some, None, All, inl, refl, sym, ap, subst, ◌∙◌, arith}
 use Rattle.std.proofs.lemmas.List.{length-append, take-append-le}
 use Rattle.std.proofs.lemmas.List.Elements.{All-nil}
 use Rattle.std.proofs.Math.Seq.{take-length}
@@ -27,7 +27,7 @@ use Rattle.vs_plan.specs.Planner.{Awaits, HasGiven}
 use Rattle.vs_plan.specs.declared.planner.Phase.TheVariants as phases
 use Rattle.vs_plan.specs.Premise.{HasOwnWay, IsPremise}
 use Rattle.vs_plan.specs.Request.{address_of, refusal}
-use Rattle.vs_plan.specs.Right.{IsReply, refusal_in, space_after, Changes, IsMeantBy, IsWritten, IsOneWay, IsPruned, IsTold, IsPut, Fits, IsFlushed, IsUnlinkedBy, IsRight}
+use Rattle.vs_plan.specs.Right.{IsReply, refusal_in, space_after, Changes, IsMeantBy, IsWritten, IsOneWay, IsPruned, IsTold, IsPut, Fits, IsAlready, IsFlushed, IsUnlinkedBy, ReachesNoOther, IsRight}
 use Rattle.vs_plan.specs.Stores.{stored, stored_all, filled, FindTheirWords, AreSafe}
 use Rattle.vs_plan.specs.Way.{IsWay}
 use Rattle.vs_plan.specs.declared.planner.Planner.{Planner}
@@ -52,6 +52,7 @@ pub record Parts (target : Target) (request : Request) (memory : Memory) (space 
   pub meant : All (IsMeantBy target memory request unlinked) stores
   pub nothing : (Changes reply → ⊥) → stores ≡ []
   pub written : IsWritten request stores
+  pub already : IsAlready target memory request reply stores
   pub changing : All (λ (store : Store). store.old ≢ store.new) stores
   pub one_way : IsOneWay request stores
   pub told : IsTold target memory (address_of request) bits reply
@@ -62,6 +63,7 @@ pub record Parts (target : Target) (request : Request) (memory : Memory) (space 
   pub whole : AreWhole (stored_all (filled memory fill) stores)
   pub own : (a : ℕ) → HasOwnWay target.depth memory target.root a
       → HasOwnWay target.depth (stored_all (filled memory fill) stores) target.root a
+  pub reaches : ReachesNoOther target memory (stored_all (filled memory fill) stores) fill stores
 
 module _ {target : Target} {request : Request} {memory : Memory} {space : Space} {offered : List (Option ℕ)} where
   right_of : (plan : Plan)
@@ -77,6 +79,7 @@ module _ {target : Target} {request : Request} {memory : Memory} {space : Space}
     meant = parts.meant;
     nothing = parts.nothing;
     written = parts.written;
+    already = parts.already;
     changing = parts.changing;
     one_way = parts.one_way;
     told = parts.told;
@@ -86,6 +89,7 @@ module _ {target : Target} {request : Request} {memory : Memory} {space : Space}
     named_once = parts.named_once;
     whole = parts.whole;
     own = parts.own;
+    reaches = parts.reaches;
   }
 
   pub right_as : (plan : Plan) {reply : Reply} {bits : ℕ} {fill : Option Fill} {stores : List Store} {flush : Flush} {unlinked : List ℕ}
@@ -151,9 +155,9 @@ module _ {depth : Depth} {m : Memory} {root : ℕ} {before after : Space} where
 module _ {target : Target} {request : Request} {memory : Memory} {space : Space} {offered : List (Option ℕ)}
     (premise : IsPremise target.depth memory target.root (address_of request) space) {reply : Reply} {bits : ℕ}
     (due : refusal target space request ≡ refusal_in reply) where
-  nothing_parts : IsReply target request memory space offered reply → TranslatesAs target.depth memory target.root (space_after target request space reply)
+  nothing_parts : IsAlready target memory request reply [] → IsReply target request memory space offered reply → TranslatesAs target.depth memory target.root (space_after target request space reply)
       → IsTold target memory (address_of request) bits reply → Parts target request memory space offered reply bits None [] flushes.Nothing []
-  nothing_parts is then told = record {
+  nothing_parts already is then told = record {
     reply_is = is;
     due = due;
     put = put_none request;
@@ -163,6 +167,7 @@ module _ {target : Target} {request : Request} {memory : Memory} {space : Space}
     meant = All-nil _;
     nothing = λ none. refl;
     written = written_none request;
+    already = already;
     changing = All-nil _;
     one_way = one_way_none request;
     told = told;
@@ -172,6 +177,7 @@ module _ {target : Target} {request : Request} {memory : Memory} {space : Space}
     named_once = none_named;
     whole = premise.whole;
     own = λ a has. has;
+    reaches = λ level address number at. inl at;
   } where
     written_none : (request : Request) → IsWritten request []
     written_none request = tt
@@ -191,11 +197,12 @@ module _ {target : Target} {request : Request} {memory : Memory} {space : Space}
     flushed_none : (request : Request) → IsFlushed target memory request [] [] flushes.Nothing
     flushed_none request = refl
 
-  pub nothing_right : (plan : Plan) → ChangesNothing reply bits plan → IsReply target request memory space offered reply
+  pub nothing_right : (plan : Plan) → ChangesNothing reply bits plan → IsAlready target memory request reply []
+      → IsReply target request memory space offered reply
       → TranslatesAs target.depth memory target.root (space_after target request space reply)
       → IsTold target memory (address_of request) bits reply → IsRight target request memory space offered plan
-  nothing_right plan none is then told =
-      right_as plan none.reply_is none.bits_are none.fill none.stores none.flush none.unlinked (nothing_parts is then told)
+  nothing_right plan none already is then told =
+      right_as plan none.reply_is none.bits_are none.fill none.stores none.flush none.unlinked (nothing_parts already is then told)
 
 -- ---- one store
 

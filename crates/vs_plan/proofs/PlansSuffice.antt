@@ -63,7 +63,7 @@ IsEnd target memory address s =
 nothing_unlinked : {target : Target} {memory : Memory} {address : ℕ} {s : Store} → IsMeant target memory address [] s → IsEnd target memory address s
 nothing_unlinked (OfPage on ends) = inl (on.level, on.reached, ends)
 nothing_unlinked (OfLink on below leads named high new) = absurd (omega (arith, named.1))
-nothing_unlinked (OfSpare spare) = inr spare.unreached
+nothing_unlinked (OfSpare spare low) = inr spare.unreached
 
 -- a word that is given other rights is no link that is taken away
 not_cleared : (level word below : ℕ) (rights : Rights) → with_rights word rights ≡ 0 → table_in (Some (meaning level word)) ≡ Some below → ⊥
@@ -77,7 +77,7 @@ new_rights : {target : Target} {memory : Memory} {address : ℕ} {unlinked : Lis
     → IsMeant target memory address unlinked s → IsEnd target memory address s
 new_rights rights is (OfPage on ends) = inl (on.level, on.reached, ends)
 new_rights {s = s} rights is (OfLink on below leads named high new) = absurd (not_cleared on.level s.old below rights (sym is ∙ new) leads)
-new_rights rights is (OfSpare spare) = inr spare.unreached
+new_rights rights is (OfSpare spare low) = inr spare.unreached
 
 -- ---- the frame of such a store is the table of one level
 
@@ -116,7 +116,7 @@ after_cases P target request space (replies.Apart index) same step = same
 -- ---- the entry of a page
 
 -- the level of a table that is reached is no less than 1
-some_level : (depth : Depth) (m : Memory) (root level base number : ℕ) → table_at (levels depth) m root level base ≡ Some number → 1 ≤ level
+pub some_level : (depth : Depth) (m : Memory) (root level base number : ℕ) → table_at (levels depth) m root level base ≡ Some number → 1 ≤ level
 some_level depth m root zero base number at =
     let above = table_before (levels depth) root m 0 base number (omega (arith, three_levels depth)) at in
     let words = words_found 1 m above.0 base _ above.3 in
@@ -134,7 +134,7 @@ not_below depth m root base low number other level at ends there = ⊎_elim
     (λ (high : suc low ≤ level). high)
     (cases_lt level (suc low))
 
-entry_lowest : (target : Target) (m : Memory) (base : ℕ) (size : Size) (word : ℕ) (is : IsEntryOf target m base size word) (other level : ℕ)
+pub entry_lowest : (target : Target) (m : Memory) (base : ℕ) (size : Size) (word : ℕ) (is : IsEntryOf target m base size word) (other level : ℕ)
     → table_at (levels target.depth) m target.root level base ≡ Some other → is.level ≤ level
 entry_lowest target m base size word is other level there = by is.level is.reached is.word_is is.leaf.2 where
   by : (l : ℕ) → table_at (levels target.depth) m target.root l base ≡ Some is.number → word_at m is.number (index_at l base) ≡ Some word
@@ -143,7 +143,7 @@ entry_lowest target m base size word is other level there = by is.level is.reach
   by (suc low) at told says = not_below target.depth m target.root base low is.number other level at
       (ap table_in (found_word (suc low) m is.number (index_at (suc low) base) word base told refl ∙ ap Some says)) there
 
-entry_sizes : (target : Target) (m : Memory) (base : ℕ) (size other : Size) (word second : ℕ) → IsEntryOf target m base size word
+pub entry_sizes : (target : Target) (m : Memory) (base : ℕ) (size other : Size) (word second : ℕ) → IsEntryOf target m base size word
     → IsEntryOf target m base other second → size ≡ other
 entry_sizes target m base size other word second a b =
     let up = entry_lowest target m base size word a b.number b.level b.reached in
@@ -156,7 +156,7 @@ larger_level (suc zero) some few = refl
 larger_level (suc (suc zero)) some few = refl
 larger_level (suc (suc (suc level))) some few = absurd (omega arith)
 
-some_stores : (s : Store) → s ∷ [] ≡ [] → ⊥
+pub some_stores : (s : Store) → s ∷ [] ≡ [] → ⊥
 some_stores s none = cc
 
 -- ---- by the request

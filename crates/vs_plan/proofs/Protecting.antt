@@ -1,5 +1,5 @@
 -- A plan that changes the rights of a page.
-use Rattle.std.proofs.Common.{◌≡◌, ◌≢◌, ℕ, suc, ◌+◌, ◌-◌, ◌%◌, ◌≤◌, [], ◌∷◌, Some, None, refl, sym, ap, subst, ◌∙◌, arith}
+use Rattle.std.proofs.Common.{◌≡◌, ◌≢◌, ℕ, suc, ◌+◌, ◌-◌, ◌%◌, ◌≤◌, [], ◌∷◌, Some, None, inl, refl, sym, ap, subst, ◌∙◌, arith}
 use Rattle.std.proofs.lemmas.List.Elements.{All-nil, All-cons}
 use Rattle.vs_types.specs.Depth.{levels, entry_bytes, index_at}
 use Rattle.vs_types.specs.Entry.{meaning, size_at}
@@ -34,7 +34,7 @@ use Rattle.vs_plan.specs.Stores.{stored}
 use Rattle.vs_plan.specs.Way.{IsWay}
 use Rattle.vs_plan.specs.inside.Ended.{IsAtEnd, IsRightAt, ChangesNothing}
 use Rattle.vs_plan.proofs.Asking.{entry_of}
-use Rattle.vs_plan.proofs.OneStore.{walk_off, walk_leaf, own_on}
+use Rattle.vs_plan.proofs.OneStore.{walk_off, walk_leaf, fewer, own_on}
 use Rattle.vs_plan.proofs.Pages.{table_from, found_word, page_here}
 use Rattle.vs_plan.proofs.Parts.{none_named, Parts, right_as, safe_none, safe_one, nothing_right, due_as, store_at, EndAt, end_at}
 use Rattle.vs_plan.proofs.Stored.{used_word, whole_stored}
@@ -90,6 +90,7 @@ module _ (target : Target) {memory : Memory} {space : Space} {base level number 
         meant = All-nil _;
         nothing = λ none. refl;
         written = tt;
+        already = (size_at level, word, entry_of way end.word_is says, same);
         changing = All-nil _;
         one_way = tt;
         told = told;
@@ -99,6 +100,7 @@ module _ (target : Target) {memory : Memory} {space : Space} {base level number 
         named_once = none_named;
         whole = end.premise.whole;
         own = λ a has. has;
+        reaches = λ level address number at. inl at;
       } where
         walks : (b : ℕ) → SamePath (levels target.depth) level base b → intersection given own ≡ rights
             → walk_from memory level number given b ≡ Mapped (phys + b % entry_bytes level) (size_at level) rights
@@ -121,7 +123,7 @@ module _ (target : Target) {memory : Memory} {space : Space} {base level number 
       record {
         reply_is = sym (changed_answer table page.1 aligned rights);
         due = refl;
-        put = refl;
+        put = (refl, record { size = size_at level; entry_is = entry_of way end.word_is says; frame = refl; at = refl }, refl);
         fits = tt;
         safe = safe_one (store_at number (index_at level base) word (with_rights word rights)) end.premise.translates (changed_translates table page.1 aligned rights
             (stored memory (store_at number (index_at level base) word (with_rights word rights)))
@@ -133,6 +135,7 @@ module _ (target : Target) {memory : Memory} {space : Space} {base level number 
             (ap (λ e. table_in (Some e)) says)) (All-nil _);
         nothing = λ none. absurd (none (λ e. cc));
         written = (refl, refl);
+        already = tt;
         changing = All-cons (λ (t : Store). t.old ≢ t.new) (store_at number (index_at level base) word (with_rights word rights)) [] new (All-nil _);
         one_way = tt;
         told = told;
@@ -142,6 +145,7 @@ module _ (target : Target) {memory : Memory} {space : Space} {base level number 
         named_once = none_named;
         whole = whole_stored memory number (index_at level base) (with_rights word rights) end.premise.whole used;
         own = own_on way own used (with_rights word rights) end.premise.whole (ap (λ e. table_in (Some e)) leads) some;
+        reaches = λ l b q at. inl (fewer way own used (with_rights word rights) end.premise.whole (ap (λ e. table_in (Some e)) leads) some l b q at);
       }
 
 -- ---- as the code has it
@@ -151,7 +155,7 @@ module _ {p : Planner} {word : ℕ} (end : IsAtEnd p) {phys : ℕ} {own : Rights
   -- the entries above allow less
   pub less_right : intersection p.rights rights ≢ rights → (plan : Plan) → ChangesNothing replies.Rights 0 plan → IsRightAt p word plan
   less_right less plan none memory ended space premise =
-      nothing_right premise (due_as p.target space is refl) plan none (
+      nothing_right premise (due_as p.target space is refl) plan none tt (
         subst (WantsMore p.target memory) (sym is) (record {
           level = p.level;
           number = p.number;

@@ -44,7 +44,7 @@ use Rattle.vs_plan.specs.inside.Ended.{IsAtEnd, IsRightAt, HasEnded, ChangesNoth
 use Rattle.vs_plan.proofs.Addresses.{with_address_reads}
 use Rattle.vs_plan.proofs.Asking.{entry_of}
 use Rattle.vs_plan.proofs.Changing.{change_none, change_inside, change_here, why_here}
-use Rattle.vs_plan.proofs.OneStore.{walk_off, walk_leaf, own_on}
+use Rattle.vs_plan.proofs.OneStore.{walk_off, walk_leaf, fewer, own_on}
 use Rattle.vs_plan.proofs.Pages.{table_from, found_word, page_here}
 use Rattle.vs_plan.proofs.Parts.{none_named, Parts, right_as, safe_none, safe_one, nothing_right, nothing_as, due_as, store_at, EndAt, end_at}
 use Rattle.vs_plan.proofs.Stored.{used_word, whole_stored}
@@ -201,6 +201,7 @@ module _ (target : Target) {memory : Memory} {space : Space} {base level number 
           meant = All-nil _;
           nothing = λ none. refl;
           written = tt;
+          already = (size_at level, word, entry_of way end.word_is says, same);
           changing = All-nil _;
           one_way = tt;
           told = told;
@@ -210,6 +211,7 @@ module _ (target : Target) {memory : Memory} {space : Space} {base level number 
           named_once = none_named;
           whole = end.premise.whole;
           own = λ a has. has;
+          reaches = λ level address number at. inl at;
         } where
           walks : (b : ℕ) → SamePath (levels target.depth) level base b → intersection given own ≡ rights → old ≡ phys
               → walk_from memory level number given b ≡ Mapped (phys + b % entry_bytes level) (size_at level) rights
@@ -242,6 +244,7 @@ module _ (target : Target) {memory : Memory} {space : Space} {base level number 
               at = refl;
               new = refl;
             },
+            refl,
           );
           fits = tt;
           safe = safe_one (store_at number (index_at level base) word new) end.premise.translates
@@ -254,6 +257,7 @@ module _ (target : Target) {memory : Memory} {space : Space} {base level number 
               (OfPage (record { level = level; reached = way_table level number given way; index = refl }) (ap (λ e. table_in (Some e)) says)) (All-nil _);
           nothing = λ none. absurd (none (λ e. cc));
           written = refl;
+          already = tt;
           changing = All-cons (λ (t : Store). t.old ≢ t.new) (store_at number (index_at level base) word new) [] differs (All-nil _);
           one_way = tt;
           told = told;
@@ -263,6 +267,7 @@ module _ (target : Target) {memory : Memory} {space : Space} {base level number 
           named_once = none_named;
           whole = whole_stored memory number (index_at level base) new end.premise.whole used;
           own = own_on way own_way used new end.premise.whole (ap (λ e. table_in (Some e)) leads) some;
+          reaches = λ l b q at. inl (fewer way own_way used new end.premise.whole (ap (λ e. table_in (Some e)) leads) some l b q at);
         }
 
 -- ---- as the code has it
@@ -296,16 +301,16 @@ module _ {p : Planner} {word : ℕ} (end : IsAtEnd p) {old : ℕ} {own : Rights}
       let due : refusal p.target space p.request ≡ Some reply = refused_as space ended premise ∙ refuses in
       ⊎_elim
       (λ (e : reply ≡ replies.PhysUnaligned).
-      nothing_right premise (due ∙ ap Some e) plan (nothing_as none e refl) (due ∙ ap Some e) premise.translates refl)
+      nothing_right premise (due ∙ ap Some e) plan (nothing_as none e refl) tt (due ∙ ap Some e) premise.translates refl)
       (λ (e : reply ≡ replies.PhysRange).
-      nothing_right premise (due ∙ ap Some e) plan (nothing_as none e refl) (due ∙ ap Some e) premise.translates refl)
+      nothing_right premise (due ∙ ap Some e) plan (nothing_as none e refl) tt (due ∙ ap Some e) premise.translates refl)
       (phys_reply phys p.target.phys_bits (size_at p.level) reply refuses)
 
   module _ (none : phys_refusal phys p.target.phys_bits (size_at p.level) ≡ None) where
     -- the entries above allow less
     pub less_right : intersection p.rights rights ≢ rights → (plan : Plan) → ChangesNothing replies.Rights 0 plan → IsRightAt p word plan
     less_right less plan nothing memory ended space premise =
-        nothing_right premise (refused_as space ended premise ∙ none) plan nothing (
+        nothing_right premise (refused_as space ended premise ∙ none) plan nothing tt (
           subst (WantsMore p.target memory) (sym is) (record {
             level = p.level;
             number = p.number;

@@ -90,7 +90,7 @@ module _ {memory : Memory} {p : Planner} {words : List ℕ} (request : IsRequest
   pub empty_right : ((i : ℕ) → i < 512 → slice_index words i % 2 ≡ 0) → (plan : Plan) → ChangesNothing (replies.Empty p.number) 0 plan → (space : Space)
       → IsPremise p.target.depth memory p.target.root (address_of p.request) space → IsRight p.target p.request memory space [] plan
   empty_right none plan is space premise =
-      nothing_right premise (due_as p.target space searched.request refl) plan is
+      nothing_right premise (due_as p.target space searched.request refl) plan is tt
       (subst (λ r. LiesOverEmpty p.target memory r p.number) (sym searched.request) (record {
         level = p.level;
         address = p.base;
@@ -192,7 +192,7 @@ module _ {memory : Memory} {p : Planner} {words : List ℕ} (request : IsRequest
           let stays : stepped p.target.depth space p.request ≡ record { space = space; answer = answers.Overlap next } =
           ap (stepped p.target.depth space) searched.request
           ∙ map_overlaps p.target.depth (table_count p.target.depth (finite.insert space page.base page)) space page next (least ∙ ap Some begins) in
-          nothing_right premise (due_as p.target space searched.request refl) plan is (sym (ap (λ (s : Stepped). s.answer) stays))
+          nothing_right premise (due_as p.target space searched.request refl) plan is tt (sym (ap (λ (s : Stepped). s.answer) stays))
           (subst (λ (s : Space). TranslatesAs p.target.depth memory p.target.root s) (sym (ap (λ (s : Stepped). s.space) stays)) premise.translates) refl
 
       pub search_reserved : meaning p.level word ≡ entry.Reserved → IsRight p.target p.request memory space [] plan

@@ -1,5 +1,5 @@
 -- A page of 2 MiB or 1 GiB is split: a spare frame is filled with its parts, and linked in the place of its entry.
-use Rattle.std.proofs.Common.{◌≡◌, ◌≢◌, ℕ, zero, suc, ◌+◌, ◌-◌, ◌*◌, ◌%◌, ◌^◌, ◌<◌, ◌≤◌, [], ◌∷◌, length, Some, ⊎_elim, refl, sym, ap, subst, ◌∙◌, arith}
+use Rattle.std.proofs.Common.{◌≡◌, ◌≢◌, ℕ, zero, suc, ◌+◌, ◌-◌, ◌*◌, ◌%◌, ◌^◌, ◌<◌, ◌≤◌, [], ◌∷◌, length, Some, Contains, ◌⊎◌, inl, inr, ⊎_elim, refl, sym, ap, subst, ◌∙◌, arith}
 use Rattle.std.specs.Prelude.{slice_index}
 use Rattle.std.specs.FinMap as finite
 use Rattle.vs_types.specs.Depth.{levels, entry_bytes, index_at}
@@ -30,7 +30,7 @@ use Rattle.vs_plan.specs.Way.{IsWay}
 use Rattle.vs_plan.proofs.EntryStores.{IsOwnTable, after_store, walk_table_here}
 use Rattle.vs_plan.proofs.Filled.{entry_alike}
 use Rattle.vs_plan.proofs.Growing.{all_of}
-use Rattle.vs_plan.proofs.Linking.{own_linked}
+use Rattle.vs_plan.proofs.Linking.{old_or_new, own_linked}
 use Rattle.vs_plan.proofs.Pages.{table_from, level_back}
 use Rattle.vs_plan.proofs.PartSpaces.{split_space, looks_split, split_there}
 use Rattle.vs_plan.proofs.Runs.{IsRun, run_lone, run_of_words, run_walk}
@@ -129,11 +129,22 @@ module _ {depth : Depth} {m : Memory} {root level a n : ℕ} (here : IsOwnTable 
       ∙ ap (λ l. Mapped (phys + b % entry_bytes l) (size_at low) (intersection (intersection given all_rights) own)) (sym one)
       ∙ ap (λ r. Mapped (phys + b % entry_bytes level) (size_at low) (intersection r own)) (all_of given)
 
-  pub own_parts : (c : ℕ) → HasOwnWay depth m root c → HasOwnWay depth (after_store here w) root c
-  own_parts = own_linked here w frame low all_rights leads one (frame ∷ []) (run_lone (after_store here w) low frame phys own some run_linked a) (λ q among j b reached. ⊎_elim
+  unreached_parts : (q : ℕ) → Contains (frame ∷ []) q → (j b : ℕ) → table_at (levels depth) m root j b ≢ Some q
+  unreached_parts q among j b reached = ⊎_elim
       (λ (same : frame ≡ q). unreached j b (reached ∙ ap Some (sym same)))
       (λ more. not_in_nil q more)
-      (Contains-cases frame [] q among))
+      (Contains-cases frame [] q among)
+
+  -- each table was reached before, or is that of the parts
+  pub parts_reached : (b j q : ℕ) → table_at (levels depth) (after_store here w) root j b ≡ Some q
+      → (table_at (levels depth) m root j b ≡ Some q) ⊎ (frame ≡ q)
+  parts_reached b j q at = ⊎_elim
+      (λ old. inl old)
+      (λ new. ⊎_elim (λ (same : frame ≡ q). inr same) (λ more. absurd (not_in_nil q more)) (Contains-cases frame [] q new.0))
+      (old_or_new here w frame low all_rights leads one (frame ∷ []) (run_lone (after_store here w) low frame phys own some run_linked a) unreached_parts b j q at)
+
+  pub own_parts : (c : ℕ) → HasOwnWay depth m root c → HasOwnWay depth (after_store here w) root c
+  own_parts = own_linked here w frame low all_rights leads one (frame ∷ []) (run_lone (after_store here w) low frame phys own some run_linked a) unreached_parts
 
 -- ---- the space
 

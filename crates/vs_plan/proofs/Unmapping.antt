@@ -1,5 +1,5 @@
 -- The plan of an unmap is right: the page's entry becomes 0, and then the links to tables that are emptied, from the lowest up.
-use Rattle.std.proofs.Common.{◌≡◌, ◌≢◌, ℕ, true, false, le_trans, zero, suc, ◌+◌, ◌-◌, ◌%◌, ◌<◌, ◌≤◌, [], ◌∷◌, take, All, Some, ⊎_elim, refl, sym, ap, subst, ◌∙◌, arith, None}
+use Rattle.std.proofs.Common.{◌≡◌, ◌≢◌, ℕ, true, false, le_trans, zero, suc, ◌+◌, ◌-◌, ◌%◌, ◌<◌, ◌≤◌, [], ◌∷◌, take, All, Some, inl, ⊎_elim, refl, sym, ap, subst, ◌∙◌, arith, None}
 use Rattle.std.specs.Prelude.{slice_index, if◌then◌else◌}
 use Rattle.std.proofs.lemmas.List.Elements.{All-cons, All-weaker, All-contains}
 use Rattle.std.proofs.lemmas.Bool.{cases_eq, cases_lt}
@@ -279,16 +279,18 @@ module _ {target : Target} {memory : Memory} {space : Space} {base level number 
 
   pub unmap_parts : Parts target (Unmap base) memory space [] (replies.Answer (answers.Removed phys (size_at level) (intersection rights own)))
       (bits_in (size_at level) word) None (first ∷ cuts numbers words base level count) (flush_of count base (size_at level)) (cut_off numbers level count)
+  unfolding size_entry
   unmap_parts = record {
     reply_is = sym (removes ∙ removed_same found.0 phys (size_at level) (intersection rights own) found.1.phys_is found.1.size found.1.rights);
     due = refl;
-    put = refl;
+    put = (refl, record { size = size_at level; entry_is = size_entry; frame = refl; at = refl });
     fits = tt;
     safe = safe_first first (cuts numbers words base level count) is.premise.translates (λ n le. translates n);
     found = (is.word_is, cut.found);
     meant = All-cons (IsMeant target memory base (cut_off numbers level count)) first (cuts numbers words base level count) first_meant cuts_meant;
     nothing = λ unchanged. absurd (unchanged (λ no. cc));
     written = refl;
+    already = tt;
     changing = All-cons (λ (t : Store). t.old ≢ t.new) first (cuts numbers words base level count)
         (words_apart level word 0 (λ same. let both : entry.Leaf phys own ≡ entry.Absent = sym is.leaf ∙ same ∙ even_absent level 0 refl in cc))
         (All-weaker (IsCut target.depth between after target.root base level (level + count) (cut_off numbers level count)) (λ (t : Store). t.old ≢ t.new)
@@ -316,6 +318,7 @@ module _ {target : Target} {memory : Memory} {space : Space} {base level number 
         (omega (arith, within, highest)) (λ j le high. met j le high);
     whole = cut.whole;
     own = λ a has. cut.owns a (own_after here 0 refl a has);
+    reaches = λ l b q at. inl (fewer here 0 refl b l q (cut.fewer b l q at));
   } where
     removed_same : (q : Page) (p : ℕ) (s : Size) (r : Rights) → q.phys ≡ p → q.size ≡ s → q.rights ≡ r
         → answers.Removed q.phys q.size q.rights ≡ answers.Removed p s r

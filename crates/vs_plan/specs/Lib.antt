@@ -11,6 +11,7 @@ pub mod Planner
 pub mod Shown
 pub mod Processor
 pub mod Flushed
+pub mod Lived
 pub mod Other
 pub mod inside
 pub use Rattle.vs_types.specs.Depth

@@ -1,5 +1,5 @@
 -- What a planner waits for.
-use Rattle.std.specs.Prelude.{◌≡◌, ℕ, ◌+◌, ◌-◌, ◌^◌, ◌<◌, ◌≤◌, map, length, Contains, List}
+use Rattle.std.specs.Prelude.{◌≡◌, ℕ, suc, ◌+◌, ◌-◌, ◌^◌, ◌<◌, ◌≤◌, map, length, Contains, List}
 use Rattle.vs_types.specs.Depth.{levels}
 use Rattle.vs_walk.specs.Memory.{Memory}
 use Rattle.vs_plan.specs.declared.plan.Step.{Step}
@@ -49,7 +49,7 @@ pub record AwaitsDivision (planner : Planner) : Type 0 where
   pub phase : planner.phase ≡ phases.Division
   pub some : 1 ≤ planner.level
   pub few : planner.level ≤ levels planner.target.depth
-  pub room : planner.height < planner.level
+  pub next : suc planner.height ≡ planner.level
   pub is_split : (base : ℕ) × (planner.request ≡ Split base)
 
 abbrev pub AwaitsFrameIn : Phase → Planner → Type 0

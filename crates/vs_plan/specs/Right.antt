@@ -1,5 +1,5 @@
 -- When a plan is right: its answer, its stores, what is flushed, and what is unlinked.
-use Rattle.std.specs.Prelude.{◌≡◌, ◌≢◌, ℕ, suc, ◌+◌, ◌*◌, ◌<◌, ◌≤◌, List, [], ◌∷◌, All, Contains, Option, Some, None, IsTrue, IsFalse, ◌%◌, AllPairs}
+use Rattle.std.specs.Prelude.{◌≡◌, ◌≢◌, ◌⊎◌, ℕ, suc, ◌+◌, ◌*◌, ◌<◌, ◌≤◌, List, [], ◌∷◌, All, Contains, Option, Some, None, IsTrue, IsFalse, ◌%◌, AllPairs, map}
 use Rattle.std.specs.FinMap as finite
 use Rattle.vs_types.specs.Depth.{levels, index_at}
 use Rattle.vs_types.specs.Entry.{meaning, size_at, table_word}
@@ -121,7 +121,8 @@ IsReply target request memory space offered replies.PhysRange = refusal target s
 IsReply target request memory space offered replies.Smallest = refusal target space request ≡ Some replies.Smallest
 IsReply target request memory space offered replies.Largest = refusal target space request ≡ Some replies.Largest
 IsReply target request memory space offered replies.Unaligned = refusal target space request ≡ Some replies.Unaligned
-IsReply target request memory space offered (replies.Apart index) = KeepsApart target memory request index
+IsReply target request memory space offered (replies.Apart index) =
+    KeepsApart target memory request index × IsTrue (changes (stepped target.depth space request).answer)
 
 -- the refusal that a reply is, if it is one
 abbrev pub refusal_in : Reply → Option Reply
@@ -176,13 +177,14 @@ pub record IsOnWay (target : Target) (memory : Memory) (address : ℕ) (store : 
   pub reached : table_at (levels target.depth) memory target.root level address ≡ Some store.frame
   pub index : store.index ≡ index_at level address
 
--- what a store may change: the word of the page, which led no further; a link to a table that is unlinked; a word of a spare frame
+-- what a store may change: the word of the page, which led no further; a link to a table that is unlinked; a word of a spare frame within the
+-- physical addresses
 pub data IsMeant (target : Target) (memory : Memory) (address : ℕ) (unlinked : List ℕ) (store : Store) : Type 0 where
   OfPage : (on : IsOnWay target memory address store) → table_in (Some (meaning on.level store.old)) ≡ None
       → IsMeant target memory address unlinked store
   OfLink : (on : IsOnWay target memory address store) (below : ℕ) → table_in (Some (meaning on.level store.old)) ≡ Some below
       → Contains unlinked below → on.level ≤ highest_link target → store.new ≡ 0 → IsMeant target memory address unlinked store
-  OfSpare : IsSpare target.depth memory target.root store.frame → IsMeant target memory address unlinked store
+  OfSpare : IsSpare target.depth memory target.root store.frame → store.frame < frames_end target → IsMeant target memory address unlinked store
 
 -- a join's store: of the link to the table that is unlinked, on the way
 pub record IsMeantByJoin (target : Target) (memory : Memory) (base : ℕ) (unlinked : List ℕ) (store : Store) : Type 0 where
@@ -296,6 +298,13 @@ IsTold target memory address bits reply = bits ≡ 0
 
 -- ---- what a remap, a split or a join writes
 
+-- a store of an unmap or a protect: of the page's entry
+pub record IsOfPage (target : Target) (memory : Memory) (base : ℕ) (store : Store) : Type 0 where
+  pub size : Size
+  pub entry_is : IsEntryOf target memory base size store.old
+  pub frame : store.frame ≡ entry_is.number
+  pub at : store.index ≡ index_at entry_is.level base
+
 -- a remap writes the page's entry with another physical address and other rights
 pub record IsRemapped (target : Target) (memory : Memory) (base phys : ℕ) (rights : Rights) (store : Store) : Type 0 where
   pub size : Size
@@ -304,7 +313,8 @@ pub record IsRemapped (target : Target) (memory : Memory) (base phys : ℕ) (rig
   pub at : store.index ≡ index_at entry_is.level base
   pub new : store.new ≡ with_rights (with_address size store.old phys) rights
 
--- a split fills a spare frame that was offered with the entries of the page's parts, which have the page's rights and bits, and links it
+-- a split of a page larger than 4 KiB fills a spare frame that was offered with the entries of the page's parts, which have the page's rights
+-- and bits, and links it
 pub record IsSplit (target : Target) (memory : Memory) (base : ℕ) (offered : List (Option ℕ)) (fill : Fill) (store : Store) : Type 0 where
   pub size : Size
   pub phys : ℕ
@@ -314,6 +324,7 @@ pub record IsSplit (target : Target) (memory : Memory) (base : ℕ) (offered : L
   pub at : store.index ≡ index_at entry_is.level base
   pub aligned : base % bytes_of size ≡ 0
   pub says : meaning (level_of size) store.old ≡ entry.Leaf phys own
+  pub large : size ≢ K4
   pub given : Contains offered (Some fill.frame)
   pub within : fill.frame < frames_end target
   pub spare : IsSpare target.depth memory target.root fill.frame
@@ -343,15 +354,18 @@ pub record IsJoined (target : Target) (memory : Memory) (base : ℕ) (unlinked :
       (flagged (bits_in (size_at level) first))
   pub unlinked_is : unlinked ≡ number ∷ []
 
--- which table is filled, and what is written, by one store: a split alone fills one
+-- which table is filled: by a split alone; what the first store is of, and what is written by one store, which unlinks a table by a join alone
 abbrev pub IsPut : Target → Request → Memory → List (Option ℕ) → Option Fill → List Store → List ℕ → Type 0
 IsPut target request memory offered fill [] unlinked = fill ≡ None
 IsPut target (Map page bits) memory offered fill (store ∷ stores) unlinked = fill ≡ None
-IsPut target (Unmap base) memory offered fill (store ∷ stores) unlinked = fill ≡ None
-IsPut target (Protect base rights) memory offered fill (store ∷ stores) unlinked = fill ≡ None
+IsPut target (Unmap base) memory offered fill (store ∷ stores) unlinked = (fill ≡ None) × IsOfPage target memory base store
+IsPut target (Protect base rights) memory offered fill (store ∷ stores) unlinked =
+    (fill ≡ None) × IsOfPage target memory base store × (unlinked ≡ [])
 IsPut target (Ask address) memory offered fill (store ∷ stores) unlinked = fill ≡ None
-IsPut target (Remap base phys rights) memory offered fill (store ∷ stores) unlinked = (fill ≡ None) × IsRemapped target memory base phys rights store
-IsPut target (Split base) memory offered fill (store ∷ stores) unlinked = (table : Fill) × (fill ≡ Some table) × IsSplit target memory base offered table store
+IsPut target (Remap base phys rights) memory offered fill (store ∷ stores) unlinked =
+    (fill ≡ None) × IsRemapped target memory base phys rights store × (unlinked ≡ [])
+IsPut target (Split base) memory offered fill (store ∷ stores) unlinked =
+    (table : Fill) × (fill ≡ Some table) × IsSplit target memory base offered table store × (unlinked ≡ [])
 IsPut target (Join base) memory offered fill (store ∷ stores) unlinked = (fill ≡ None) × IsJoined target memory base unlinked store
 
 -- where pages are joined, the space has each part of the page that takes their place
@@ -364,6 +378,24 @@ Fits (Ask address) space (store ∷ stores) = Unit {0}
 Fits (Remap base phys rights) space (store ∷ stores) = Unit {0}
 Fits (Split base) space (store ∷ stores) = Unit {0}
 Fits (Join base) space (store ∷ stores) = (page : Page) × (page.base ≡ base) × (page.size ≢ K4) × HasParts space page
+
+-- the page's entry is just as a protect or a remap would write it
+abbrev pub IsSoAlready : Target → Memory → Request → Type 0
+IsSoAlready target memory (Map page bits) = Unit {0}
+IsSoAlready target memory (Unmap base) = Unit {0}
+IsSoAlready target memory (Protect base rights) =
+    (size : Size) × (word : ℕ) × IsEntryOf target memory base size word × (word ≡ with_rights word rights)
+IsSoAlready target memory (Ask address) = Unit {0}
+IsSoAlready target memory (Remap base phys rights) =
+    (size : Size) × (word : ℕ) × IsEntryOf target memory base size word × (word ≡ with_rights (with_address size word phys) rights)
+IsSoAlready target memory (Split base) = Unit {0}
+IsSoAlready target memory (Join base) = Unit {0}
+
+-- where a page was to be changed and there is no store, that is so
+abbrev pub IsAlready : Target → Memory → Request → Reply → List Store → Type 0
+IsAlready target memory request reply (store ∷ stores) = Unit {0}
+IsAlready target memory request (replies.Answer (answers.Changed rights)) [] = IsSoAlready target memory request
+IsAlready target memory request reply [] = Unit {0}
 
 -- ---- what is flushed
 
@@ -386,6 +418,24 @@ IsFlushed target memory (Split base) (store ∷ stores) unlinked flush =
 IsFlushed target memory (Join base) (store ∷ stores) unlinked flush =
     (size : Size) × (first : ℕ) × IsEntryOf target memory base size first × (flush ≡ flushes.Range base (larger size))
 
+-- ---- which tables are reached
+
+-- the frames that are written: that of the fill, and those of the stores
+abbrev pub written_frames : Option Fill → List Store → List ℕ
+written_frames None stores = map (λ (store : Store). store.frame) stores
+written_frames (Some fill) stores = fill.frame ∷ map (λ (store : Store). store.frame) stores
+
+-- a table in a frame that was spare, and is written
+pub record IsNewTable (target : Target) (memory : Memory) (fill : Option Fill) (stores : List Store) (number : ℕ) : Type 0 where
+  pub spare : IsSpare target.depth memory target.root number
+  pub written : Contains (written_frames fill stores) number
+
+-- each table that is reached afterwards was reached by the same way before, or is new
+abbrev pub ReachesNoOther : Target → Memory → Memory → Option Fill → List Store → Type 0
+ReachesNoOther target memory after fill stores = (level address number : ℕ)
+    → table_at (levels target.depth) after target.root level address ≡ Some number
+    → (table_at (levels target.depth) memory target.root level address ≡ Some number) ⊎ IsNewTable target memory fill stores number
+
 -- ---- all of it
 
 -- the memory in which the stores are made: with the table that is filled before them
@@ -406,6 +456,7 @@ pub record IsRight (target : Target) (request : Request) (memory : Memory) (spac
   pub meant : All (IsMeantBy target memory request plan.unlinked.items) plan.stores.items
   pub nothing : (Changes plan.reply → ⊥) → plan.stores.items ≡ []
   pub written : IsWritten request plan.stores.items
+  pub already : IsAlready target memory request plan.reply plan.stores.items
   pub changing : All (λ store. store.old ≢ store.new) plan.stores.items
   pub one_way : IsOneWay request plan.stores.items
   pub told : IsTold target memory (address_of request) plan.bits plan.reply
@@ -415,3 +466,4 @@ pub record IsRight (target : Target) (request : Request) (memory : Memory) (spac
   pub named_once : AllPairs (λ number other. number ≢ other) plan.unlinked.items
   pub whole : AreWhole (ended memory plan)
   pub own : (a : ℕ) → HasOwnWay target.depth memory target.root a → HasOwnWay target.depth (ended memory plan) target.root a
+  pub reaches : ReachesNoOther target memory (ended memory plan) plan.fill plan.stores.items

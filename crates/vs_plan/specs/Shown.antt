@@ -25,7 +25,7 @@ use Rattle.vs_plan.specs.Premise.{IsPremise, IsSpare}
 use Rattle.vs_plan.specs.Request.{address_of}
 use Rattle.vs_plan.specs.Right.{IsRight, IsWritten}
 use Rattle.vs_plan.specs.Stores.{stored_all, FindTheirWords}
-use Rattle.vs_plan.specs.Target.{highest_link}
+use Rattle.vs_plan.specs.Target.{frames_end, highest_link}
 use Rattle.vs_plan.specs.Way.{IsWay}
 
 -- ---- on the way down
@@ -132,6 +132,7 @@ pub record IsGrown (memory : Memory) (planner : Planner) : Type 0 where
   pub word_is : word_at memory planner.number (index_at planner.level page.base) ≡ Some (slice_index planner.words planner.level)
   pub absent : meaning planner.level (slice_index planner.words planner.level) ≡ entry.Absent
   pub allows : intersection planner.rights page.rights ≡ page.rights
+  pub within : All (λ (store : Store). store.frame < frames_end planner.target) planner.stores.items
   pub filled : AreFilled planner.target.depth memory planner.target.root page bits planner.height planner.below planner.stores.items
 
 -- ---- at the entry of a page that is to be split

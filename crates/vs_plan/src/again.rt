@@ -1,4 +1,4 @@
-ghost use Rattle.std.specs.Prelude.{◌≡◌, ◌<◌, ◌/◌, ◌%◌, ◌^◌, IfNone, IfSome, IsTrue, IsFalse, length, slice_index_or};
+ghost use Rattle.std.specs.Prelude.{◌≡◌, ◌<◌, ◌/◌, ◌%◌, ◌^◌, IfNone, IfSome, IsTrue, IsFalse, length, slice_index_or, if◌then◌else◌};
 ghost use Rattle.vs_plan.specs.declared.plan.Store.{Store};
 ghost use Rattle.vs_plan.specs.Again.{HasFlagsSet, IsPlanAgain, bits_again, fill_again, flags_into, new_again, with_flags_of};
 
@@ -11,18 +11,27 @@ const ABOVE_FLAGS: u64 = 1 << 7;
 
 impl Store {
     /// The store, where a processor has set its flags in the word since it was shown: with the word that is there now as `old`, and
-    /// these flags in `new` where that is an entry too. None where anything else differs, or the word is no entry.
-    pub fn again(self, word: u64) -> Option<Store>
-        ensures found { IfSome result (λ store. HasFlagsSet self.old word
-            × (store ≡ record self { old = word; new = with_flags_of word self.new })) }
+    /// these flags in `new` where that is an entry too. Of a plan that fills or unlinks a table the store `links`, and `new` stays: the
+    /// flags go into the fill (`Fill::again`), or are those of a link. None where anything else differs, or the word is no entry.
+    /// `Plan::again` does all this for a plan.
+    pub fn again(self, word: u64, links: bool) -> Option<Store>
+        ensures found { IfSome result (λ store. HasFlagsSet self.old word × (store ≡ record self {
+          old = word;
+          new = if links then self.new else with_flags_of word self.new;
+        })) }
         ensures none { IfNone result (HasFlagsSet self.old word → ⊥) }
     {
         if !has_flags_set(self.old, word) {
             return None;
         }
+        let new = if links {
+            self.new
+        } else {
+            with_flags_of(word, self.new)
+        };
         Some(Store {
             old: word,
-            new: with_flags_of(word, self.new),
+            new,
             ..self
         })
     }

@@ -9,6 +9,7 @@ ghost use Rattle.vs_plan.specs.declared.planner.Phase.{Phase};
 ghost use Rattle.vs_plan.specs.declared.request.Request.{Request};
 ghost use Rattle.vs_plan.specs.Planner.{HasGiven, frames_given, AwaitsFrame, AwaitsGrowth, Awaits, IsSpareFor, sees_left, gives_left};
 ghost use Rattle.vs_plan.specs.Shown.{IsShown, IsGrown, IsNext};
+ghost use Rattle.vs_plan.specs.Target.{frames_end};
 ghost use Rattle.vs_plan.specs.inside.Ended.{IsAtEnd, HasEnded, IsEnd, IsPlanned, IsFilledUp};
 
 use crate::plan::{Plan, Reply, Step, Store};
@@ -52,6 +53,7 @@ impl Planner {
         requires awaits { AwaitsGrowth self.old }
         requires request { self.old.request ≡ Request.Map page bits }
         requires in_range { number < 2 ^ 40 }
+        requires within { number < frames_end self.old.target }
         ensures same { (self.new.target ≡ self.old.target)
             × (self.new.request ≡ self.old.request) }
         ensures awaits { Awaits self.new result }
@@ -147,6 +149,7 @@ impl Planner {
         requires awaits { AwaitsGrowth self.old }
         requires request { self.old.request ≡ Request.Map page bits }
         requires in_range { number < 2 ^ 40 }
+        requires within { number < frames_end self.old.target }
         ensures same { self.new ≡ record self.old {
           height = self.old.height + 1;
           below = number;

@@ -1,19 +1,22 @@
 //! Laws of the definitions in `specs/`. Each function does nothing: its clauses say what holds of all processors and plans.
 
-ghost use Rattle.std.specs.Prelude.{◌≡◌, ℕ, List, Option, Some, true, ◌∷◌};
+ghost use Rattle.std.specs.Prelude.{◌≡◌, ℕ, List, All, Option, Some, true, ◌∷◌};
 ghost use Rattle.std.specs.FinMap as finite;
 ghost use Rattle.vs_types.specs.Depth.{IsCanonical};
 ghost use Rattle.vs_types.specs.Space.{Space, no_pages};
 ghost use Rattle.vs_types.specs.declared.depth.Depth.{Depth};
 ghost use Rattle.vs_arena.specs.Store.{zeros};
 ghost use Rattle.vs_walk.specs.Memory.{Memory, AreWhole};
-ghost use Rattle.vs_walk.specs.Walk.{walk};
+ghost use Rattle.vs_types.specs.Step.{look};
+ghost use Rattle.vs_walk.specs.Walk.{TranslatesAs, walk};
 ghost use Rattle.vs_walk.specs.declared.walk.Walk.{Walk};
+ghost use Rattle.vs_plan.specs.declared.plan.Fill.{Fill};
 ghost use Rattle.vs_plan.specs.declared.plan.Plan.{Plan};
+ghost use Rattle.vs_plan.specs.declared.plan.Store.{Store};
 ghost use Rattle.vs_plan.specs.declared.request.Request.{Request};
 ghost use Rattle.vs_plan.specs.declared.target.Target.{Target};
 ghost use Rattle.vs_plan.specs.Flushed.{Suffices};
-ghost use Rattle.vs_plan.specs.Other.{HasSameTables, IsBeside, IsRightBeside};
+ghost use Rattle.vs_plan.specs.Other.{AreBeside, HasSameTables, IsBeside, IsRightBeside, IsShared, LeadsNotTo};
 ghost use Rattle.vs_plan.specs.Premise.{IsPremise, HasOwnWay};
 ghost use Rattle.vs_plan.specs.Processor.{Moment, Is, MayFind, IsUpToDate};
 ghost use Rattle.vs_plan.specs.Request.{IsRequest, address_of};
@@ -67,6 +70,55 @@ pub fn plans_are_right_beside_their_root()
         → IsRight target request memory space offered plan
         → IsBeside target memory (address_of request) plan other
         → IsRightBeside target memory (address_of request) plan other }
+{}
+
+/// Two roots have no tables in common but those of addresses that have the same way from both below the roots. Then a plan for any base
+/// is one beside the other root, where the tables that the root leads to stay if the base is such an address, and the other root leads
+/// to no spare frame that is written. After it that is so again, as is what a plan through the other root asks of the memory: no other
+/// way leads to the tables on an address's way, and from the other root the memory translates as each space that has what the root's has now
+/// at addresses in common, and elsewhere what the other's had. And it is so the other way round, where each table of the root has one way.
+pub fn roots_stay_beside()
+    ensures beside { (target : Target) (memory : Memory) (base : ℕ) (plan : Plan) (other : ℕ)
+        → AreBeside target.depth memory target.root other
+        → (IsShared target.depth memory target.root other base → target.pinned ≡ true)
+        → All (λ (store : Store). LeadsNotTo target.depth memory target.root store.frame
+        → LeadsNotTo target.depth memory other store.frame) plan.stores.items
+        → ((fill : Fill) → plan.fill ≡ Some fill
+        → LeadsNotTo target.depth memory other fill.frame)
+        → IsBeside target memory base plan other }
+    ensures again { (target : Target) (request : Request) (memory : Memory) (space : Space)
+        (offered : List (Option ℕ)) (plan : Plan) (other : ℕ)
+        → IsPremise target.depth memory target.root (address_of request) space
+        → IsRight target request memory space offered plan
+        → IsBeside target memory (address_of request) plan other
+        → AreBeside target.depth memory target.root other
+        → AreBeside target.depth (ended memory plan) target.root other }
+    ensures own { (target : Target) (request : Request) (memory : Memory) (space : Space)
+        (offered : List (Option ℕ)) (plan : Plan) (other : ℕ)
+        → IsPremise target.depth memory target.root (address_of request) space
+        → IsRight target request memory space offered plan
+        → IsBeside target memory (address_of request) plan other
+        → AreBeside target.depth memory target.root other → (address : ℕ)
+        → HasOwnWay target.depth memory target.root address
+        → HasOwnWay target.depth memory other address
+        → HasOwnWay target.depth (ended memory plan) other address }
+    ensures translates { (target : Target) (request : Request) (memory : Memory) (space : Space)
+        (offered : List (Option ℕ)) (plan : Plan) (other : ℕ)
+        → IsPremise target.depth memory target.root (address_of request) space
+        → IsRight target request memory space offered plan
+        → IsBeside target memory (address_of request) plan other
+        → AreBeside target.depth memory target.root other → (before then : Space)
+        → TranslatesAs target.depth memory other before
+        → ((address : ℕ) → IsCanonical target.depth address
+        → IsShared target.depth memory target.root other address
+        → look then address ≡ look (space_after target request space plan.reply) address)
+        → ((address : ℕ) → IsCanonical target.depth address
+        → (IsShared target.depth memory target.root other address → ⊥)
+        → look then address ≡ look before address)
+        → TranslatesAs target.depth (ended memory plan) other then }
+    ensures swapped { (depth : Depth) (memory : Memory) (root other : ℕ)
+        → AreBeside depth memory root other → ((address : ℕ) → HasOwnWay depth memory root address)
+        → AreBeside depth memory other root }
 {}
 
 /// Plans follow one another: a frame whose words are all 0 is the root of the empty space, and after a right plan what the next one asks of

@@ -11,7 +11,7 @@ pub returns-in-Planned-clause-sound : goal.returns-in-Planned-clause-sound
 returns-in-Planned-clause-sound c = record {
   room = c.write.ensures.room;
   waits = subst (λ (phase : Phase). IsWaiting phase (planner_in c.write.new.plan))
-      (sym (ap (λ (way : Way). phase_in way.phase) c.write.ensures.way ∙ c.code_of-plan.ensures)) tt;
+      (sym (ap (λ (way : Way). phase_in way.phase) c.write.ensures.way)) tt;
 }
 
 pub returns-in-Planned-clause-next : goal.returns-in-Planned-clause-next

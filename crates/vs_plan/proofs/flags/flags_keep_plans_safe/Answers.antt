@@ -1,8 +1,8 @@
 use Rattle.std.proofs.Common.{ℕ, sym, subst, refl}
 use Rattle.vs_space.specs.Flags.{AreSameButFlags}
 use Rattle.vs_space.specs.Held.{with_word}
-use Rattle.vs_plan.proofs.FillsAgain.{same_fills, split_again}
-use Rattle.vs_plan.proofs.OtherFlags.{bits_after, flags_kept, protect_again, same_stored, same_translations}
+use Rattle.vs_plan.proofs.FillsAgain.{join_flags, same_fills, split_again}
+use Rattle.vs_plan.proofs.OtherFlags.{bits_after, flags_kept, protect_again, remap_again, same_stored, same_translations}
 use Rattle.vs_plan.proofs.flags.flags_keep_plans_safe.Goals as goal
 
 pub returns-clause-translations : goal.returns-clause-translations
@@ -21,6 +21,9 @@ returns-clause-again c = λ store word is. record { frame = refl; index = refl; 
 pub returns-clause-protects : goal.returns-clause-protects
 returns-clause-protects c = λ old word rights is. protect_again word old rights is
 
+pub returns-clause-remaps : goal.returns-clause-remaps
+returns-clause-remaps c = λ size old word phys rights at is. remap_again size word old phys rights at is
+
 pub returns-clause-bits : goal.returns-clause-bits
 returns-clause-bits c = λ size old word is. bits_after size word old is
 
@@ -29,3 +32,6 @@ returns-clause-fills c = λ old new fill word is odd even. same_fills is fill wo
 
 pub returns-clause-splits : goal.returns-clause-splits
 returns-clause-splits c = λ page size old word at is. split_again page size old word at is
+
+pub returns-clause-joins : goal.returns-clause-joins
+returns-clause-joins c = λ page size first word number at. join_flags page size first at

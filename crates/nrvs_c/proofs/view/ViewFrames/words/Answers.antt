@@ -18,5 +18,6 @@ pub returns : goal.returns
 returns c =
     let words = c.args.self.now.words.now in
     let at : c.args.self.now.table.now.base + c.in_ok-index.index ≡ c.args.number = omega (arith, c.in_ok-index.ensures) in
-    let got = slice_get-get_or words c.in_ok-index.index c.in_ok-words.words.now c.in_ok-words.ensures.lookup.3.0 ∙ ap Some (sym c.in_ok-words.ensures.lookup.1) in
+    let got = slice_get-get_or words c.in_ok-index.index c.in_ok-words.words.now c.in_ok-words.ensures.lookup.3.0
+    ∙ ap Some (sym c.in_ok-words.ensures.lookup.1) in
     ap Some c.whole.ensures ∙ sym (lent_from _ words c.args.number c.in_ok-index.index at ∙ got)

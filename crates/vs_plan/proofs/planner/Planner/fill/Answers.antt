@@ -17,12 +17,12 @@ returns-clause-grown c = λ memory grown spare.
     let count : length p.stores.items + level_of page.size ≡ p.height = omega (arith, low, c.requires.awaits.stores) in
     elim c.if-self-level.branch [
       | then-self-level w ↦
-          grown_more grown is lowest count spare
+          grown_more grown is lowest count spare c.requires.within
           (λ at. (w.new-is ∙ w.page_word-new.ensures.written, ap (meaning (level_of page.size)) w.new-is ∙ w.page_word-new.ensures.read_back))
           (λ above. absurd (omega (arith, above, w.if-self-level.true, c.level.ensures)))
           c.index_at.ensures.is c.push.ensures.items
       | else-self-level w ↦
-          grown_more grown is lowest count spare
+          grown_more grown is lowest count spare c.requires.within
           (λ at. absurd (w.if-self-level.false (omega (arith, at, c.level.ensures))))
           (λ above. (
             w.new-is ∙ w.word-new.ensures ∙ w.table.ensures.written,

@@ -14,7 +14,7 @@ returns-in_default-clause-next c = λ memory shown spare.
     planned_next p c.refuse.new.self c.refuse.result (ap (λ (q : Planner). q.target) c.refuse.ensures.same)
     (ap (λ (q : Planner). q.request) c.refuse.ensures.same) c.refuse.ensures.planned
     (λ plan none space premise.
-    nothing_right premise (give_due p c.requires shown space premise) plan none
+    nothing_right premise (give_due p c.requires shown space premise) plan none tt
     (subst (λ (o : Option ℕ). Contains (c.args.frame ∷ []) o) c.in_default.is (Contains-head c.args.frame []))
     premise.translates refl)
 
@@ -25,7 +25,7 @@ returns-then-number-frames_end-clause-next c = λ memory shown spare.
     planned_next p refused.new.self refused.result (ap (λ (q : Planner). q.target) refused.ensures.same)
     (ap (λ (q : Planner). q.request) refused.ensures.same) refused.ensures.planned
     (λ plan none space premise.
-    nothing_right premise (give_due p c.requires shown space premise) plan none
+    nothing_right premise (give_due p c.requires shown space premise) plan none tt
     (subst (λ (o : Option ℕ). Contains (c.args.frame ∷ []) o) c.in-Some.is (Contains-head c.args.frame []), omega (arith, c.if-number-frames_end.true, c.frames_end.ensures.is))
     premise.translates refl)
 

@@ -1,0 +1,445 @@
+-- A right plan, where flags were set in the memory since it was shown.
+use Rattle.std.proofs.Common.{◌≡◌, ◌≢◌, ℕ, suc, ◌+◌, ◌*◌, ◌%◌, ◌^◌, ◌<◌, List, [], ◌∷◌, All, Contains, Option, Some, None, true, inl, inr, ⊎_elim, refl, sym, ap, subst, ◌∙◌, arith}
+use Rattle.std.specs.FinMap as finite
+use Rattle.std.specs.List.{AllZip}
+use Rattle.std.proofs.lemmas.List.Elements.{All-nil, All-cons, All-head, All-weaker}
+use Rattle.vs_types.specs.Depth.{levels, index_at}
+use Rattle.vs_types.specs.Entry.{meaning, size_at}
+use Rattle.vs_types.specs.Laws.{changes}
+use Rattle.vs_types.specs.Page.{bytes_of}
+use Rattle.vs_types.specs.Space.{Space}
+use Rattle.vs_types.specs.declared.answer.Answer.TheVariants as answers
+use Rattle.vs_types.specs.declared.page.Page.{Page}
+use Rattle.vs_types.specs.declared.page.Rights.{Rights}
+use Rattle.vs_types.specs.declared.page.Size.{Size}
+use Rattle.vs_types.specs.declared.page.Size.TheVariants.{K4, M2, G1}
+use Rattle.vs_walk.specs.Memory.{Memory}
+use Rattle.vs_space.specs.Flags.{AreSameButFlags}
+use Rattle.vs_space.specs.Path.{table_in, table_at}
+use Rattle.vs_space.proofs.FlaggedWords.{flagged_meaning}
+use Rattle.vs_space.proofs.Writes.{get_written_other}
+use Rattle.vs_plan.specs.declared.plan.Fill.{Fill}
+use Rattle.vs_plan.specs.declared.plan.Flush.{Flush}
+use Rattle.vs_plan.specs.declared.plan.Flush.TheVariants as flushes
+use Rattle.vs_plan.specs.declared.plan.Reply.{Reply}
+use Rattle.vs_plan.specs.declared.plan.Reply.TheVariants as replies
+use Rattle.vs_plan.specs.declared.plan.Store.{Store}
+use Rattle.vs_plan.specs.declared.request.Request.{Request}
+use Rattle.vs_plan.specs.declared.request.Request.TheVariants.{Map, Unmap, Protect, Ask, Remap, Split, Join}
+use Rattle.vs_plan.specs.declared.target.Target.{Target}
+use Rattle.vs_plan.specs.Changes.{phys_refusal}
+use Rattle.vs_plan.specs.Premise.{HasOwnWay, IsSpare}
+use Rattle.vs_plan.specs.Request.{address_of, stepped, refusal}
+use Rattle.vs_plan.specs.Right.{IsReply, refusal_in, space_after, LiesOverEmpty, AllowsLess, WantsMore, KeepsApart, IsOnWay, IsMeant, OfPage, OfLink, OfSpare, IsMeantBy, IsUnlinked, IsLeft, IsUnlinkedBy, IsPruned, IsOneWay, IsTold, IsEntryOf, IsJoined, IsPut, Fits, IsSoAlready, IsAlready, IsFlushed, IsWritten, written_frames}
+use Rattle.vs_plan.specs.Target.{frames_end}
+use Rattle.vs_plan.specs.Stores.{stored, stored_all, filled, FindTheirWords}
+use Rattle.vs_plan.proofs.Changing.{why_here}
+use Rattle.vs_plan.proofs.FlaggedEntries.{ArePaired, absent_flags, alike_even, alike_unflagged, alike_zero, all_stored, at_before, at_flags, entry_flags, follow_flags, has_word, leaf_odd, own_before, place_stays, rights_stay, set_flags, some_stored, spare_flags, way_flags, word_flags, zeros_flags, zip_all, zip_length, zip_none}
+use Rattle.vs_plan.proofs.FlagsKept.{flags_own, flags_whole}
+use Rattle.vs_plan.proofs.Given.{change_begins}
+use Rattle.vs_plan.proofs.OtherFlags.{same_translations}
+use Rattle.vs_plan.proofs.Parts.{Parts}
+use Rattle.vs_plan.proofs.PlansSuffice.{entry_sizes, some_level}
+use Rattle.vs_plan.proofs.Remapping.{phys_good}
+use Rattle.vs_plan.proofs.Ways.{way_table}
+use Rattle.vs_plan.proofs.WrittenFrames.{written_same}
+
+-- ---- where a remap leads
+
+low_bits : (size : Size) (phys : ℕ) → phys % bytes_of size ≡ 0 → phys % 2 ^ 12 ≡ 0
+low_bits K4 phys at = at
+low_bits M2 phys at = omega (arith, at)
+low_bits G1 phys at = omega (arith, at)
+
+-- the physical address of a remap that changes something is a multiple of 4 KiB
+pub remap_low : (target : Target) (space : Space) (base phys : ℕ) (rights : Rights) → refusal target space (Remap base phys rights) ≡ None
+    → changes (stepped target.depth space (Remap base phys rights)).answer ≡ true → phys % 2 ^ 12 ≡ 0
+remap_low target space base phys rights due changed =
+    let page = change_begins target.depth space (Remap base phys rights) refl changed in
+    low_bits page.0.size phys (phys_good phys target.phys_bits page.0.size
+    (sym (why_here base (λ (p : Page). phys_refusal phys target.phys_bits p.size) page.0 page.1 page.2) ∙ due)).0
+
+module _ (target : Target) {old new : Memory} (is : AreSameButFlags old new) where
+  -- ---- what came out
+
+  less_flags : (address : ℕ) (wanted : Rights) → AllowsLess target old address wanted → AllowsLess target new address wanted
+  less_flags address wanted less = record {
+    level = less.level;
+    number = less.number;
+    rights = less.rights;
+    way = way_flags is target.depth target.root address less.level less.number less.rights less.way;
+    less = less.less;
+  }
+
+  wants_flags : (request : Request) → WantsMore target old request → WantsMore target new request
+  wants_flags (Map page bits) more = less_flags page.base page.rights more
+  wants_flags (Unmap base) more = absurd more
+  wants_flags (Protect base rights) more = less_flags base rights more
+  wants_flags (Ask address) more = absurd more
+  wants_flags (Remap base phys rights) more = less_flags base rights more
+  wants_flags (Split base) more = absurd more
+  wants_flags (Join base) more = absurd more
+
+  over_flags : (request : Request) (number : ℕ) → LiesOverEmpty target old request number → LiesOverEmpty target new request number
+  over_flags (Map page bits) number over = record {
+    level = over.level;
+    address = over.address;
+    rights = over.rights;
+    below = over.below;
+    covered = over.covered;
+    way = way_flags is target.depth target.root over.address over.level number over.rights over.way;
+    empty = λ index low. absent_flags is over.level number index
+        (some_level target.depth old target.root over.level over.address number (way_table over.level number over.rights over.way)) (over.empty index low);
+  }
+  over_flags (Unmap base) number over = absurd over
+  over_flags (Protect base rights) number over = absurd over
+  over_flags (Ask address) number over = absurd over
+  over_flags (Remap base phys rights) number over = absurd over
+  over_flags (Split base) number over = absurd over
+  over_flags (Join base) number over = absurd over
+
+  apart_flags : (request : Request) (index : ℕ) → KeepsApart target old request index → KeepsApart target new request index
+  apart_flags (Map page bits) index apart = absurd apart
+  apart_flags (Unmap base) index apart = absurd apart
+  apart_flags (Protect base rights) index apart = absurd apart
+  apart_flags (Ask address) index apart = absurd apart
+  apart_flags (Remap base phys rights) index apart = absurd apart
+  apart_flags (Split base) index apart = absurd apart
+  apart_flags (Join base) index apart =
+      let first = word_flags is apart.number (index_at apart.level base) apart.first apart.first_is in
+      let word = word_flags is apart.number index apart.word apart.word_is in
+      record {
+        level = apart.level;
+        number = apart.number;
+        first = first.0;
+        word = word.0;
+        reached = at_flags is target.depth target.root apart.level base apart.number apart.reached;
+        first_is = first.1;
+        leaf = (
+          apart.leaf.0,
+          apart.leaf.1,
+          flagged_meaning first.2 apart.level
+              (some_level target.depth old target.root apart.level base apart.number apart.reached) ∙ apart.leaf.2,
+        );
+        within = apart.within;
+        word_is = word.1;
+        apart = λ follows. apart.apart (sym (alike_unflagged word.2) ∙ follows ∙ ap (λ n. n + index * bytes_of (size_at apart.level)) (alike_unflagged first.2));
+        before = follow_flags is apart.number (size_at apart.level) apart.first first.0 index first.2 apart.before;
+      }
+
+  reply_flags : (request : Request) (space : Space) (offered : List (Option ℕ)) (reply : Reply) → IsReply target request old space offered reply
+      → IsReply target request new space offered reply
+  reply_flags request space offered (replies.Answer answer) said = said
+  reply_flags request space offered replies.NoFrame said = said
+  reply_flags request space offered (replies.FrameRange number) said = said
+  reply_flags request space offered replies.Rights said = (wants_flags request said.0, said.1)
+  reply_flags request space offered (replies.Empty number) said = over_flags request number said
+  reply_flags request space offered (replies.Reserved number index) said = said
+  reply_flags request space offered replies.PhysUnaligned said = said
+  reply_flags request space offered replies.PhysRange said = said
+  reply_flags request space offered replies.Smallest said = said
+  reply_flags request space offered replies.Largest said = said
+  reply_flags request space offered replies.Unaligned said = said
+  reply_flags request space offered (replies.Apart index) said = (apart_flags request index said.0, said.1)
+
+  -- ---- what the stores are
+
+  abbrev on_flags : {address : ℕ} {s t : Store} → ArePaired s t → IsOnWay target old address s → IsOnWay target new address t
+  on_flags {address} {s} pair on = record {
+    level = on.level;
+    reached = at_flags is target.depth target.root on.level address s.frame on.reached ∙ ap Some (sym pair.frame);
+    index = pair.index ∙ on.index;
+  }
+
+  leads_flags : {address : ℕ} {s t : Store} → ArePaired s t → (on : IsOnWay target old address s)
+      → table_in (Some (meaning on.level t.old)) ≡ table_in (Some (meaning on.level s.old))
+  leads_flags {address} {s} pair on = ap (λ e. table_in (Some e))
+      (flagged_meaning pair.old on.level (some_level target.depth old target.root on.level address s.frame on.reached))
+
+  meant_flags : {address : ℕ} {unlinked : List ℕ} {s t : Store} → ArePaired s t → IsMeant target old address unlinked s → IsMeant target new address unlinked t
+  meant_flags pair (OfPage on ends) = OfPage (on_flags pair on) (leads_flags pair on ∙ ends)
+  meant_flags {s = s} pair (OfLink on below leads named high none) =
+      OfLink (on_flags pair on) below (leads_flags pair on ∙ leads) named high (alike_zero pair.new none)
+  meant_flags {s = s} {t} pair (OfSpare spare within) = OfSpare
+      (subst (λ n. IsSpare target.depth new target.root n) (sym pair.frame) (spare_flags is target.depth target.root s.frame spare))
+      (subst (λ n. n < frames_end target) (sym pair.frame) within)
+
+  meant_by : (request : Request) (unlinked : List ℕ) (s t : Store) → ArePaired s t → IsMeantBy target old request unlinked s
+      → IsMeantBy target new request unlinked t
+  meant_by (Map page bits) unlinked s t pair meant = meant_flags pair meant
+  meant_by (Unmap base) unlinked s t pair meant = meant_flags pair meant
+  meant_by (Protect base rights) unlinked s t pair meant = meant_flags pair meant
+  meant_by (Ask address) unlinked s t pair meant = meant_flags pair meant
+  meant_by (Remap base phys rights) unlinked s t pair meant = meant_flags pair meant
+  meant_by (Split base) unlinked s t pair meant = meant_flags pair meant
+  meant_by (Join base) unlinked s t pair meant = record {
+    on = on_flags pair meant.on;
+    below = meant.below;
+    leads = leads_flags pair meant.on ∙ meant.leads;
+    named = meant.named;
+    may = meant.may;
+  }
+
+  -- ---- where there is no store
+
+  so_flags : (request : Request) (space : Space) → refusal target space request ≡ None → changes (stepped target.depth space request).answer ≡ true
+      → IsSoAlready target old request → IsSoAlready target new request
+  so_flags (Map page bits) space due changed so = tt
+  so_flags (Unmap base) space due changed so = tt
+  so_flags (Protect base rights) space due changed so =
+      let now = entry_flags is target base so.1 so.0 so.2 in
+      (so.0, now.0, now.1, rights_stay now.0 so.1 rights (set_flags now.2 (leaf_odd so.2.level so.1 so.2.leaf.0 so.2.leaf.1 so.2.leaf.2)) so.3)
+  so_flags (Ask address) space due changed so = tt
+  so_flags (Remap base phys rights) space due changed so =
+      let now = entry_flags is target base so.1 so.0 so.2 in (
+        so.0,
+        now.0,
+        now.1,
+        place_stays so.0 now.0 so.1 phys rights (remap_low target space base phys rights due changed)
+            (set_flags now.2 (leaf_odd so.2.level so.1 so.2.leaf.0 so.2.leaf.1 so.2.leaf.2)) so.3,
+      )
+  so_flags (Split base) space due changed so = tt
+  so_flags (Join base) space due changed so = tt
+
+  already_none : (request : Request) (space : Space) (offered : List (Option ℕ)) (reply : Reply) → refusal target space request ≡ refusal_in reply
+      → IsReply target request old space offered reply → IsAlready target old request reply [] → IsAlready target new request reply []
+  already_none request space offered (replies.Answer answers.Done) due said so = tt
+  already_none request space offered (replies.Answer (answers.Overlap base)) due said so = tt
+  already_none request space offered (replies.Answer (answers.Full need)) due said so = tt
+  already_none request space offered (replies.Answer (answers.Removed phys size rights)) due said so = tt
+  already_none request space offered (replies.Answer answers.NotMapped) due said so = tt
+  already_none request space offered (replies.Answer (answers.Inside base)) due said so = tt
+  already_none request space offered (replies.Answer (answers.Changed rights)) due said so = so_flags request space due (ap changes (sym said)) so
+  already_none request space offered (replies.Answer (answers.Mapped phys size rights)) due said so = tt
+  already_none request space offered (replies.Answer (answers.Allowed phys)) due said so = tt
+  already_none request space offered (replies.Answer (answers.Fault code)) due said so = tt
+  already_none request space offered replies.NoFrame due said so = tt
+  already_none request space offered (replies.FrameRange number) due said so = tt
+  already_none request space offered replies.Rights due said so = tt
+  already_none request space offered (replies.Empty number) due said so = tt
+  already_none request space offered (replies.Reserved number index) due said so = tt
+  already_none request space offered replies.PhysUnaligned due said so = tt
+  already_none request space offered replies.PhysRange due said so = tt
+  already_none request space offered replies.Smallest due said so = tt
+  already_none request space offered replies.Largest due said so = tt
+  already_none request space offered replies.Unaligned due said so = tt
+  already_none request space offered (replies.Apart index) due said so = tt
+
+-- ---- a plan of the same stores, but for flags
+
+pub record IsMoved (target : Target) (request : Request) (old new : Memory) (space : Space) (offered : List (Option ℕ)) (reply : Reply) (bits : ℕ)
+    (fill other : Option Fill) (xs ys : List Store) (unlinked : List ℕ) : Type 0 where
+  pub same : AreSameButFlags old new
+  pub begins : AreSameButFlags (filled old fill) (filled new other)
+  pub own : HasOwnWay target.depth old target.root (address_of request)
+  pub pairs : AllZip ArePaired xs ys
+  pub frames : written_frames fill [] ≡ written_frames other []
+  pub found : FindTheirWords (filled new other) ys
+  pub put : IsPut target request new offered other ys unlinked
+  pub written : IsWritten request ys
+  pub changing : All (λ (s : Store). s.old ≢ s.new) ys
+  pub told : IsTold target new (address_of request) bits reply
+
+module _ (target : Target) (old new : Memory) (space : Space) (offered : List (Option ℕ)) (reply : Reply) (bits past : ℕ) (fill other : Option Fill)
+    (unlinked : List ℕ) (flush : Flush) where
+  abbrev Was : Request → List Store → Type 0
+  Was request xs = Parts target request old space offered reply past fill xs flush unlinked
+
+  abbrev Moves : Request → List Store → List Store → Type 0
+  Moves request xs ys = IsMoved target request old new space offered reply bits fill other xs ys unlinked
+
+  abbrev ends_alike : {request : Request} {xs ys : List Store} → Was request xs → Moves request xs ys
+      → AreSameButFlags (stored_all (filled old fill) xs) (stored_all (filled new other) ys)
+  ends_alike {request} {xs} {ys} was moves = all_stored moves.begins xs ys moves.pairs was.found
+
+  fits_moved : (request : Request) (xs ys : List Store) → AllZip ArePaired xs ys → Fits request space xs → Fits request space ys
+  fits_moved request [] [] pairs fits = tt
+  fits_moved request [] (t ∷ ys) pairs fits = absurd pairs
+  fits_moved request (s ∷ xs) [] pairs fits = absurd pairs
+  fits_moved (Map page bits) (s ∷ xs) (t ∷ ys) pairs fits = tt
+  fits_moved (Unmap base) (s ∷ xs) (t ∷ ys) pairs fits = tt
+  fits_moved (Protect base rights) (s ∷ xs) (t ∷ ys) pairs fits = tt
+  fits_moved (Ask address) (s ∷ xs) (t ∷ ys) pairs fits = tt
+  fits_moved (Remap base phys rights) (s ∷ xs) (t ∷ ys) pairs fits = tt
+  fits_moved (Split base) (s ∷ xs) (t ∷ ys) pairs fits = tt
+  fits_moved (Join base) (s ∷ xs) (t ∷ ys) pairs fits = fits
+
+  already_moved : (request : Request) (xs ys : List Store) → Was request xs → Moves request xs ys → IsAlready target new request reply ys
+  already_moved request [] [] was moves = already_none target moves.same request space offered reply was.due was.reply_is was.already
+  already_moved request [] (t ∷ ys) was moves = absurd moves.pairs
+  already_moved request (s ∷ xs) [] was moves = absurd moves.pairs
+  already_moved request (s ∷ xs) (t ∷ ys) was moves = tt
+
+  one_way_moved : (request : Request) (xs ys : List Store) → AllZip ArePaired xs ys → IsOneWay request xs → IsOneWay request ys
+  one_way_moved (Map page bits) xs ys pairs one_way =
+      zip_all (λ (s : Store). s.old % 2 ≡ 0) (λ (s : Store). s.old % 2 ≡ 0) (λ s t pair even. ap (λ n. n % 2) (alike_even pair.old even) ∙ even) xs ys pairs one_way
+  one_way_moved (Unmap base) xs ys pairs one_way =
+      zip_all (λ (s : Store). s.new ≡ 0) (λ (s : Store). s.new ≡ 0) (λ s t pair none. alike_zero pair.new none) xs ys pairs one_way
+  one_way_moved (Protect base rights) xs ys pairs one_way = tt
+  one_way_moved (Ask address) xs ys pairs one_way = tt
+  one_way_moved (Remap base phys rights) xs ys pairs one_way = tt
+  one_way_moved (Split base) xs ys pairs one_way = tt
+  one_way_moved (Join base) xs ys pairs one_way = tt
+
+  pruned_moved : (request : Request) (xs ys : List Store) → Was request xs → Moves request xs ys
+      → IsPruned target (stored_all (filled new other) ys) request ys
+  pruned_moved request [] [] was moves = tt
+  pruned_moved request [] (t ∷ ys) was moves = absurd moves.pairs
+  pruned_moved request (s ∷ xs) [] was moves = absurd moves.pairs
+  pruned_moved (Map page bits) (s ∷ xs) (t ∷ ys) was moves = tt
+  pruned_moved (Unmap base) (s ∷ xs) (t ∷ ys) was moves = λ level number low at.
+      has_word (ends_alike was moves) number (was.pruned level number low (at_before (ends_alike was moves) target.depth target.root level base number at))
+  pruned_moved (Protect base rights) (s ∷ xs) (t ∷ ys) was moves = tt
+  pruned_moved (Ask address) (s ∷ xs) (t ∷ ys) was moves = tt
+  pruned_moved (Remap base phys rights) (s ∷ xs) (t ∷ ys) was moves = tt
+  pruned_moved (Split base) (s ∷ xs) (t ∷ ys) was moves = tt
+  pruned_moved (Join base) (s ∷ xs) (t ∷ ys) was moves = tt
+
+  -- ---- what is flushed
+
+  abbrev IsEntryThere : ℕ → Size → ℕ → Type 0
+  IsEntryThere base size word = IsEntryOf target new base size word
+
+  -- the size of a page's entry is as it was
+  flushed_size : {base word now : ℕ} {size other : Size} → AreSameButFlags old new → IsEntryOf target old base size word → IsEntryOf target new base other now
+      → size ≡ other
+  flushed_size {base} {word} {now} {size} {other} same was is =
+      let moved = entry_flags same target base word size was in
+      entry_sizes target new base size other moved.0 now moved.1 is
+
+  flushed_moved : (request : Request) (xs ys : List Store) (unlinked : List ℕ) → AreSameButFlags old new → AllZip ArePaired xs ys
+      → IsPut target request new offered other ys unlinked → IsFlushed target old request xs unlinked flush → IsFlushed target new request ys unlinked flush
+  flushed_moved request [] [] unlinked same pairs put flushed = flushed
+  flushed_moved request [] (t ∷ ys) unlinked same pairs put flushed = absurd pairs
+  flushed_moved request (s ∷ xs) [] unlinked same pairs put flushed = absurd pairs
+  flushed_moved (Map page bits) (s ∷ xs) (t ∷ ys) unlinked same pairs put flushed = flushed
+  flushed_moved (Unmap base) (s ∷ xs) (t ∷ ys) [] same pairs put flushed =
+      (put.1.size, put.1.entry_is, flushed.2 ∙ ap (flushes.Page base) (flushed_size same flushed.1 put.1.entry_is))
+  flushed_moved (Unmap base) (s ∷ xs) (t ∷ ys) (number ∷ numbers) same pairs put flushed =
+      (put.1.size, put.1.entry_is, flushed.2 ∙ ap (flushes.PageAndTables base) (flushed_size same flushed.1 put.1.entry_is))
+  flushed_moved (Protect base rights) (s ∷ xs) (t ∷ ys) unlinked same pairs put flushed =
+      (put.1.size, put.1.entry_is, flushed.2 ∙ ap (flushes.Page base) (flushed_size same flushed.1 put.1.entry_is))
+  flushed_moved (Ask address) (s ∷ xs) (t ∷ ys) unlinked same pairs put flushed = flushed
+  flushed_moved (Remap base phys rights) (s ∷ xs) (t ∷ ys) unlinked same pairs put flushed =
+      (put.1.size, put.1.entry_is, flushed.2 ∙ ap (flushes.Page base) (flushed_size same flushed.1 put.1.entry_is))
+  flushed_moved (Split base) (s ∷ xs) (t ∷ ys) unlinked same pairs put flushed =
+      (put.2.size, put.2.entry_is, flushed.2 ∙ ap (flushes.Range base) (flushed_size same flushed.1 put.2.entry_is))
+  flushed_moved (Join base) (s ∷ xs) (t ∷ ys) unlinked same pairs put flushed =
+      let now = entry_flags same target base flushed.1 flushed.0 flushed.2 in
+      (flushed.0, now.0, now.1, flushed.3)
+
+  -- ---- which tables are unlinked
+
+  gone_moved : {request : Request} {xs ys : List Store} → Was request xs → Moves request xs ys → (address number : ℕ)
+      → IsUnlinked target old (stored_all (filled old fill) xs) address number → IsUnlinked target new (stored_all (filled new other) ys) address number
+  gone_moved was moves address number gone = record {
+    level = gone.level;
+    was = at_flags moves.same target.depth target.root gone.level address number gone.was;
+    lower = gone.lower;
+    clear = zeros_flags (ends_alike was moves) number gone.clear;
+    unreached = λ level b at. gone.unreached level b (at_before (ends_alike was moves) target.depth target.root level b number at);
+  }
+
+  -- a join's one store is into another frame than the table that it unlinks
+  left_moved : {base number : ℕ} {s t : Store} {xs ys : List Store} → Was (Join base) (s ∷ xs) → Moves (Join base) (s ∷ xs) (t ∷ ys)
+      → IsLeft target old (stored_all (filled old fill) (s ∷ xs)) base number → unlinked ≡ number ∷ []
+      → IsLeft target new (stored_all (filled new other) (t ∷ ys)) base number
+  left_moved {base} {number} {s} {t} {xs} {ys} was moves left named = record {
+    level = left.level;
+    was = at_flags moves.same target.depth target.root left.level base number left.was;
+    lower = left.lower;
+    same = subst (λ (later : List Store). finite.get (stored_all (filled new other) (t ∷ later)) number ≡ finite.get new number) (sym moves.written)
+        (subst (λ (o : Option Fill). finite.get (stored (filled new o) t) number ≡ finite.get new number) (sym moves.put.0)
+        (get_written_other new t.frame t.index t.new number apart));
+    unreached = λ level b at. left.unreached level b (at_before (ends_alike was moves) target.depth target.root level b number at);
+  } where
+    put : IsJoined target new base unlinked t
+    put = moves.put.1
+
+    one_number : (x y : ℕ) → x ∷ [] ≡ y ∷ [] → x ≡ y
+    one_number x y e = cc
+
+    same_number : put.number ≡ number
+    same_number = one_number put.number number (sym put.unlinked_is ∙ named)
+
+    below : table_at (levels target.depth) old target.root put.level base ≡ Some number
+    below = at_before moves.same target.depth target.root put.level base put.number put.reached ∙ ap Some same_number
+
+    apart : number ≢ t.frame
+    apart same =
+        let above : table_at (levels target.depth) old target.root (suc put.level) base ≡ Some number =
+        at_before moves.same target.depth target.root (suc put.level) base t.frame put.above ∙ ap Some (sym same) in
+        let levels_same = (moves.own.once put.level number (suc put.level) base below above).0 in
+        omega (arith, levels_same)
+
+  unlinked_moved : (request : Request) (xs ys : List Store) → Was request xs → Moves request xs ys
+      → All (IsUnlinkedBy target new (stored_all (filled new other) ys) request) unlinked
+  unlinked_moved (Map page bits) xs ys was moves = All-weaker (IsUnlinked target old (stored_all (filled old fill) xs) page.base)
+      (IsUnlinked target new (stored_all (filled new other) ys) page.base) (gone_moved was moves page.base) unlinked was.gone
+  unlinked_moved (Unmap base) xs ys was moves = All-weaker (IsUnlinked target old (stored_all (filled old fill) xs) base)
+      (IsUnlinked target new (stored_all (filled new other) ys) base) (gone_moved was moves base) unlinked was.gone
+  unlinked_moved (Protect base rights) xs ys was moves = All-weaker (IsUnlinked target old (stored_all (filled old fill) xs) base)
+      (IsUnlinked target new (stored_all (filled new other) ys) base) (gone_moved was moves base) unlinked was.gone
+  unlinked_moved (Ask address) xs ys was moves = All-weaker (IsUnlinked target old (stored_all (filled old fill) xs) address)
+      (IsUnlinked target new (stored_all (filled new other) ys) address) (gone_moved was moves address) unlinked was.gone
+  unlinked_moved (Remap base phys rights) xs ys was moves = All-weaker (IsUnlinked target old (stored_all (filled old fill) xs) base)
+      (IsUnlinked target new (stored_all (filled new other) ys) base) (gone_moved was moves base) unlinked was.gone
+  unlinked_moved (Split base) xs ys was moves = All-weaker (IsUnlinked target old (stored_all (filled old fill) xs) base)
+      (IsUnlinked target new (stored_all (filled new other) ys) base) (gone_moved was moves base) unlinked was.gone
+  unlinked_moved (Join base) [] [] was moves = All-weaker (IsLeft target old (stored_all (filled old fill) []) base)
+      (IsLeft target new (stored_all (filled new other) []) base) (λ number left. record {
+        level = left.level;
+        was = at_flags moves.same target.depth target.root left.level base number left.was;
+        lower = left.lower;
+        same = ap (λ (o : Option Fill). finite.get (filled new o) number) moves.put;
+        unreached = λ level b at. left.unreached level b (at_before moves.begins target.depth target.root level b number at);
+      }) unlinked was.gone
+  unlinked_moved (Join base) [] (t ∷ ys) was moves = absurd moves.pairs
+  unlinked_moved (Join base) (s ∷ xs) [] was moves = absurd moves.pairs
+  unlinked_moved (Join base) (s ∷ xs) (t ∷ ys) was moves =
+      let number = moves.put.1.number in
+      let named : unlinked ≡ number ∷ [] = moves.put.1.unlinked_is in
+      subst (All (IsLeft target new (stored_all (filled new other) (t ∷ ys)) base)) (sym named)
+      (All-cons (IsLeft target new (stored_all (filled new other) (t ∷ ys)) base) number []
+      (left_moved was moves (All-head (IsLeft target old (stored_all (filled old fill) (s ∷ xs)) base) number []
+      (subst (All (IsLeft target old (stored_all (filled old fill) (s ∷ xs)) base)) named was.gone)) named)
+      (All-nil (IsLeft target new (stored_all (filled new other) (t ∷ ys)) base)))
+
+  pub parts_moved : (request : Request) (xs ys : List Store) → Was request xs → Moves request xs ys
+      → Parts target request new space offered reply bits other ys flush unlinked
+  parts_moved request xs ys was moves = record {
+    reply_is = reply_flags target moves.same request space offered reply was.reply_is;
+    due = was.due;
+    put = moves.put;
+    fits = fits_moved request xs ys moves.pairs was.fits;
+    safe = record {
+      switch = was.safe.switch;
+      until = λ n le few. same_translations (some_stored moves.begins n xs ys moves.pairs was.found) target.depth target.root space
+          (was.safe.until n le (omega (arith, few, zip_length xs ys moves.pairs)));
+      since = λ n lt few. same_translations (some_stored moves.begins n xs ys moves.pairs was.found) target.depth target.root
+          (space_after target request space reply) (was.safe.since n lt (omega (arith, few, zip_length xs ys moves.pairs)));
+      done = same_translations (ends_alike was moves) target.depth target.root (space_after target request space reply) was.safe.done;
+    };
+    found = moves.found;
+    meant = zip_all (IsMeantBy target old request unlinked) (IsMeantBy target new request unlinked) (meant_by target moves.same request unlinked)
+        xs ys moves.pairs was.meant;
+    nothing = λ none. zip_none xs ys moves.pairs (was.nothing none);
+    written = moves.written;
+    already = already_moved request xs ys was moves;
+    changing = moves.changing;
+    one_way = one_way_moved request xs ys moves.pairs was.one_way;
+    told = moves.told;
+    flushed = flushed_moved request xs ys unlinked moves.same moves.pairs moves.put was.flushed;
+    gone = unlinked_moved request xs ys was moves;
+    pruned = pruned_moved request xs ys was moves;
+    named_once = was.named_once;
+    whole = flags_whole (ends_alike was moves) was.whole;
+    own = λ a has. flags_own (ends_alike was moves) target.depth target.root a (was.own a (own_before moves.same target.depth target.root a has));
+    reaches = λ level b number at. ⊎_elim
+        (λ before. inl (at_flags moves.same target.depth target.root level b number before))
+        (λ new. inr (record {
+          spare = spare_flags moves.same target.depth target.root number new.spare;
+          written = subst (λ ns. Contains ns number) (written_same fill other xs ys moves.frames moves.pairs) new.written;
+        }))
+        (was.reaches level b number (at_before (ends_alike was moves) target.depth target.root level b number at));
+  }
