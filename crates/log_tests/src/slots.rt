@@ -5,7 +5,6 @@ use arrayvec::ArrayVec;
 use nr_slots::{Answered, NotTaken, Slots};
 use std::alloc::Global;
 use std::process::Abort;
-use std::sync::Wait;
 use std::test::Fail;
 use vs_types::{Answer, CALLS, Depth, Op, Rights, Size};
 
@@ -41,7 +40,7 @@ enum Step {
     Collects(u16, u16),
 }
 
-/// No clause says what the locked calls do to a slot. Each call is tried on each of 64 slots in each of its states. What is
+/// No clause says what the calls do to a slot. Each call is tried on each of 64 slots in each of its states. What is
 /// refused is another update or answer than the slot has, and changes nothing.
 static EACH_STATE: [Step; 21] = [
     Step::Each(0, 64, &[Does::HasNoAnswer, Does::AnswersInVain]),
@@ -152,31 +151,29 @@ fn of_thread(rt: &impl Abort, thread: u16) -> Answered {
 }
 
 /// Whether an update is posted.
-fn posts<R: Wait + Abort>(rt: &R, slots: &Slots, count: u16, update: Answered) -> bool
+fn posts(rt: &impl Abort, slots: &Slots, count: u16, update: Answered) -> bool
     requires { slots.now ≡ count }
 {
     assert!(rt; update.thread < count);
     assert!(rt; update.call < CALLS);
-    slots
-        .post(rt, update.thread, update.call, update.op)
-        .is_ok()
+    slots.post(update.thread, update.call, update.op).is_ok()
 }
 
 /// What a thread polls.
-fn poll<R: Wait + Abort>(rt: &R, slots: &Slots, count: u16, thread: u16) -> Option<Answered>
+fn poll(rt: &impl Abort, slots: &Slots, count: u16, thread: u16) -> Option<Answered>
     requires { slots.now ≡ count }
 {
     assert!(rt; thread < count);
-    slots.poll(rt, thread)
+    slots.poll(thread)
 }
 
 /// Whether an answer is refused.
-fn is_not_taken<R: Wait>(rt: &R, slots: &Slots, answered: Answered) -> bool {
-    slots.answer(rt, answered) == Err(NotTaken)
+fn is_not_taken(slots: &Slots, answered: Answered) -> bool {
+    slots.answer(answered) == Err(NotTaken)
 }
 
 /// What a thread does with its slot of so many: whether that answers so.
-fn take<R: Wait + Abort>(rt: &R, slots: &Slots, count: u16, thread: u16, does: Does) -> bool
+fn take(rt: &impl Abort, slots: &Slots, count: u16, thread: u16, does: Does) -> bool
     requires { slots.now ≡ count }
 {
     let own = of_thread(rt, thread);
@@ -185,12 +182,11 @@ fn take<R: Wait + Abort>(rt: &R, slots: &Slots, count: u16, thread: u16, does: D
         Does::Posts => posts(rt, slots, count, own),
         Does::PostsAgain => !posts(rt, slots, count, own),
         Does::PostsInVain => !posts(rt, slots, count, Answered { thread, ..next }),
-        Does::Answers => slots.answer(rt, own).is_ok(),
-        Does::AnswersAgain => is_not_taken(rt, slots, own),
+        Does::Answers => slots.answer(own).is_ok(),
+        Does::AnswersAgain => is_not_taken(slots, own),
         Does::AnswersInVain => {
             let call = own.call;
             is_not_taken(
-                rt,
                 slots,
                 Answered {
                     thread,
@@ -206,17 +202,17 @@ fn take<R: Wait + Abort>(rt: &R, slots: &Slots, count: u16, thread: u16, does: D
                 thread: thread.wrapping_add(64),
                 ..own
             };
-            is_not_taken(rt, slots, Answered { call, ..own })
-                && is_not_taken(rt, slots, no_thread)
+            is_not_taken(slots, Answered { call, ..own })
+                && is_not_taken(slots, no_thread)
                 && poll(rt, slots, count, thread).is_none()
         }
     }
 }
 
 /// Whether the updates of so many threads are collected, from the first one on.
-fn collects<R: Wait + Abort>(rt: &R, slots: &Slots, first: u16, count: u16) -> bool {
+fn collects(rt: &impl Abort, slots: &Slots, first: u16, count: u16) -> bool {
     let mut batch = ArrayVec::new();
-    slots.collect(rt, &mut batch);
+    slots.collect(&mut batch);
     let mut thread = first;
     for waiting in batch.as_slice() {
         let Answered { call, op, .. } = of_thread(rt, thread);
@@ -229,7 +225,7 @@ fn collects<R: Wait + Abort>(rt: &R, slots: &Slots, first: u16, count: u16) -> b
 }
 
 /// Takes a step.
-fn make_step<R: Wait + Abort>(rt: &R, slots: &Slots, count: u16, step: Step)
+fn make_step(rt: &impl Abort, slots: &Slots, count: u16, step: Step)
     requires { slots.now ≡ count }
 {
     match step {
@@ -251,7 +247,7 @@ fn make_step<R: Wait + Abort>(rt: &R, slots: &Slots, count: u16, step: Step)
 }
 
 /// Takes steps on so many new slots.
-fn run<R: Wait + Abort>(rt: &R, alloc: Global, count: u16, steps: &[Step]) -> Result<(), Fail> {
+fn run(rt: &impl Abort, alloc: Global, count: u16, steps: &[Step]) -> Result<(), Fail> {
     let slots: Slots = Slots::new(alloc, count)?;
     for next in steps {
         make_step(rt, &slots, count, *next);

@@ -11,11 +11,11 @@ use std::test::Fail;
 use std::thread;
 use vs_types::{Answer, CALLS, Depth, Op};
 
-/// How many threads post.
-const POSTERS: u16 = 2;
+/// How many threads post: more than a batch has room for.
+const POSTERS: u16 = 20;
 
 /// How many updates each of them posts.
-const ROUNDS: u32 = 5_000;
+const ROUNDS: u32 = 200;
 
 /// A slot for each thread that posts.
 #[derive(Drop)]
@@ -40,7 +40,7 @@ impl Shared {
     /// Posts into its slot, which is empty.
     fn post<R: Wait + Abort>(&self, rt: &R, update: Answered) {
         assert!(rt; update.thread < POSTERS && update.call < CALLS);
-        let posted = self.slots.post(rt, update.thread, update.call, update.op);
+        let posted = self.slots.post(update.thread, update.call, update.op);
         assert_eq!(rt; posted, Ok(()));
     }
 
@@ -49,7 +49,7 @@ impl Shared {
         assert!(rt; thread < POSTERS);
         let backoff = Backoff::new();
         for _ in rt.forever() {
-            if let Some(answered) = self.slots.poll(rt, thread) {
+            if let Some(answered) = self.slots.poll(thread) {
                 return answered;
             }
             backoff.snooze();
@@ -68,15 +68,15 @@ impl Shared {
 
     /// Answers the update of a round, which was collected, and can't do so again.
     fn answer<R: Wait + Abort>(&self, rt: &R, thread: u16, round: u32) {
-        let answered = self.slots.answer(rt, update_of(rt, thread, round));
-        let again = self.slots.answer(rt, update_of(rt, thread, round));
+        let answered = self.slots.answer(update_of(rt, thread, round));
+        let again = self.slots.answer(update_of(rt, thread, round));
         assert!(rt; answered.is_ok() && again.is_err());
     }
 
     /// Collects what was posted, and answers it: of each thread the update of the round that comes next.
-    fn answer_some<R: Wait + Abort>(&self, rt: &R, rounds: &mut [u32; 2]) {
+    fn answer_some<R: Wait + Abort>(&self, rt: &R, rounds: &mut [u32; 20]) {
         let mut batch = ArrayVec::new();
-        self.slots.collect(rt, &mut batch);
+        self.slots.collect(&mut batch);
         for waiting in batch.as_slice() {
             assert!(rt; waiting.thread < POSTERS);
             let thread = usize::from(waiting.thread);
@@ -91,10 +91,10 @@ impl Shared {
 
     /// Collects, without a rest, until it has answered all.
     fn answer_all<R: Wait + Abort>(&self, rt: &R) {
-        let mut rounds = [0; 2];
+        let mut rounds = [0; 20];
         for _ in rt.forever() {
             self.answer_some(rt, &mut rounds);
-            if rounds == [ROUNDS; 2] {
+            if rounds == [ROUNDS; 20] {
                 return;
             }
         }
@@ -102,13 +102,15 @@ impl Shared {
     }
 }
 
-/// No update is lost, answered twice or refused: a slot that is empty takes one, also where the thread that collects has its lock.
+/// No update is lost, answered twice or refused: a slot that is empty takes one, whatever the thread that collects does.
 #[test]
-fn two_threads_post(rt: HostRuntime) -> Result<(), Fail> {
+fn many_threads_post(rt: HostRuntime) -> Result<(), Fail> {
     let shared = Shared {
         slots: Slots::new(rt.alloc(), POSTERS)?,
     };
-    let threads = vec![in rt.alloc(); 0u16, 1, POSTERS]?;
+    let threads = vec![in rt.alloc();
+        0u16, 1, 2, 3, 4, 5, 6, 7, 8, 9, 10, 11, 12, 13, 14, 15, 16, 17, 18, 19, POSTERS,
+    ]?;
     thread::map_vec(
         &rt,
         threads,

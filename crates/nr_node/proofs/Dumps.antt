@@ -18,7 +18,8 @@ all_gathered memory dump reached in_use each held only =
       by_get q None None e f = f ∙ sym e
       by_get q None (Some words) e f = held q (only q (let P : Option (List ℕ) → Type 0 = λ o. IsTrue (is_some o) in subst P (sym f) refl))
 
-pub same_reached : (memory : Memory) (depth d : Depth) (root r : ℕ) → d ≡ depth → r ≡ root → reached (traversal d memory r) ≡ reached (traversal depth memory root)
+pub same_reached : (memory : Memory) (depth d : Depth) (root r : ℕ) → d ≡ depth → r ≡ root
+    → reached (traversal d memory r) ≡ reached (traversal depth memory root)
 same_reached memory depth d root r ed er = ap (λ z. reached (traversal z memory r)) ed ∙ ap (λ z. reached (traversal depth memory z)) er
 
 -- where all frames of the memory are reached, the dump has just these

@@ -45,7 +45,8 @@ stand_still : (entries more : List LogEntry) (place : ℕ) (batch : List Waiting
 stand_still entries more place batch stand i waiting e = slice_more entries more (place + i) (entry_of waiting) (stand i waiting e)
 
 -- a batch that is among entries ends among them
-ends_within : (entries : List LogEntry) (place : ℕ) (batch : List Waiting) → 1 ≤ length batch → StandFrom entries place batch → place + length batch ≤ length entries
+ends_within : (entries : List LogEntry) (place : ℕ) (batch : List Waiting) → 1 ≤ length batch → StandFrom entries place batch
+    → place + length batch ≤ length entries
 ends_within entries place (w ∷ ws) some stand =
     let last = get_or (w ∷ ws) (length ws) w in
     let at = slice_get-get_or (w ∷ ws) (length ws) w (omega arith) in
@@ -56,6 +57,26 @@ ends_within entries place [] some stand = absurd (omega arith)
 -- the first entries are as they were
 pub take_still : (entries later more : List LogEntry) (n : ℕ) → later ≡ entries ++ more → n ≤ length entries → take n later ≡ take n entries
 take_still entries later more n on le = ap (take n) on ∙ take-append-le n entries more le
+
+-- ---- a batch
+
+-- a node that holds nothing holds these calls instead
+pub holding_node : (depth : Depth) (replicas : ℕ) (known : Known) (replica : ReplicaState) (before batch : List Waiting) (first : Option ℕ)
+    → before ≡ [] → length batch ≤ RING → All (λ waiting. IsAction depth waiting.op) batch
+    → IsNode depth replicas (node_state known replica before first) → IsNode depth replicas (node_state known replica batch first)
+holding_node depth replicas known replica before batch first none few fit is = record {
+  owner = is.owner;
+  written = is.written;
+  fit = fit;
+  few = few;
+  placed = λ place at.
+      let some = (is.placed place at).some in
+      absurd (omega (arith, some, ap (λ (l : List Waiting). length l) none));
+}
+
+pub holding_follows : (depth : Depth) (replicas : ℕ) (known : Known) (replica : ReplicaState) (before batch : List Waiting) (first : Option ℕ)
+    → Follows depth replicas (node_state known replica before first) replica → Follows depth replicas (node_state known replica batch first) replica
+holding_follows depth replicas known replica before batch first is = record { depth_is = is.depth_is; entries = is.entries }
 
 -- ---- a look
 
@@ -75,7 +96,8 @@ looked_node depth replicas known after replica batch first p is =
           record {
             some = was.some;
             above = omega (arith, was.above, same);
-            stand = subst (λ l. StandFrom l place batch) (sym on.entries.1) (stand_still (log_after replicas known.view.seen).entries on.entries.0 place batch was.stand);
+            stand = subst (λ l. StandFrom l place batch) (sym on.entries.1)
+                (stand_still (log_after replicas known.view.seen).entries on.entries.0 place batch was.stand);
           };
     }
 
@@ -97,7 +119,8 @@ looked_follows depth replicas known after replica batch first p is follows =
 -- ---- all entries taken
 
 -- the entries that it had and those that it took are all that there are
-pub all_entries : (depth : Depth) (replicas : ℕ) (known after : Known) (replica : ReplicaState) (batch : List Waiting) (first : Option ℕ) (entries : List LogEntry)
+pub all_entries : (depth : Depth) (replicas : ℕ) (known after : Known) (replica : ReplicaState) (batch : List Waiting) (first : Option ℕ)
+    (entries : List LogEntry)
     → TookAll depth replicas known.view entries after.view → IsNode depth replicas (node_state known replica batch first)
     → Follows depth replicas (node_state known replica batch first) replica
     → replica.entries ++ entries ≡ (log_after replicas after.view.seen).entries
@@ -123,7 +146,8 @@ left_few : (first : Option ℕ) (batch : List Waiting) → length batch ≤ RING
 left_few None batch few = few
 left_few (Some place) batch few = omega arith
 
-pub took_node : (depth : Depth) (replicas : ℕ) (known after : Known) (replica next : ReplicaState) (batch : List Waiting) (first : Option ℕ) (entries : List LogEntry)
+pub took_node : (depth : Depth) (replicas : ℕ) (known after : Known) (replica next : ReplicaState) (batch : List Waiting) (first : Option ℕ)
+    (entries : List LogEntry)
     → TookAll depth replicas known.view entries after.view → IsNode depth replicas (node_state known replica batch first)
     → IsNode depth replicas (node_state after next (left_of first batch) None)
 took_node depth replicas known after replica next batch first entries took is =
@@ -208,7 +232,8 @@ pub took_fit : (depth : Depth) (replicas : ℕ) (a c : View) (entries : List Log
 took_fit depth replicas a c entries d took is k e lt =
     subst (λ z. IsLogEntry z (get_or entries k e)) (sym is) (took.fit k e lt)
 
-pub took_room : (depth : Depth) (replicas : ℕ) (known after : Known) (replica : ReplicaState) (batch : List Waiting) (first : Option ℕ) (entries : List LogEntry)
+pub took_room : (depth : Depth) (replicas : ℕ) (known after : Known) (replica : ReplicaState) (batch : List Waiting) (first : Option ℕ)
+    (entries : List LogEntry)
     → TookAll depth replicas known.view entries after.view → IsNode depth replicas (node_state known replica batch first)
     → Follows depth replicas (node_state known replica batch first) replica → length replica.entries + length entries ≤ LOG_PLACES
 took_room depth replicas known after replica batch first entries took is follows =
@@ -218,7 +243,8 @@ took_room depth replicas known after replica batch first entries took is follows
 -- ---- an append
 
 -- the entries of a batch fit
-pub batch_fits : (depth : Depth) (batch : List Waiting) → All (λ waiting. IsAction depth waiting.op) batch → All (λ entry. entry.call < CALLS) (entries_of batch)
+pub batch_fits : (depth : Depth) (batch : List Waiting) → All (λ waiting. IsAction depth waiting.op) batch
+    → All (λ entry. entry.call < CALLS) (entries_of batch)
     → All (IsLogEntry depth) (entries_of batch)
 batch_fits depth [] fit calls k d lt = absurd (omega arith)
 batch_fits depth (w ∷ ws) fit calls zero d lt = record { well_formed = fit zero w (omega arith); in_range = calls zero d (omega arith) }

@@ -12,9 +12,8 @@ use Rattle.vs_types.specs.declared.limits.TheConstants.{LOG_PLACES, TABLES}
 use Rattle.vs_types.specs.declared.log_entry.LogEntry.{LogEntry}
 use Rattle.vs_space.specs.Table.{PageTable, IsTableOf, IsTableStep}
 use Rattle.nr_ring.proofs.LocalTails.{le_or_lt}
-use Rattle.nr_slots.specs.declared.answered.Answered.{Answered}
 use Rattle.nr_slots.specs.declared.waiting.Waiting.{Waiting}
-use Rattle.nr_node.specs.Calls.{answered, entry_of}
+use Rattle.nr_node.specs.Calls.{answered}
 use Rattle.nr_node.specs.Spaces.{answer_at, space_of}
 use Rattle.nr_node.specs.inside.Told.{ToldState}
 use Rattle.nr_node.specs.inside.Replica.{IsReplica, entries_told}
@@ -24,12 +23,14 @@ told_one_more : (told : List ToldState) (t : ToldState) → entries_told (told +
 told_one_more told t = map-append (λ (u : ToldState). u.entry) told (t ∷ [])
 
 -- the entries before a place are those before it when there is one more
-take_of_more : (told : List ToldState) (t : ToldState) (place : ℕ) → place ≤ length told → take place (entries_told (told ++ t ∷ [])) ≡ take place (entries_told told)
+take_of_more : (told : List ToldState) (t : ToldState) (place : ℕ) → place ≤ length told
+    → take place (entries_told (told ++ t ∷ [])) ≡ take place (entries_told told)
 take_of_more told t place le =
     ap (take place) (told_one_more told t)
     ∙ take-append-le place (entries_told told) (t.entry ∷ []) (omega (arith, length-map told (λ (u : ToldState). u.entry)))
 
-earlier : (told : List ToldState) (t u : ToldState) (place : ℕ) → place < length told → slice_get (told ++ t ∷ []) place ≡ Some u → slice_get told place ≡ Some u
+earlier : (told : List ToldState) (t u : ToldState) (place : ℕ) → place < length told → slice_get (told ++ t ∷ []) place ≡ Some u
+    → slice_get told place ≡ Some u
 earlier told t u place lt e =
     slice_get-get_or told place u lt
     ∙ ap Some (sym (get_or-append told (t ∷ []) u place lt) ∙ get_or_from_slice_get (told ++ t ∷ []) place u u e)
@@ -57,7 +58,8 @@ one_more old new told t room more is steps lt same_room =
       table_of = subst ByDepth depth (subst ByLimit limit (subst (IsTableOf new) after now.1));
       answers = λ place u e.
           let Answer : Depth → ℕ → Type 0 = λ d n. u.answer ≡ answer_at d n entries place u.entry.op in
-          subst (λ d. Answer d new.limit) depth (subst (Answer old.depth) limit (⊎_elim (λ le. at_end place u le e now.0) (λ lt. before place u lt e) (le_or_lt (length told) place)));
+          subst (λ d. Answer d new.limit) depth
+          (subst (Answer old.depth) limit (⊎_elim (λ le. at_end place u le e now.0) (λ lt. before place u lt e) (le_or_lt (length told) place)));
       few = omega (arith, length-append told (t ∷ []), lt);
       tables = subst (λ n. n ≤ TABLES) limit is.tables;
       reserved = subst (λ n. LOG_PLACES ≤ n) (sym same_room) is.reserved;
@@ -80,11 +82,10 @@ one_more old new told t room more is steps lt same_room =
           let P : ToldState → Type 0 = λ v. v.answer ≡ answer_at old.depth old.limit (entries_told (told ++ t ∷ [])) place v.entry.op in
           subst P here.1 (answered ∙ ap (λ es. (step old.depth old.limit (space_of old.depth old.limit es) t.entry.op).answer) (sym all))
 
--- an update with its place and its answer, as it is answered from the entry that is there
-pub answered_one : (depth : Depth) (tables : ℕ) (entries : List LogEntry) (place : ℕ) (waiting : Waiting) (entry : LogEntry) (answer : Answer)
-    → entry ≡ entry_of waiting → answer ≡ answer_at depth tables entries place entry.op
+-- an update with its place and its answer
+pub answered_one : (depth : Depth) (tables : ℕ) (entries : List LogEntry) (place : ℕ) (waiting : Waiting) (answer : Answer)
+    → answer ≡ answer_at depth tables entries place waiting.op
     → answered depth tables entries place waiting
-    ≡ (record { thread = waiting.thread; call = entry.call; op = entry.op; place = place; answer = answer })
-answered_one depth tables entries place waiting entry answer is answered_so =
-    let Op : LogEntry → Answered = λ e. record { thread = waiting.thread; call = e.call; op = e.op; place = place; answer = answer_at depth tables entries place e.op } in
-    ap Op (sym is) ∙ ap (λ (a : Answer). record { thread = waiting.thread; call = entry.call; op = entry.op; place = place; answer = a }) (sym answered_so)
+    ≡ (record { thread = waiting.thread; call = waiting.call; op = waiting.op; place = place; answer = answer })
+answered_one depth tables entries place waiting answer answered_so =
+    ap (λ (a : Answer). record { thread = waiting.thread; call = waiting.call; op = waiting.op; place = place; answer = a }) (sym answered_so)

@@ -1,6 +1,7 @@
-ghost use Rattle.std.specs.Prelude.{◌≡◌, ◌≤◌, ◌+◌, ℕ, All, IfErr, IfOk, MatchOption, None, OnErr, OnOk, Some, [], ◌∷◌, length, slice_get};
+ghost use Rattle.std.specs.Prelude.{◌≡◌, ◌≤◌, ◌+◌, ℕ, All, IfErr, IfOk, IfSome, MatchOption, None, OnErr, OnOk, Some, [], ◌∷◌, length, slice_get};
 ghost use Rattle.std.specs.FinMap as finite;
 ghost use Rattle.vs_types.specs.Depth.{IsCanonical};
+ghost use Rattle.vs_types.specs.LogEntry.{IsLogEntry};
 ghost use Rattle.vs_types.specs.Operation.{IsAction};
 ghost use Rattle.vs_types.specs.Refusal.{IfRefused};
 ghost use Rattle.vs_types.specs.Space.{table_count};
@@ -11,6 +12,7 @@ ghost use Rattle.nr_ring.specs.Calls.{HasLooked, HasMoved, copy_of, joint_view};
 ghost use Rattle.nr_ring.specs.Entries.{HasAppended, IsReason};
 ghost use Rattle.nr_ring.specs.LogHistory.{log_after, tail};
 ghost use Rattle.nr_ring.specs.View.{HasSeenAdvances, StartsWith};
+ghost use Rattle.nr_slots.specs.declared.waiting.Waiting.{Waiting};
 ghost use Rattle.nr_node.specs.Calls.{HasCaughtUp, HasStayed, answers_of, entries_of};
 ghost use Rattle.nr_node.specs.Node.{IsNode, applied_of, held_of, log_of, new_node, node_space, replica_of, taken_by};
 ghost use Rattle.nr_node.specs.Spaces.{answer_at};
@@ -20,7 +22,7 @@ use crate::held::Held;
 use crate::replica::Replica;
 use arrayvec::ArrayVec;
 use nr_ring::{AppendFault, LogName, LogPass, Moved, RingLog};
-use nr_slots::{Answered, Waiting};
+use nr_slots::{Answered, SlotRule, Slots, Waiting};
 use std::alloc::Global;
 use std::marker::Model;
 use std::sync::Wait;
@@ -142,6 +144,19 @@ impl<S: FrameStore, J: LogName> Node<S, J> {
         }
     }
 
+    /// Holds a batch of the updates that wait in these slots, where there are any; it holds nothing before. What is posted there is
+    /// well formed at the log's depth, by the rule of the slots.
+    #[inline(always)]
+    pub fn collect<P: SlotRule>(&mut self, slots: &Slots<P>)
+        requires nothing { self.old.batch ≡ [] }
+        requires fit { (waiting : Waiting)
+            → ∥ P.posted waiting.thread waiting.call waiting.op ∥₁ → IsAction J.depth waiting.op }
+        ensures { self.new ≡ record self.old { batch = self.new.batch } }
+    {
+        slots.collect(&mut self.batch);
+        let _few = self.batch.as_slice();
+    }
+
     /// Appends the batch, which has no place yet, to the log: the place of its first update.
     ///
     /// Waits for the log's cell.
@@ -238,6 +253,19 @@ impl<S: FrameStore, J: LogName> Node<S, J> {
             × (place + 1 ≤ applied_of J.replicas self.now)) }
     {
         self.replica.told(place)
+    }
+
+    /// What this entry of the log was answered, where it is the one at a place and the node has applied it.
+    #[inline(always)]
+    pub fn answer_to(&self, place: u32, entry: LogEntry) -> Option<Answer>
+        requires { IsLogEntry J.depth entry }
+        ensures { IfSome result (λ answer.
+            (slice_get (log_of J.replicas self.now).entries place ≡ Some entry)
+            × (answer ≡ answer_at J.depth self.now.tables
+            (log_of J.replicas self.now).entries place entry.op)
+            × (place + 1 ≤ applied_of J.replicas self.now)) }
+    {
+        self.replica.answer_to(place, entry)
     }
 
     /// Its page table, and how many entries it has applied. It allocates memory.

@@ -6,6 +6,7 @@ ghost use Rattle.vs_types.specs.Refusal.{IfRefused};
 ghost use Rattle.vs_types.specs.Space.{table_count};
 ghost use Rattle.vs_types.specs.Step.{allow, look};
 ghost use Rattle.vs_types.specs.declared.limits.TheConstants.{LOG_PLACES, TABLES};
+ghost use Rattle.vs_types.specs.declared.log_entry.LogEntry.{LogEntry};
 ghost use Rattle.vs_walk.specs.Walk.{TranslatesAs};
 ghost use Rattle.nr_node.specs.Calls.{answered_from, answers_of};
 ghost use Rattle.nr_node.specs.Node.{StandFrom};
@@ -124,13 +125,13 @@ impl<S: FrameStore> Replica<S> {
     {
         let mut place = first;
         for waiting in batch.as_slice() {
-            let Some((entry, answer)) = self.told(place) else {
+            let Some(answer) = self.answered(place) else {
                 unreachable!();
             };
             answers.push(Answered {
                 thread: waiting.thread,
-                call: entry.call,
-                op: entry.op,
+                call: waiting.call,
+                op: waiting.op,
                 place,
                 answer,
             });
@@ -165,6 +166,34 @@ impl<S: FrameStore> Replica<S> {
     {
         let told = self.told.get(place as usize)?;
         Some((told.entry(), told.answer()))
+    }
+
+    /// What the entry at a place was answered; `None` where the place is not below the number of entries.
+    #[inline(always)]
+    fn answered(&self, place: u32) -> Option<Answer>
+        ensures so { MatchOption result (length self.now.entries ≤ place) (λ answer. (entry : LogEntry)
+            → slice_get self.now.entries place ≡ Some entry
+            → answer ≡ answer_at self.now.depth self.now.tables self.now.entries place entry.op) }
+        ensures within { IfSome result (λ _. place < LOG_PLACES) }
+    {
+        let told = self.told.get(place as usize)?;
+        Some(told.answer())
+    }
+
+    /// What this entry was answered, where it is the one at a place.
+    #[inline(always)]
+    pub(crate) fn answer_to(&self, place: u32, entry: LogEntry) -> Option<Answer>
+        requires { IsLogEntry self.now.depth entry }
+        ensures { IfSome result (λ answer. (slice_get self.now.entries place ≡ Some entry)
+            × (answer
+            ≡ answer_at self.now.depth self.now.tables self.now.entries place entry.op)) }
+    {
+        let told = self.told.get(place as usize)?;
+        if told.is(entry) {
+            Some(told.answer())
+        } else {
+            None
+        }
     }
 
     /// Its page table as it is. It allocates memory.

@@ -1,5 +1,5 @@
 -- What the rule of the slots says of an operation is so.
-use Rattle.std.proofs.Common.{◌≡◌, ℕ, ◌+◌, ◌%◌, ◌≤◌, Bool, true, List, All, get_or, inl, inr, arith}
+use Rattle.std.proofs.Common.{◌≡◌, ℕ, ◌+◌, ◌%◌, ◌≤◌, Bool, true, inl, inr, arith}
 use Rattle.std.proofs.lemmas.Bool.{cases_lt, cases_Bool}
 use Rattle.std.proofs.lemmas.Grind.{not_there}
 use Rattle.vs_types.specs.Depth.{is_canonical}
@@ -10,7 +10,6 @@ use Rattle.vs_types.specs.declared.op.Action.{Action}
 use Rattle.vs_types.specs.declared.op.Action.TheVariants.{Map, Unmap, Protect}
 use Rattle.vs_types.specs.declared.page.Page.{Page}
 use Rattle.vs_types.specs.declared.page.TheConstants.Page.{PHYS_END}
-use Rattle.nr_slots.specs.declared.waiting.Waiting.{Waiting}
 
 le_from : {A : Type 0} (m n : ℕ) → ∥ A ∥₁ → (A → m ≤ n) → m ≤ n
 le_from m n a so = elim (cases_lt n m) [ inl below ↦ absurd (not_there a (λ x. omega (arith, so x))) | inr above ↦ above ]
@@ -38,10 +37,7 @@ page_from depth page is = record {
   phys_range = le_from (page.phys + bytes_of page.size) PHYS_END is (λ p. p.phys_range);
 }
 
-action_from : (depth : Depth) (op : Action) → ∥ IsAction depth op ∥₁ → IsAction depth op
+pub action_from : (depth : Depth) (op : Action) → ∥ IsAction depth op ∥₁ → IsAction depth op
 action_from depth (Map page) is = page_from depth page is
 action_from depth (Unmap base) is = base_from depth base is
 action_from depth (Protect base rights) is = base_from depth base is
-
-pub all_fit : (depth : Depth) (batch : List Waiting) → All (λ waiting. ∥ IsAction depth waiting.op ∥₁) batch → All (λ waiting. IsAction depth waiting.op) batch
-all_fit depth batch all k d lt = action_from depth (get_or batch k d).op (all k d lt)

@@ -1,8 +1,8 @@
 pub mod Logs
-pub mod EntryEquality
 pub mod Hearing
 pub mod Rests
 pub mod NewPasses
 pub mod Settled
 pub mod Fits
 pub mod Numbers
+pub mod Places

@@ -187,7 +187,8 @@ pub settled : (depth : Depth) (replicas tables : ℕ) (handed passes others : Li
     → all ≡ calls ++ map (λ entry. entry.call) (drop (taken_by replicas c) (log_after replicas c.seen).entries)
     → All (HasSeenOwnAdvances c.seen) others
     → IsSettled depth replicas tables handed all dumps
-settled depth replicas tables handed passes others first dumps calls all a b c is_node split heard_a begin_a heard_b begin_b heard_c are own count first_calls all_are known =
+settled depth replicas tables handed passes others first dumps calls all a b c is_node split heard_a begin_a heard_b begin_b heard_c are own
+    count first_calls all_are known =
     let v = first.known.view in
     let ab = heard_twice depth replicas a b c heard_b heard_c in
     let whole = heard_twice depth replicas v a c heard_a ab in
@@ -199,7 +200,8 @@ settled depth replicas tables handed passes others first dumps calls all a b c i
     let others_begin : All Begins others = all_begin_later a.seen c.seen others ab.seen begin_a in
     let Own : Known → Type 0 = HasSeenOwnAdvances c.seen in
     let all_own : All Own passes = subst (All Own) (sym split) (All-append Own (first.known ∷ []) others (all_one Own first.known whole.advances) known) in
-    let every : All Begins passes = subst (All Begins) (sym split) (All-append Begins (first.known ∷ []) others (all_one Begins first.known whole.seen) others_begin) in
+    let every : All Begins passes = subst (All Begins) (sym split)
+    (All-append Begins (first.known ∷ []) others (all_one Begins first.known whole.seen) others_begin) in
     record {
       history = c.seen;
       is_history = whole.is_history;

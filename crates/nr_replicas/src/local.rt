@@ -1,7 +1,8 @@
 //! What lies under the lock of a replica.
-ghost use Rattle.std.specs.Prelude.{◌≡◌, ◌-◌, ◌≤◌, ◌<◌, IfErr, IfNone, IfSome, []};
+ghost use Rattle.std.specs.Prelude.{◌≡◌, ◌-◌, ◌≤◌, ◌<◌, IfErr, IfNone, IfOk, IfSome, []};
 ghost use Rattle.vs_types.specs.declared.limits.TheConstants.{LOG_PLACES};
 ghost use Rattle.vs_types.specs.Depth.{IsCanonical};
+ghost use Rattle.vs_types.specs.LogEntry.{IsLogEntry};
 ghost use Rattle.nr_ring.specs.LogHistory.{log_after, tail};
 ghost use Rattle.nr_ring.specs.declared.tails.AppendFault.TheVariants.{LogEnded};
 ghost use Rattle.nr_node.specs.Node.{applied_of, log_of, node_space};
@@ -14,19 +15,26 @@ use crate::question::Question;
 use arrayvec::ArrayVec;
 use nr_node::{Held, Node};
 use nr_ring::{AppendFault, LogName, LogPass, RingLog};
-use nr_slots::{Answered, Slots, Waiting};
+use nr_slots::{Answered, Slots};
 use std::marker::{Model, PhantomData};
 use std::sync::{Arc, Wait};
 use vs_arena::RawArena;
 use vs_types::{Answer, LogEntry, RING};
 
+/// An update that a thread waits for: its slot, its entry, and a place that is not above its own.
+#[derive(Clone, Copy)]
+pub(crate) struct Wanted {
+    pub(crate) slot: u16,
+    pub(crate) entry: LogEntry,
+    pub(crate) from: u32,
+}
+
 /// The node of a replica, which is of the log that the name says and may have as many tables, and the slots of its threads. Beside
-/// them there is room for what a call collects and answers, so that no call has to fill an array of its own.
+/// them there is room for what a call answers, so that no call has to fill an array of its own.
 #[derive(Drop)]
 pub(crate) struct Local<J: LogName, K: ReplicasName> {
     node: Node<RawArena, J>,
     slots: Arc<Slots<Fitting<J>>>,
-    waiting: ArrayVec<Waiting, RING>,
     answers: ArrayVec<Answered, RING>,
     of: PhantomData<K>,
 }
@@ -51,7 +59,6 @@ impl<J: LogName, K: ReplicasName> Local<J, K> {
         Local {
             node,
             slots,
-            waiting: ArrayVec::new(),
             answers: ArrayVec::new(),
             of: PhantomData,
         }
@@ -66,21 +73,38 @@ impl<J: LogName, K: ReplicasName> Local<J, K> {
     }
 
     /// A combiner's turn: takes a batch from the slots where the node holds none, appends it where it has no place yet, and
-    /// catches up once. Whether it appended one.
-    pub(crate) fn combine<R: Wait>(&mut self, rt: &R, log: &RingLog<J>) -> Result<bool, AppendFault>
-        requires { log.now ≡ K.log }
-        ensures { IfErr result (λ fault. fault ≡ LogEnded
+    /// catches up once. Whether it appended one; and the combiner's own update, where this turn answered it: that is confirmed here,
+    /// and its slot stays taken.
+    #[inline(always)]
+    pub(crate) fn combine<R: Wait>(
+        &mut self,
+        rt: &R,
+        log: &RingLog<J>,
+        pass: &mut LogPass<J>,
+        wanted: &Wanted,
+    ) -> Result<(bool, Option<(u32, Answer)>), AppendFault>
+        requires log { (log.now ≡ K.log) × (pass.old.log ≡ K.log) }
+        requires fits { IsLogEntry J.depth wanted.now.entry }
+        ensures log { pass.new.log ≡ pass.old.log }
+        ensures heard { HasHeard J.depth J.replicas pass.old.view pass.new.view }
+        ensures own { IfOk result (λ turn. IfSome turn.1 (λ update.
+            IsAnsweredAt J.depth K.tables wanted.now.from
+            (log_after J.replicas pass.new.view.seen) wanted.now.entry update.0 update.1)) }
+        ensures ended { IfErr result (λ fault. fault ≡ LogEnded
             → LOG_PLACES - RING < tail (log_of J.replicas self.new)) }
     {
         if self.node.held() == Held::Nothing {
-            self.collect(rt);
+            self.collect();
         }
         match self.put_batch(rt, log) {
             Ok(appended) => {
-                self.catch_up(rt, log);
-                Ok(appended)
+                let own = self.answer_others(rt, log, wanted.slot);
+                Ok((appended, self.confirm_own(log, pass, wanted, own)))
             }
-            Err(fault) => Err(fault),
+            Err(fault) => {
+                pass.has_seen_a_history();
+                Err(fault)
+            }
         }
     }
 
@@ -100,16 +124,12 @@ impl<J: LogName, K: ReplicasName> Local<J, K> {
         }
     }
 
-    /// Takes the updates that wait in the slots into a batch.
-    fn collect<R: Wait>(&mut self, rt: &R)
+    /// Takes the updates that wait in the slots into the node's batch.
+    fn collect(&mut self)
         requires { self.old.batch ≡ [] }
         ensures { self.new.known ≡ self.old.known }
     {
-        self.waiting.clear();
-        self.slots.collect(rt, &mut self.waiting);
-        if !self.waiting.is_empty() {
-            self.node.hold(&self.waiting);
-        }
+        self.node.collect(&self.slots);
     }
 
     /// Takes all entries that the log has, and leaves the answers of the held updates in their slots.
@@ -121,47 +141,87 @@ impl<J: LogName, K: ReplicasName> Local<J, K> {
             return;
         }
         for answered in self.answers.as_slice() {
-            let _taken = self.slots.answer(rt, *answered);
+            let _taken = self.slots.answer(*answered);
         }
     }
 
-    /// The answer of an update, where the log has it at the place that was answered, which is not below that one, and answers it so.
-    fn recall(&self, from: u32, answered: Answered) -> Option<Answer>
-        ensures { IfSome result (λ answer.
-            IsAnsweredAt J.depth K.tables from (log_of J.replicas self.now)
-            (record { call = answered.call; op = answered.op }) answered.place answer) }
+    /// Takes all entries that the log has, and leaves the answers of the held updates in their slots, but for this slot: the place of its
+    /// update, where it was answered.
+    #[inline(always)]
+    fn answer_others<R: Wait>(&mut self, rt: &R, log: &RingLog<J>, slot: u16) -> Option<u32>
+        requires log { log.now ≡ K.log }
     {
-        let (entry, answer) = self.node.told(answered.place)?;
-        let wanted = LogEntry {
-            call: answered.call,
-            op: answered.op,
-        };
-        if answered.place < from || entry != wanted || answer != answered.answer {
+        self.answers.clear();
+        if self.node.catch_up(rt, log, &mut self.answers).is_err() {
             return None;
         }
+        let mut own = None;
+        for answered in self.answers.as_slice() {
+            if answered.thread == slot {
+                own = Some(answered.place);
+            } else {
+                let _taken = self.slots.answer(*answered);
+            }
+        }
+        own
+    }
+
+    /// Confirms the combiner's own update, where it was answered at some place.
+    #[inline(always)]
+    fn confirm_own(
+        &mut self,
+        log: &RingLog<J>,
+        pass: &mut LogPass<J>,
+        wanted: &Wanted,
+        own: Option<u32>,
+    ) -> Option<(u32, Answer)>
+        requires log { (log.now ≡ K.log) × (pass.old.log ≡ K.log) }
+        requires fits { IsLogEntry J.depth wanted.now.entry }
+        ensures log { pass.new.log ≡ pass.old.log }
+        ensures heard { HasHeard J.depth J.replicas pass.old.view pass.new.view }
+        ensures own { IfSome result (λ update.
+            IsAnsweredAt J.depth K.tables wanted.now.from
+            (log_after J.replicas pass.new.view.seen) wanted.now.entry update.0 update.1) }
+    {
+        pass.has_seen_a_history();
+        let place = own?;
+        self.confirm(log, pass, wanted, place)
+    }
+
+    /// The answer of an update, where the log has it at this place, which is not below the one that it may have at the least.
+    #[inline(always)]
+    fn recall(&self, wanted: &Wanted, place: u32) -> Option<Answer>
+        requires { IsLogEntry J.depth wanted.now.entry }
+        ensures { IfSome result (λ answer. IsAnsweredAt J.depth K.tables wanted.now.from
+            (log_of J.replicas self.now) wanted.now.entry place answer) }
+    {
+        if place < wanted.from {
+            return None;
+        }
+        let answer = self.node.answer_to(place, wanted.entry)?;
         Some(answer)
     }
 
-    /// The place and the answer of an update, where the log has it at the place that was answered, which is not below that one, and
-    /// answers it so. The pass then gets what the node has seen.
+    /// This place and the answer of an update, where the log has it there, and the place is not below the one that it may have at the
+    /// least. The pass then gets what the node has seen.
+    #[inline(always)]
     pub(crate) fn confirm(
         &mut self,
         log: &RingLog<J>,
         pass: &mut LogPass<J>,
-        from: u32,
-        answered: Answered,
+        wanted: &Wanted,
+        place: u32,
     ) -> Option<(u32, Answer)>
         requires log { (log.now ≡ K.log) × (pass.old.log ≡ K.log) }
+        requires fits { IsLogEntry J.depth wanted.now.entry }
         ensures log { pass.new.log ≡ pass.old.log }
-        ensures heard { IfSome result (λ _.
-            HasHeard J.depth J.replicas pass.old.view pass.new.view) }
-        ensures unheard { IfNone result (pass.new ≡ pass.old) }
+        ensures heard { HasHeard J.depth J.replicas pass.old.view pass.new.view }
         ensures confirmed { IfSome result (λ update.
-            IsAnsweredAt J.depth K.tables from (log_after J.replicas pass.new.view.seen)
-            (record { call = answered.call; op = answered.op }) update.0 update.1) }
+            IsAnsweredAt J.depth K.tables wanted.now.from
+            (log_after J.replicas pass.new.view.seen) wanted.now.entry update.0 update.1) }
     {
-        let place = answered.place;
-        let answer = self.recall(from, answered)?;
+        pass.has_seen_a_history();
+        let answer = self.recall(wanted, place)?;
         self.node.tell(log, pass);
         Some((place, answer))
     }

@@ -2,7 +2,7 @@
 ghost use Rattle.std.specs.Arc.{arc_value};
 ghost use Rattle.std.specs.Prelude.{◌≡◌, ◌+◌, ◌<◌, ◌≤◌, All, IfOk, [], length, map, replicate};
 ghost use Rattle.nr_ring.specs.Pass.{new_pass};
-ghost use Rattle.nr_replicas.specs.inside.Replicas.{IsNewPass, IsNodeOf};
+ghost use Rattle.nr_replicas.specs.inside.Replicas.{IsNewPass, IsNodeOf, slots_each};
 
 use crate::local::Local;
 use crate::name::ReplicasName;
@@ -142,7 +142,15 @@ fn new_nodes<J: LogName>(
     Ok(nodes)
 }
 
-/// The nodes, each under a lock and with a slot for each thread.
+/// How many slots each replica has.
+fn slots_of(config: Config) -> u16
+    ensures { result ≡ slots_each config }
+{
+    let replicas = u16::from(config.replicas());
+    (config.threads() + (replicas - 1)) / replicas
+}
+
+/// The nodes, each under a lock and with a slot for each of its threads.
 fn share<J: LogName, K: ReplicasName>(
     alloc: Global,
     config: Config,
@@ -151,11 +159,11 @@ fn share<J: LogName, K: ReplicasName>(
     requires { All (IsNodeOf K.log K.tables) nodes.items }
     ensures count { IfOk result (λ shared. length shared.items ≡ length nodes.items) }
     ensures slots { IfOk result (λ shared.
-        All (λ n. n ≡ config.threads) (map (λ s. arc_value s.slots) shared.items)) }
+        All (λ n. n ≡ slots_each config) (map (λ s. arc_value s.slots) shared.items)) }
 {
     let mut shared = Vec::new(alloc);
     for node in nodes {
-        let slots = Arc::new(alloc, Slots::new(alloc, config.threads())?)?;
+        let slots = Arc::new(alloc, Slots::new(alloc, slots_of(config))?)?;
         let local = Local::new(node, Arc::try_clone(&slots)?);
         shared.push(Shared {
             local: CachePadded::new(Mutex::new(local)),

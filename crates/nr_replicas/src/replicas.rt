@@ -1,36 +1,36 @@
 //! The replicas of an address space, which threads share.
 ghost use Rattle.std.specs.Arc.{arc_value};
-ghost use Rattle.std.specs.Prelude.{◌≡◌, ◌≢◌, ◌-◌, ◌<◌, IfErr, IfOk};
+ghost use Rattle.std.specs.Prelude.{◌≡◌, ◌-◌, ◌/◌, ◌<◌, IfErr, IfOk, IfSome};
 ghost use Rattle.vs_types.specs.declared.limits.TheConstants.{LOG_PLACES, RING};
 ghost use Rattle.vs_types.specs.Depth.{IsCanonical};
+ghost use Rattle.vs_types.specs.LogEntry.{IsLogEntry};
 ghost use Rattle.vs_types.specs.Operation.{IsAction};
 ghost use Rattle.vs_types.specs.Step.{allow, look};
 ghost use Rattle.vs_types.specs.declared.limits.TheConstants.{CALLS};
 ghost use Rattle.nr_ring.specs.LogHistory.{completed, log_after, tail};
 ghost use Rattle.nr_replicas.specs.Replicas.{HasHeard, IsAnsweredAt, IsFaultOf, IsReadAt};
 ghost use Rattle.nr_replicas.specs.declared.replicas.Combined.TheVariants.{Ended};
-ghost use Rattle.nr_replicas.specs.inside.Replicas.{answer_in};
+ghost use Rattle.nr_replicas.specs.inside.Replicas.{answer_in, slots_each};
 
 use crate::gate::{Gate, Point, Signal};
-use crate::local::Local;
+use crate::local::{Local, Wanted};
 use crate::name::ReplicasName;
 use crate::question::Question;
 use crate::shared::Shared;
 use crate::update_fault::{Stopped, UpdateFault};
 use crossbeam_utils::Backoff;
 use nr_ring::{AppendFault, LogName, LogPass, RingLog};
-use nr_slots::Answered;
 use std::alloc::Global;
 use std::marker::Model;
 use std::sync::{Mutex, MutexGuard, Wait};
-use vs_types::{Access, Answer, Config, Mode, Op};
+use vs_types::{Access, Answer, Config, LogEntry, Mode, Op};
 
 /// An address space with one copy for each memory node (Node Replication, ASPLOS 2017): a shared log of updates, and for each
-/// replica a node under a lock and a slot for each thread. Contracts see the configuration.
+/// replica a node under a lock and a slot for each of its threads. Contracts see the configuration.
 ///
-/// Thread `t` belongs to replica `t` modulo the number of replicas. No lock is held where a gate is asked, and never those of
-/// two replicas at once. A turn is one poll of the thread's slot, or one attempt at a replica's lock with at most one append
-/// and one catch-up, or one read.
+/// Thread `t` belongs to replica `t` modulo the number of replicas, and has slot `t` divided by that number there. No lock is held
+/// where a gate is asked, and never those of two replicas at once. A turn is one poll of the thread's slot, or one attempt at a
+/// replica's lock with at most one append and one catch-up, or one read.
 #[derive(Drop)]
 pub struct Replicas<J: LogName, K: ReplicasName> {
     pub(crate) log: RingLog<J>,
@@ -65,9 +65,12 @@ enum Turn {
 }
 
 /// What came of a combiner's turn.
+#[derive(Clone, Copy)]
 enum Combined {
     /// It appended a batch.
     Appended,
+    /// It appended a batch, after which the gate said stop.
+    Stopped,
     /// It did not, or did not have the lock.
     Went,
     /// The ring is full.
@@ -80,16 +83,26 @@ impl<J: LogName, K: ReplicasName> Replicas<J, K> {
     /// The replica to which a thread belongs.
     fn home(&self, thread: u16) -> &Shared<J, K>
         requires { thread < self.now.threads }
-        ensures { arc_value result.now.slots ≡ self.now.threads }
+        ensures { arc_value result.now.slots ≡ slots_each self.now }
     {
-        &self.shared[usize::from(thread) % self.shared.len()]
+        &self.shared[usize::from(thread % u16::from(self.config.replicas()))]
+    }
+
+    /// The slot of a thread at its replica.
+    fn slot_of(&self, thread: u16) -> u16
+        requires { thread < self.now.threads }
+        ensures is { result ≡ thread / self.now.replicas }
+        ensures within { result < slots_each self.now }
+    {
+        thread / u16::from(self.config.replicas())
     }
 
     /// Updates the address space: the place of the update in the log, and its answer.
     ///
     /// The thread's update waits in its slot until a combiner of its replica has appended and applied it; the thread combines
-    /// itself where no other does. It takes at most so many turns, and then holds its replica's lock once more, which confirms
-    /// the answer. The gate is asked after each batch that this thread appends.
+    /// itself where no other does. It takes at most so many turns. The answer is confirmed under its replica's lock: in the turn in
+    /// which the thread combined and answered its update itself, and else by one hold more after its turns. The gate is asked after
+    /// each batch that this thread appends.
     ///
     /// Waits for locks and for the log's cell. Allocates no memory.
     ///
@@ -122,63 +135,72 @@ impl<J: LogName, K: ReplicasName> Replicas<J, K> {
     {
         let from = self.log.look(pass).tail;
         let home = self.home(thread);
-        if home.slots.post(rt, thread, call, op).is_err() {
+        let slot = self.slot_of(thread);
+        if home.slots.post(slot, call, op).is_err() {
             return Err(UpdateFault::Occupied);
         }
-        let (place, answer) = self.wait(rt, pass, thread, call, turns, gate)?;
-        let answered = Answered {
-            thread,
-            call,
-            op,
-            place,
-            answer,
+        let wanted = Wanted {
+            slot,
+            entry: LogEntry { call, op },
+            from,
         };
-        match hold(rt, &home.local).confirm(&self.log, pass, from, answered) {
+        let (place, answer) = self.wait(rt, pass, home, &wanted, thread, turns, gate)?;
+        if let Some(answer) = answer {
+            return Ok((place, answer));
+        }
+        match hold(rt, &home.local).confirm(&self.log, pass, &wanted, place) {
             Some(update) => Ok(update),
             None => Err(UpdateFault::Stopped(call)),
         }
     }
 
-    /// Takes turns until the thread's slot has an answer: the place that it has, and the answer.
+    /// Takes turns until the thread's slot has an answer, or the thread has answered its update itself: the place that it has, and the
+    /// answer where it is confirmed.
+    #[inline(always)]
     fn wait<G: Gate, R: Wait>(
         &self,
         rt: &R,
         pass: &mut LogPass<J>,
+        home: &Shared<J, K>,
+        wanted: &Wanted,
         thread: u16,
-        call: u32,
         turns: u32,
         gate: &G,
-    ) -> Result<(u32, Answer), UpdateFault>
+    ) -> Result<(u32, Option<Answer>), UpdateFault>
         requires log { pass.old.log ≡ K.log }
-        requires thread { thread < self.now.threads }
+        requires slot { wanted.now.slot < arc_value home.now.slots }
+        requires fits { IsLogEntry J.depth wanted.now.entry }
         ensures log { pass.new.log ≡ pass.old.log }
         ensures heard { HasHeard J.depth J.replicas pass.old.view pass.new.view }
-        ensures refused { IfErr result (IsFaultOf call (log_after J.replicas pass.new.view.seen)) }
+        ensures confirmed { IfOk result (λ update. IfSome update.1 (λ answer.
+            IsAnsweredAt J.depth K.tables wanted.now.from
+            (log_after J.replicas pass.new.view.seen) wanted.now.entry update.0 answer)) }
+        ensures refused { IfErr result
+            (IsFaultOf wanted.now.entry.call (log_after J.replicas pass.new.view.seen)) }
     {
         pass.has_seen_a_history();
-        let home = self.home(thread);
+        let call = wanted.entry.call;
         let backoff = Backoff::new();
         let mut turn = Turn::Combine;
-        for _ in 0..turns {
+        for taken in 0..turns {
             turn = match turn {
-                Turn::Poll => {
-                    if let Some(answered) = home.slots.poll(rt, thread) {
-                        return Ok((answered.place, answered.answer));
+                Turn::Poll => match home.slots.poll(wanted.slot) {
+                    Some(answered) => return Ok((answered.place, None)),
+                    None => Turn::Combine,
+                },
+                Turn::Combine => match self.take_turn(
+                    rt, pass, home, wanted, thread, gate, &backoff,
+                ) {
+                    (Combined::Stopped, _) => return Err(UpdateFault::Stopped(call)),
+                    (_, Some((place, answer))) if taken + 1 < turns => {
+                        let _closed = home.slots.close(wanted.slot, call);
+                        return Ok((place, Some(answer)));
                     }
-                    Turn::Combine
-                }
-                Turn::Combine => match self.combine(rt, pass, home, &backoff) {
-                    Combined::Appended => {
-                        if gate.at(thread, Point::Appended) == Signal::Stop {
-                            return Err(UpdateFault::Stopped(call));
-                        }
-                        Turn::Poll
-                    }
-                    Combined::Went => Turn::Poll,
-                    Combined::Full => Turn::CatchUp(0),
-                    Combined::Ended => {
-                        return match home.slots.poll(rt, thread) {
-                            Some(answered) => Ok((answered.place, answered.answer)),
+                    (Combined::Appended | Combined::Went, _) => Turn::Poll,
+                    (Combined::Full, _) => Turn::CatchUp(0),
+                    (Combined::Ended, _) => {
+                        return match home.slots.poll(wanted.slot) {
+                            Some(answered) => Ok((answered.place, None)),
                             None => Err(UpdateFault::Ended(call)),
                         };
                     }
@@ -189,30 +211,70 @@ impl<J: LogName, K: ReplicasName> Replicas<J, K> {
         Err(UpdateFault::Stopped(call))
     }
 
-    /// One attempt at a replica's lock, with at most one append and one catch-up. Where the log has ended the pass has seen so.
+    /// A combiner's turn, after which the gate is asked where it appended a batch.
+    #[inline(always)]
+    fn take_turn<G: Gate, R: Wait>(
+        &self,
+        rt: &R,
+        pass: &mut LogPass<J>,
+        home: &Shared<J, K>,
+        wanted: &Wanted,
+        thread: u16,
+        gate: &G,
+        backoff: &Backoff,
+    ) -> (Combined, Option<(u32, Answer)>)
+        requires log { pass.old.log ≡ K.log }
+        requires fits { IsLogEntry J.depth wanted.now.entry }
+        ensures log { pass.new.log ≡ pass.old.log }
+        ensures heard { HasHeard J.depth J.replicas pass.old.view pass.new.view }
+        ensures own { IfSome result.1 (λ update.
+            IsAnsweredAt J.depth K.tables wanted.now.from
+            (log_after J.replicas pass.new.view.seen) wanted.now.entry update.0 update.1) }
+        ensures ended { result.0 ≡ Ended
+            → LOG_PLACES - RING < tail (log_after J.replicas pass.new.view.seen) }
+    {
+        let (combined, own) = self.combine(rt, pass, home, wanted, backoff);
+        match combined {
+            Combined::Appended if gate.at(thread, Point::Appended) == Signal::Stop => {
+                (Combined::Stopped, None)
+            }
+            _ => (combined, own),
+        }
+    }
+
+    /// One attempt at a replica's lock, with at most one append and one catch-up; and the thread's own update, where that answered it.
+    /// Where the log has ended the pass has seen so.
+    #[inline(always)]
     fn combine<R: Wait>(
         &self,
         rt: &R,
         pass: &mut LogPass<J>,
         home: &Shared<J, K>,
+        wanted: &Wanted,
         backoff: &Backoff,
-    ) -> Combined
+    ) -> (Combined, Option<(u32, Answer)>)
         requires log { pass.old.log ≡ K.log }
+        requires fits { IsLogEntry J.depth wanted.now.entry }
         ensures log { pass.new.log ≡ pass.old.log }
-        ensures heard { result ≡ Ended → HasHeard J.depth J.replicas pass.old.view pass.new.view
-            × (LOG_PLACES - RING < tail (log_after J.replicas pass.new.view.seen)) }
-        ensures unheard { result ≢ Ended → pass.new ≡ pass.old }
+        ensures heard { HasHeard J.depth J.replicas pass.old.view pass.new.view }
+        ensures own { IfSome result.1 (λ update.
+            IsAnsweredAt J.depth K.tables wanted.now.from
+            (log_after J.replicas pass.new.view.seen) wanted.now.entry update.0 update.1) }
+        ensures ended { result.0 ≡ Ended
+            → LOG_PLACES - RING < tail (log_after J.replicas pass.new.view.seen) }
     {
         let Some(mut local) = attempt(rt, &home.local, backoff) else {
-            return Combined::Went;
+            pass.has_seen_a_history();
+            return (Combined::Went, None);
         };
-        match local.combine(rt, &self.log) {
-            Ok(true) => Combined::Appended,
-            Ok(false) | Err(AppendFault::Moved(_)) => Combined::Went,
-            Err(AppendFault::Full(_)) => Combined::Full,
+        match local.combine(rt, &self.log, pass, wanted) {
+            Ok((true, own)) => (Combined::Appended, own),
+            Ok((false, own)) => (Combined::Went, own),
+            Err(AppendFault::Moved(_)) => (Combined::Went, None),
+            Err(AppendFault::Full(_)) => (Combined::Full, None),
             Err(AppendFault::LogEnded) => {
                 local.tell(&self.log, pass);
-                Combined::Ended
+                (Combined::Ended, None)
             }
         }
     }

@@ -6,7 +6,7 @@ use nr_ring::LogName;
 use nr_slots::Slots;
 use std::sync::{Arc, Mutex};
 
-/// A replica as its threads share it: its node under a lock, on cache lines of their own, and a slot for each thread. The slots are
+/// A replica as its threads share it: its node under a lock, on cache lines of their own, and a slot for each of them. The slots are
 /// those beside the node under the lock, so that whoever has the lock leaves answers in no others.
 #[derive(Drop)]
 pub(crate) struct Shared<J: LogName, K: ReplicasName> {

@@ -1,3 +1,5 @@
+//! How a simulation or a run is laid out.
+
 ghost use Rattle.std.specs.Prelude.{◌≤◌};
 
 use vs_types::Depth;

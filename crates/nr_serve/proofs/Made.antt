@@ -297,7 +297,8 @@ have_seen clock log scripts workers trace all are layout thread pass at_pass =
       reads = λ call made reply is_made who read rep.
           let its = known_call clock log scripts workers trace all are thread worker there.1 call made is_made who in
           let read' : IsSome (read_address its.request) =
-          subst (λ o. IsSome (option_and_then (λ (m : Invocation). if m.touch then None else read_address m.request) (option_and_then made_by o))) its.asked read in
+          subst (λ o. IsSome (option_and_then (λ (m : Invocation). if m.touch then None else read_address m.request) (option_and_then made_by o))) its.asked
+          read in
           subst (λ (l : Log). reply.at ≤ length l.entries) here
           (known clock.layout (log_after clock.layout.replicas worker.pass.view.seen) call its.request its.said its.is_true reply read'
           (sym its.replied ∙ rep));

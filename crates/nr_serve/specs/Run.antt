@@ -88,7 +88,8 @@ pub record IsTraceOf (layout : Layout) (scripts : List (List Query)) (answers : 
   pub seen : IsSpelledWith bytes (λ trace. HaveSeenAnswers trace passes)
 
 -- what a verified run of these scripts has to show: a trace of them without a fault, which is right with its recorded order
-pub record IsVerifiedRun (layout : Layout) (scripts : List (List Query)) (answers : List (List Said)) (bytes order : List ℕ) (passes : List Known) : Type 0 where
+pub record IsVerifiedRun (layout : Layout) (scripts : List (List Query)) (answers : List (List Said)) (bytes order : List ℕ)
+    (passes : List Known) : Type 0 where
   pub trace_of : IsTraceOf layout scripts answers passes bytes
   pub faultless : IsSpelledWith bytes IsFaultless
   pub order_is : IsSpelledWith bytes (λ trace. order ≡ recorded_order trace)

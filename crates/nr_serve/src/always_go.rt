@@ -1,3 +1,5 @@
+//! The gate of a run that nobody stops.
+
 use nr_replicas::{Gate, Point, Signal};
 
 /// A gate that always answers `Go`.

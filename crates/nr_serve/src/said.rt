@@ -1,3 +1,5 @@
+//! What came of a call.
+
 use vs_types::Answer as Told;
 
 /// What came of a call.

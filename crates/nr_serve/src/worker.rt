@@ -1,3 +1,5 @@
+//! What a thread of a run hands back.
+
 use crate::said::Said;
 use nr_record::Pen;
 use nr_ring::{LogName, LogPass};

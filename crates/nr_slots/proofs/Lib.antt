@@ -1,1 +1,3 @@
 pub mod Batches
+pub mod Keeps
+pub mod Goes

@@ -1,1 +1,3 @@
 pub mod Batch
+-- the table
+pub mod inside

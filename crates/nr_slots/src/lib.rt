@@ -1,14 +1,16 @@
 //! Slots: where the threads of a replica put their updates, and where its combiner leaves the answers.
 //!
-//! A slot goes from empty to posted, taken, ready, and back to empty. Each slot has a lock of its own, which is held for one
-//! such step. Places are those of the log.
+//! A slot goes from empty to posted, taken, ready, and back to empty. Beside each lies a word that says which of these it is. A thread
+//! that steps on a slot first takes it by that word, so that no other thread has it, and no thread waits for one.
 #![tactic(auto)]
 
 mod answered;
+mod cells;
+mod kept;
 mod rule;
-mod ruled_slot;
 mod slot;
 mod slots;
+mod state;
 mod waiting;
 
 pub use answered::Answered;

@@ -82,6 +82,24 @@ impl Slot {
         }
     }
 
+    /// Empties the slot, where it is taken with this call, which is answered elsewhere.
+    ///
+    /// # Errors
+    ///
+    /// `NotTaken` where the slot is not taken with that call; it stays as it was.
+    pub fn close(&mut self, call: u32) -> Result<(), NotTaken>
+        ensures closed { OnOk result ((self.old ≡ Taken call) × (self.new ≡ Empty)) }
+        ensures not_taken { OnErr result ((self.old ≢ Taken call) × (self.new ≡ self.old)) }
+    {
+        match *self {
+            Slot::Taken(taken) if taken == call => {
+                *self = Slot::Empty;
+                Ok(())
+            }
+            _ => Err(NotTaken),
+        }
+    }
+
     /// Takes the answer, if there is one, and leaves the slot empty.
     pub fn poll(&mut self) -> Option<Answered>
         ensures ready { IfSome result (λ answered.

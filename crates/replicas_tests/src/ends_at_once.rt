@@ -4,7 +4,7 @@ use crate::caller::{Caller, Made, Said};
 use crate::gate::CountingGate;
 use crate::scene::{Settled, Test, run};
 use crate::steps::{Asks, TURNS};
-use crate::threads::{Drawn, Shared, make};
+use crate::threads::{Drawn, Part, Shared, callers_of, make};
 use nr_replicas::{ReplicasName, UpdateFault};
 use nr_ring::LogName;
 use std::alloc::Global;
@@ -13,20 +13,13 @@ use std::sync::Wait;
 use std::test::Fail;
 use std::thread;
 use std::thread::Threads;
-use vs_types::{Config, Depth, Memory};
+use vs_types::{Config, Depth};
 
 /// How many updates the first thread makes alone: all entries of a log but 2,048.
 const ALONE: u32 = 63_488;
 
 /// How many updates a thread makes at most, when all do. Their calls are numbered from 65,536 on.
 const EACH: u32 = 1_000;
-
-/// What one thread of a run does.
-#[derive(Drop)]
-struct Part<'a, J: LogName, K: ReplicasName> {
-    caller: Caller<'a, J, K>,
-    made: Vec<Made>,
-}
 
 /// The update of a page that there is not.
 fn unmap(rt: &impl Abort) -> Drawn {
@@ -54,9 +47,10 @@ fn work<'a, J: LogName, K: ReplicasName, R: Wait + Abort>(
 ) -> Part<'a, J, K> {
     let Part {
         mut caller,
+        first,
+        script,
         mut made,
     } = part;
-    let first = (EACH * u32::from(caller.thread())).wrapping_add(65_536);
     shared.start(rt);
     for number in 0..EACH {
         let call = first.wrapping_add(number);
@@ -67,7 +61,35 @@ fn work<'a, J: LogName, K: ReplicasName, R: Wait + Abort>(
             break;
         }
     }
-    Part { caller, made }
+    Part {
+        caller,
+        first,
+        script,
+        made,
+    }
+}
+
+/// The parts of these callers, of which the first has filled the log but for some places.
+fn parts_of<'a, J: LogName, K: ReplicasName, R: Wait + Abort>(
+    rt: &R,
+    alloc: Global,
+    callers: Vec<Caller<'a, J, K>>,
+) -> Vec<Part<'a, J, K>> {
+    let mut parts = Vec::new(alloc);
+    for mut caller in callers {
+        if parts.is_empty() {
+            fill(rt, &mut caller);
+        }
+        let first = (EACH * u32::from(caller.thread())).wrapping_add(65_536);
+        let part = Part {
+            caller,
+            first,
+            script: Vec::new(alloc),
+            made: Vec::new(alloc),
+        };
+        parts.push(part).expect(rt, "memory");
+    }
+    parts
 }
 
 /// The first thread fills the log but for some places, and then all threads at once update to its end. What their calls were answered.
@@ -76,28 +98,11 @@ pub fn make_to_the_end<
     J: LogName + Send + Sync,
     K: ReplicasName + Send + Sync,
     R: Wait + Abort + Threads + Sync,
->(
-    rt: &R,
-    alloc: Global,
-    callers: Vec<Caller<'a, J, K>>,
-) -> Result<(Vec<Caller<'a, J, K>>, Vec<Made>), Fail> {
+>(rt: &R, alloc: Global, callers: Vec<Caller<'a, J, K>>) -> (Vec<Caller<'a, J, K>>, Vec<Made>) {
     let shared = Shared::new(callers.len() as u64);
-    let mut parts = Vec::new(alloc);
-    for mut caller in callers {
-        if parts.is_empty() {
-            fill(rt, &mut caller);
-        }
-        let made = Vec::new(alloc);
-        parts.push(Part { caller, made })?;
-    }
-    let parts = thread::map_vec(rt, parts, &|part: Part<J, K>| work(rt, part, &shared))?;
-    let mut callers = Vec::new(alloc);
-    let mut made = Vec::new(alloc);
-    for part in parts {
-        made.extend_from_slice(&part.made)?;
-        callers.push(part.caller)?;
-    }
-    Ok((callers, made))
+    let parts = parts_of(rt, alloc, callers);
+    let parts = thread::map_vec(rt, parts, &|part: Part<J, K>| work(rt, part, &shared));
+    callers_of(rt, alloc, parts.expect(rt, "memory"))
 }
 
 /// Whether a call was answered, and then is at the place that it was answered. One that wasn't was answered that the log has ended.

@@ -89,12 +89,7 @@ pub fn hold<
     J: LogName + Send + Sync,
     K: ReplicasName + Send + Sync,
     R: Wait + Abort + Threads + Sync,
->(
-    rt: &R,
-    callers: Vec<Caller<'a, J, K>>,
-    steps: &[Step],
-    then: Signal,
-) -> Result<Vec<Caller<'a, J, K>>, Fail> {
+>(rt: &R, callers: Vec<Caller<'a, J, K>>, steps: &[Step], then: Signal) -> Vec<Caller<'a, J, K>> {
     let gate = HoldingGate {
         then,
         others: callers.len().saturating_sub(1),
@@ -105,9 +100,9 @@ pub fn hold<
         rt,
         callers,
         &|caller: Caller<J, K>| { work(rt, caller, steps, &gate) },
-    )?;
+    );
     assert_eq!(rt; gate.asked.load(Ordering::SeqCst), 1);
-    Ok(callers)
+    callers.expect(rt, "memory")
 }
 
 /// Both threads have one replica, or each its own.

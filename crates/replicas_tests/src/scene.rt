@@ -75,7 +75,7 @@ fn run_on_log<J: LogName + Send + Sync, R: Wait + Abort + Threads + Sync>(
     requires passes { J.passes ≡ config.replicas + config.threads }
 {
     let (new, passes) = OpenReplicas::<J>::new(alloc, config)?;
-    run_named::<J, Brand, R>(rt, alloc, config, new, passes, test)
+    Ok(run_named::<J, Brand, R>(rt, alloc, config, new, passes, test))
 }
 
 /// The same, where the replicas have their name.
@@ -90,17 +90,17 @@ fn run_named<
     new: OpenReplicas<J>,
     passes: Vec<LogPass<J>>,
     test: Test,
-) -> Result<Settled, Fail>
+) -> Settled
     requires name { (new.log ≡ K.log) × (new.layout.tables ≡ K.tables) }
     requires config { (new.layout ≡ config) × (config.depth ≡ J.depth) }
     requires passes { All (λ pass. pass.log ≡ K.log) passes.items }
 {
-    let replicas = new.named::<K>()?;
+    let replicas = new.named::<K>().expect(rt, "memory");
     let callers = callers_of(rt, alloc, &replicas, config, passes);
-    let (callers, made) = make_calls(rt, alloc, callers, test)?;
+    let (callers, made) = make_calls(rt, alloc, callers, test);
     let mut passes = passes_of(rt, alloc, callers);
-    let (calls, dumps) = replicas.settle(rt, &mut passes)?;
-    Ok(Settled { calls, dumps, made })
+    let (calls, dumps) = replicas.settle(rt, &mut passes).expect(rt, "memory");
+    Settled { calls, dumps, made }
 }
 
 /// Makes the calls of a test. The callers whose passes the settling is handed, and what the calls of scripts were answered.
@@ -114,7 +114,7 @@ fn make_calls<
     alloc: Global,
     callers: Vec<Caller<'a, J, K>>,
     test: Test,
-) -> Result<(Vec<Caller<'a, J, K>>, Vec<Made>), Fail> {
+) -> (Vec<Caller<'a, J, K>>, Vec<Made>) {
     let mut callers = callers;
     match test {
         Test::Steps(steps, gate, hands_passes) => {
@@ -122,14 +122,11 @@ fn make_calls<
             if !hands_passes {
                 callers.clear();
             }
-            Ok((callers, Vec::new(alloc)))
+            (callers, Vec::new(alloc))
         }
         Test::Scripts(scripts) => make_at_once(rt, alloc, callers, scripts),
         Test::ToTheEnd => make_to_the_end(rt, alloc, callers),
-        Test::Hold(steps, then) => {
-            let callers = hold(rt, callers, steps, then)?;
-            Ok((callers, Vec::new(alloc)))
-        }
+        Test::Hold(steps, then) => (hold(rt, callers, steps, then), Vec::new(alloc)),
     }
 }
 

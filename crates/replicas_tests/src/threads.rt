@@ -75,12 +75,12 @@ pub struct Drawn {
 
 /// What one thread of a run does.
 #[derive(Drop)]
-struct Part<'a, J: LogName, K: ReplicasName> {
-    caller: Caller<'a, J, K>,
+pub struct Part<'a, J: LogName, K: ReplicasName> {
+    pub caller: Caller<'a, J, K>,
     /// The number of its first call.
-    first: u32,
-    script: Vec<Drawn>,
-    made: Vec<Made>,
+    pub first: u32,
+    pub script: Vec<Drawn>,
+    pub made: Vec<Made>,
 }
 
 /// Makes one call. It knows of all entries that calls had made known before it.
@@ -170,15 +170,15 @@ pub fn make_at_once<
     alloc: Global,
     callers: Vec<Caller<'a, J, K>>,
     scripts: Vec<Vec<Drawn>>,
-) -> Result<(Vec<Caller<'a, J, K>>, Vec<Made>), Fail> {
+) -> (Vec<Caller<'a, J, K>>, Vec<Made>) {
     let shared = Shared::new(callers.len() as u64);
     let parts = parts_of(rt, alloc, callers, scripts);
-    let parts = thread::map_vec(rt, parts, &|part: Part<J, K>| work(rt, part, &shared))?;
-    Ok(callers_of(rt, alloc, parts))
+    let parts = thread::map_vec(rt, parts, &|part: Part<J, K>| work(rt, part, &shared));
+    callers_of(rt, alloc, parts.expect(rt, "memory"))
 }
 
 /// The callers of these parts, and what their calls were answered.
-fn callers_of<'a, J: LogName, K: ReplicasName>(
+pub fn callers_of<'a, J: LogName, K: ReplicasName>(
     rt: &impl Abort,
     alloc: Global,
     parts: Vec<Part<'a, J, K>>,

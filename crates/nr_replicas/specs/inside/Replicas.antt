@@ -1,5 +1,5 @@
 -- What holds inside the calls of the replicas.
-use Rattle.std.specs.Prelude.{◌≡◌, ℕ, ◌≤◌, List, [], ◌∷◌, All, length}
+use Rattle.std.specs.Prelude.{◌≡◌, ℕ, ◌+◌, ◌-◌, ◌/◌, ◌≤◌, List, [], ◌∷◌, All, length}
 use Rattle.vs_types.specs.Config.{Layout}
 use Rattle.vs_types.specs.Space.{Space}
 use Rattle.vs_types.specs.Step.{allow, look}
@@ -15,14 +15,18 @@ abbrev pub answer_in : Question → ℕ → Space → Answer
 answer_in Resolve address space = look space address
 answer_in (Access mode access) address space = allow space address mode access
 
--- the layout of some replicas is that of their names, and each has a slot for each thread
+-- how many slots each replica has, so that there is one for each of its threads: replica 0 has the most, and no slot too many
+abbrev pub slots_each : Layout → ℕ
+slots_each layout = (layout.threads + (layout.replicas - 1)) / layout.replicas
+
+-- the layout of some replicas is that of their names, and each has a slot for each of its threads
 pub record AreShared (depth : Depth) (replicas tables : ℕ) (layout : Layout) (slots : List ℕ) : Type 0 where
   pub depth_is : layout.depth ≡ depth
   pub replicas_are : layout.replicas ≡ replicas
   pub tables_are : layout.tables ≡ tables
   pub some : 1 ≤ layout.replicas
   pub count : length slots ≡ layout.replicas
-  pub for_each : All (λ n. n ≡ layout.threads) slots
+  pub for_each : All (λ n. n ≡ slots_each layout) slots
 
 -- the pass of a new log that owns some replica
 abbrev pub IsNewPass : TableId → Known → Type 0

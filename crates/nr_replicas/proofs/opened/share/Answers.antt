@@ -1,7 +1,7 @@
 use Rattle.std.proofs.Common.{◌≡◌, ℕ, List, map, ap, ◌∙◌}
 use Rattle.std.specs.Arc.{arc_value}
 use Rattle.std.proofs.lemmas.List.{map-append}
-use Rattle.nr_replicas.specs.inside.Replicas.{IsNodeOf}
+use Rattle.nr_replicas.specs.inside.Replicas.{IsNodeOf, slots_each}
 use Rattle.nr_replicas.proofs.Rests.{first_and_rest, holds_of_more, one_over}
 use Rattle.nr_replicas.proofs.opened.share.Goals as goal
 
@@ -12,7 +12,7 @@ loop-node-preserved g c =
     let more = c.in_ok-push.ensures.items in (
       of.1,
       one_over c.loop-node.shared.items c.push.new.self.items _ _ _ c.in-Some.node _ more c.in-Some.ensures.steps.0 c.loop-node.invariant.1,
-      holds_of_more (λ (n : ℕ). n ≡ c.args.config.threads) (map (λ (s : _). arc_value s.slots) c.loop-node.shared.items) _ _
+      holds_of_more (λ (n : ℕ). n ≡ slots_each c.args.config) (map (λ (s : _). arc_value s.slots) c.loop-node.shared.items) _ _
           (ap (λ (l : List _). map (λ (s : _). arc_value s.slots) l) more ∙ map-append (λ (s : _). arc_value s.slots) c.loop-node.shared.items _)
-          c.loop-node.invariant.2 (c.in_ok-slots.ensures.ok ∙ c.in_ok-new.ensures ∙ c.threads.ensures.reads),
+          c.loop-node.invariant.2 (c.in_ok-slots.ensures.ok ∙ c.in_ok-new.ensures ∙ c.slots_of.ensures),
     )

@@ -9,7 +9,14 @@ use Rattle.nr_run_engines.proofs.served_run.run_io.Goals as goal
 pub returns-in-Some-clause-err : goal.returns-in-Some-clause-err
 returns-in-Some-clause-err g c =
     let has = c.in_ok-script.ensures.ok in
-    inr (record { input = has.input; is_read = has.is_read; short = has.short; script = c.in_ok-script.script; is_script = has.is_script; first = c.in-Some.is })
+    inr (record {
+      input = has.input;
+      is_read = has.is_read;
+      short = has.short;
+      script = c.in_ok-script.script;
+      is_script = has.is_script;
+      first = c.in-Some.is;
+    })
 
 pub run_named-requires-clause-scripts : goal.run_named-requires-clause-scripts
 run_named-requires-clause-scripts g c κs lives =

@@ -24,7 +24,8 @@ returns-in_err-take-clause-stayed g c =
     let p = err_from_is_err_and c.from_residual.result c.from_residual.ensures.1 in
     let self = c.self.inside in
     let looked = c.in_err-take.ensures.moved.0 in
-    let Stays : NodeState → Type 0 = λ n. HasStayed g.J.LogName.depth g.J.LogName.replicas n (node_state c.take.new.pass self.replica self.batch.items self.first) in
+    let Stays : NodeState → Type 0 =
+    λ n. HasStayed g.J.LogName.depth g.J.LogName.replicas n (node_state c.take.new.pass self.replica self.batch.items self.first) in
     rw p.1 (subst Stays c.self.view_is (record {
       looked = looked;
       applied = looked_taken _ _ self.pass.view c.take.new.pass.view looked c.self.invariant.0.owner;
@@ -78,7 +79,8 @@ invariant_of-self-2 g c =
     let all = took_all _ _ self.pass.view c.take.new.pass.view entries c.in_ok-take.ensures.taken is.0.owner in
     let Is : List Waiting → Type 0 = λ l. IsNode g.J.LogName.depth g.J.LogName.replicas (node_state c.take.new.pass next l None) in (
       subst Is (sym c.keep_unplaced.ensures) (took_node _ _ self.pass c.take.new.pass self.replica next self.batch.items self.first entries all is.0),
-      took_follows _ _ self.pass c.take.new.pass self.replica next self.batch.items c.keep_unplaced.new.batch.items self.first None entries all is.0 is.1 c.apply_all.ensures,
+      took_follows _ _ self.pass c.take.new.pass self.replica next self.batch.items c.keep_unplaced.new.batch.items self.first None entries
+          all is.0 is.1 c.apply_all.ensures,
     )
 
 pub returns-clause-caught_up : goal.returns-clause-caught_up

@@ -34,7 +34,8 @@ returns-in_err-first-clause-looked g c =
     let p = err_from_is_err_and c.from_residual.result c.from_residual.ensures.1 in
     let self = c.self.inside in
     let looked = c.in_err-first.ensures.refused.0 in
-    let Stays : NodeState → Type 0 = λ n. HasStayed g.J.LogName.depth g.J.LogName.replicas n (node_state c.append.new.pass self.replica self.batch.items self.first) in
+    let Stays : NodeState → Type 0 =
+    λ n. HasStayed g.J.LogName.depth g.J.LogName.replicas n (node_state c.append.new.pass self.replica self.batch.items self.first) in
     rw p.1 (subst Stays c.self.view_is (record {
       looked = looked;
       applied = looked_taken _ _ self.pass.view c.append.new.pass.view looked c.self.invariant.0.owner;

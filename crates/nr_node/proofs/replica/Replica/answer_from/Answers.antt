@@ -4,7 +4,7 @@ use Rattle.std.proofs.lemmas.Option.{slice_get-get_or, slice_get_within}
 use Rattle.nr_slots.specs.declared.answered.Answered.{Answered}
 use Rattle.nr_slots.specs.declared.waiting.Waiting.{Waiting}
 use Rattle.nr_node.specs.Calls.{answered_from, entry_of}
-use Rattle.nr_node.proofs.Lists.{drop_here, same_some}
+use Rattle.nr_node.proofs.Lists.{drop_here}
 use Rattle.nr_node.proofs.Replicas.{answered_one}
 use Rattle.nr_node.proofs.replica.Replica.answer_from.Goals as goal
 
@@ -31,10 +31,10 @@ loop-waiting-preserved g c =
     let within : i < length batch = omega (arith, c.loop-waiting-test.true, ap (λ (l : List Waiting). length l) same) in
     let Here : List Waiting → Type 0 = λ l. x ≡ get_or l i x in
     let here : x ≡ get_or batch i x = subst Here same c.waiting-item.is in
-    let stands : slice_get self.entries (c.args.first + i) ≡ Some (entry_of x) = c.requires.stand i x (slice_get-get_or batch i x within ∙ ap Some (sym here)) in
-    let told = c.in-Some.ensures.told in
-    let entry : c.in-Some.entry ≡ entry_of x = same_some (sym told.0 ∙ ap (slice_get self.entries) is.0 ∙ stands) in
-    let made = answered_one self.depth self.tables self.entries place x c.in-Some.entry c.in-Some.answer entry told.1 in
+    let stands : slice_get self.entries (c.args.first + i) ≡ Some (entry_of x) =
+    c.requires.stand i x (slice_get-get_or batch i x within ∙ ap Some (sym here)) in
+    let so = c.in-Some.ensures.so (entry_of x) (ap (slice_get self.entries) is.0 ∙ stands) in
+    let made = answered_one self.depth self.tables self.entries place x c.in-Some.answer so in
     let rest = answered_from self.depth self.tables self.entries (place + 1) (drop (i + 1) batch) in (
       omega (arith, is.0),
       ap (λ (l : List Answered). length l) c.push.ensures.items ∙ length-append c.loop-waiting.answers.items _ ∙ ap (λ k. k + 1) is.1,

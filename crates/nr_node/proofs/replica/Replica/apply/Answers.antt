@@ -14,8 +14,11 @@ pub invariant_of-self : goal.invariant_of-self
 invariant_of-self g c =
     let told = c.self.inside.told.items in
     let t : ToldState = record { entry = c.args.entry.now; answer = c.apply-answer.result } in
-    let few : length told < LOG_PLACES = omega (arith, c.requires.room, ap (λ (r : ReplicaState). length r.entries) c.self.view_is, length-map told (λ (u : ToldState). u.entry)) in
+    let few : length told < LOG_PLACES = omega
+    (arith, c.requires.room, ap (λ (r : ReplicaState). length r.entries) c.self.view_is, length-map told (λ (u : ToldState). u.entry)) in
     let P : List ToldState → Type 0 = λ l. IsReplica c.apply-answer.new.self l (Rattle.std.specs.Vec.vec_capacity c.push_reserved.new.self) in
     let now : t ≡ c.new.result = sym c.new.ensures in
     subst P (sym c.push_reserved.ensures.items)
-    (subst (λ (u : ToldState). P (told ++ u ∷ [])) now (one_more c.self.inside.space c.apply-answer.new.self told t _ _ c.self.invariant c.apply-answer.ensures few c.push_reserved.ensures.capacity))
+    (subst (λ (u : ToldState). P (told ++ u ∷ [])) now
+    (one_more c.self.inside.space c.apply-answer.new.self told t _ _ c.self.invariant c.apply-answer.ensures few
+    c.push_reserved.ensures.capacity))

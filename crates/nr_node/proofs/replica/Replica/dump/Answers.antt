@@ -60,4 +60,5 @@ returns-in-Ok-clause-frames g c =
     all.in_use all.each gathered.held gathered.only in
     let of = space_of space.depth space.limit (entries_told c.self.inside.told.items) in
     let ByState : ReplicaState → Type 0 = λ r. finite.len dump.frames ≡ table_count r.depth (space_of r.depth r.tables r.entries) in
-    subst ByState c.self.view_is (ap (λ (m : Memory). finite.len m) frames ∙ sym c.tables-frames.ensures.reads ∙ c.tables-frames.ensures.counts of c.self.invariant.table_of)
+    subst ByState c.self.view_is (ap (λ (m : Memory). finite.len m) frames ∙ sym c.tables-frames.ensures.reads
+    ∙ c.tables-frames.ensures.counts of c.self.invariant.table_of)

@@ -13,4 +13,4 @@ returns-clause-confirmed g c =
     let On : NodeState → Type 0 = λ n. HasGoneOn (log_of replicas n) (log_after replicas after.seen) in
     let on = subst On c.self.view_is
     (told_goes_on depth replicas c.args.pass.now.view c.self.inside.node.known.view after c.tell.ensures.looked c.tell.ensures.met.0) in
-    answer_stays depth g.K.ReplicasName.tables c.args.from _ _ _ _ _ on c.in_ok-answer.ensures
+    answer_stays depth g.K.ReplicasName.tables c.args.wanted.now.from _ _ _ _ _ on c.in_ok-answer.ensures

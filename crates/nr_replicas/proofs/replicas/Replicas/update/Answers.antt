@@ -1,8 +1,8 @@
-use Rattle.std.proofs.Common.{◌≤◌, ap, sym, subst, arith}
+use Rattle.std.proofs.Common.{◌≤◌, Option, IfSome, ap, subst, arith}
+use Rattle.vs_types.specs.declared.answer.Answer.{Answer}
 use Rattle.nr_ring.specs.LogHistory.{log_after, tail}
-use Rattle.nr_ring.specs.Pass.{Known}
 use Rattle.nr_ring.specs.declared.tails.Tails.{Tails}
-use Rattle.nr_replicas.specs.Replicas.{HasHeard}
+use Rattle.nr_replicas.specs.Replicas.{IsAnsweredAt}
 use Rattle.nr_replicas.proofs.Hearing.{heard_on, heard_twice, later_than, looked_heard}
 use Rattle.nr_replicas.proofs.Logs.{tail_rises}
 use Rattle.nr_replicas.proofs.replicas.Replicas.update.Goals as goal
@@ -18,9 +18,8 @@ pub returns-in-Some-clause-heard : goal.returns-in-Some-clause-heard
 returns-in-Some-clause-heard g c =
     let depth = g.J.LogName.depth in
     let replicas = g.J.LogName.replicas in
-    let waited = heard_twice depth replicas c.args.pass.now.view c.look-from.new.pass.view c.wait.new.pass.view
-    (looked_heard depth replicas c.args.pass.now.view c.look-from.new.pass.view c.look-from.ensures.looked) c.wait.ensures.heard in
-    heard_twice depth replicas c.args.pass.now.view c.wait.new.pass.view c.confirm.new.pass.view waited c.in-Some.ensures.heard
+    heard_twice depth replicas c.args.pass.now.view c.look-from.new.pass.view c.wait.new.pass.view
+    (looked_heard depth replicas c.args.pass.now.view c.look-from.new.pass.view c.look-from.ensures.looked) c.wait.ensures.heard
 
 pub returns-in-Some-clause-answered : goal.returns-in-Some-clause-answered
 returns-in-Some-clause-answered g c =
@@ -30,7 +29,29 @@ returns-in-Some-clause-answered g c =
     (looked_heard depth replicas c.args.pass.now.view c.look-from.new.pass.view c.look-from.ensures.looked) in
     let knew : tail (log_after replicas c.args.pass.now.view.seen) ≤ c.look-from.result.tail =
     omega (arith, tail_rises _ _ on, ap (λ (t : Tails). t.tail) c.look-from.ensures.tails) in
-    let confirmed = c.in-Some.ensures.confirmed in
+    let Confirmed : Option Answer → Type 0 = λ update. IfSome update (λ answer.
+    IsAnsweredAt depth g.K.ReplicasName.tables c.look-from.result.tail (log_after replicas c.wait.new.pass.view.seen)
+    (record { call = c.args.call; op = c.args.op }) c.in_ok-place.place answer) in
+    let confirmed = subst Confirmed c.in-Some.is c.in_ok-place.ensures.confirmed in
+    record { fresh = later_than knew confirmed.fresh; stands = confirmed.stands; answered = confirmed.answered }
+
+pub returns-in-Some-confirm-clause-heard : goal.returns-in-Some-confirm-clause-heard
+returns-in-Some-confirm-clause-heard g c =
+    let depth = g.J.LogName.depth in
+    let replicas = g.J.LogName.replicas in
+    let waited = heard_twice depth replicas c.args.pass.now.view c.look-from.new.pass.view c.wait.new.pass.view
+    (looked_heard depth replicas c.args.pass.now.view c.look-from.new.pass.view c.look-from.ensures.looked) c.wait.ensures.heard in
+    heard_twice depth replicas c.args.pass.now.view c.wait.new.pass.view c.confirm.new.pass.view waited c.confirm.ensures.heard
+
+pub returns-in-Some-confirm-clause-answered : goal.returns-in-Some-confirm-clause-answered
+returns-in-Some-confirm-clause-answered g c =
+    let depth = g.J.LogName.depth in
+    let replicas = g.J.LogName.replicas in
+    let on = heard_on depth replicas c.args.pass.now.view c.look-from.new.pass.view
+    (looked_heard depth replicas c.args.pass.now.view c.look-from.new.pass.view c.look-from.ensures.looked) in
+    let knew : tail (log_after replicas c.args.pass.now.view.seen) ≤ c.look-from.result.tail =
+    omega (arith, tail_rises _ _ on, ap (λ (t : Tails). t.tail) c.look-from.ensures.tails) in
+    let confirmed = c.in-Some-confirm.ensures.confirmed in
     record { fresh = later_than knew confirmed.fresh; stands = confirmed.stands; answered = confirmed.answered }
 
 pub returns-clause-heard : goal.returns-clause-heard
@@ -39,5 +60,4 @@ returns-clause-heard g c =
     let replicas = g.J.LogName.replicas in
     let waited = heard_twice depth replicas c.args.pass.now.view c.look-from.new.pass.view c.wait.new.pass.view
     (looked_heard depth replicas c.args.pass.now.view c.look-from.new.pass.view c.look-from.ensures.looked) c.wait.ensures.heard in
-    let Here : Known → Type 0 = λ k. HasHeard depth replicas c.args.pass.now.view k.view in
-    subst Here (sym c.in-None.ensures.unheard) waited
+    heard_twice depth replicas c.args.pass.now.view c.wait.new.pass.view c.confirm.new.pass.view waited c.confirm.ensures.heard

@@ -1,0 +1,2 @@
+-- The table in which slots lie: no public clause cites it.
+pub mod Kept
