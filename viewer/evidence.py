@@ -44,17 +44,15 @@ def of_right_chain(trace, number, counts):
 
 
 def of_format(trace, shown):
-    if "begins" in shown:
-        return Evidence([sentence(trace.broken.why),
-                         f"The format fault is {shown['format'].split()[0]}. It shows at offset {trace.broken.offset} of the segment, which "
-                         f"begins at byte {shown['begins']} of the chain."])
-    offset, read = shown["offset"], bytes.fromhex(shown["read"])
+    begins, read = shown.get("begins", 0), bytes.fromhex(shown["read"])
+    offset = shown["offset"] - begins
     if trace.data[offset:][:shown["size"]][:24] != read:
         raise LookupError
+    of_segment = f" of the segment, which begins at byte {begins} of the chain" if "begins" in shown else ""
     return Evidence([sentence(trace.broken.why),
                      f"The format fault is {shown['format'].split()[0]}, at this unit: {shown['unit']}. It begins at offset {offset} "
-                     f"({offset:#x}). Of its {many(shown['size'], 'byte')} there {'is' if shown['there'] == 1 else 'are'} {shown['there']}: "
-                     f"{read.hex(' ', 4) or 'none'}.",
+                     f"({offset:#x}){of_segment}. Of its {many(shown['size'], 'byte')} there {'is' if shown['there'] == 1 else 'are'} "
+                     f"{shown['there']}: {read.hex(' ', 4) or 'none'}.",
                      f"Before it are {many(len(trace.log), 'place')} of the log, {many(len(trace.events), 'event')} and "
                      f"{many(sum(len(dump.frames) for dump in trace.dumps), 'frame')}."])
 

@@ -27,7 +27,8 @@ reported IsReport known old new input text own status is_read is same written = 
 }
 
 -- right segments to the end of the bytes come to what is kept of the last
-comes_to : (kept last : Option Kept) (bytes rest : List ℕ) (orders : List (List ℕ)) (end : Kept) → GoesOnTo kept bytes orders last rest → last ≡ Some end → rest ≡ []
+comes_to : (kept last : Option Kept) (bytes rest : List ℕ) (orders : List (List ℕ)) (end : Kept) → GoesOnTo kept bytes orders last rest
+    → last ≡ Some end → rest ≡ []
     → ComesTo kept bytes end
 comes_to kept last bytes rest [] end (same, is) there none = ([], (sym is ∙ none, sym same ∙ there))
 comes_to kept last bytes rest (order ∷ more) end (segment, behind, begins, sound, recorded, next) there none =

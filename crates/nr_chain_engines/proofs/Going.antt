@@ -73,7 +73,7 @@ front_of kept last bytes rest (order ∷ orders) (segment, behind, begins, sound
 pub none_short : (kept : Option Kept) → IsShort kept []
 none_short kept = none_is_short (forms.Segment (layout_before kept))
 
-ends_yet : (last : Option Kept) (rest : List ℕ) → IsShort last rest
+pub ends_yet : (last : Option Kept) (rest : List ℕ) → IsShort last rest
     → (found : Option SegmentFault) × EndsWith last rest found × ((found ≡ None) ⊎ (found ≡ Some (Within (Format Truncated))))
 ends_yet None rest short = (Some (Within (Format Truncated)), short, inr refl)
 ends_yet (Some kept) [] short = (None, refl, inl refl)
@@ -131,7 +131,8 @@ one_right quiet old chain next number count taken block left order before now af
     let counted = so_far.counted in
     record {
       orders = so_far.orders ++ order ∷ [];
-      goes_on = through old.kept chain.kept next.kept (old.bytes ++ block) (chain.bytes ++ left) (next.bytes ++ rest) so_far.orders (order ∷ []) so_far.goes_on next_is;
+      goes_on = through old.kept chain.kept next.kept (old.bytes ++ block) (chain.bytes ++ left) (next.bytes ++ rest) so_far.orders
+          (order ∷ []) so_far.goes_on next_is;
       counted = omega arith;
       written = subst (Appends before after)
           (ap (λ (l : List ℕ). shown_lines quiet number so_far.orders ++ l) (one_shown quiet count order
@@ -207,8 +208,13 @@ block_wrong quiet old chain number count block left before now fault under lasts
 -- memory ran out
 pub some_taken : (quiet : Bool) (old chain : ChainFed) (number count : ℕ) (block left : List ℕ) (before now after : Option (List ℕ))
     → IsUnderWay quiet old number block chain count left before now → after ≡ now → TakesSome quiet old number block before after
-some_taken quiet old chain number count block left before now after under same =
-    (chain.kept, chain.bytes ++ left, count, subst (λ (k : Option (List ℕ)). TakesSegments quiet old number block chain.kept (chain.bytes ++ left) count before k) (sym same) under.taken)
+some_taken quiet old chain number count block left before now after under same = (
+  chain.kept,
+  chain.bytes ++ left,
+  count,
+  subst (λ (k : Option (List ℕ)). TakesSegments quiet old number block chain.kept (chain.bytes ++ left) count before k) (sym same)
+      under.taken,
+)
 
 -- an error that is passed on
 pub passed_on : {T : Type 0} (result : Result T ProgFault) (fault : ProgFault) (P : ProgFault

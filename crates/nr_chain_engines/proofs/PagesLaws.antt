@@ -56,7 +56,8 @@ comes_once kept bytes (segment ∷ more) (other ∷ others) a b (rest, begins, n
     (subst (λ (bs : List ℕ). SpellUpTo (Some (kept_after kept segment)) bs others b) (sym one.0)
     (subst (λ (s : Recording). SpellUpTo (Some (kept_after kept s)) last others b) (sym one.1) next_too))
 
-well_or_not : (bytes : List ℕ) (orders others : List (List ℕ)) (fault : SegmentFault) → GoesOnSo None bytes orders None → GoesOnSo None bytes others (Some fault) → ⊥
+well_or_not : (bytes : List ℕ) (orders others : List (List ℕ)) (fault : SegmentFault) → GoesOnSo None bytes orders None
+    → GoesOnSo None bytes others (Some fault) → ⊥
 well_or_not bytes orders others fault well not_well =
     let one = found_once one_first_after None bytes orders others None (Some fault) well not_well in
     let wrong : None ≡ Some fault = one.1 in cc

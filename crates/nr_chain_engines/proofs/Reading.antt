@@ -65,13 +65,15 @@ read_nothing quiet known left next old new last rest piece count here lost none 
 }
 
 -- nothing more was written
-pub unwritten : {W : Type 0} (quiet : Bool) (known left old : Option (List ℕ)) (contents : W → Option (List ℕ)) (now next : W) (last : Option Kept) (rest : List ℕ) (count : ℕ)
+pub unwritten : {W : Type 0} (quiet : Bool) (known left old : Option (List ℕ)) (contents : W
+    → Option (List ℕ)) (now next : W) (last : Option Kept) (rest : List ℕ) (count : ℕ)
     → IsAt quiet known left old (contents now) last rest count → next ≡ now → IsAt quiet known left old (contents next) last rest count
 unwritten quiet known left old contents now next last rest count here same =
     subst (λ w. IsAt quiet known left old (contents w) last rest count) (sym same) here
 
 -- a block more
-pub next_block : (quiet : Bool) (known left next old now new : Option (List ℕ)) (chain : ChainFed) (block : List ℕ) (last : Option Kept) (rest : List ℕ) (number count : ℕ)
+pub next_block : (quiet : Bool) (known left next old now new : Option (List ℕ)) (chain : ChainFed) (block : List ℕ) (last : Option Kept)
+    (rest : List ℕ) (number count : ℕ)
     → IsAt quiet known left old now chain.kept chain.bytes number → Consumes left next block
     → TakesSegments quiet chain number block last rest count now new → IsAt quiet known next old new last rest count
 next_block quiet known left next old now new chain block last rest number count here lost taken =
@@ -160,10 +162,12 @@ pub block_refused : (quiet : Bool) (known left next old now new : Option (List �
     → HasWrittenFirst quiet known next old new fault
 block_refused quiet known left next old now new chain block number fault here lost (inl unwritten) written = absurd (written unwritten)
 block_refused quiet known left next old now new chain block number fault here lost (inr (none, (last, rest, count, taken))) written =
-    some_written quiet known next old new last rest count fault (next_block quiet known left next old now new chain block last rest number count here lost taken) none
+    some_written quiet known next old new last rest count fault
+    (next_block quiet known left next old now new chain block last rest number count here lost taken) none
 
 -- the last lines were not written
-pub end_refused : {W : Type 0} (quiet : Bool) (known left old : Option (List ℕ)) (contents : W → Option (List ℕ)) (now next : W) (last : Option Kept) (rest : List ℕ)
+pub end_refused : {W : Type 0} (quiet : Bool) (known left old : Option (List ℕ)) (contents : W
+    → Option (List ℕ)) (now next : W) (last : Option Kept) (rest : List ℕ)
     (count : ℕ) (result : Result ℕ ProgFault) → IsAt quiet known left old (contents now) last rest count
     → IfErr result (λ fault. (fault ≡ CannotWrite) ⊎ ((fault ≡ Memory) × (next ≡ now)))
     → IfErr result (λ fault. fault ≢ CannotWrite → HasWrittenFirst quiet known left old (contents next) fault)
@@ -238,7 +242,9 @@ answers_wrong quiet known left old now new last rest count status fault here las
   read = here.read;
   consumed = here.consumed;
   text = shown_lines quiet 0 here.orders ++ end_lines count (Some fault);
-  is_audit = subst (λ (bytes : List ℕ). IsChainAudit quiet bytes (shown_lines quiet 0 here.orders ++ end_lines count (Some fault)) status) (append-nil here.read)
+  is_audit =
+      subst (λ (bytes : List ℕ). IsChainAudit quiet bytes (shown_lines quiet 0 here.orders ++ end_lines count (Some fault)) status)
+      (append-nil here.read)
       (wrong_with quiet known left old now new last rest [] count status fault here lasts some exit);
   written = Appends-trans old now new (shown_lines quiet 0 here.orders) (end_lines count (Some fault)) here.written written;
 }

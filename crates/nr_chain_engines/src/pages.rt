@@ -123,8 +123,8 @@ fn start_report(
 
 /// Reads the first segment of a chain, judges it, and writes the pages of its start by rising base: a line for each, or, as ranges, one
 /// for all that follow one another with one size and the same rights, virtually and physically; nothing where it has no start. The
-/// status is 0. Where the segment has a fault, it writes the last lines of an audit in place of the pages, and the status is 1. It reads in blocks of
-/// 4,096 bytes, and none behind that with which the segment is whole or has a fault of the format.
+/// status is 0. Where the segment has a fault, it writes the last lines of an audit in place of the pages, and the status is 1. It reads
+/// in blocks of 4,096 bytes, and none behind that with which the segment is whole or has a fault of the format.
 ///
 /// It allocates what the segment says, what its judgement takes, and the lines. Where it gives no answer, nothing was written but where
 /// that failed.

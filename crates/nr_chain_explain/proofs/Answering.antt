@@ -71,12 +71,14 @@ of_touch segment call reply touch clean is names has made =
 
 pub touch_is_call : (segment : Recording) (touch : Touch) → HasTouch segment touch → IsCall segment touch.made
 touch_is_call segment touch has = of (call_of segment touch.made) has.asks where
-  of : (o : Option Invocation) → option_and_then (λ made. if made.touch then Some made.request else None) o ≡ Some (Access touch.address touch.mode touch.access)
+  of : (o : Option Invocation) → option_and_then (λ made. if made.touch then Some made.request else None) o
+      ≡ Some (Access touch.address touch.mode touch.access)
       → IsSome o
   of None e = absurd cc
   of (Some made) e = refl
 
-asks_of : (b : Bool) (request : Query) (address : ℕ) (mode : Mode) (access : accesses.Access) → (if b then Some request else None) ≡ Some (Access address mode access)
+asks_of : (b : Bool) (request : Query) (address : ℕ) (mode : Mode) (access : accesses.Access)
+    → (if b then Some request else None) ≡ Some (Access address mode access)
     → asked_address request ≡ address
 asks_of true request address mode access e = ap asked_address (same_Some request (Access address mode access) e)
 asks_of false request address mode access e = absurd cc

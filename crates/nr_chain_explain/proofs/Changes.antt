@@ -29,7 +29,8 @@ pub change_at_start : (start : Space) (trace : Recording) (address : ℕ) → Is
 change_at_start start trace address = same_at start trace address 0 0 (omega arith)
 
 -- an update that leaves how the address looks
-pub change_stays : (start : Space) (trace : Recording) (address end : ℕ) (changed : Option PlacedUpdate) → looks_from start trace address end ≡ looks_from start trace address (end + 1)
+pub change_stays : (start : Space) (trace : Recording) (address end : ℕ) (changed : Option PlacedUpdate)
+    → looks_from start trace address end ≡ looks_from start trace address (end + 1)
     → IsLastChangeFrom start trace address end changed → IsLastChangeFrom start trace address (end + 1) changed
 change_stays start trace address end None e is = same_more start trace address 0 end is e
 change_stays start trace address end (Some update) e is =

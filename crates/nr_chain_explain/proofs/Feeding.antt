@@ -8,7 +8,7 @@ use Rattle.vs_types.specs.declared.refusal.Fail.TheVariants.{Refused}
 use Rattle.nr_trace.specs.Recording.{Recording}
 use Rattle.nr_trace.specs.Spelling.{SpellsSegment}
 use Rattle.nr_trace.specs.FirstFault.{HasFaultAs, HasSegmentFault}
-use Rattle.nr_trace.specs.Feed.{FedSegment, FeedsSegment, IsWhole}
+use Rattle.nr_trace.specs.Feed.{FedSegment, FeedsSegment, IsWhole, LastsAs}
 use Rattle.nr_trace.specs.Feed.Fed.{Taken}
 use Rattle.nr_trace.specs.declared.fault.Format.{Format}
 use Rattle.nr_trace.specs.declared.fault.Format.TheVariants.{Truncated}
@@ -22,9 +22,11 @@ use Rattle.nr_chain.specs.inside.Between.{bytes_in}
 use Rattle.nr_chain.proofs.Ends.{ends_first, none_is_short}
 use Rattle.nr_chain.proofs.OneChain.{not_empty}
 use Rattle.nr_chain.proofs.Pieces.{Took, refused, some_taken, spelled_whole, took, took_all, too_short}
-use Rattle.nr_chain_explain.specs.Came.{CameTo, Seen, came_after, kept_in, layout_in}
-use Rattle.nr_chain_explain.specs.Explanation.{Explains, IsExplanationFrom, IsShownNext, IsShownOf}
+use Rattle.nr_chain_explain.specs.Came.{CameTo, Seen, came_after, kept_in, layout_in, sums_in}
+use Rattle.nr_chain_explain.specs.Explanation.{Explains, GoesOnTo, IsExplanationFrom, IsShownNext, IsShownOf}
 use Rattle.nr_chain_explain.specs.inside.Reading.{all_seen, FitsCame, IsReading}
+use Rattle.nr_chain_explain.proofs.Cuts.{cut_so}
+use Rattle.nr_chain_explain.proofs.Walking.{bad_unit_lasts}
 use Rattle.nr_chain_explain.specs.inside.Steps.{IsRefusalOf, IsWrongOf, JudgedTo, JudgesTo, StepsTo}
 use Rattle.nr_chain_explain.specs.declared.came.Came.{Came}
 use Rattle.nr_chain_explain.specs.declared.evidence.SegmentEvidence.{SegmentEvidence}
@@ -75,7 +77,7 @@ shown_next last bytes fault (evidence.Format bad) is = absurd is.shows
 shown_next last bytes fault shown is = is
 
 -- a refused segment
-pub refusal_explains : (came : Option CameTo) (bytes : List ℕ) (fault : Format) (explanation : ChainExplanation) → IsRefusalOf came fault explanation
+pub refusal_explains : (came : Option CameTo) (bytes : List ℕ) (fault : Format) (explanation : ChainExplanation) → IsRefusalOf came bytes fault explanation
     → HasSegmentFault (layout_in came) bytes fault → (is_some (kept_in came) ≡ true → bytes ≡ [] → ⊥) → IsExplanationFrom came bytes explanation
 refusal_explains came bytes fault (Yes counts) is has some = absurd is
 refusal_explains came bytes fault (No number found (evidence.Format bad)) (number_is, found_is, fault_is, shows) has some = (
@@ -89,6 +91,19 @@ refusal_explains came bytes fault (No number found (evidence.Format bad)) (numbe
   (found_is ∙ ap (λ (f : Format). Within (faults.Format f)) (sym fault_is), shows),
 )
 refusal_explains came bytes fault (No number found shown) is has some = absurd is
+
+-- the same with more bytes behind it
+refusal_lasts : (came : Option CameTo) (bytes rest : List ℕ) (fault : Format) (explanation : ChainExplanation) → IsRefusalOf came bytes fault explanation
+    → LastsAs (forms.Segment (layout_in came)) bytes fault → IsRefusalOf came (bytes ++ rest) fault explanation
+refusal_lasts came bytes rest fault (Yes counts) is lasts = is
+refusal_lasts came bytes rest fault (No number found (evidence.Format bad)) (number_is, found_is, fault_is, shows) lasts = (
+  number_is,
+  found_is,
+  fault_is,
+  bad_unit_lasts (layout_in came) (sums_in came).bytes bytes rest bad shows
+      (subst (LastsAs (forms.Segment (layout_in came)) bytes) (sym fault_is) lasts),
+)
+refusal_lasts came bytes rest fault (No number found shown) is lasts = is
 
 -- a segment that is spelled and has a fault
 pub wrong_explains : (came : Option CameTo) (bytes rest : List ℕ) (segment : Recording) (explanation : ChainExplanation)
@@ -117,12 +132,6 @@ judged_whole came bytes segment count (Right own new) spelled (same, sound, next
 judged_whole came bytes segment count (Wrong explanation) spelled is = λ rest. wrong_explains came bytes rest segment explanation spelled is
 
 -- ---- one step
-
-pub cut_so : (bytes piece rest : List ℕ) (count : ℕ) → bytes ++ (piece ++ rest) ≡ (bytes ++ take count piece) ++ (drop count piece ++ rest)
-cut_so bytes piece rest count =
-    ap (λ (ps : List ℕ). bytes ++ (ps ++ rest)) (sym (take-append-drop count piece))
-    ∙ ap (λ (ps : List ℕ). bytes ++ ps) (append_assoc (take count piece) (drop count piece) rest)
-    ∙ sym (append_assoc bytes (take count piece) (drop count piece ++ rest))
 
 judged_step : (came : Option CameTo) (bytes piece : List ℕ) (count : ℕ) (step : Step) → 0 < count → count ≤ length piece
     → JudgesTo came (bytes ++ take count piece) count step → StepsTo (record { came = came; bytes = bytes }) piece step
@@ -182,74 +191,125 @@ module _ (last : Option Came) (bytes : List ℕ) (feed new : FedSegment) (self :
         fits = old.fits;
       }
 
-  -- the bytes with the piece are refused
-  pub piece_refused : (fault : Format) (explanation : ChainExplanation) → FeedsSegment feed piece new (Err (Refused fault))
-      → IsRefusalOf (all_seen last) fault explanation → StepsTo self piece (Wrong explanation)
-  piece_refused fault explanation feeds refusal = λ there rest.
-      let lasts = refused feed new piece fault (old.taken ∙ ap Taken (sym (ap bytes_in old.taken))) feeds in
-      let has : HasSegmentFault (layout_in (all_seen last)) (bytes ++ (piece ++ rest)) fault =
-      subst (λ (bs : List ℕ). HasSegmentFault (layout_in (all_seen last)) bs fault)
-      (ap (λ (bs : List ℕ). (bs ++ piece) ++ rest) (ap bytes_in old.taken) ∙ append_assoc bytes piece rest)
-      (subst (λ (before : Option Layout). HasSegmentFault before ((bytes_in feed.pieces ++ piece) ++ rest) fault) old.behind (lasts rest)) in
+  -- the bytes with the piece are refused, whatever comes behind it
+  pub piece_lasts : (fault : Format) → FeedsSegment feed piece new (Err (Refused fault))
+      → LastsAs (forms.Segment (layout_in (all_seen last))) (bytes ++ piece) fault
+  piece_lasts fault feeds =
+      subst (λ (bs : List ℕ). LastsAs (forms.Segment (layout_in (all_seen last))) (bs ++ piece) fault) (ap bytes_in old.taken)
+      (subst (λ (before : Option Layout). LastsAs (forms.Segment before) (bytes_in feed.pieces ++ piece) fault) old.behind
+      (refused feed new piece fault (old.taken ∙ ap Taken (sym (ap bytes_in old.taken))) feeds))
+
+  pub piece_has : (fault : Format) (all : List ℕ) → all ≡ bytes ++ piece → FeedsSegment feed piece new (Err (Refused fault))
+      → HasSegmentFault (layout_in (all_seen last)) all fault
+  piece_has fault all is feeds =
+      subst (λ (bs : List ℕ). HasSegmentFault (layout_in (all_seen last)) bs fault) (append-nil (bytes ++ piece) ∙ sym is) (piece_lasts fault feeds [])
+
+  pub piece_refused : (fault : Format) (all : List ℕ) (explanation : ChainExplanation) → all ≡ bytes ++ piece
+      → FeedsSegment feed piece new (Err (Refused fault)) → IsRefusalOf (all_seen last) all fault explanation → StepsTo self piece (Wrong explanation)
+  piece_refused fault all explanation is feeds refusal = λ there rest.
+      let lasts = piece_lasts fault feeds in
+      let refusal_here = subst (λ (bs : List ℕ). IsRefusalOf (all_seen last) bs fault explanation) is refusal in
       subst (λ (fed : Seen). Explains fed (piece ++ rest) explanation) view
-      (refusal_explains (all_seen last) (bytes ++ (piece ++ rest)) fault explanation refusal has
-      (λ kept none. there (front_none piece rest (none_of_two bytes (piece ++ rest) none)))) where
+      (subst (λ (bs : List ℕ). IsExplanationFrom (all_seen last) bs explanation) (append_assoc bytes piece rest)
+      (refusal_explains (all_seen last) ((bytes ++ piece) ++ rest) fault explanation
+      (refusal_lasts (all_seen last) (bytes ++ piece) rest fault explanation refusal_here lasts) (lasts rest)
+      (λ kept none. there (front_none piece rest (none_of_two bytes (piece ++ rest) (sym (append_assoc bytes piece rest) ∙ none)))))) where
         front_none : (front rest : List ℕ) → front ++ rest ≡ [] → front ≡ []
         front_none [] rest e = refl
         front_none (x ∷ front) rest e = absurd cc
 
 -- ---- a whole piece
 
--- a segment more
-right_step : (old new : Seen) (piece : List ℕ) (count : ℕ) → StepsTo old piece (Right count new) → (rest : List ℕ) (explanation : ChainExplanation)
-    → Explains new (drop count piece ++ rest) explanation → Explains old (piece ++ rest) explanation
-right_step old new piece count (some, within, segment, spelled, sound, is) rest explanation next =
-    by_case explanation (subst (λ (fed : Seen). Explains fed (drop count piece ++ rest) explanation) is next) where
-      by_case : (e : ChainExplanation) → IsExplanationFrom (Some (came_after old.came segment (length (old.bytes ++ take count piece)))) (drop count piece ++ rest) e
-          → IsExplanationFrom old.came (old.bytes ++ (piece ++ rest)) e
-      by_case (Yes counts) (segments, last, goes, same) = (
-        segment ∷ segments,
-        last,
-        (
-          drop count piece ++ rest,
-          record { own = old.bytes ++ take count piece; is = cut_so old.bytes piece rest count; spelled = spelled },
-          sound,
-          goes,
-        ),
-        same,
-      )
-      by_case (No number fault shown) (segments, last, left, goes, number_is, ends, shows) = (
-        segment ∷ segments,
-        last,
-        left,
-        (
-          drop count piece ++ rest,
-          record { own = old.bytes ++ take count piece; is = cut_so old.bytes piece rest count; spelled = spelled },
-          sound,
-          goes,
-        ),
-        number_is,
-        ends,
-        shows,
-      )
+-- with more bytes behind them, and with more segments
+pub goes_with : (came last : Option CameTo) (bytes rest more : List ℕ) (segments : List Recording) → GoesOnTo came bytes segments last rest
+    → GoesOnTo came (bytes ++ more) segments last (rest ++ more)
+goes_with came last bytes rest more [] (same, is) = (same, ap (λ (l : List ℕ). l ++ more) is)
+goes_with came last bytes rest more (segment ∷ segments) (behind, begins, sound, goes) = (
+  behind ++ more,
+  record {
+    own = begins.own;
+    is = ap (λ (l : List ℕ). l ++ more) begins.is ∙ append_assoc begins.own behind more;
+    spelled = begins.spelled;
+  },
+  sound,
+  goes_with (Some (came_after came segment (length begins.own))) last behind rest more segments goes,
+)
 
--- what explains what comes behind the rest of a piece explains that with the whole piece
+pub goes_and : (came middle last : Option CameTo) (bytes rest left : List ℕ) (segments more : List Recording) → GoesOnTo came bytes segments middle rest
+    → GoesOnTo middle rest more last left → GoesOnTo came bytes (segments ++ more) last left
+goes_and came middle last bytes rest left [] more (same, is) then =
+    subst (λ (bs : List ℕ). GoesOnTo came bs more last left) is
+    (subst (λ (c : Option CameTo). GoesOnTo c rest more last left) same then)
+goes_and came middle last bytes rest left (segment ∷ segments) more (behind, begins, sound, goes) then =
+    (behind, begins, sound, goes_and (Some (came_after came segment (length begins.own))) middle last behind rest left segments more goes then)
+
+pub explains_on : (came middle : Option CameTo) (bytes rest : List ℕ) (segments : List Recording) (explanation : ChainExplanation)
+    → GoesOnTo came bytes segments middle rest → IsExplanationFrom middle rest explanation → IsExplanationFrom came bytes explanation
+explains_on came middle bytes rest segments (Yes counts) goes (more, last, on, same) =
+    (segments ++ more, last, goes_and came middle (Some last) bytes rest [] segments more goes on, same)
+explains_on came middle bytes rest segments (No number fault shown) goes (more, last, left, on, number_is, ends, shows) =
+    (segments ++ more, last, left, goes_and came middle last bytes rest left segments more goes on, number_is, ends, shows)
+
+-- the bytes and the piece are those of right segments, which come to what the reader has, and the rest
 abbrev pub LeadsTo : Seen → List ℕ → Seen → List ℕ → Type 0
-LeadsTo self piece reader rest = (behind : List ℕ) (explanation : ChainExplanation) → Explains reader (rest ++ behind) explanation
-    → Explains self (piece ++ behind) explanation
+LeadsTo self piece reader rest = (segments : List Recording) × GoesOnTo self.came (self.bytes ++ piece) segments reader.came (reader.bytes ++ rest)
+
+-- what explains what comes behind explains that with the piece
+pub explains_behind : (self reader : Seen) (piece rest behind : List ℕ) (explanation : ChainExplanation) → LeadsTo self piece reader rest
+    → Explains reader (rest ++ behind) explanation → Explains self (piece ++ behind) explanation
+explains_behind self reader piece rest behind explanation (segments, goes) h =
+    subst (λ (bs : List ℕ). IsExplanationFrom self.came bs explanation) (append_assoc self.bytes piece behind)
+    (explains_on self.came reader.came ((self.bytes ++ piece) ++ behind) ((reader.bytes ++ rest) ++ behind) segments explanation
+    (goes_with self.came reader.came (self.bytes ++ piece) (reader.bytes ++ rest) behind segments goes)
+    (subst (λ (bs : List ℕ). IsExplanationFrom reader.came bs explanation) (sym (append_assoc reader.bytes rest behind)) h))
+
+-- the same where the whole piece is taken
+pub explains_taken : (self reader : Seen) (piece behind : List ℕ) (explanation : ChainExplanation)
+    → (segments : List Recording) × GoesOnTo self.came (self.bytes ++ piece) segments reader.came reader.bytes
+    → Explains reader behind explanation → Explains self (piece ++ behind) explanation
+explains_taken self reader piece behind explanation (segments, goes) h =
+    subst (λ (bs : List ℕ). IsExplanationFrom self.came bs explanation) (append_assoc self.bytes piece behind)
+    (explains_on self.came reader.came ((self.bytes ++ piece) ++ behind) (reader.bytes ++ behind) segments explanation
+    (goes_with self.came reader.came (self.bytes ++ piece) reader.bytes behind segments goes) h)
+
+-- a segment more
+one_on : (old new : Seen) (piece : List ℕ) (count : ℕ) → StepsTo old piece (Right count new)
+    → (segments : List Recording) × GoesOnTo old.came (old.bytes ++ piece) segments new.came (new.bytes ++ drop count piece)
+one_on old new piece count (some, within, segment, spelled, sound, is) = (
+  segment ∷ [],
+  subst (λ (fed : Seen). GoesOnTo old.came (old.bytes ++ piece) (segment ∷ []) fed.came (fed.bytes ++ drop count piece)) (sym is) (
+    drop count piece,
+    record {
+      own = old.bytes ++ take count piece;
+      is = ap (λ (ps : List ℕ). old.bytes ++ ps) (sym (take-append-drop count piece)) ∙ sym (append_assoc old.bytes (take count piece) (drop count piece));
+      spelled = spelled;
+    },
+    sound,
+    (refl, refl),
+  ),
+)
 
 pub leads_on : (self old new : Seen) (piece rest left : List ℕ) (count : ℕ) → LeadsTo self piece old rest → StepsTo old rest (Right count new)
     → left ≡ drop count rest → LeadsTo self piece new left
-leads_on self old new piece rest left count leads step cut = λ behind explanation h.
-    leads behind explanation (right_step old new rest count step behind explanation
-    (subst (λ (bs : List ℕ). Explains new (bs ++ behind) explanation) cut h))
+leads_on self old new piece rest left count (segments, goes) step cut =
+    let (more, on) = one_on old new rest count step in (
+      segments ++ more,
+      subst (λ (bs : List ℕ). GoesOnTo self.came (self.bytes ++ piece) (segments ++ more) new.came (new.bytes ++ bs)) (sym cut)
+          (goes_and self.came old.came new.came (self.bytes ++ piece) (old.bytes ++ rest) (new.bytes ++ drop count rest) segments more goes on),
+    )
 
 pub leads_more : (self old new : Seen) (piece rest : List ℕ) → LeadsTo self piece old rest → StepsTo old rest (More new)
-    → (behind : List ℕ) (explanation : ChainExplanation) → Explains new behind explanation → Explains self (piece ++ behind) explanation
-leads_more self old new piece rest leads (is, short) behind explanation h =
-    leads behind explanation
-    (subst (λ (bs : List ℕ). IsExplanationFrom old.came bs explanation) (append_assoc old.bytes rest behind)
-    (subst (λ (fed : Seen). Explains fed behind explanation) is h))
+    → (segments : List Recording) × GoesOnTo self.came (self.bytes ++ piece) segments new.came new.bytes
+leads_more self old new piece rest (segments, goes) (is, short) =
+    (segments, subst (λ (fed : Seen). GoesOnTo self.came (self.bytes ++ piece) segments fed.came fed.bytes) (sym is) goes)
+
+pub leads_end : (self reader : Seen) (piece rest : List ℕ) → LeadsTo self piece reader rest → rest ≡ []
+    → (segments : List Recording) × GoesOnTo self.came (self.bytes ++ piece) segments reader.came reader.bytes
+leads_end self reader piece rest (segments, goes) none = (
+  segments,
+  subst (λ (bs : List ℕ). GoesOnTo self.came (self.bytes ++ piece) segments reader.came bs)
+      (ap (λ (l : List ℕ). reader.bytes ++ l) none ∙ append-nil reader.bytes) goes,
+)
 
 pub short_after : (old new : Seen) (piece : List ℕ) → StepsTo old piece (More new) → HasSegmentFault (layout_in new.came) new.bytes Truncated
 short_after old new piece (is, short) =
@@ -259,11 +319,6 @@ pub short_fresh : (old new : Seen) (piece : List ℕ) (count : ℕ) → StepsTo 
 short_fresh old new piece count (some, within, segment, spelled, sound, is) =
     subst (λ (bs : List ℕ). HasSegmentFault (layout_in new.came) bs Truncated) (sym (ap (λ (fed : Seen). fed.bytes) is))
     (none_is_short (forms.Segment (layout_in new.came)))
-
-pub leads_end : (self reader : Seen) (piece rest : List ℕ) → LeadsTo self piece reader rest → rest ≡ [] → (behind : List ℕ)
-    (explanation : ChainExplanation) → Explains reader behind explanation → Explains self (piece ++ behind) explanation
-leads_end self reader piece rest leads none behind explanation h =
-    leads behind explanation (subst (λ (bs : List ℕ). Explains reader (bs ++ behind) explanation) (sym none) h)
 
 -- ---- the end
 

@@ -1,15 +1,12 @@
 -- Which fault of a segment is the first, as the evidence of a trace wants it.
-use Rattle.std.proofs.Common.{◌≡◌, ℕ, ◌<◌, inl, inr, Option, Some, None, is_some, true, false, List, ◌∷◌, refl, sym, ap, ◌∙◌, arith, lit<}
+use Rattle.std.proofs.Common.{◌≡◌, ℕ, ◌<◌, inl, inr, Option, Some, None, is_some, true, false, refl, arith, lit<}
 use Rattle.std.specs.Prelude.{IsSome}
-use Rattle.std.specs.Ordering.{nat_cmp, ordering_then, ordering_reverse}
-use Rattle.std.specs.Cmp.Lexicographic.{slice_cmp}
-use Rattle.std.specs.declared.cmp.Ordering.TheVariants.{Less, Equal, Greater}
+use Rattle.std.specs.declared.cmp.Ordering.TheVariants.{Less, Greater}
 use Rattle.std.proofs.lemmas.Bool.{cases_order}
-use Rattle.std.proofs.lemmas.Cmp.{ranked, nat_list_cmp_total}
 use Rattle.std.proofs.lemmas.Option.{same_Some}
 use Rattle.vs_types.specs.Space.{Space, no_pages}
 use Rattle.nr_trace.specs.Recording.{Recording}
-use Rattle.nr_trace.specs.Faults.{Earlier, HasFault, HasFaultFrom, IsFirst, IsFirstFrom, rank}
+use Rattle.nr_trace.specs.Faults.{Earlier, HasFault, HasFaultFrom, IsFirst, IsFirstFrom}
 use Rattle.nr_trace.specs.Laws.{HasCleanLog}
 use Rattle.nr_trace.specs.declared.fault.Format.{Format as FormatFault}
 use Rattle.nr_trace.specs.declared.fault.Fault.{Fault}
@@ -18,39 +15,15 @@ use Rattle.nr_trace.specs.declared.fault.Fault.TheVariants.{WrongAnswer, PrefixP
 use Rattle.nr_trace.specs.declared.fault.Fault.TheVariants.{Differs}
 use Rattle.nr_trace.proofs.LawsOfFaults.{IsBelow, below_from_less}
 use Rattle.nr_segment.specs.Start.{first_space, HasStartFault}
-use Rattle.nr_segment.specs.Faults.{part_of, ComesBefore, IsFirstAfter}
+use Rattle.nr_segment.specs.Faults.{part_of, IsFirstAfter}
 use Rattle.nr_segment.specs.declared.fault.StartFault.{StartFault}
 use Rattle.nr_segment.specs.declared.fault.SegmentFault.TheVariants.{Start, Within, Stale}
-use Rattle.nr_segment.proofs.Order.{before_by_first, comes_by_part, earlier_part}
+use Rattle.nr_segment.proofs.FirstFaults.{within_before}
+use Rattle.nr_segment.proofs.Order.{comes_by_part}
 use Rattle.nr_explain.specs.Dumps.{IsFirstOfItsDump, replica_of}
 use Rattle.nr_chain_explain.specs.Evidence.{IsOfItself}
 
 -- ---- of a segment and of a trace
-
-not_both : (xs ys : List ℕ) → slice_cmp nat_cmp xs ys ≡ Less → slice_cmp nat_cmp ys xs ≡ Less → ⊥
-not_both xs ys first second =
-    let other : slice_cmp nat_cmp xs ys ≡ Greater = nat_list_cmp_total.antisymm xs ys ∙ ap ordering_reverse second in
-    cc
-
-is_equal : (p q : ℕ) → p ≡ q → nat_cmp p q ≡ Equal
-is_equal p q same = elim (nat_cmp p q) as (λ r. nat_cmp p q ≡ r → r ≡ Equal) [
-  | Less ↦ λ e. let low = ranked p q Less (sym e) in absurd (omega arith)
-  | Equal ↦ λ e. refl
-  | Greater ↦ λ e. let above = ranked p q Greater (sym e) in absurd (omega arith)
-] refl
-
-before_by_rest : (p q : ℕ) (xs ys : List ℕ) → p ≡ q → slice_cmp nat_cmp xs ys ≡ Less → slice_cmp nat_cmp (p ∷ xs) (q ∷ ys) ≡ Less
-before_by_rest p q xs ys same less = ap (λ r. ordering_then r (slice_cmp nat_cmp xs ys)) (is_equal p q same) ∙ less
-
--- an earlier fault of the trace is an earlier one of the segment
-within_before : (segment : Recording) (first second : Fault) → Earlier segment first second → ComesBefore segment (Within first) (Within second)
-within_before segment first second less = elim (cases_order (part_of first) (part_of second)) [
-  | inl same ↦ before_by_rest (part_of first) (part_of second) (rank segment first) (rank segment second) same less
-  | inr other ↦ elim other [
-    | inl low ↦ before_by_first (part_of first) (part_of second) (rank segment first) (rank segment second) low
-    | inr high ↦ absurd (not_both (rank segment first) (rank segment second) less (earlier_part segment second first high))
-  ]
-]
 
 pub first_within : (before : Option Space) (segment : Recording) (fault : Fault) → IsFirstAfter before segment (Within fault)
     → IsFirstFrom (first_space before segment) segment fault
@@ -211,7 +184,8 @@ no_later at replica n low same below = elim below [
   ]
 ]
 
-differs_last : (trace : Recording) (at address : ℕ) (fault : Fault) → IsOfItself fault → Some at ≡ replica_of fault → Earlier trace (Differs at address) fault → ⊥
+differs_last : (trace : Recording) (at address : ℕ) (fault : Fault) → IsOfItself fault → Some at ≡ replica_of fault
+    → Earlier trace (Differs at address) fault → ⊥
 differs_last trace at address (PrefixPastLog replica) own same less =
     no_later at replica 11 (lit< tt) (same_Some at replica same) (below_from_less 7 at 17 7 replica 11 less)
 differs_last trace at address (PrefixShort replica) own same less =

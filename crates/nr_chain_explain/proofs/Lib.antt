@@ -1,3 +1,5 @@
+pub mod Cuts
+pub mod Walking
 pub mod Firsts
 pub mod Feeding
 pub mod Startings

@@ -175,8 +175,10 @@ pub same_page : (depth : Depth) (s t : Space) (a : ℕ) → IsSpace depth s → 
 same_page depth s t a fits also same = by_pages (page_at s a) (page_at t a) refl refl where
   by_pages : (x y : Option Page) → page_at s a ≡ x → page_at t a ≡ y → page_at s a ≡ page_at t a
   by_pages None None p q = p ∙ sym q
-  by_pages None (Some v) p q = absurd (let wrong : look_in_page a None ≡ look_in_page a (Some v) = ap (look_in_page a) (sym p) ∙ same ∙ ap (look_in_page a) q in cc)
-  by_pages (Some u) None p q = absurd (let wrong : look_in_page a (Some u) ≡ look_in_page a None = ap (look_in_page a) (sym p) ∙ same ∙ ap (look_in_page a) q in cc)
+  by_pages None (Some v) p q =
+      absurd (let wrong : look_in_page a None ≡ look_in_page a (Some v) = ap (look_in_page a) (sym p) ∙ same ∙ ap (look_in_page a) q in cc)
+  by_pages (Some u) None p q =
+      absurd (let wrong : look_in_page a (Some u) ≡ look_in_page a None = ap (look_in_page a) (sym p) ∙ same ∙ ap (look_in_page a) q in cc)
   by_pages (Some u) (Some v) p q =
       let left = (page_at_means fits a u).0 p in
       let right = (page_at_means also a v).0 q in

@@ -21,7 +21,8 @@ use Rattle.nr_explain.proofs.Lasts.{made_in}
 use Rattle.nr_explain.proofs.Replies.{first_to}
 
 -- the reply gives no more entries than the log has
-pub few_seen : (start : Space) (trace : Recording) (index : ℕ) (reply : RecordedReply) → IsFirstFrom start trace (WrongAnswer index) → IsReplyOf trace reply → reply.call ≡ index
+pub few_seen : (start : Space) (trace : Recording) (index : ℕ) (reply : RecordedReply) → IsFirstFrom start trace (WrongAnswer index)
+    → IsReplyOf trace reply → reply.call ≡ index
     → reply.at ≤ length trace.log
 few_seen start trace index reply first is names =
     let clean = clean_before_answers start trace index first in
@@ -29,7 +30,8 @@ few_seen start trace index reply first is names =
     let ordered = ordered_from_made trace index wrong.made wrong.is_made wrong.no_touch in
     (answered_stands trace index (response reply) clean ordered (first_to trace index reply clean is names)).1
 
-pub wrong_facts : (start : Space) (trace : Recording) (call : RecordedCall) (reply : RecordedReply) (wanted : Answer) (address : ℕ) (changed : Option PlacedUpdate)
+pub wrong_facts : (start : Space) (trace : Recording) (call : RecordedCall) (reply : RecordedReply) (wanted : Answer) (address : ℕ)
+    (changed : Option PlacedUpdate)
     → IsFirstFrom start trace (WrongAnswer call.event) → IsCallOf trace call → IsReplyOf trace reply → reply.call ≡ call.event
     → wanted ≡ answer_in trace.layout (space_from start trace (take reply.at trace.log)) call.request → address ≡ address_about call.request wanted
     → IsLastChangeFrom start trace address reply.at changed

@@ -11,6 +11,7 @@ use Rattle.nr_segment.specs.declared.fault.SegmentFault.TheVariants as segments
 use Rattle.nr_chain.specs.Bytes.{BeginsWith, EndsWith}
 use Rattle.nr_chain_explain.specs.Came.{CameTo, Seen, began_with, came_after, counts_of, kept_in, layout_in, space_in, sums_in}
 use Rattle.nr_chain_explain.specs.Evidence.{IsShown}
+use Rattle.nr_chain_explain.specs.Units.{IsBadUnit}
 use Rattle.nr_chain_explain.specs.declared.evidence.BadSegment.{BadSegment}
 use Rattle.nr_chain_explain.specs.declared.evidence.SegmentEvidence.{SegmentEvidence}
 use Rattle.nr_chain_explain.specs.declared.evidence.SegmentEvidence.TheVariants as evidence
@@ -26,9 +27,9 @@ GoesOnTo came bytes (segment ∷ more) last rest =
     (behind : List ℕ) × (begins : BeginsWith (layout_in came) bytes segment behind) × IsSoundAfter (space_in came) segment
     × GoesOnTo (Some (came_after came segment (length begins.own))) behind more last rest
 
--- where a segment begins whose format has a fault
-abbrev pub IsBadSegment : Option CameTo → BadSegment → Type 0
-IsBadSegment last bad = bad.begins ≡ (sums_in last).bytes
+-- the unit shows the fault of the format that the next segment has
+abbrev pub IsBadSegment : Option CameTo → List ℕ → BadSegment → Type 0
+IsBadSegment last bytes bad = IsBadUnit (layout_in last) (sums_in last).bytes bytes bad
 
 -- the evidence shows the fault of a segment that comes next
 abbrev pub IsShownBehind : Option CameTo → Recording → SegmentFault → SegmentEvidence → Type 0
@@ -44,7 +45,7 @@ pub record IsShownOf (last : Option CameTo) (bytes : List ℕ) (fault : SegmentF
 
 -- what shows the first fault of the next segment: of its format, or of what is spelled
 abbrev pub IsShownNext : Option CameTo → List ℕ → SegmentFault → SegmentEvidence → Type 0
-IsShownNext last bytes fault (evidence.Format bad) = (fault ≡ segments.Within (faults.Format bad.fault)) × IsBadSegment last bad
+IsShownNext last bytes fault (evidence.Format bad) = (fault ≡ segments.Within (faults.Format bad.fault)) × IsBadSegment last bytes bad
 IsShownNext last bytes fault shown = IsShownOf last bytes fault shown
 
 -- all segments are right, and the chain ends behind the last; or these are, and the next one has the fault, as the bytes end or before that
@@ -63,11 +64,10 @@ Explains seen rest explanation = IsExplanationFrom seen.came (seen.bytes ++ rest
 abbrev pub IsExplanationOfChain : List ℕ → ChainExplanation → Type 0
 IsExplanationOfChain bytes explanation = IsExplanationFrom None bytes explanation
 
--- the piece is taken: whatever explains what comes behind it explains that with the piece, and the bytes of the next segment are too few where
--- there is a piece; or
--- this explains the chain, whatever comes behind the piece
+-- the piece is taken: with it the bytes are those of right segments, which come to what is kept, and then too few for one more, where there is
+-- a piece; or this explains the chain, whatever comes behind the piece
 abbrev pub FeedsReader : Seen → List ℕ → Fed → Type 0
 FeedsReader old piece (More new) =
-    ((rest : List ℕ) (explanation : ChainExplanation) → Explains new rest explanation → Explains old (piece ++ rest) explanation)
+    ((segments : List Recording) × GoesOnTo old.came (old.bytes ++ piece) segments new.came new.bytes)
     × ((piece ≡ [] → ⊥) → HasSegmentFault (layout_in new.came) new.bytes Truncated)
 FeedsReader old piece (Found explanation) = (rest : List ℕ) → Explains old (piece ++ rest) explanation

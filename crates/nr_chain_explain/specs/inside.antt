@@ -4,3 +4,4 @@ pub mod Steps
 pub mod Starts
 pub mod Itself
 pub mod Windows
+pub mod Walked

@@ -1,4 +1,5 @@
-use nr_explain::{Difference, Evidence, OtherAnswer, RecordedCall, RecordedReply, Step};
+use crate::units::SegmentUnit;
+use nr_explain::{BadField, Difference, Evidence, OtherAnswer, RecordedCall, RecordedReply, Step};
 use nr_trace::Format;
 use vs_types::{Answer, Page};
 use vs_walk::Walk;
@@ -14,12 +15,19 @@ pub enum Origin {
     Earlier,
 }
 
-/// Where a segment begins whose format has a fault.
+/// The unit that shows a fault of the format of a segment.
 #[derive(Debug, Drop)]
 pub struct BadSegment {
     pub fault: Format,
     /// How many bytes of the chain come before the segment. A number above 2^64 - 1 is given as that.
     pub begins: u64,
+    pub unit: SegmentUnit,
+    /// How many bytes of the chain come before the unit, likewise.
+    pub offset: u64,
+    /// Its bytes, or as many of them as there are.
+    pub read: Vec<u8>,
+    /// Of an event that is no call and no reply the first field that isn't what it may be.
+    pub field: Option<BadField>,
 }
 
 /// A frame to which the tables of a start lead, and which it lacks.

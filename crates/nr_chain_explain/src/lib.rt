@@ -2,6 +2,7 @@
 #![tactic(auto)]
 
 mod answers;
+mod bad_unit;
 mod came;
 mod differences;
 mod evidence;
@@ -15,6 +16,7 @@ mod replay;
 mod spaces;
 mod starts;
 mod touches;
+mod units;
 
 pub use evidence::{
     BadSegment, Moment, Origin, SegmentEvidence, StaleTouch, StartBeyond, StartDiffers,
@@ -22,3 +24,4 @@ pub use evidence::{
 };
 pub use explanation::{ChainCounts, ChainExplanation};
 pub use reader::{ChainReader, Fed};
+pub use units::SegmentUnit;

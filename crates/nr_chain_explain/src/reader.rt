@@ -111,7 +111,8 @@ impl ChainReader {
             }
             Err(Fail::Memory) => Err(Memory),
             Err(Fail::Refused(fault)) => {
-                let found = refusal(&last, fault);
+                bytes.extend_from_slice(piece)?;
+                let found = refusal(alloc, &last, &bytes, fault)?;
                 Ok(Step::Wrong(found))
             }
         }
@@ -119,7 +120,7 @@ impl ChainReader {
 
     /// Takes the next piece, with all segments that are whole with it; each of them is judged, and the first wrong one explained. It
     /// allocates the bytes of a segment and what they say, what its judgement takes, a copy of the space before it, the space with which
-    /// the chain begins, and what shows a fault.
+    /// the chain begins, and what shows a fault; where that is one of the format, what the segment says once more.
     ///
     /// # Errors
     ///
@@ -152,12 +153,12 @@ impl ChainReader {
         ensures { IfOk result (Explains self []) }
     {
         let ChainReader {
-            alloc: _,
+            alloc,
             last,
             bytes,
             feed: _,
         } = self;
-        ended(&last, &bytes)
+        ended(alloc, &last, &bytes)
     }
 }
 

@@ -8,31 +8,39 @@ ghost use Rattle.nr_chain_explain.specs.Explanation.{IsExplanationFrom};
 ghost use Rattle.nr_chain_explain.specs.inside.Reading.{all_seen};
 ghost use Rattle.nr_chain_explain.specs.inside.Steps.{IsRefusalOf};
 
+use crate::bad_unit::bad_unit;
 use crate::came::{Came, counts_of, sums_of};
-use crate::evidence::{BadSegment, SegmentEvidence};
+use crate::evidence::SegmentEvidence;
 use crate::explanation::ChainExplanation;
 use nr_segment::SegmentFault;
 use nr_trace::{Fault, Format};
+use std::alloc::Global;
 use vs_types::Memory;
 
-/// A fault of the format of the next segment, and where that begins.
-pub(crate) fn refusal(last: &Option<Came>, fault: Format) -> ChainExplanation
-    ensures { IsRefusalOf (all_seen last.now) fault result }
+/// The fault of the format that the bytes of the next segment have, and the unit that shows it. Allocates what `bad_unit` does.
+pub(crate) fn refusal(
+    alloc: Global,
+    last: &Option<Came>,
+    bytes: &[u8],
+    fault: Format,
+) -> Result<ChainExplanation, Memory>
+    requires { HasSegmentFault (layout_in (all_seen last.now)) bytes.now fault }
+    ensures { IfOk result (IsRefusalOf (all_seen last.now) bytes.now fault) }
 {
-    let sums = sums_of(last);
-    let bad = BadSegment {
-        fault,
-        begins: sums.bytes,
-    };
-    ChainExplanation::No(
-        sums.segments,
+    let bad = bad_unit(alloc, last, bytes, fault)?;
+    Ok(ChainExplanation::No(
+        sums_of(last).segments,
         SegmentFault::Within(Fault::Format(fault)),
         SegmentEvidence::Format(bad),
-    )
+    ))
 }
 
-/// What is said where no byte comes any more, of which these are the next segment's. Allocates a list of pages.
-pub(crate) fn ended(last: &Option<Came>, bytes: &[u8]) -> Result<ChainExplanation, Memory>
+/// What is said where no byte comes any more, of which these are the next segment's. Allocates a list of pages, or what `bad_unit` does.
+pub(crate) fn ended(
+    alloc: Global,
+    last: &Option<Came>,
+    bytes: &[u8],
+) -> Result<ChainExplanation, Memory>
     requires { HasSegmentFault (layout_in (all_seen last.now)) bytes.now Truncated }
     ensures { IfOk result (IsExplanationFrom (all_seen last.now) bytes.now) }
 {
@@ -42,5 +50,5 @@ pub(crate) fn ended(last: &Option<Came>, bytes: &[u8]) -> Result<ChainExplanatio
             return Ok(ChainExplanation::Yes(counts));
         }
     }
-    Ok(refusal(last, Format::Truncated))
+    refusal(alloc, last, bytes, Format::Truncated)
 }

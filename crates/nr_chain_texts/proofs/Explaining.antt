@@ -1,39 +1,72 @@
 -- What is known of a chain that is read in blocks and explained.
-use Rattle.std.proofs.Common.{◌≡◌, ℕ, Bool, List, [], ◌++◌, Option, Some, None, refl, ap, sym, subst, ◌∙◌}
-use Rattle.std.specs.Io.KnownBytes.{Appends, Consumes, IsAtEnd}
-use Rattle.std.proofs.KnownBytes.{Consumes-nil, Consumes-trans}
+use Rattle.std.proofs.Common.{◌≡◌, ◌≤◌, ℕ, Bool, List, [], ◌++◌, length, Option, Some, None, refl, ap, sym, subst, ◌∙◌, arith}
+use Rattle.std.specs.Io.KnownBytes.{Appends, Consumes, IsAtEnd, Keeps}
+use Rattle.std.proofs.KnownBytes.{Consumes-kept, Consumes-nil, Consumes-trans}
 use Rattle.std.proofs.lemmas.List.{append-nil, append_assoc}
-use Rattle.nr_chain_explain.specs.Came.{Seen}
-use Rattle.nr_chain_explain.specs.Explanation.{Explains, IsExplanationOfChain}
+use Rattle.nr_trace.specs.Recording.{Recording}
+use Rattle.nr_trace.specs.FirstFault.{HasSegmentFault}
+use Rattle.nr_trace.specs.declared.fault.Format.TheVariants.{Truncated}
+use Rattle.nr_chain_explain.specs.Came.{Seen, kept_in, layout_in}
+use Rattle.nr_chain_explain.specs.Explanation.{Explains, FeedsReader, GoesOnTo, IsExplanationFrom, IsExplanationOfChain}
+use Rattle.nr_chain_explain.specs.declared.reader.Fed.TheVariants.{More}
+use Rattle.nr_chain_explain.proofs.Feeding.{explains_on, goes_and, goes_with}
+use Rattle.nr_chain_explain.proofs.Verdicts.{goes_on_so, orders_in}
+use Rattle.nr_chain_engines.specs.ChainAudit.{HasReadFewOfChain}
+use Rattle.nr_chain_engines.proofs.Going.{ends_yet, none_short}
 use Rattle.nr_chain_explain.specs.declared.explanation.ChainExplanation.{ChainExplanation}
 use Rattle.nr_engines.specs.Answers.{IsReadOf, WritesReport}
 use Rattle.nr_chain_texts.specs.ChainExplained.{IsChainExplained, chain_explanation_status, told_chain}
 use Rattle.nr_chain_texts.specs.inside.Explaining.{HasExplained}
 
--- what explains the bytes behind what was read explains all
+-- what was read is right segments, and the beginning of one more
 pub record IsExplaining (known left : Option (List ℕ)) (chain : Seen) : Type 0 where
   pub read : List ℕ
   pub consumed : Consumes known left read
-  pub goes_on : (rest : List ℕ) (explanation : ChainExplanation) → Explains chain rest explanation
-      → IsExplanationOfChain (read ++ rest) explanation
+  pub segments : List Recording
+  pub goes_on : GoesOnTo None read segments chain.came chain.bytes
+  pub short : HasSegmentFault (layout_in chain.came) chain.bytes Truncated
 
 pub explaining_starts : (known : Option (List ℕ)) (chain : Seen) → chain ≡ record { came = None; bytes = [] } → IsExplaining known known chain
-explaining_starts known chain is = record {
-  read = [];
-  consumed = Consumes-nil known;
-  goes_on = λ rest explanation explains. subst (λ c. Explains c rest explanation) is explains;
-}
+explaining_starts known chain is =
+    let nothing : Seen = record { came = None; bytes = [] } in
+    let here : IsExplaining known known nothing = record {
+      read = [];
+      consumed = Consumes-nil known;
+      segments = [];
+      goes_on = (refl, refl);
+      short = none_short None;
+    } in
+    subst (IsExplaining known known) (sym is) here
 
 -- a block was read and taken
 pub explaining_goes_on : (known left new : Option (List ℕ)) (chain next : Seen) (block : List ℕ) → IsExplaining known left chain
-    → Consumes left new block → ((rest : List ℕ) (explanation : ChainExplanation) → Explains next rest explanation → Explains chain (block ++ rest) explanation)
-    → IsExplaining known new next
-explaining_goes_on known left new chain next block here lost taken = record {
+    → Consumes left new block → (block ≡ [] → ⊥) → FeedsReader chain block (More next) → IsExplaining known new next
+explaining_goes_on known left new chain next block here lost some ((more, on), short) = record {
   read = here.read ++ block;
   consumed = Consumes-trans known left new here.read block here.consumed lost;
-  goes_on = λ rest explanation explains. subst (λ (bytes : List ℕ). IsExplanationOfChain bytes explanation) (sym (append_assoc here.read block rest))
-      (here.goes_on (block ++ rest) explanation (taken rest explanation explains));
+  segments = here.segments ++ more;
+  goes_on = goes_and None chain.came next.came (here.read ++ block) (chain.bytes ++ block) next.bytes here.segments more
+      (goes_with None chain.came here.read chain.bytes block here.segments here.goes_on) on;
+  short = short some;
 }
+
+-- nothing is wrong yet with the bytes before the block
+pub few_read : (known left new : Option (List ℕ)) (chain : Seen) (block : List ℕ) → IsExplaining known left chain → Consumes left new block
+    → length block ≤ 4096 → HasReadFewOfChain known new
+few_read known left new chain block here lost size =
+    let (found, ends, early) = ends_yet (kept_in chain.came) chain.bytes here.short in
+    record {
+      before = here.read;
+      block = block;
+      read = Consumes-trans known left new here.read block here.consumed lost;
+      orders = orders_in here.segments;
+      right_yet = (found, goes_on_so None chain.came here.read chain.bytes here.segments found here.goes_on ends, early);
+      one_block = size;
+    }
+
+pub few_kept : (known left new : Option (List ℕ)) (chain : Seen) → IsExplaining known left chain → Keeps left new → HasReadFewOfChain known new
+few_kept known left new chain here keeps =
+    few_read known left new chain [] here (Consumes-kept left left new [] (Consumes-nil left) keeps) (omega arith)
 
 -- nothing is left to read
 whole_read : (known new : Option (List ℕ)) (bytes : List ℕ) → Consumes known new bytes → IsAtEnd new → IsReadOf known bytes
@@ -50,7 +83,8 @@ explained_at_end known left new chain block explanation here lost none end expla
     record {
       input = here.read;
       is_read = whole_read known new here.read consumed end;
-      is_explanation = subst (λ (bytes : List ℕ). IsExplanationOfChain bytes explanation) (append-nil here.read) (here.goes_on [] explanation explains);
+      is_explanation = explains_on None chain.came here.read chain.bytes here.segments explanation here.goes_on
+          (subst (λ (bytes : List ℕ). IsExplanationFrom chain.came bytes explanation) (append-nil chain.bytes) explains);
     }
 
 -- the fault shows in a block, whatever comes behind it
@@ -68,7 +102,8 @@ explained_in_block known left new chain block explanation here lost explains =
       input = (here.read ++ block) ++ behind;
       is_read = is;
       is_explanation = subst (λ (bytes : List ℕ). IsExplanationOfChain bytes explanation) (sym (append_assoc here.read block behind))
-          (here.goes_on (block ++ behind) explanation (explains behind));
+          (explains_on None chain.came (here.read ++ (block ++ behind)) (chain.bytes ++ (block ++ behind)) here.segments explanation
+          (goes_with None chain.came here.read chain.bytes (block ++ behind) here.segments here.goes_on) (explains behind));
     }
 
 -- what is said of an explanation

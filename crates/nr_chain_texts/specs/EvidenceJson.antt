@@ -1,11 +1,12 @@
 -- What `explain --chain --json` prints: one JSON object, its members by their names in the order of the alphabet, with no space between.
-use Rattle.std.specs.Prelude.{ℕ, ◌++◌, List, codes, decimal, map, Option, Some, None}
+use Rattle.std.specs.Prelude.{ℕ, ◌++◌, List, length, codes, decimal, map, Option, Some, None}
 use Rattle.serde_json.specs.Data.{Data, array, member, no_members, null, object, string}
 use Rattle.serde_json.specs.View.{items_of}
 use Rattle.serde_json.specs.Written.{compact_text}
 use Rattle.vs_text.specs.Words.{hexadecimal}
 use Rattle.vs_walk.specs.declared.walk.Walk.TheVariants.{Mapped}
 use Rattle.nr_explain.specs.declared.evidence.PlacedUpdate.{PlacedUpdate}
+use Rattle.nr_chain_explain.specs.Units.{size}
 use Rattle.nr_chain_explain.specs.declared.evidence.Origin.{Origin}
 use Rattle.nr_chain_explain.specs.declared.evidence.Origin.TheVariants.{Nothing, Start, Earlier}
 use Rattle.nr_chain_explain.specs.declared.evidence.Moment.{Moment}
@@ -15,9 +16,10 @@ use Rattle.nr_chain_explain.specs.declared.explanation.ChainCounts.{ChainCounts}
 use Rattle.nr_chain_explain.specs.declared.explanation.ChainExplanation.{ChainExplanation}
 use Rattle.nr_chain_explain.specs.declared.explanation.ChainExplanation.TheVariants.{Yes, No}
 use Rattle.nr_engines.specs.Text.{answer_text, format_text, line_end, walk_words}
+use Rattle.nr_engines.specs.EvidenceText.{bytes_text}
 use Rattle.nr_engines.specs.EvidenceJson.{call_data, changed_data, evidence_data, fault_member, number_data, reply_data, step_data, way_data}
 use Rattle.nr_chain_engines.specs.ChainText.{segment_fault_text}
-use Rattle.nr_chain_texts.specs.EvidenceText.{origin_text}
+use Rattle.nr_chain_texts.specs.EvidenceText.{origin_text, segment_unit_text}
 use Rattle.nr_chain_texts.specs.Sentence.{segment_sentence}
 
 -- what an address looks like that no update of the segment has changed
@@ -41,7 +43,12 @@ unfoldable pub segment_evidence_data : SegmentEvidence → Data
 segment_evidence_data (shown.Format bad) = object
     (member (codes "begins") (number_data bad.begins)
     (fault_member (codes "Format")
-    (member (codes "format") (string (format_text bad.fault)) no_members)))
+    (member (codes "format") (string (format_text bad.fault))
+    (member (codes "offset") (number_data bad.offset)
+    (member (codes "read") (string (bytes_text bad.read.items))
+    (member (codes "size") (number_data (size bad.unit))
+    (member (codes "there") (number_data (length bad.read.items))
+    (member (codes "unit") (string (segment_unit_text bad.unit)) no_members))))))))
 segment_evidence_data (shown.Within evidence) = evidence_data evidence
 segment_evidence_data (shown.WrongAnswer wrong origin) = object
     (member (codes "address") (string (hexadecimal wrong.address))

@@ -1,5 +1,5 @@
 -- The lines of `explain --chain`: of a no for each fact that shows the fault of its segment, of a yes how much there is.
-use Rattle.std.specs.Prelude.{ℕ, ◌++◌, List, codes, decimal, flat_map, Option, Some, None}
+use Rattle.std.specs.Prelude.{ℕ, ◌++◌, List, length, codes, decimal, flat_map, Option, Some, None}
 use Rattle.vs_text.specs.Words.{hexadecimal}
 use Rattle.vs_walk.specs.declared.walk.Walk.TheVariants.{Mapped}
 use Rattle.nr_trace.specs.declared.fault.Format.{Format}
@@ -7,6 +7,9 @@ use Rattle.nr_trace.specs.declared.fault.Format.TheVariants as formats
 use Rattle.nr_explain.specs.declared.evidence.PlacedUpdate.{PlacedUpdate}
 use Rattle.nr_explain.specs.declared.evidence.OtherAnswer.{OtherAnswer}
 use Rattle.nr_explain.specs.declared.evidence.Difference.{Difference}
+use Rattle.nr_chain_explain.specs.Units.{size}
+use Rattle.nr_chain_explain.specs.declared.units.SegmentUnit.{SegmentUnit}
+use Rattle.nr_chain_explain.specs.declared.units.SegmentUnit.TheVariants.{Shared, StartRoot, StartNumber, StartWords}
 use Rattle.nr_chain_explain.specs.declared.evidence.Origin.{Origin}
 use Rattle.nr_chain_explain.specs.declared.evidence.Origin.TheVariants.{Nothing, Start, Earlier}
 use Rattle.nr_chain_explain.specs.declared.evidence.BadSegment.{BadSegment}
@@ -22,7 +25,7 @@ use Rattle.nr_chain_explain.specs.declared.evidence.SegmentEvidence.TheVariants 
 use Rattle.nr_chain_explain.specs.declared.explanation.ChainCounts.{ChainCounts}
 use Rattle.nr_engines.specs.Text.{answer_text, line_end, walk_text}
 use Rattle.nr_engines.specs.EvidenceText.{address_line, answer_line, call_line, evidence_text, format_lines, number_line, reply_line}
-use Rattle.nr_engines.specs.EvidenceText.{reserved_text, step_line, way_lines}
+use Rattle.nr_engines.specs.EvidenceText.{read_text, reserved_text, step_line, unit_text, way_lines}
 
 -- what an address looks like that no update of the segment has changed
 unfoldable pub origin_text : Origin → List ℕ
@@ -68,8 +71,23 @@ allowed_line (formats.BadEvent index) = format_lines (formats.BadEvent index)
 allowed_line (formats.BadFrame replica index) = format_lines (formats.BadFrame replica index)
 allowed_line formats.Trailing = format_lines formats.Trailing
 
+-- which unit of a segment it is
+unfoldable pub segment_unit_text : SegmentUnit → List ℕ
+segment_unit_text (Shared unit) = unit_text unit
+segment_unit_text StartRoot = codes "root of the start"
+segment_unit_text (StartNumber index) = codes "number of frame " ++ (decimal index ++ codes " of the start")
+segment_unit_text (StartWords index) = codes "words of frame " ++ (decimal index ++ codes " of the start")
+
+-- the unit, and where it begins; how many of its bytes there are, and the first of them
+abbrev pub segment_unit_lines : BadSegment → List ℕ
+segment_unit_lines bad =
+    segment_unit_text bad.unit ++ (codes ", at byte " ++ (decimal bad.offset ++ (codes "\nread " ++ (decimal (length bad.read.items)
+    ++ (codes " of " ++ (decimal (size bad.unit) ++ (codes " bytes: " ++ (read_text bad.read.items ++ line_end))))))))
+
+-- where the segment begins, the unit, and what is allowed there
 abbrev pub bad_segment_lines : BadSegment → List ℕ
-bad_segment_lines bad = codes "the segment begins at byte " ++ (decimal bad.begins ++ (line_end ++ allowed_line bad.fault))
+bad_segment_lines bad =
+    codes "the segment begins at byte " ++ (decimal bad.begins ++ (line_end ++ (segment_unit_lines bad ++ allowed_line bad.fault)))
 
 abbrev pub start_missing_lines : StartMissing → List ℕ
 start_missing_lines wrong =

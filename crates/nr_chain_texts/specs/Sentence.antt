@@ -1,9 +1,10 @@
 -- The sentence of a fault of a chain, and all that `explain --chain` prints.
-use Rattle.std.specs.Prelude.{ℕ, ◌++◌, List, [], ◌∷◌, codes, decimal, None, Some}
+use Rattle.std.specs.Prelude.{ℕ, ◌++◌, List, [], ◌∷◌, length, codes, decimal, None, Some}
 use Rattle.vs_text.specs.Words.{hexadecimal}
 use Rattle.nr_trace.specs.declared.fault.Format.{Format}
 use Rattle.nr_trace.specs.declared.fault.Format.TheVariants as formats
 use Rattle.nr_explain.specs.declared.evidence.Step.{Step}
+use Rattle.nr_chain_explain.specs.Units.{size}
 use Rattle.nr_chain_explain.specs.declared.evidence.BadSegment.{BadSegment}
 use Rattle.nr_chain_explain.specs.declared.evidence.StartMissing.{StartMissing}
 use Rattle.nr_chain_explain.specs.declared.evidence.StartShared.{StartShared}
@@ -16,28 +17,30 @@ use Rattle.nr_chain_explain.specs.declared.evidence.SegmentEvidence.TheVariants 
 use Rattle.nr_chain_explain.specs.declared.explanation.ChainExplanation.{ChainExplanation}
 use Rattle.nr_chain_explain.specs.declared.explanation.ChainExplanation.TheVariants.{Yes, No}
 use Rattle.nr_engines.specs.Text.{answer_text, line_end, walk_words}
-use Rattle.nr_engines.specs.Sentence.{difference_sentence, frame_text, other_answer_sentence, sentence_text, start_text}
+use Rattle.nr_engines.specs.EvidenceText.{bytes_text}
+use Rattle.nr_engines.specs.Sentence.{difference_sentence, event_text, frame_text, other_answer_sentence, sentence_text, start_text}
 use Rattle.nr_chain_engines.specs.ChainText.{end_lines}
-use Rattle.nr_chain_texts.specs.EvidenceText.{chain_counts_lines, segment_evidence_text}
+use Rattle.nr_chain_texts.specs.EvidenceText.{chain_counts_lines, segment_evidence_text, segment_unit_text}
 
--- which event is none
-abbrev pub event_reason : ℕ → List ℕ
-event_reason index = codes "event " ++ (decimal index ++ codes " is no call and no reply")
+-- where bytes end in a unit
+abbrev pub cut_segment_text : BadSegment → List ℕ
+cut_segment_text bad = codes "they end in " ++ (segment_unit_text bad.unit ++ (codes ", of whose " ++ (decimal (size bad.unit)
+    ++ (codes " bytes there are " ++ decimal (length bad.read.items)))))
 
 -- why bytes with this fault are no segment
-unfoldable pub segment_reason : Format → List ℕ
-segment_reason formats.Truncated = codes "they end before its last unit does"
-segment_reason formats.BadMagic = codes "they don't begin with NRVS"
-segment_reason formats.BadVersion = codes "their version is not 1"
-segment_reason formats.BadCount = codes "a number is out of range"
-segment_reason formats.BadChain = codes "they are not laid out as the segment before them"
-segment_reason (formats.BadStart index) = start_text index
-segment_reason (formats.BadEvent index) = event_reason index
-segment_reason (formats.BadFrame replica index) = frame_text replica index
-segment_reason formats.Trailing = codes "more bytes follow the last unit"
+unfoldable pub segment_reason : BadSegment → Format → List ℕ
+segment_reason bad formats.Truncated = cut_segment_text bad
+segment_reason bad formats.BadMagic = codes "they don't begin with NRVS"
+segment_reason bad formats.BadVersion = codes "their version is 0x" ++ (bytes_text bad.read.items ++ codes ", and not 1")
+segment_reason bad formats.BadCount = codes "a number in " ++ (segment_unit_text bad.unit ++ codes " is out of range")
+segment_reason bad formats.BadChain = codes "they are not laid out as the segment before them"
+segment_reason bad (formats.BadStart index) = start_text index
+segment_reason bad (formats.BadEvent index) = event_text index bad.field
+segment_reason bad (formats.BadFrame replica index) = frame_text replica index
+segment_reason bad formats.Trailing = codes "more bytes follow the last unit"
 
 abbrev pub bad_segment_sentence : BadSegment → List ℕ
-bad_segment_sentence bad = codes "These bytes are no segment: " ++ (segment_reason bad.fault ++ codes ".")
+bad_segment_sentence bad = codes "These bytes are no segment: " ++ (segment_reason bad bad.fault ++ codes ".")
 
 -- what leads to a frame of a start, by the entries on the way from the root
 unfoldable pub start_leads_text : List Step → List ℕ

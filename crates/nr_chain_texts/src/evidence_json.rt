@@ -5,14 +5,15 @@ ghost use Rattle.serde_json.specs.View.{view};
 ghost use Rattle.nr_chain_explain.specs.declared.evidence.SegmentEvidence.TheVariants as shown;
 ghost use Rattle.nr_chain_texts.specs.EvidenceJson.{chain_counts_data, segment_evidence_data};
 
+use crate::evidence_text::segment_unit_text;
 use crate::fact_json::{put_change, put_moments, put_origin};
 use nr_chain_explain::{
     BadSegment, ChainCounts, Origin, SegmentEvidence, StaleTouch, StartBeyond, StartDiffers,
     StartMissing, StartReserved, StartShared,
 };
 use nr_engines::{
-    evidence_value, format_text, put_answer, put_call, put_hexadecimal, put_reply, put_step,
-    put_text, put_way, walk_words,
+    bytes_text, evidence_value, format_text, put_answer, put_call, put_hexadecimal, put_reply,
+    put_step, put_text, put_way, walk_words,
 };
 use nr_explain::{Difference, Evidence, OtherAnswer};
 use serde_json::{Map, Value, put};
@@ -28,6 +29,13 @@ fn bad_segment_value(alloc: Global, bad: &BadSegment) -> Result<Value, AllocErro
     put_text(&mut members, alloc, "fault", "Format")?;
     let format = format_text(alloc, bad.fault)?;
     put(&mut members, alloc, "format", Value::String(format))?;
+    put(&mut members, alloc, "offset", Value::from(bad.offset))?;
+    let read = bytes_text(alloc, &bad.read)?;
+    put(&mut members, alloc, "read", Value::String(read))?;
+    put(&mut members, alloc, "size", Value::from(bad.unit.size()))?;
+    put(&mut members, alloc, "there", Value::from(bad.read.len()))?;
+    let unit = segment_unit_text(alloc, bad.unit)?;
+    put(&mut members, alloc, "unit", Value::String(unit))?;
     Ok(Value::Object(members))
 }
 

@@ -2,17 +2,17 @@
 
 ghost use Rattle.std.specs.Prelude.{◌≡◌, ◌++◌, IfOk, OnOk, flat_map, string_bytes};
 ghost use Rattle.nr_chain_texts.specs.EvidenceText.{allowed_line, bad_segment_lines, chain_counts_lines, change_line, difference_lines, moment_line, origin_line};
-ghost use Rattle.nr_chain_texts.specs.EvidenceText.{origin_text, other_answer_lines, segment_evidence_text, stale_lines, start_beyond_lines};
+ghost use Rattle.nr_chain_texts.specs.EvidenceText.{origin_text, other_answer_lines, segment_evidence_text, segment_unit_lines, segment_unit_text, stale_lines, start_beyond_lines};
 ghost use Rattle.nr_chain_texts.specs.EvidenceText.{start_differs_lines, start_missing_lines, start_reserved_lines, start_shared_lines, start_stray_lines, unchanged_line, window_lines};
 ghost use Rattle.nr_engines.specs.Text.{walk_text};
 
 use nr_chain_explain::{
-    BadSegment, ChainCounts, Moment, Origin, SegmentEvidence, StaleTouch, StartBeyond,
+    BadSegment, ChainCounts, Moment, Origin, SegmentEvidence, SegmentUnit, StaleTouch, StartBeyond,
     StartDiffers, StartMissing, StartReserved, StartShared,
 };
 use nr_engines::{
     address_line, answer_line, answer_text, call_line, evidence_lines, format_lines, number_line,
-    push_steps, reply_line, reserved_text, step_line, walk_words, way_lines,
+    push_steps, read_text, reply_line, reserved_text, step_line, unit_text, walk_words, way_lines,
 };
 use nr_explain::{Difference, OtherAnswer, PlacedUpdate};
 use nr_trace::Format;
@@ -123,12 +123,40 @@ fn allowed_line(alloc: Global, fault: Format) -> Result<String, AllocError>
     }
 }
 
+/// Which unit of a segment it is.
+#[tactic(auto, unfolding(crate::specs::EvidenceText::segment_unit_text))]
+pub(crate) fn segment_unit_text(alloc: Global, unit: SegmentUnit) -> Result<String, AllocError>
+    ensures { IfOk result (λ text. string_bytes text ≡ segment_unit_text unit) }
+{
+    match unit {
+        SegmentUnit::Shared(unit) => unit_text(alloc, unit),
+        SegmentUnit::StartRoot => String::from_str(alloc, "root of the start"),
+        SegmentUnit::StartNumber(index) => {
+            format!(in alloc; "number of frame {index} of the start")
+        }
+        SegmentUnit::StartWords(index) => format!(in alloc; "words of frame {index} of the start"),
+    }
+}
+
+/// The unit, and where it begins; how many of its bytes there are, and the first of them.
+fn segment_unit_lines(alloc: Global, bad: &BadSegment) -> Result<String, AllocError>
+    ensures { IfOk result (λ text. string_bytes text ≡ segment_unit_lines bad.now) }
+{
+    let unit = segment_unit_text(alloc, bad.unit)?;
+    let offset = bad.offset;
+    let there = bad.read.len();
+    let size = bad.unit.size();
+    let read = read_text(alloc, &bad.read)?;
+    format!(in alloc; "{unit}, at byte {offset}\nread {there} of {size} bytes: {read}\n")
+}
+
 fn bad_segment_lines(alloc: Global, bad: &BadSegment) -> Result<String, AllocError>
     ensures { IfOk result (λ text. string_bytes text ≡ bad_segment_lines bad.now) }
 {
     let begins = bad.begins;
+    let unit = segment_unit_lines(alloc, bad)?;
     let allowed = allowed_line(alloc, bad.fault)?;
-    format!(in alloc; "the segment begins at byte {begins}\n{allowed}")
+    format!(in alloc; "the segment begins at byte {begins}\n{unit}{allowed}")
 }
 
 fn start_missing_lines(alloc: Global, wrong: &StartMissing) -> Result<String, AllocError>

@@ -5,6 +5,7 @@ ghost use Rattle.serde_json.specs.Data.{object, put as with_member, string};
 ghost use Rattle.serde_json.specs.View.{members_view, view};
 ghost use Rattle.nr_engines.specs.Answers.{WritesReport};
 ghost use Rattle.nr_engines.specs.Refusals.{IsEndFault, WritesAnswersAlone};
+ghost use Rattle.nr_chain_engines.specs.ChainAudit.{HasReadFewOfChain};
 ghost use Rattle.nr_chain_engines.specs.ChainText.{end_lines, segment_fault_text};
 ghost use Rattle.nr_chain_texts.specs.ChainExplained.{chain_explanation_status, told_chain, IsChainExplained};
 ghost use Rattle.nr_chain_texts.specs.EvidenceJson.{chain_explanation_data, chain_explanation_json};
@@ -172,6 +173,7 @@ fn explain_blocks<R: Read>(
     requires { length block.old ≡ 4096 }
     ensures ok { IfOk result (HasExplained (R.remaining reader.old)) }
     ensures err { IfErr result IsEndFault }
+    ensures few { HasReadFewOfChain (R.remaining reader.old) (R.remaining reader.new) }
 {
     let mut chain = ChainReader::new(alloc);
     let mut room = MOST_BLOCKS;
@@ -213,6 +215,7 @@ pub fn explain_chain_io<R: Read, W: Write>(
         (W.contents writer.old) (W.contents writer.new)) }
     ensures err { IfErr result IsEndFault }
     ensures alone { WritesAnswersAlone writer.old writer.new result }
+    ensures few { HasReadFewOfChain (R.remaining reader.old) (R.remaining reader.new) }
 {
     let explanation = explain_blocks(alloc, reader, &mut [0; BLOCK])?;
     let text = told_chain(alloc, as_json, &explanation)?;

@@ -2,63 +2,55 @@
 
 ghost use Rattle.std.specs.Prelude.{◌≡◌, IfOk, string_bytes};
 ghost use Rattle.vs_text.specs.Words.{hexadecimal};
-ghost use Rattle.nr_engines.specs.Sentence.{frame_text, start_text};
 ghost use Rattle.nr_chain_explain.specs.declared.evidence.SegmentEvidence.TheVariants as shown;
-ghost use Rattle.nr_chain_texts.specs.Sentence.{bad_segment_sentence, event_reason, segment_reason, segment_sentence, stale_sentence};
+ghost use Rattle.nr_chain_texts.specs.Sentence.{bad_segment_sentence, cut_segment_text, segment_reason, segment_sentence, stale_sentence};
 ghost use Rattle.nr_chain_texts.specs.Sentence.{start_beyond_sentence, start_differs_sentence, start_entry_text, start_leads_text, start_missing_sentence};
 ghost use Rattle.nr_chain_texts.specs.Sentence.{start_reserved_sentence, start_shared_sentence, start_stray_sentence, window_text};
 
+use crate::evidence_text::segment_unit_text;
 use nr_chain_explain::{
     BadSegment, Origin, SegmentEvidence, StaleTouch, StartBeyond, StartDiffers, StartMissing,
     StartReserved, StartShared,
 };
 use nr_engines::{
-    answer_text, difference_sentence, other_answer_sentence, sentence_text, walk_words,
+    answer_text, bytes_text, difference_sentence, event_text, frame_text, other_answer_sentence,
+    sentence_text, start_text, walk_words,
 };
 use nr_explain::{Difference, Step};
 use nr_trace::Format;
 use std::alloc::{AllocError, Global};
 
-/// Which frame of a start has a wrong number.
-fn start_text(alloc: Global, index: u32) -> Result<String, AllocError>
-    ensures { IfOk result (λ text. string_bytes text ≡ start_text index) }
+/// Where bytes end in a unit.
+fn cut_segment_text(alloc: Global, bad: &BadSegment) -> Result<String, AllocError>
+    ensures { IfOk result (λ text. string_bytes text ≡ cut_segment_text bad.now) }
 {
-    format!(in alloc;
-        "frame {index} of the start has a number that is not above the one before it, or too great"
-    )
-}
-
-/// Which frame of a dump has a wrong number.
-fn frame_text(alloc: Global, replica: u8, index: u32) -> Result<String, AllocError>
-    ensures { IfOk result (λ text. string_bytes text ≡ frame_text replica index) }
-{
-    format!(in alloc;
-        "frame {index} of dump {replica} has a number that is not above the one before it, or too great"
-    )
-}
-
-/// Which event is none.
-fn event_reason(alloc: Global, index: u32) -> Result<String, AllocError>
-    ensures { IfOk result (λ text. string_bytes text ≡ event_reason index) }
-{
-    format!(in alloc; "event {index} is no call and no reply")
+    let unit = segment_unit_text(alloc, bad.unit)?;
+    let size = bad.unit.size();
+    let there = bad.read.len();
+    format!(in alloc; "they end in {unit}, of whose {size} bytes there are {there}")
 }
 
 /// Why bytes with this fault are no segment.
 #[tactic(auto, unfolding(crate::specs::Sentence::segment_reason))]
-fn segment_reason(alloc: Global, fault: Format) -> Result<String, AllocError>
-    ensures { IfOk result (λ text. string_bytes text ≡ segment_reason fault) }
+fn segment_reason(alloc: Global, bad: &BadSegment, fault: Format) -> Result<String, AllocError>
+    ensures { IfOk result (λ text. string_bytes text ≡ segment_reason bad.now fault) }
 {
     match fault {
-        Format::Truncated => String::from_str(alloc, "they end before its last unit does"),
+        Format::Truncated => cut_segment_text(alloc, bad),
         Format::BadMagic => String::from_str(alloc, "they don't begin with NRVS"),
-        Format::BadVersion => String::from_str(alloc, "their version is not 1"),
-        Format::BadCount => String::from_str(alloc, "a number is out of range"),
+        Format::BadVersion => {
+            let read = bytes_text(alloc, &bad.read)?;
+            format!(in alloc; "their version is 0x{read}, and not 1")
+        }
+        Format::BadCount => {
+            let unit = segment_unit_text(alloc, bad.unit)?;
+            format!(in alloc; "a number in {unit} is out of range")
+        }
         Format::BadChain => {
             String::from_str(alloc, "they are not laid out as the segment before them")
         }
         Format::BadStart(index) => start_text(alloc, index),
-        Format::BadEvent(index) => event_reason(alloc, index),
+        Format::BadEvent(index) => event_text(alloc, index, bad.field),
         Format::BadFrame(replica, index) => frame_text(alloc, replica, index),
         Format::Trailing => String::from_str(alloc, "more bytes follow the last unit"),
     }
@@ -67,7 +59,7 @@ fn segment_reason(alloc: Global, fault: Format) -> Result<String, AllocError>
 fn bad_segment_sentence(alloc: Global, bad: &BadSegment) -> Result<String, AllocError>
     ensures { IfOk result (λ text. string_bytes text ≡ bad_segment_sentence bad.now) }
 {
-    let reason = segment_reason(alloc, bad.fault)?;
+    let reason = segment_reason(alloc, bad, bad.fault)?;
     format!(in alloc; "These bytes are no segment: {reason}.")
 }
 

@@ -1,3 +1,5 @@
+//! Files that are opened by their names, of the host or of a test.
+
 ghost use Rattle.std.specs.Prelude.{◌≡◌, IfOk, List, None, Option, ℕ};
 
 use std::fs::File;

@@ -1,3 +1,5 @@
+//! The program's own words, from the host.
+
 use std::{env, io};
 
 /// Why the program doesn't know its own words.

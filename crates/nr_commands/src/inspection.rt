@@ -1,3 +1,5 @@
+//! What the words of `audit`, `explain`, `resolve` and `pages` ask for.
+
 ghost use Rattle.std.specs.Prelude.{◌≡◌, ◌⊎◌, IfErr, IfOk, codes, false, option_map};
 ghost use Rattle.clap.specs.Walk.{one_of};
 ghost use Rattle.clap.specs.Words.{first_of, found_of, kind_of, rows_of};

@@ -1,3 +1,5 @@
+//! How a program ends: what it writes where there is no answer, and its status.
+
 ghost use Rattle.std.specs.Prelude.{◌≡◌, ◌≢◌, IfErr, IfOk};
 ghost use Rattle.clap.specs.Words.{kind_of};
 ghost use Rattle.nr_engines.specs.Refusals.{exit_status, refusal_status};

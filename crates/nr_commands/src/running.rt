@@ -1,3 +1,5 @@
+//! An inspection of the input, of one file or of several.
+
 ghost use Rattle.std.specs.Prelude.{◌≡◌, IfErr, IfOk, map};
 ghost use Rattle.nr_commands.specs.Tasks.{AuditsEach, AuditsOne, RunsChainTaskOnFile, RunsInspection, RunsTaskOnFile, WritesLine};
 

@@ -1,3 +1,5 @@
+//! What can be asked of one trace or of one chain, and which engine answers it.
+
 use nr_chain_engines::{audit_chain_io, chain_end_io, chain_start_io};
 use nr_chain_texts::explain_chain_io;
 use nr_engines::{ProgFault, audit_io, explain_all_io, explain_io, resolve_io};

@@ -11,7 +11,7 @@ use crate::fact_json::{
     put_reply, put_step, put_text, put_way,
 };
 use crate::text::{format_text, walk_words};
-use crate::unit_text::{bytes_text, unit_text};
+use crate::units::{bytes_text, unit_text};
 use nr_explain::{
     BadUnit, Counts, Difference, EarlyCall, Evidence, LongPrefix, Misplaced, MissingTable,
     NoUpdate, OpenCalls, OtherAnswer, PastEnd, ReservedEntry, SharedTable, ShortPrefix, StrayReply,

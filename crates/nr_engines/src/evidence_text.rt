@@ -10,7 +10,7 @@ use crate::fact_text::{
     push_steps, reply_line, reserved_text, step_line, way_lines,
 };
 use crate::text::walk_text;
-use crate::unit_text::bad_unit_lines;
+use crate::units::bad_unit_lines;
 use nr_explain::{
     Counts, Difference, EarlyCall, Evidence, LongPrefix, Misplaced, MissingTable, NoUpdate,
     OpenCalls, OtherAnswer, PastEnd, ReservedEntry, SharedTable, ShortPrefix, StrayReply,

@@ -18,7 +18,7 @@ mod resolve;
 mod sentence;
 mod text;
 mod unit_input;
-mod unit_text;
+mod units;
 
 pub use answer::{answer_text, push_answer};
 pub use audit::{audit_io, audit_read, named_audit_io, named_audit_read};
@@ -38,6 +38,9 @@ pub use fault::ProgFault;
 pub use full::{explain_all_io, fully_explained_read};
 pub use report::Report;
 pub use resolve::{resolve_io, resolve_read};
-pub use sentence::{difference_sentence, other_answer_sentence, sentence_text};
+pub use sentence::{
+    difference_sentence, event_text, frame_text, other_answer_sentence, sentence_text, start_text,
+};
 pub use text::{fault_text, format_text, walk_words, yes_text};
 pub use unit_input::read_units;
+pub use units::{bytes_text, read_text, unit_text};

@@ -12,7 +12,7 @@ ghost use Rattle.nr_engines.specs.Sentence.{two_replies_sentence, unlogged_text,
 use crate::answer::answer_text;
 use crate::field_text::since_text;
 use crate::text::walk_words;
-use crate::unit_text::{bytes_text, unit_text};
+use crate::units::{bytes_text, unit_text};
 use nr_explain::{
     BadField, BadUnit, Difference, EarlyCall, Evidence, LongPrefix, Misplaced, MissingTable,
     NoUpdate, OpenCalls, OtherAnswer, PastEnd, ReservedEntry, SharedTable, ShortPrefix, Step,
@@ -62,16 +62,16 @@ fn version_text(alloc: Global, bad: &BadUnit) -> Result<String, AllocError>
     format!(in alloc; "their version is 0x{read}, and not 1 or 2")
 }
 
-/// Which event is none, and which of its fields is wrong.
-fn event_text(alloc: Global, index: u32, found: Option<BadField>) -> Result<String, AllocError>
+/// Which event is none, and which of its fields is wrong. Allocates memory for the text.
+pub fn event_text(alloc: Global, index: u32, found: Option<BadField>) -> Result<String, AllocError>
     ensures { IfOk result (λ text. string_bytes text ≡ event_text index found) }
 {
     let since = since_text(alloc, found)?;
     format!(in alloc; "event {index} is no call and no reply{since}")
 }
 
-/// Which frame has a wrong number.
-fn frame_text(alloc: Global, replica: u8, index: u32) -> Result<String, AllocError>
+/// Which frame of a dump has a wrong number. Allocates memory for the text.
+pub fn frame_text(alloc: Global, replica: u8, index: u32) -> Result<String, AllocError>
     ensures { IfOk result (λ text. string_bytes text ≡ frame_text replica index) }
 {
     format!(in alloc;
@@ -79,8 +79,8 @@ fn frame_text(alloc: Global, replica: u8, index: u32) -> Result<String, AllocErr
     )
 }
 
-/// Which frame of a start has a wrong number.
-fn start_text(alloc: Global, index: u32) -> Result<String, AllocError>
+/// Which frame of a start has a wrong number. Allocates memory for the text.
+pub fn start_text(alloc: Global, index: u32) -> Result<String, AllocError>
     ensures { IfOk result (λ text. string_bytes text ≡ start_text index) }
 {
     format!(in alloc;

@@ -64,7 +64,8 @@ pub events_after : (lengths : Lengths) (index : ℕ) (front run : List ℕ) → 
     → HasNoFaultYet (front ++ run) → OnEvents lengths (index + length run / 24) (front ++ run)
 events_after lengths index front run on units not_yet =
     let many : length run / 24 ≡ units.count = omega (arith, units.bytes_are) in
-    let passed = pass_events on.version on.numbers.layout (is_wide on.version on.numbers.layout on.counted.header.in_range.layout) index on.left units.count front run on.ahead
+    let passed = pass_events on.version on.numbers.layout (is_wide on.version on.numbers.layout on.counted.header.in_range.layout) index
+    on.left units.count front run on.ahead
     (omega (arith, units.few, on.count, on.counted.events)) units.bytes_are not_yet in
     subst (λ (n : ℕ). OnEvents lengths (index + n) (front ++ run)) (sym many) (record {
       version = on.version;
@@ -218,9 +219,11 @@ few_bytes (Event index) lengths front at =
 few_bytes (DumpHead replica) lengths front at = few_dumps lengths replica front at.1
 few_bytes (FrameNumber replica index) lengths front at =
     let on = at.1 in
-    few_begun lengths replica index (4104 * index) on.version on.numbers front on.behind (omega (arith, on.count)) (omega (arith, on.dumps_left)) (omega arith) on.begun
+    few_begun lengths replica index (4104 * index) on.version on.numbers front on.behind (omega (arith, on.count))
+    (omega (arith, on.dumps_left)) (omega arith) on.begun
 few_bytes (FrameWords replica index) lengths front at =
-    few_begun lengths replica index (4104 * index + 8) at.version at.numbers front at.behind (omega (arith, at.count)) (omega (arith, at.dumps_left)) (omega arith) at.begun
+    few_begun lengths replica index (4104 * index + 8) at.version at.numbers front at.behind (omega (arith, at.count))
+    (omega (arith, at.dumps_left)) (omega arith) at.begun
 few_bytes Behind lengths front at = few_dumps lengths lengths.replicas front at
 
 pub few_in_run : (unit : TraceUnit) (lengths : Lengths) (front : List ℕ) (bytes : ℕ) → IsAt unit lengths front → IsRun unit lengths bytes → bytes < 2 ^ 40

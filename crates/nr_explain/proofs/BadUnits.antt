@@ -104,7 +104,8 @@ cut (DumpHead replica) lengths front begun at short = by_left at.1.left at.1.cou
       → HasFormatFault (front ++ begun) Truncated ⊎ (DumpHead replica ≡ Behind)
   by_left zero count ahead = absurd (omega (arith, count, at.0, at.1.counted.replicas))
   by_left (suc more) count ahead =
-      inl (cut_off 16 (Some BadCount) (IsDumpHead at.1.version) dump_head (λ head. AtFrames (BadFrame replica) 0 head.frames None (AtDumps at.1.version (replica + 1) more)) front begun short
+      inl (cut_off 16 (Some BadCount) (IsDumpHead at.1.version) dump_head
+      (λ head. AtFrames (BadFrame replica) 0 head.frames None (AtDumps at.1.version (replica + 1) more)) front begun short
       (head_ahead at.1.version replica more front ahead))
 cut (FrameNumber replica index) lengths front begun at short = by_left at.1.left at.1.count at.1.ahead where
   by_left : (left : ℕ) → index + left ≡ lengths.frames

@@ -40,7 +40,8 @@ one_told trace own end dumps told other same is are = record {
 pub own_left : (trace : Recording) (own : Option ℕ) (end : ℕ) (dumps : List DumpExplanation) → is_other own end ≡ false
     → AreToldBelow trace own end dumps → AreToldBelow trace own (end + 1) dumps
 own_left trace own end dumps left_out are = record {
-  replicas = are.replicas ∙ sym (below_more own end ∙ ap (λ (xs : List ℕ). filter (is_other own) (below end) ++ xs) (left left_out) ∙ append-nil (filter (is_other own) (below end)));
+  replicas = are.replicas ∙ sym (below_more own end ∙ ap (λ (xs : List ℕ). filter (is_other own) (below end) ++ xs) (left left_out)
+      ∙ append-nil (filter (is_other own) (below end)));
   told = are.told;
 } where
   left : is_other own end ≡ false → filter (is_other own) (end ∷ []) ≡ []

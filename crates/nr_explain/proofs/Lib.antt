@@ -22,6 +22,7 @@ pub mod UnitsApart
 pub mod OneBadUnit
 pub mod Walked
 pub mod ReservedBits
+pub mod RightFields
 pub mod BadFields
 pub mod DumpsFound
 pub mod DumpsTold

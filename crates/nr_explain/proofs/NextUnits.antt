@@ -291,7 +291,8 @@ log_begins version unit lengths of passed is =
 -- ---- dumps
 
 pub head_ahead : (version : Version) (replica more : ℕ) (front : List ℕ) → IsAhead (AtDumps version replica (suc more)) front
-    → IsAhead (AtUnit 16 (Some BadCount) (IsDumpHead version) dump_head (λ head. AtFrames (BadFrame replica) 0 head.frames None (AtDumps version (replica + 1) more))) front
+    → IsAhead (AtUnit 16 (Some BadCount) (IsDumpHead version) dump_head
+    (λ head. AtFrames (BadFrame replica) 0 head.frames None (AtDumps version (replica + 1) more))) front
 unfolding AtDumps
 head_ahead version replica more front ahead = λ rest fault h. ahead rest fault h
 
@@ -318,7 +319,8 @@ after_head lengths replica front unit on below whole not_yet = by_left on.left o
       → IsHeadRead lengths replica front unit
   by_left zero count ahead = let same = on.counted.replicas in absurd (omega arith)
   by_left (suc more) count ahead =
-      let passed = unit_passed 16 BadCount (IsDumpHead on.version) dump_head (λ head. AtFrames (BadFrame replica) 0 head.frames None (AtDumps on.version (replica + 1) more))
+      let passed = unit_passed 16 BadCount (IsDumpHead on.version) dump_head
+      (λ head. AtFrames (BadFrame replica) 0 head.frames None (AtDumps on.version (replica + 1) more))
       front unit [] (λ e. absurd cc) whole (head_told on.version unit) (head_ahead on.version replica more front ahead) (only front unit not_yet) in
       let behind = on.behind ++ unit in
       let held = more_dumps on.numbers on.behind replica [] unit on.dumps in

@@ -52,7 +52,8 @@ frames_cut replica index (suc frames) before Behind most cut rest h =
       unit_cut 8 (4096 + left) (Some (BadFrame replica index)) (IsNext before) frame_number
           (λ number. AtUnit 4096 None IsFrame frame_words (λ words. AtFrames (BadFrame replica) (index + 1) frames (Some number) Behind)) (λ e. absurd cc)
           (λ n k. refl)
-          (λ number _. unit_cut 4096 left None IsFrame frame_words (λ words. AtFrames (BadFrame replica) (index + 1) frames (Some number) Behind) (λ e. absurd cc)
+          (λ number _. unit_cut 4096 left None IsFrame frame_words
+          (λ words. AtFrames (BadFrame replica) (index + 1) frames (Some number) Behind) (λ e. absurd cc)
           length-frame_words (λ words _. frames_cut replica (index + 1) frames (Some number) Behind most cut)) rest h,
     )
 
@@ -74,7 +75,8 @@ dumps_cut version of replica (suc dumps) rest h =
     let few = few_frames version of in
     omega (
       arith,
-      unit_cut 16 (16809984 + left) (Some BadCount) (IsDumpHead version) dump_head (λ head. AtFrames (BadFrame replica) 0 head.frames None (AtDumps version (replica + 1) dumps))
+      unit_cut 16 (16809984 + left) (Some BadCount) (IsDumpHead version) dump_head
+          (λ head. AtFrames (BadFrame replica) 0 head.frames None (AtDumps version (replica + 1) dumps))
           (λ e. absurd cc) (λ head k. length-head head)
           (λ head k more g. omega (
             arith,
@@ -92,7 +94,8 @@ events_cut version layout of index (suc events) rest h =
     omega (
       arith,
       unit_cut 24 (24 * events + (16810000 * layout.replicas + 1)) (Some (BadEvent index)) (IsEvent version layout) event
-          (λ _. AtEvents version layout (index + 1) events) (λ e. absurd cc) (λ e k. length-event e) (λ e k. events_cut version layout of (index + 1) events) rest h,
+          (λ _. AtEvents version layout (index + 1) events) (λ e. absurd cc) (λ e k. length-event e)
+          (λ e k. events_cut version layout of (index + 1) events) rest h,
     )
 
 log_cut : (version : Version) (layout : Layout) → IsVersionOf forms.Trace version → (places events : ℕ)

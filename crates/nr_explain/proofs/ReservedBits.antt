@@ -61,7 +61,8 @@ low_reserved (suc (suc zero)) word part few is same =
     from_lowest 2 word (13 + trailing_zeros w64 part) leaf.0 (lowest word 21 8 part same refl (omega (arith, leaf.1)) (omega arith) (omega arith) (omega arith))
 low_reserved (suc (suc (suc zero))) word part few is same =
     let leaf = leaf_of_three word is in
-    from_lowest 3 word (13 + trailing_zeros w64 part) leaf.0 (lowest word 30 17 part same refl (omega (arith, leaf.1)) (omega arith) (omega arith) (omega arith))
+    from_lowest 3 word (13 + trailing_zeros w64 part) leaf.0
+    (lowest word 30 17 part same refl (omega (arith, leaf.1)) (omega arith) (omega arith) (omega arith))
 low_reserved (suc (suc (suc (suc level)))) word part few is same = absurd (omega arith)
 
 -- the bytes of an entry, as they are shifted

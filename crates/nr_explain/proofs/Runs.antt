@@ -47,7 +47,8 @@ pass_places version layout events (suc left) (suc count) front run ahead few lon
     let told = place_told (take 4 run) (All-take (λ byte. byte < 256) 4 run bytes) (length-take-le 4 run (omega (arith, long))) in
     let next = ahead_after 4 None (λ call. call < 2 ^ 32) log_word (λ _. AtLog version layout left events) front (take 4 run) told.0 told.1 told.2
     (place_ahead version layout left events front ahead) in
-    let more = pass_places version layout events left count (front ++ take 4 run) (drop 4 run) next (omega (arith, few)) (omega (arith, long, length-drop 4 run))
+    let more = pass_places version layout events left count (front ++ take 4 run) (drop 4 run) next (omega (arith, few))
+    (omega (arith, long, length-drop 4 run))
     (All-drop (λ byte. byte < 256) 4 run bytes) in
     record {
       rest = more.rest;
@@ -81,8 +82,10 @@ pass_events version layout l index left zero front (x ∷ run) ahead few long no
 pass_events version layout l index zero (suc count) front run ahead few long not_yet = absurd (omega arith)
 pass_events version layout l index (suc left) (suc count) front run ahead few long not_yet =
     let whole = subst HasNoFaultYet (sym (cut_run front run 24)) not_yet in
-    let passed = unit_passed 24 (BadEvent index) (IsEvent version layout) event (λ _. AtEvents version layout (index + 1) left) front (take 24 run) (drop 24 run)
-    (λ e. absurd cc) (length-take-le 24 run (omega (arith, long))) (event_told version layout l (take 24 run)) (event_ahead version layout index left front ahead)
+    let passed = unit_passed 24 (BadEvent index) (IsEvent version layout) event (λ _. AtEvents version layout (index + 1) left) front
+    (take 24 run) (drop 24 run)
+    (λ e. absurd cc) (length-take-le 24 run (omega (arith, long))) (event_told version layout l (take 24 run))
+    (event_ahead version layout index left front ahead)
     whole in
     let more = pass_events version layout l (index + 1) left count (front ++ take 24 run) (drop 24 run) passed.ahead (omega (arith, few))
     (omega (arith, long, length-drop 24 run)) whole in
@@ -194,10 +197,12 @@ refused_events version layout l index (suc left) (suc count) front run fault ahe
 
       by_unit : IsTold (IsEvent version layout) event (take 24 run) → Later → IsRefusedAt version layout index (suc left) (suc count) front run fault
       by_unit (inl (value, fits, is)) later =
-          by_count count refl (ahead_after 24 (Some (BadEvent index)) (IsEvent version layout) event (λ _. AtEvents version layout (index + 1) left) front (take 24 run)
+          by_count count refl (ahead_after 24 (Some (BadEvent index)) (IsEvent version layout) event
+          (λ _. AtEvents version layout (index + 1) left) front (take 24 run)
           value fits is (event_ahead version layout index left front ahead)) later
       by_unit (inr none) later =
-          let bad = unit_refused 24 (BadEvent index) (IsEvent version layout) event (λ _. AtEvents version layout (index + 1) left) front (take 24 run) unit none
+          let bad = unit_refused 24 (BadEvent index) (IsEvent version layout) event (λ _. AtEvents version layout (index + 1) left) front
+          (take 24 run) unit none
           (event_ahead version layout index left front ahead) in
           let same : fault ≡ BadEvent index = one_fault forms.Trace (front ++ run) fault (BadEvent index) (settled_now (front ++ run) fault settled)
           (subst (λ (k : List ℕ). HasFormatFault k (BadEvent index)) (cut_run front run 24) (bad (drop 24 run))) in

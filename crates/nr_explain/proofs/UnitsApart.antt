@@ -315,7 +315,12 @@ apart unit other front m g h = by_sides (begins unit front g) (begins other (fro
   by_sides : IsInHeader (length front) unit ⊎ IsLate front unit → IsInHeader (length (front ++ m)) other ⊎ IsLate (front ++ m) other → IsApart unit other m
   by_sides (inl a) (inl b) = in_header (length front) (length (front ++ m)) unit other m (sym (length-append front m)) a b
   by_sides (inl a) (inr late) =
-      inr (omega (arith, header_ends (length front) unit a, length-append front m, length_header late.version late.numbers (front ++ m) late.behind late.header))
+      inr (omega (
+        arith,
+        header_ends (length front) unit a,
+        length-append front m,
+        length_header late.version late.numbers (front ++ m) late.behind late.header,
+      ))
   by_sides (inr late) (inl b) =
       absurd (omega (
         arith,

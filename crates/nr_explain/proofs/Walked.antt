@@ -66,7 +66,8 @@ read_last memory level number index word address words found read some is place 
     ap (λ (l : List Step). read ++ l) (sym (read_at memory level number index word address words found some is place at means
     ∙ ap (λ (l : List Step). step_at level number index word ∷ l) (nothing_behind (λ next. entries_read memory (level - 1) next address) found none)))
 
-pub read_more : (memory : Memory) (level number index word address next : ℕ) (own : Rights) (words : List ℕ) (found : Meaning) (read more : List Step) → 0 < level
+pub read_more : (memory : Memory) (level number index word address next : ℕ) (own : Rights) (words : List ℕ) (found : Meaning) (read more : List Step)
+    → 0 < level
     → finite.get memory number ≡ Some words → index ≡ index_at level address → word ≡ slice_index words index → found ≡ meaning level word
     → found ≡ entry.Table next own → more ≡ (read ++ step_at level number index word ∷ []) ++ entries_read memory (level - 1) next address
     → more ≡ read ++ entries_read memory level number address

@@ -146,6 +146,7 @@ pub levels_of_way : (memory : Memory) (level number end target : ℕ) (way : Lis
 levels_of_way memory level number end target [] some is = (omega (arith, is.0), omega (arith, is.0))
 levels_of_way memory level number end target (step ∷ way) some is =
     let leads = is.2.1 in
-    let above : 1 < level = leads_above level step.word is.2.0 leads.own some (subst (λ l. meaning l step.word ≡ entry.Table is.2.0 leads.own) is.0 leads.leads) in
+    let above : 1 < level = leads_above level step.word is.2.0 leads.own some
+    (subst (λ l. meaning l step.word ≡ entry.Table is.2.0 leads.own) is.0 leads.leads) in
     let below = levels_of_way memory (level - 1) is.2.0 end target way (omega arith) is.2.2 in
     (below.0, omega (arith, below.1))

@@ -1,5 +1,5 @@
--- The first field of an event's 24 bytes that isn't what it may be, after a header of these 20 bytes.
-use Rattle.std.specs.Prelude.{ℕ, ◌+◌, ◌%◌, ◌==◌, ◌||◌, nat_lt, List, [], ◌∷◌, slice_index, Option, Some, None, if◌then◌else◌}
+-- The first field of an event's 24 bytes that isn't what it may be, after the header of a trace or of a segment.
+use Rattle.std.specs.Prelude.{ℕ, Bool, ◌+◌, ◌%◌, ◌==◌, ◌||◌, nat_lt, List, [], ◌∷◌, slice_index, Option, Some, None, if◌then◌else◌}
 use Rattle.std.specs.Option.{option_or}
 use Rattle.std.specs.Int.{w16, w32, w64, from_be_bytes}
 use Rattle.vs_types.specs.Depth.{is_canonical, levels}
@@ -34,15 +34,19 @@ abbrev pub number_64 : List ℕ → ℕ → ℕ
 number_64 bytes at = from_be_bytes w64 (number_8 bytes at ∷ number_8 bytes (at + 1) ∷ number_8 bytes (at + 2) ∷ number_8 bytes (at + 3)
     ∷ number_8 bytes (at + 4) ∷ number_8 bytes (at + 5) ∷ number_8 bytes (at + 6) ∷ number_8 bytes (at + 7) ∷ [])
 
+-- a segment's magic is NRVS, and a trace's NRVT
+abbrev pub is_segment : List ℕ → Bool
+is_segment header = number_8 header 3 == 83
+
 -- what a header says: the depth, and the first kind and the first answer that its version doesn't know
 unfoldable pub depth_of : List ℕ → Depth
 depth_of header = if number_8 header 6 == 4 then Four else Five
 
 unfoldable pub kinds_of : List ℕ → ℕ
-kinds_of header = if number_16 header 4 == 1 then 4 else 5
+kinds_of header = if is_segment header then 6 else (if number_16 header 4 == 1 then 4 else 5)
 
 unfoldable pub answers_of : List ℕ → ℕ
-answers_of header = if number_16 header 4 == 1 then 8 else 10
+answers_of header = if is_segment header then 10 else (if number_16 header 4 == 1 then 8 else 10)
 
 -- ---- what may be wrong with a field
 
@@ -75,13 +79,15 @@ first otherwise second = option_or first second
 unfoldable pub size_of : ℕ → PageSize
 size_of code = if code == 0 then K4 else (if code == 1 then M2 else G1)
 
--- a map has a size and rights, a protect rights, and an access what it does and the mode
+-- a map has a size and rights, a protect rights, and an access or a touch what it does and the mode
 unfoldable pub size_fault : ℕ → ℕ → Option BadField
-size_fault kind size = if kind == 0 then limited Size size 3 else (if kind == 4 then limited Access size 3 else limited Size size 1)
+size_fault kind size =
+    if kind == 0 then limited Size size 3 else (if kind == 4 || kind == 5 then limited Access size 3 else limited Size size 1)
 
 unfoldable pub rights_fault : ℕ → ℕ → Option BadField
 rights_fault kind rights =
-    if kind == 0 || kind == 2 then limited Rights rights 8 else (if kind == 4 then limited Mode rights 2 else limited Rights rights 1)
+    if kind == 0 || kind == 2 then limited Rights rights 8
+    else (if kind == 4 || kind == 5 then limited Mode rights 2 else limited Rights rights 1)
 
 -- a map begins at a multiple of its size, an unmap and a protect at one of 4,096
 unfoldable pub address_fault : Depth → ℕ → PageSize → ℕ → Option BadField

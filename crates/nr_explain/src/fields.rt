@@ -1,8 +1,8 @@
 //! The first field of an event that isn't what it may be.
 
 ghost use Rattle.std.specs.Prelude.{◌≡◌, ◌<◌};
-ghost use Rattle.nr_explain.specs.Fields.{address_fault, answers_of, call_fault, canonical, depth_of, event_fault, field_fault, kinds_of};
-ghost use Rattle.nr_explain.specs.Fields.{limited, multiple, number_8, number_16, number_32, number_64, physical_fault, reply_fault};
+ghost use Rattle.nr_explain.specs.Fields.{address_fault, answers_of, call_fault, canonical, depth_of, event_fault, field_fault, is_segment};
+ghost use Rattle.nr_explain.specs.Fields.{kinds_of, limited, multiple, number_8, number_16, number_32, number_64, physical_fault, reply_fault};
 ghost use Rattle.nr_explain.specs.Fields.{rights_fault, rights_of, size_fault, size_of, sizes_of, value_fault, within};
 
 use nr_trace::Format;
@@ -19,10 +19,10 @@ pub enum EventField {
     Kind,
     /// The size of a page.
     Size,
-    /// What an access does, in the place of the size.
+    /// What an access or a touch does, in the place of the size.
     Access,
     Rights,
-    /// The mode of an access, in the place of the rights.
+    /// The mode of an access or a touch, in the place of the rights.
     Mode,
     /// The bytes that no event uses.
     Unused,
@@ -102,7 +102,14 @@ fn number_64(bytes: &[u8], at: usize) -> u64
     ])
 }
 
-/// The depth of a trace with this header.
+/// Whether a header is that of a segment.
+fn is_segment(header: &[u8]) -> bool
+    ensures { result ≡ is_segment header.now }
+{
+    number_8(header, 3) == b'S'
+}
+
+/// The depth of a trace or a segment with this header.
 #[tactic(auto, unfolding(crate::specs::Fields::depth_of))]
 fn depth_of(header: &[u8]) -> Depth
     ensures { result ≡ depth_of header.now }
@@ -119,7 +126,13 @@ fn depth_of(header: &[u8]) -> Depth
 fn kinds_of(header: &[u8]) -> u64
     ensures { result ≡ kinds_of header.now }
 {
-    if number_16(header, 4) == 1 { 4 } else { 5 }
+    if is_segment(header) {
+        6
+    } else if number_16(header, 4) == 1 {
+        4
+    } else {
+        5
+    }
 }
 
 /// The first answer that the version of this header doesn't know.
@@ -127,7 +140,13 @@ fn kinds_of(header: &[u8]) -> u64
 fn answers_of(header: &[u8]) -> u64
     ensures { result ≡ answers_of header.now }
 {
-    if number_16(header, 4) == 1 { 8 } else { 10 }
+    if is_segment(header) {
+        10
+    } else if number_16(header, 4) == 1 {
+        8
+    } else {
+        10
+    }
 }
 
 /// The size of this code. A code above 2 is refused before.
@@ -215,7 +234,7 @@ fn size_fault(kind: u8, size: u8) -> Option<BadField>
     let size = u64::from(size);
     if kind == 0 {
         limited(EventField::Size, size, 3)
-    } else if kind == 4 {
+    } else if kind == 4 || kind == 5 {
         limited(EventField::Access, size, 3)
     } else {
         limited(EventField::Size, size, 1)
@@ -229,7 +248,7 @@ fn rights_fault(kind: u8, rights: u8) -> Option<BadField>
     let rights = u64::from(rights);
     if kind == 0 || kind == 2 {
         limited(EventField::Rights, rights, 8)
-    } else if kind == 4 {
+    } else if kind == 4 || kind == 5 {
         limited(EventField::Mode, rights, 2)
     } else {
         limited(EventField::Rights, rights, 1)
@@ -345,9 +364,10 @@ fn event_fault(header: &[u8], unit: &[u8]) -> Option<BadField>
     }
 }
 
-/// The first field of a unit with this fault that isn't what it may be, where it is an event, after this header.
+/// The first field of a unit with this fault that isn't what it may be, where it is an event, in a trace or a segment with this header,
+/// which more bytes may follow. It allocates no memory.
 #[tactic(auto, unfolding(crate::specs::Fields::field_fault))]
-pub(crate) fn field_fault(fault: Format, header: &[u8], unit: &[u8]) -> Option<BadField>
+pub fn field_fault(fault: Format, header: &[u8], unit: &[u8]) -> Option<BadField>
     ensures { result ≡ field_fault fault header.now unit.now }
 {
     match fault {

@@ -1,10 +1,13 @@
 //! Laws of the definitions in `specs/`. Each function does nothing: its clauses say what holds of all bytes.
 
-ghost use Rattle.std.specs.Prelude.{◌≡◌, ◌<◌, ℕ, All, List, None, length};
+ghost use Rattle.std.specs.Prelude.{◌≡◌, ◌<◌, ◌++◌, ℕ, All, List, None, length};
 ghost use Rattle.nr_trace.specs.Recording.{IsEvent};
-ghost use Rattle.nr_trace.specs.Spelling.{event};
+ghost use Rattle.nr_trace.specs.FirstFault.{IsCounts};
+ghost use Rattle.nr_trace.specs.Spelling.{counts, event, magic, version_word};
 ghost use Rattle.nr_trace.specs.declared.event.Event.{Event};
+ghost use Rattle.nr_trace.specs.declared.fields.Counts.{Counts};
 ghost use Rattle.nr_trace.specs.declared.version.Version.{Version};
+ghost use Rattle.nr_trace.specs.declared.version.Version.TheVariants.{Segment};
 ghost use Rattle.nr_explain.specs.Fields.{event_fault};
 ghost use Rattle.nr_explain.specs.Units.{HasHeader, IsBadUnit, Numbers};
 ghost use Rattle.nr_explain.specs.declared.units.BadUnit.{BadUnit};
@@ -24,10 +27,15 @@ pub fn one_bad_unit()
         → IsBadUnit bytes second → first.field ≡ second.field }
 {}
 
-/// Where no field of 24 bytes is wrong, they spell an event of a trace with this header: what is refused has such a field.
+/// Where no field of 24 bytes is wrong, they spell an event of a trace, or of a segment, with this header: what is refused has such a
+/// field.
 pub fn refused_events_have_a_bad_field()
-    ensures { (version : Version) (numbers : Numbers) (header behind unit : List ℕ)
+    ensures trace { (version : Version) (numbers : Numbers) (header behind unit : List ℕ)
         → HasHeader version numbers header behind → length unit ≡ 24 → All (λ byte. byte < 256) unit
         → event_fault header unit ≡ None
         → (one : Event) × IsEvent version numbers.layout one × (unit ≡ event one) }
+    ensures segment { (numbers : Counts) (header behind unit : List ℕ) → IsCounts Segment numbers
+        → header ≡ magic Segment ++ (version_word Segment ++ (counts Segment numbers ++ behind))
+        → length unit ≡ 24 → All (λ byte. byte < 256) unit → event_fault header unit ≡ None
+        → (one : Event) × IsEvent Segment numbers.layout one × (unit ≡ event one) }
 {}

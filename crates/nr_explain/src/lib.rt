@@ -31,7 +31,7 @@ pub use evidence::{
     ShortPrefix, Step, StrayReply, StrayTable, TwoPlaces, TwoReplies,
 };
 pub use explaining::{Explanation, explain, explain_read};
-pub use fields::{BadField, EventField, FieldFault};
+pub use fields::{BadField, EventField, FieldFault, field_fault};
 pub use lookup::call_at;
 pub use paths::{Target, another_way, entries_read, entry_at, find_way, reserved_bit};
 pub use searching::reply_to;

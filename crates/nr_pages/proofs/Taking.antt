@@ -32,7 +32,8 @@ longer_ends range page same =
 abbrev pages_and : List Page → Page → List Page → List Page
 pages_and pages page more = (pages ++ page ∷ []) ++ more
 
-more_behind : (pages : List Page) (page : Page) (more : List Page) → range_lines (ranges_of (pages_and pages page more)) ≡ range_lines (ranges_of (pages ++ page ∷ more))
+more_behind : (pages : List Page) (page : Page) (more : List Page)
+    → range_lines (ranges_of (pages_and pages page more)) ≡ range_lines (ranges_of (pages ++ page ∷ more))
 more_behind pages page more = ap (λ (ps : List Page). range_lines (ranges_of ps)) (append_assoc pages (page ∷ []) more)
 
 -- nothing is taken yet

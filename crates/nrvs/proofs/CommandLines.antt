@@ -13,7 +13,8 @@ pub number_of : (least most default : ℕ) (t u : Option Text) (number : ℕ) �
 number_of least most default t u number same h = subst (λ (text : Option Text). IsNumber least most default text number) same h
 
 -- a subcommand of the name asks for an inspection
-pub asks_inspection : (sub : Option (Text × List Row)) (given : Text × List Row) (inspection : Inspection) → sub ≡ Some given → AsksInspection given inspection → Asks sub (Inspect inspection)
+pub asks_inspection : (sub : Option (Text × List Row)) (given : Text × List Row) (inspection : Inspection) → sub ≡ Some given
+    → AsksInspection given inspection → Asks sub (Inspect inspection)
 asks_inspection sub given inspection is asks = subst (λ s. Asks s (Inspect inspection)) (sym is) asks
 
 pub asks_simulate : (sub : Option (Text × List Row)) (rows : List Row) (setup : Setup) (as_trace : Bool) → sub ≡ Some (codes "simulate", rows)

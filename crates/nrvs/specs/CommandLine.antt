@@ -40,7 +40,8 @@ abbrev pub simulate_app : App
 simulate_app = with_rule (with_rule (with_rule (with_rule (new_app (codes "simulate")) levels_option) replicas_option) tables_option) trace_option
 
 abbrev pub run_app : App
-run_app = with_rule (with_rule (with_rule (with_rule (with_rule (new_app (codes "run")) levels_option) replicas_option) tables_option) turns_option) trace_option
+run_app =
+    with_rule (with_rule (with_rule (with_rule (with_rule (new_app (codes "run")) levels_option) replicas_option) tables_option) turns_option) trace_option
 
 -- the program, which has a version, and of which one of its subcommands is required
 abbrev pub program_app : App

@@ -1,3 +1,5 @@
+//! What the program can be asked to do.
+
 use nr_commands::Inspection;
 use nr_run_engines::Setup;
 

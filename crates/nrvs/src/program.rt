@@ -1,3 +1,5 @@
+//! The program: from its words to its exit status.
+
 ghost use Rattle.nr_commands.specs.Tasks.{EndsWith, Runs};
 ghost use Rattle.nrvs.specs.Program.{RunsCommand};
 

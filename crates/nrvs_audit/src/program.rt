@@ -1,3 +1,5 @@
+//! The program of the audit alone: from its words to its exit status.
+
 ghost use Rattle.nr_commands.specs.Tasks.{EndsWith, Runs, RunsInspection};
 
 use clap::Error;

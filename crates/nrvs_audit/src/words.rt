@@ -1,3 +1,5 @@
+//! What the program's words ask for.
+
 ghost use Rattle.std.specs.Prelude.{◌≡◌, ◌⊎◌, ◌∷◌, [], IfOk, IfErr, IsSomeAnd, MatchResult, map, string_bytes};
 ghost use Rattle.clap.specs.Words.{fault_of, kind_of, subcommand_of, HasKind};
 ghost use Rattle.nr_commands.specs.Words.{kinds_of_no_words, AsksInspection, IsMisused};

@@ -25,7 +25,8 @@ abbrev pub IsShort : Option Kept → List ℕ → Type 0
 IsShort kept bytes = HasSegmentFault (layout_before kept) bytes Truncated
 
 -- of a chain with so many right segments a block was taken: more segments are right, whose lines were written, and so many are right now
-pub record TakesSegments (quiet : Bool) (old : ChainFed) (number : ℕ) (block : List ℕ) (last : Option Kept) (rest : List ℕ) (count : ℕ) (before after : Option (List ℕ)) : Type 0 where
+pub record TakesSegments (quiet : Bool) (old : ChainFed) (number : ℕ) (block : List ℕ) (last : Option Kept) (rest : List ℕ) (count : ℕ)
+    (before after : Option (List ℕ)) : Type 0 where
   pub orders : List (List ℕ)
   pub goes_on : GoesOnTo old.kept (old.bytes ++ block) orders last rest
   pub counted : count ≡ number + length orders
@@ -44,7 +45,8 @@ TakesSome quiet old number block before after =
     (last : Option Kept) × (rest : List ℕ) × (count : ℕ) × TakesSegments quiet old number block last rest count before after
 
 -- between two pieces of a block: how much of it is left
-pub record IsUnderWay (quiet : Bool) (old : ChainFed) (number : ℕ) (block : List ℕ) (chain : ChainFed) (count : ℕ) (left : List ℕ) (before after : Option (List ℕ)) : Type 0 where
+pub record IsUnderWay (quiet : Bool) (old : ChainFed) (number : ℕ) (block : List ℕ) (chain : ChainFed) (count : ℕ) (left : List ℕ)
+    (before after : Option (List ℕ)) : Type 0 where
   pub taken : TakesSegments quiet old number block chain.kept (chain.bytes ++ left) count before after
   pub short : IsShort chain.kept chain.bytes
   pub few : count + length left ≤ number + length block

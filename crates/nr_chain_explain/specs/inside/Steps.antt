@@ -47,8 +47,8 @@ JudgedTo came segment size count (Right own new) =
     (own ≡ count) × IsSoundAfter (space_in came) segment × (new ≡ record { came = Some (came_after came segment size); bytes = [] })
 JudgedTo came segment size count (Wrong explanation) = IsWrongOf came segment explanation
 
--- the number of a refused segment, its fault, and where it begins
-abbrev pub IsRefusalOf : Option CameTo → Format → ChainExplanation → Type 0
-IsRefusalOf came fault (No number found (evidence.Format bad)) =
-    (number ≡ (sums_in came).segments) × (found ≡ Within (faults.Format fault)) × (bad.fault ≡ fault) × IsBadSegment came bad
-IsRefusalOf came fault explanation = ⊥
+-- the number of a refused segment, its fault, and the unit of its bytes that shows that
+abbrev pub IsRefusalOf : Option CameTo → List ℕ → Format → ChainExplanation → Type 0
+IsRefusalOf came bytes fault (No number found (evidence.Format bad)) =
+    (number ≡ (sums_in came).segments) × (found ≡ Within (faults.Format fault)) × (bad.fault ≡ fault) × IsBadSegment came bytes bad
+IsRefusalOf came bytes fault explanation = ⊥

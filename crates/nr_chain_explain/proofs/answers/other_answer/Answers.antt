@@ -32,6 +32,7 @@ returns-clause-is c =
     let again : c.in_ok-again.again.space ≡ start = ap (λ (s : BoundedSpace). s.space) c.in_ok-again.ensures in
     wrong_facts start segment c.call_at-call.result c.in-Some.reply c.in_ok-wanted.wanted c.address_about-address.result c.in_ok-last.last.1
     (subst (λ (n : ℕ). IsFirstFrom start segment (WrongAnswer n)) (sym event) c.requires.first) c.call_at-call.ensures.is is.0 (is.1 ∙ sym event)
-    (subst (λ (s : BoundedSpace). c.in_ok-wanted.wanted ≡ answer_in segment.layout (space_from s.space segment (take c.in-Some.reply.at segment.log)) c.call_at-call.result.request)
+    (subst (λ (s : BoundedSpace). c.in_ok-wanted.wanted
+    ≡ answer_in segment.layout (space_from s.space segment (take c.in-Some.reply.at segment.log)) c.call_at-call.result.request)
     c.in_ok-space.ensures c.in_ok-wanted.ensures) c.address_about-address.ensures
     (subst (λ (s : Space). IsLastChangeFrom s segment c.address_about-address.result c.in-Some.reply.at c.in_ok-last.last.1) again c.in_ok-last.ensures.changed)

@@ -52,6 +52,8 @@ returns-clause-is c =
         path = c.in_ok-path.ensures ∙ ap (λ (d : Depth). entries_read dump.frames (levels d) dump.root address) given;
         wanted = wanted;
         differs = λ same. differs.1 (walked ∙ sym found ∙ same ∙ ap as_walk (wanted ∙ looks));
-        changed = subst (λ (s : Space). IsLastChangeFrom s segment address c.applied-applied.result c.in_ok-wanted.changed) again c.in_ok-wanted.ensures.changed;
+        changed =
+            subst (λ (s : Space). IsLastChangeFrom s segment address c.applied-applied.result c.in_ok-wanted.changed) again
+            c.in_ok-wanted.ensures.changed;
       },
     )

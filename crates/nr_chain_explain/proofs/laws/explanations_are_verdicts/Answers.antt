@@ -1,4 +1,4 @@
-use Rattle.std.proofs.Common.{◌≡◌, None, Some, [], refl, ◌∙◌}
+use Rattle.std.proofs.Common.{None, Some, [], refl, ◌∙◌}
 use Rattle.nr_chain_explain.proofs.Verdicts.{counted_all, goes_on_so, orders_in}
 use Rattle.nr_chain_explain.proofs.laws.explanations_are_verdicts.Goals as goal
 

@@ -1,4 +1,4 @@
-use Rattle.nr_audit.proofs.AnswerEquality.{same_answers}
+use Rattle.vs_types.proofs.AnswerEquality.{same_answers}
 use Rattle.nr_chain_explain.proofs.origins.is_same.Goals as goal
 
 pub returns : goal.returns

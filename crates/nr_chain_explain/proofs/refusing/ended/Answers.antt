@@ -5,7 +5,9 @@ use Rattle.nr_trace.specs.declared.fault.Format.TheVariants.{Truncated}
 use Rattle.nr_chain_explain.specs.Came.{kept_in}
 use Rattle.nr_chain_explain.specs.inside.Reading.{all_seen, seen_of}
 use Rattle.nr_chain_explain.specs.declared.came.Came.{Came}
-use Rattle.nr_chain_explain.proofs.Feeding.{refusal_explains}
+use Rattle.nr_chain_explain.specs.Explanation.{IsExplanationFrom}
+use Rattle.nr_chain_explain.specs.inside.Steps.{IsRefusalOf}
+use Rattle.nr_chain_explain.proofs.Feeding.{if_ok, refusal_explains}
 use Rattle.nr_chain_explain.proofs.refusing.ended.Goals as goal
 use Rattle.nr_chain_explain.proofs.refusing.ended.Goals.{then-is_empty+in_default, else-is_empty}
 
@@ -24,11 +26,14 @@ returns-in-Some c =
 pub returns : goal.returns
 returns c =
     let bytes = c.args.bytes.now in
-    refusal_explains (all_seen c.args.last.now) bytes Truncated c.refusal.result c.refusal.ensures c.requires (λ some none.
+    let came = all_seen c.args.last.now in
+    if_ok (IsRefusalOf came bytes Truncated) (IsExplanationFrom came bytes) c.refusal.result
+    (λ explanation is. refusal_explains came bytes Truncated explanation is c.requires (λ some none.
     elim c.if-is_empty.branch [
       | then-is_empty+in_default w ↦ none_kept c.args.last.now w.in_default.is some
       | else-is_empty w ↦ (
           let at_zero : length bytes ≡ 0 = ap length none in
           let empty : c.is_empty.result ≡ true = c.is_empty.ensures ∙ ap (λ (n : ℕ). n == 0) at_zero in
           let other : c.is_empty.result ≡ false = w.if-is_empty.false in cc)
-    ])
+    ]))
+    c.refusal.ensures

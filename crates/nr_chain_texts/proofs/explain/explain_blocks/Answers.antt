@@ -1,7 +1,9 @@
-use Rattle.std.proofs.Common.{◌≡◌, ℕ, [], ap, subst, take, arith}
+use Rattle.std.proofs.Common.{◌≡◌, ◌≤◌, ℕ, [], length, ap, subst, take, arith}
+use Rattle.std.proofs.lemmas.List.{length-take}
 use Rattle.std.specs.Io.KnownBytes.{IsAtEnd}
+use Rattle.std.proofs.KnownBytes.{Keeps-refl}
 use Rattle.nr_chain_explain.specs.Explanation.{FeedsReader}
-use Rattle.nr_chain_texts.proofs.Explaining.{explained_at_end, explained_in_block, explaining_goes_on, explaining_starts}
+use Rattle.nr_chain_texts.proofs.Explaining.{explained_at_end, explained_in_block, explaining_goes_on, explaining_starts, few_kept, few_read}
 use Rattle.nr_chain_texts.proofs.explain.explain_blocks.Goals as goal
 
 pub loop-room-init : goal.loop-room-init
@@ -30,5 +32,68 @@ pub loop-room-preserved : goal.loop-room-preserved
 loop-room-preserved g c =
     let known = g.R.Read.remaining in
     let piece = take c.in_ok-count.count c.read_block.new.block in
+    let long = length-take c.in_ok-count.count c.read_block.new.block in
+    let read = c.read_block.auto.block in
+    let whole = c.loop-room.auto.block in
+    let asked = c.requires in
+    let not = c.if-count-eq0.false in
+    let some : 1 ≤ length piece = omega arith in
     explaining_goes_on (known c.args.reader.now) (known c.loop-room.reader) (known c.read_block.new.reader) c.loop-room.chain c.in-More.next piece
-    c.loop-room.invariant c.in_ok-count.ensures.ok (subst (FeedsReader c.loop-room.chain piece) c.in-More.is c.in_ok-next.ensures).0
+    c.loop-room.invariant c.in_ok-count.ensures.ok (λ none. let zero : length piece ≡ 0 = ap length none in omega (arith, some, zero))
+    (subst (FeedsReader c.loop-room.chain piece) c.in-More.is c.in_ok-next.ensures)
+
+pub returns-in_err-count-clause-few : goal.returns-in_err-count-clause-few
+returns-in_err-count-clause-few g c =
+    let known = g.R.Read.remaining in
+    few_kept (known c.args.reader.now) (known c.loop-room.reader) (known c.read_block.new.reader) c.loop-room.chain c.loop-room.invariant
+    c.in_err-count.ensures.kept
+
+pub returns-in_err-found-clause-few : goal.returns-in_err-found-clause-few
+returns-in_err-found-clause-few g c =
+    let known = g.R.Read.remaining in
+    let piece = take c.in_ok-count.count c.read_block.new.block in
+    let long = length-take c.in_ok-count.count c.read_block.new.block in
+    let read = c.read_block.auto.block in
+    let whole = c.loop-room.auto.block in
+    let asked = c.requires in
+    few_read (known c.args.reader.now) (known c.loop-room.reader) (known c.read_block.new.reader) c.loop-room.chain piece c.loop-room.invariant
+    c.in_ok-count.ensures.ok (omega arith)
+
+pub returns-then-count-eq0-clause-few : goal.returns-then-count-eq0-clause-few
+returns-then-count-eq0-clause-few g c =
+    let known = g.R.Read.remaining in
+    let piece = take c.in_ok-count.count c.read_block.new.block in
+    let long = length-take c.in_ok-count.count c.read_block.new.block in
+    let read = c.read_block.auto.block in
+    let whole = c.loop-room.auto.block in
+    let asked = c.requires in
+    few_read (known c.args.reader.now) (known c.loop-room.reader) (known c.read_block.new.reader) c.loop-room.chain piece c.loop-room.invariant
+    c.in_ok-count.ensures.ok (omega arith)
+
+pub returns-in_err-next-clause-few : goal.returns-in_err-next-clause-few
+returns-in_err-next-clause-few g c =
+    let known = g.R.Read.remaining in
+    let piece = take c.in_ok-count.count c.read_block.new.block in
+    let long = length-take c.in_ok-count.count c.read_block.new.block in
+    let read = c.read_block.auto.block in
+    let whole = c.loop-room.auto.block in
+    let asked = c.requires in
+    few_read (known c.args.reader.now) (known c.loop-room.reader) (known c.read_block.new.reader) c.loop-room.chain piece c.loop-room.invariant
+    c.in_ok-count.ensures.ok (omega arith)
+
+pub returns-in-Found-clause-few : goal.returns-in-Found-clause-few
+returns-in-Found-clause-few g c =
+    let known = g.R.Read.remaining in
+    let piece = take c.in_ok-count.count c.read_block.new.block in
+    let long = length-take c.in_ok-count.count c.read_block.new.block in
+    let read = c.read_block.auto.block in
+    let whole = c.loop-room.auto.block in
+    let asked = c.requires in
+    few_read (known c.args.reader.now) (known c.loop-room.reader) (known c.read_block.new.reader) c.loop-room.chain piece c.loop-room.invariant
+    c.in_ok-count.ensures.ok (omega arith)
+
+pub returns-clause-few : goal.returns-clause-few
+returns-clause-few g c =
+    let known = g.R.Read.remaining in
+    few_kept (known c.args.reader.now) (known c.loop-room.reader) (known c.loop-room.reader) c.loop-room.chain c.loop-room.invariant
+    (Keeps-refl (known c.loop-room.reader))

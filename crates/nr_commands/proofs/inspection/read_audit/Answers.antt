@@ -24,8 +24,10 @@ returns-in_default c =
     let chain = flag_of _ _ _ (one_text-rows found (codes "chain")) c.get_flag.ensures.none c.get_flag.ensures.value c.get_flag.ensures.other in
     record {
       asks = tt;
-      misused = inr (subst (IsMisuse rows) (sym c.in_ok-several-in_default.ensures.kind)
-          (subst (λ (flag : Bool). IsFlag (one_of (codes "chain") rows) flag) c.if-get_flag.true chain, several_files rows c.in_ok-asked.asked c.in_ok-asked.ensures c.in_default.not-One));
+      misused = inr (subst (IsMisuse rows) (sym c.in_ok-several-in_default.ensures.kind) (
+        subst (λ (flag : Bool). IsFlag (one_of (codes "chain") rows) flag) c.if-get_flag.true chain,
+        several_files rows c.in_ok-asked.asked c.in_ok-asked.ensures c.in_default.not-One,
+      ));
     }
 
 pub returns-then-quiet-clause-misused : goal.returns-then-quiet-clause-misused

@@ -11,5 +11,6 @@ returns-in-Ok-clause-ok g c =
 pub returns-in-Err-clause-ok : goal.returns-in-Err-clause-ok
 returns-in-Err-clause-ok g c =
     IfOk-weaker c.tell_refused.result _ _
-    (λ status h. no_line (g.F.FilesByName.file_bytes c.args.files.now) c.args.name.now c.in-Err.fault _ _ status h.0 (ap g.W.Write.contents (c.in-Err.ensures.alone h.1)))
+    (λ status h. no_line (g.F.FilesByName.file_bytes c.args.files.now) c.args.name.now c.in-Err.fault _ _ status h.0
+    (ap g.W.Write.contents (c.in-Err.ensures.alone h.1)))
     c.tell_refused.ensures.ok

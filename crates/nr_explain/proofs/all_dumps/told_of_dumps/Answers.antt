@@ -15,7 +15,8 @@ loop-replica-preserved c =
       | then-is_other+in_ok-told+in_ok-push w ↦
           subst (λ (items : List DumpExplanation). AreToldBelow trace own (replica + 1) items)
           (sym (ap (λ (v : Vec DumpExplanation Global). v.items) w.dumps-is ∙ w.in_ok-push.ensures.items))
-          (one_told trace own replica dumps w.in_ok-told.told (sym c.is_other.ensures ∙ w.if-is_other.true) w.in_ok-told.ensures.replica w.in_ok-told.ensures.told are)
+          (one_told trace own replica dumps w.in_ok-told.told (sym c.is_other.ensures ∙ w.if-is_other.true) w.in_ok-told.ensures.replica
+          w.in_ok-told.ensures.told are)
       | else-is_other w ↦
           subst (λ (v : Vec DumpExplanation Global). AreToldBelow trace own (replica + 1) v.items) (sym w.dumps-is)
           (own_left trace own replica dumps (sym c.is_other.ensures ∙ w.if-is_other.false) are)

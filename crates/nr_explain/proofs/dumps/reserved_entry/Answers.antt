@@ -30,7 +30,8 @@ unreachable-requires c =
     (reserved_met depth dump.frames dump.root c.args.frame c.args.index fault)
     (λ end way is. record { reserved = is; other = tt }) nowhere
 
-found_in : (depth given : Depth) (dump : Image) (frame index : ℕ) (found : Option (Vec Step Global)) (path : Vec Step Global) → given ≡ depth → found ≡ Some path
+found_in : (depth given : Depth) (dump : Image) (frame index : ℕ) (found : Option (Vec Step Global)) (path : Vec Step Global)
+    → given ≡ depth → found ≡ Some path
     → let target : Target = record { frame = frame; reserved = Some index; other = None } in
     IsSought dump target (levels given) found → Found depth dump target path.items
 found_in depth given dump frame index found path same is sought =
@@ -40,13 +41,15 @@ found_in depth given dump frame index found path same is sought =
 pub overflow_cast-len : goal.overflow_cast-len
 overflow_cast-len c =
     let given = c.depth-depth.ensures ∙ ap (λ (l : Layout). l.depth) c.layout.ensures.reads in
-    let found = found_in _ _ c.index-dumps-replica.result c.args.frame c.args.index c.in_ok-path.field-0 c.in-Some.path given c.in-Some.is c.in_ok-path.ensures in
+    let found = found_in _ _ c.index-dumps-replica.result c.args.frame c.args.index c.in_ok-path.field-0 c.in-Some.path given c.in-Some.is
+    c.in_ok-path.ensures in
     omega (arith, found.down, found.few, c.len.ensures, c.in-Some.path.ok.0)
 
 pub overflow_sub-levels : goal.overflow_sub-levels
 overflow_sub-levels c =
     let given = c.depth-depth.ensures ∙ ap (λ (l : Layout). l.depth) c.layout.ensures.reads in
-    let found = found_in _ _ c.index-dumps-replica.result c.args.frame c.args.index c.in_ok-path.field-0 c.in-Some.path given c.in-Some.is c.in_ok-path.ensures in
+    let found = found_in _ _ c.index-dumps-replica.result c.args.frame c.args.index c.in_ok-path.field-0 c.in-Some.path given c.in-Some.is
+    c.in_ok-path.ensures in
     let high = c.levels.ensures ∙ ap levels given in
     omega (arith, found.down, high, c.len.ensures, c.in-Some.path.ok.0)
 
@@ -62,7 +65,8 @@ entry_at-entry-requires c =
 pub reserved_bit-requires-clause-few_levels : goal.reserved_bit-requires-clause-few_levels
 reserved_bit-requires-clause-few_levels c =
     let given = c.depth-depth.ensures ∙ ap (λ (l : Layout). l.depth) c.layout.ensures.reads in
-    let found = found_in _ _ c.index-dumps-replica.result c.args.frame c.args.index c.in_ok-path.field-0 c.in-Some.path given c.in-Some.is c.in_ok-path.ensures in
+    let found = found_in _ _ c.index-dumps-replica.result c.args.frame c.args.index c.in_ok-path.field-0 c.in-Some.path given c.in-Some.is
+    c.in_ok-path.ensures in
     let high = c.levels.ensures ∙ ap levels given in
     omega (arith, found.down, found.few, high, c.entry_at-entry.ensures.level)
 

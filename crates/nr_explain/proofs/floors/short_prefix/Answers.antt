@@ -49,6 +49,7 @@ returns-clause-is c =
       names = found.names;
       here = found.here;
       none_before = λ index reply made before is is_made at.
-          subst (λ (n : ℕ). known_by trace reply ≤ n) (sym found.applied_is) (no_more_known trace c.args.replica c.applied-applied.result c.in-Some.found.reply.event
+          subst (λ (n : ℕ). known_by trace reply ≤ n) (sym found.applied_is)
+          (no_more_known trace c.args.replica c.applied-applied.result c.in-Some.found.reply.event
           c.in-Some.ensures.1 index reply made before is is_made (at ∙ found.replica_is));
     }

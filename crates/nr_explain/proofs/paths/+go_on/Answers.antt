@@ -41,7 +41,8 @@ loop-index-preserved t c =
       | in-Table+in_ok-push+in_ok-go_on+else-branch w ↦
           let step : Step = entry_of level number words index in
           let pushed : w.push.new.self.items ≡ begun ++ step ∷ [] = w.in_ok-push.ensures.items
-          ∙ ap (λ (word : ℕ). c.loop-index.way.items ++ step_of level number index word ∷ []) c.word-word.ensures ∙ ap (λ (l : List Step). l ++ step ∷ []) old.way in
+          ∙ ap (λ (word : ℕ). c.loop-index.way.items ++ step_of level number index word ∷ []) c.word-word.ensures
+          ∙ ap (λ (l : List Step). l ++ step ∷ []) old.way in
           let searched = subst (λ (b : Bool). IsSearched memory target (level - 1) w.in-Table.next w.push.new.self.items w.go_on.new.way.items b)
           w.if-branch.false w.in_ok-go_on.ensures in
           let whole : w.go_on.new.way.items ≡ begun ++ step ∷ [] = searched.0 ∙ pushed in

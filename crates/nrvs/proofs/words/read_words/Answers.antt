@@ -38,7 +38,8 @@ returns-in-Some-audit-default-clause-asks c =
     (c.in_ok-matches.ensures.ok.2 (ap is_simple app_is)).1 ∙ ap (λ (a : App). subcommand_of a texts) app_is in
     let name_is = ap Some (sym arm.is-audit) ∙ arm.ensures.name in
     let sub_is = sym parsed ∙ entered _ (codes "audit") (rows_of found) name_is arm.ensures.rows in
-    asks_inspection _ (codes "audit", rows_of found) c.in_ok-read_audit-in-Some-audit-default.field-0 sub_is (inl (refl, c.in_ok-read_audit-in-Some-audit-default.ensures.asks))
+    asks_inspection _ (codes "audit", rows_of found) c.in_ok-read_audit-in-Some-audit-default.field-0 sub_is
+    (inl (refl, c.in_ok-read_audit-in-Some-audit-default.ensures.asks))
 
 pub returns-in_err-read_audit-in-Some-audit-default-clause-fault : goal.returns-in_err-read_audit-in-Some-audit-default-clause-fault
 returns-in_err-read_audit-in-Some-audit-default-clause-fault c =
@@ -109,7 +110,8 @@ returns-in-Some-pages-default-clause-asks c =
     (c.in_ok-matches.ensures.ok.2 (ap is_simple app_is)).1 ∙ ap (λ (a : App). subcommand_of a texts) app_is in
     let name_is = ap Some (sym arm.is-pages) ∙ arm.ensures.name in
     let sub_is = sym parsed ∙ entered _ (codes "pages") (rows_of found) name_is arm.ensures.rows in
-    asks_inspection _ (codes "pages", rows_of found) c.in_ok-read_pages-in-Some-pages-default.field-0 sub_is (inr (inr (inr (refl, c.in_ok-read_pages-in-Some-pages-default.ensures.asks))))
+    asks_inspection _ (codes "pages", rows_of found) c.in_ok-read_pages-in-Some-pages-default.field-0 sub_is
+    (inr (inr (inr (refl, c.in_ok-read_pages-in-Some-pages-default.ensures.asks))))
 
 pub returns-in_err-read_pages-in-Some-pages-default-clause-fault : goal.returns-in_err-read_pages-in-Some-pages-default-clause-fault
 returns-in_err-read_pages-in-Some-pages-default-clause-fault c =
@@ -166,5 +168,6 @@ returns-in-Some-run-default-clause-asks c =
     let sub_is = sym parsed ∙ entered _ (codes "run") (rows_of found) name_is arm.ensures.rows in
     let turns = subst (λ t. IsTurns t c.read_turns-turns.result) (one_text-rows found (codes "turns")) c.read_turns-turns.ensures in
     let flag = c.get_flag-as_trace-in-Some-run-default.ensures in
-    asks_run _ (rows_of found) c.read_setup-setup-in-Some-run-default.result c.read_turns-turns.result c.get_flag-as_trace-in-Some-run-default.result sub_is c.read_setup-setup-in-Some-run-default.ensures turns
+    asks_run _ (rows_of found) c.read_setup-setup-in-Some-run-default.result c.read_turns-turns.result
+    c.get_flag-as_trace-in-Some-run-default.result sub_is c.read_setup-setup-in-Some-run-default.ensures turns
     (flag_of _ _ _ (one_text-rows found (codes "trace")) flag.none flag.value flag.other)

@@ -15,7 +15,8 @@ pub returns : goal.returns
 returns c =
     let top = λ (a : App). a.top in
     let program_is : app_of c.after_help.result ≡ nrvs_audit_app = ap app_of_fields c.after_help.ensures
-    ∙ (ap app_of_fields c.subcommand_required.ensures ∙ ap needs (ap app_of_fields c.version.ensures ∙ ap versioned (ap app_of_fields c.about.ensures ∙ c.new.ensures.app))) in
+    ∙ (ap app_of_fields c.subcommand_required.ensures
+    ∙ ap needs (ap app_of_fields c.version.ensures ∙ ap versioned (ap app_of_fields c.about.ensures ∙ c.new.ensures.app))) in
     let one_is = c.in_ok-subcommand.ensures.shape c.in_ok-audit.ensures.local ∙ ap₂ with_subcommand program_is (ap top c.in_ok-audit.ensures.app) in
     let two_is = c.in_ok-subcommand-2.ensures.shape c.in_ok-explain.ensures.local ∙ ap₂ with_subcommand one_is (ap top c.in_ok-explain.ensures.app) in
     let three_is = c.in_ok-subcommand-3.ensures.shape c.in_ok-resolve.ensures.local ∙ ap₂ with_subcommand two_is (ap top c.in_ok-resolve.ensures.app) in

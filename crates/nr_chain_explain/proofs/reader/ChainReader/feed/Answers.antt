@@ -1,9 +1,9 @@
-use Rattle.std.proofs.Common.{◌≡◌, ℕ, ◌-◌, ◌==◌, true, false, List, inl, inr, length, take, drop, refl, ap, sym, ◌∙◌, subst, arith, tests, rules}
+use Rattle.std.proofs.Common.{◌≡◌, ℕ, ◌-◌, ◌==◌, true, false, List, [], inl, inr, length, take, drop, refl, ap, sym, ◌∙◌, subst, arith, tests, rules}
 use Rattle.std.proofs.Math.Seq.{take-length}
 use Rattle.std.proofs.lemmas.Bool.Decides.{nat_tests}
 use Rattle.std.proofs.lemmas.List.{length-drop, nil_from_length}
 use Rattle.nr_chain_explain.specs.inside.Steps.{StepsTo}
-use Rattle.nr_chain_explain.proofs.Feeding.{leads_end, leads_more, leads_on, short_after, short_fresh}
+use Rattle.nr_chain_explain.proofs.Feeding.{explains_behind, leads_end, leads_more, leads_on, short_after, short_fresh}
 use Rattle.nr_chain_explain.proofs.reader.ChainReader.feed.Goals as goal
 
 zero_of : (n : ℕ) → (n == 0) ≡ true → n ≡ 0
@@ -13,7 +13,7 @@ left_behind : (count : ℕ) (rest : List ℕ) → take (length rest - count) (dr
 left_behind count rest = ap (λ (n : ℕ). take n (drop count rest)) (sym (length-drop count rest)) ∙ take-length (drop count rest)
 
 pub segments-init : goal.segments-init
-segments-init c = record { leads = λ behind explanation h. h; short = inl refl }
+segments-init c = record { leads = ([], (refl, refl)); short = inl refl }
 
 pub segments-preserved : goal.segments-preserved
 segments-preserved c =
@@ -34,7 +34,8 @@ returns-in-More c =
 pub returns-in-Wrong : goal.returns-in-Wrong
 returns-in-Wrong c =
     let step = subst (StepsTo c.segments.reader c.segments.rest.now) c.in-Wrong.is c.in_ok-next.ensures in
-    λ rest. c.segments.invariant.leads rest c.in-Wrong.found (step (λ none. absurd (
+    λ rest. explains_behind c.args.self c.segments.reader c.args.piece.now c.segments.rest.now rest c.in-Wrong.found c.segments.invariant.leads
+    (step (λ none. absurd (
     let at_zero : length c.segments.rest.now ≡ 0 = ap length none in
     let empty : c.is_empty.result ≡ true = c.is_empty.ensures ∙ ap (λ (n : ℕ). n == 0) at_zero in
     let some : c.is_empty.result ≡ false = c.segments-test.true in cc)) rest)

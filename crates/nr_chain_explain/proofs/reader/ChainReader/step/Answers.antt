@@ -1,10 +1,12 @@
-use Rattle.std.proofs.Common.{◌≡◌, ◌++◌, ℕ, List, take, sym, ap, subst, ◌∙◌}
+use Rattle.std.proofs.Common.{◌≡◌, ◌++◌, take, sym, ap, subst, ◌∙◌}
 use Rattle.nr_chain.proofs.Pieces.{took}
 use Rattle.nr_trace.specs.Feed.Fed.{Taken}
 use Rattle.nr_trace.specs.declared.fault.Format.{Format}
+use Rattle.nr_trace.specs.FirstFault.{HasSegmentFault}
+use Rattle.nr_chain_explain.specs.Came.{layout_in}
 use Rattle.nr_chain_explain.specs.inside.Reading.{all_seen}
 use Rattle.nr_chain_explain.specs.inside.Steps.{IsRefusalOf}
-use Rattle.nr_chain_explain.proofs.Feeding.{judged, more_reading, more_taken, piece_refused, took_here}
+use Rattle.nr_chain_explain.proofs.Feeding.{judged, more_reading, more_taken, piece_has, piece_refused, took_here}
 use Rattle.nr_chain_explain.proofs.reader.ChainReader.step.Goals as goal
 
 pub judge_whole-requires-clause-whole : goal.judge_whole-requires-clause-whole
@@ -51,9 +53,20 @@ returns-in-Ok c =
     c.extend_from_slice.new.self.items (c.in_ok-extend_from_slice-in-Ok.ensures.items)
     c.in-Ok.ensures (λ whole. let is = c.is_whole.ensures.1 whole in let other = c.if-is_whole.false in cc)
 
+pub refusal-requires : goal.refusal-requires
+refusal-requires c =
+    let all : c.deref-in-Err-Refused.result.now ≡ c.self.inside.bytes.items ++ c.args.piece.now =
+    c.deref-in-Err-Refused.ensures.value ∙ c.in_ok-extend_from_slice-in-Err-Refused.ensures.items in
+    subst (HasSegmentFault (layout_in (all_seen c.self.inside.last)) c.deref-in-Err-Refused.result.now) (sym c.in-Err-Refused.fault-is)
+    (piece_has c.self.inside.last c.self.inside.bytes.items c.self.inside.feed c.feed.new.self c.args.self c.args.piece.now c.self.invariant
+    c.self.view_is c.in-Err-Refused.fault c.deref-in-Err-Refused.result.now all (rw c.in-Err-Refused.field-0-is at c.in-Err-Refused.ensures))
+
 pub returns : goal.returns
 returns c =
+    let all : c.deref-in-Err-Refused.result.now ≡ c.self.inside.bytes.items ++ c.args.piece.now =
+    c.deref-in-Err-Refused.ensures.value ∙ c.in_ok-extend_from_slice-in-Err-Refused.ensures.items in
     piece_refused c.self.inside.last c.self.inside.bytes.items c.self.inside.feed c.feed.new.self c.args.self c.args.piece.now c.self.invariant
-    c.self.view_is c.in-Err-Refused.fault c.refusal-found.result (rw c.in-Err-Refused.field-0-is at c.in-Err-Refused.ensures)
-    (subst (λ (f : Format). IsRefusalOf (all_seen c.self.inside.last) f c.refusal-found.result) c.in-Err-Refused.fault-is
-    c.refusal-found.ensures)
+    c.self.view_is c.in-Err-Refused.fault c.deref-in-Err-Refused.result.now c.in_ok-found-in-Err-Refused.found all
+    (rw c.in-Err-Refused.field-0-is at c.in-Err-Refused.ensures)
+    (subst (λ (f : Format). IsRefusalOf (all_seen c.self.inside.last) c.deref-in-Err-Refused.result.now f c.in_ok-found-in-Err-Refused.found)
+    c.in-Err-Refused.fault-is c.in_ok-found-in-Err-Refused.ensures)

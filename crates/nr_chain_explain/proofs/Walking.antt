@@ -1,0 +1,203 @@
+-- The units of a segment, walked to find the one that is bad.
+use Rattle.std.proofs.Common.{None, ◌≡◌, ◌<◌, ◌≤◌, ℕ, inl, inr, List, [], ◌∷◌, ◌++◌, length, take, drop, append_assoc, Option, Ok, Err, refl, sym, ap, ◌∙◌, subst, arith}
+use Rattle.std.specs.List.{concat}
+use Rattle.std.proofs.lemmas.List.{append-nil}
+use Rattle.vs_types.specs.Config.{Layout}
+use Rattle.vs_types.specs.declared.refusal.Fail.TheVariants.{Refused}
+use Rattle.nr_trace.specs.FirstFault.{HasSegmentFault}
+use Rattle.nr_trace.specs.Feed.{FedSegment, FeedsSegment, IsFaultlessYet, IsWhole, LastsAs}
+use Rattle.nr_trace.specs.Feed.Fed.{Taken}
+use Rattle.nr_trace.specs.Spelling.{SpellsSegment}
+use Rattle.nr_trace.specs.declared.fault.Format.{Format}
+use Rattle.nr_trace.specs.declared.fault.Format.TheVariants.{Truncated}
+use Rattle.nr_trace.specs.declared.version.Form.TheVariants as forms
+use Rattle.nr_trace.proofs.LawsOfFormat.{no_fault_of_segment, one_fault}
+use Rattle.nr_chain.specs.inside.Between.{bytes_in}
+use Rattle.nr_chain.proofs.Ends.{none_is_short}
+use Rattle.nr_chain.proofs.Pieces.{Took, refused, spelled_whole, took, took_all}
+use Rattle.nr_explain.specs.Fields.{field_fault}
+use Rattle.nr_chain_explain.proofs.Cuts.{cut_so}
+use Rattle.nr_chain_explain.specs.Units.{after, first_unit, size, GoesOn, IsBadUnit, LeadOn, Shows}
+use Rattle.nr_chain_explain.specs.inside.Walked.{IsUnitOf, IsWalked, IsWithin, StepsOver}
+use Rattle.nr_chain_explain.specs.declared.evidence.BadSegment.{BadSegment}
+use Rattle.nr_chain_explain.specs.declared.units.Next.{Next}
+use Rattle.nr_explain.specs.declared.units.TraceUnit.TheVariants.{Magic, Version as VersionWord, Counts, Place, Event, DumpHead, FrameNumber, FrameWords, Behind}
+use Rattle.nr_chain_explain.specs.declared.units.SegmentUnit.{SegmentUnit}
+use Rattle.nr_chain_explain.specs.declared.units.SegmentUnit.TheVariants.{Shared, StartRoot, StartNumber, StartWords}
+
+-- ---- lists of units
+
+lead_further : (first : Next) (units : List (List ℕ)) (middle : Next) (bytes : List ℕ) → LeadOn first units middle
+    → length bytes ≡ size middle.unit → LeadOn first (units ++ (bytes ∷ [])) (after middle bytes)
+lead_further first [] middle bytes is long =
+    (long ∙ ap (λ (next : Next). size next.unit) (sym is), ap (λ (next : Next). after next bytes) is)
+lead_further first (unit ∷ units) middle bytes (is, leads) long = (is, lead_further (after first unit) units middle bytes leads long)
+
+concat_further : (units : List (List ℕ)) (bytes : List ℕ) → concat (units ++ (bytes ∷ [])) ≡ concat units ++ bytes
+concat_further [] bytes = append-nil bytes
+concat_further (unit ∷ units) bytes =
+    ap (λ (l : List ℕ). unit ++ l) (concat_further units bytes) ∙ sym (append_assoc unit (concat units) bytes)
+
+goes_further : (front bytes : List ℕ) (next : Next) → GoesOn front next → length bytes ≡ size next.unit → GoesOn (front ++ bytes) (after next bytes)
+goes_further front bytes next goes long = record {
+  units = goes.units ++ (bytes ∷ []);
+  parts = ap (λ (l : List ℕ). l ++ bytes) goes.parts ∙ sym (concat_further goes.units bytes);
+  lead = lead_further first_unit goes.units next bytes goes.lead long;
+}
+
+-- ---- the walk
+
+pub walk_begins : (before : Option Layout) (bytes : List ℕ) (feed : FedSegment) (next : Next)
+    → feed ≡ record { before = before; pieces = Taken [] } → next ≡ first_unit → IsWalked before bytes feed next bytes
+walk_begins before bytes feed next fresh first = record {
+  front = [];
+  parts = refl;
+  fed = fresh;
+  goes_on = record { units = []; parts = refl; lead = sym first };
+  no_fault_yet = λ fault h. one_fault (forms.Segment before) [] fault Truncated h (none_is_short (forms.Segment before));
+  within = subst (λ (n : Next). IsWithin n.unit n.numbers) (sym first) tt;
+}
+
+module _ (before : Option Layout) (bytes : List ℕ) (fault : Format) (feed new : FedSegment) (next : Next) (rest own behind : List ℕ)
+    (cut : rest ≡ own ++ behind) (walked : IsWalked before bytes feed next rest) (has : HasSegmentFault before bytes fault) where
+  abbrev fresh : FedSegment
+  fresh = record { before = before; pieces = Taken walked.front }
+
+  here : bytes ≡ walked.front ++ (own ++ behind)
+  here = walked.parts ∙ ap (λ (l : List ℕ). walked.front ++ l) cut
+
+  all_parts : bytes ≡ (walked.front ++ own) ++ behind
+  all_parts = here ∙ sym (append_assoc walked.front own behind)
+
+  has_there : HasSegmentFault before ((walked.front ++ own) ++ behind) fault
+  has_there = subst (λ (bs : List ℕ). HasSegmentFault before bs fault) all_parts has
+
+  took_so : (count : ℕ) → FeedsSegment feed own new (Ok count) → Took before walked.front own new count
+  took_so count feeds = took fresh new own count (subst (λ (f : FedSegment). FeedsSegment f own new (Ok count)) walked.fed feeds)
+
+  -- a segment is whole only behind its last unit, and then no fault is left
+  not_whole : (count : ℕ) → Took before walked.front own new count → IsWhole new → ⊥
+  not_whole count is whole =
+      let spelled = spelled_whole new whole in
+      let there = subst (λ (b : Option Layout). SpellsSegment b (bytes_in new.pieces) spelled.0) is.behind spelled.1 in
+      let whole_here = subst (λ (bs : List ℕ). SpellsSegment before bs spelled.0) (ap bytes_in is.taken) there in
+      no_fault_of_segment before (walked.front ++ take count own) (drop count own ++ behind) spelled.0 fault whole_here
+      (subst (λ (bs : List ℕ). HasSegmentFault before bs fault) (here ∙ cut_so walked.front own behind count) has)
+
+  taken_all : (count : ℕ) (is : Took before walked.front own new count) → walked.front ++ take count own ≡ walked.front ++ own
+  taken_all count is = took_all before walked.front own new count is (not_whole count is)
+
+  faultless : (count : ℕ) (is : Took before walked.front own new count) → IsFaultlessYet (forms.Segment before) (walked.front ++ own)
+  faultless count is = subst (IsFaultlessYet (forms.Segment before)) (taken_all count is) is.faultless
+
+  -- the unit is whole, and nothing is wrong with it
+  pub walk_goes_on : (count : ℕ) (then : Next) → FeedsSegment feed own new (Ok count) → length own ≡ size next.unit → then ≡ after next own
+      → IsWithin then.unit then.numbers → IsWalked before bytes new then behind
+  walk_goes_on count then feeds long then_is within =
+      let is = took_so count feeds in
+      record {
+        front = walked.front ++ own;
+        parts = all_parts;
+        fed = λ i. record { before = is.behind i; pieces = (is.taken ∙ ap Taken (taken_all count is)) i };
+        goes_on = subst (GoesOn (walked.front ++ own)) (sym then_is) (goes_further walked.front own next walked.goes_on long);
+        no_fault_yet = faultless count is;
+        within = within;
+      }
+
+  bad_from : (begins : ℕ) (bad : BadSegment) → IsUnitOf begins fault walked.front rest next.unit bad → bad.read.items ≡ own
+      → Shows before bad walked.front behind → IsBadUnit before begins bytes bad
+  bad_from begins bad is read shows = record {
+    fault = subst (HasSegmentFault before bytes) (sym is.fault_is) has;
+    front = walked.front;
+    behind = behind;
+    parts = here ∙ ap (λ (l : List ℕ). walked.front ++ (l ++ behind)) (sym read);
+    segment = is.segment;
+    offset = is.offset;
+    next = next;
+    goes_on = walked.goes_on;
+    unit = is.unit_is;
+    no_fault_yet = walked.no_fault_yet;
+    shows = shows;
+    field = is.field ∙ ap (λ (f : Format). field_fault f walked.front bad.read.items) (sym is.fault_is);
+  }
+
+  -- the unit is refused
+  pub refused_there : (begins : ℕ) (other : Format) (bad : BadSegment) → FeedsSegment feed own new (Err (Refused other))
+      → length own ≤ size next.unit → IsUnitOf begins fault walked.front rest next.unit bad → bad.read.items ≡ own
+      → IsBadUnit before begins bytes bad
+  refused_there begins other bad feeds few is read =
+      let lasts : LastsAs (forms.Segment before) (walked.front ++ own) other =
+      refused fresh new own other refl (subst (λ (f : FedSegment). FeedsSegment f own new (Err (Refused other))) walked.fed feeds) in
+      let same : other ≡ bad.fault =
+      one_fault (forms.Segment before) ((walked.front ++ own) ++ behind) other fault (lasts behind) has_there ∙ sym is.fault_is in
+      let few_read : length bad.read.items ≤ size bad.unit =
+      subst (λ (u : SegmentUnit). length bad.read.items ≤ size u) (sym is.unit_is) (subst (λ (l : List ℕ). length l ≤ size next.unit) (sym read) few) in
+      bad_from begins bad is read
+      (inr (
+        few_read,
+        subst (λ (l : List ℕ). LastsAs (forms.Segment before) (walked.front ++ l) bad.fault) (sym read)
+            (subst (LastsAs (forms.Segment before) (walked.front ++ own)) same lasts),
+      ))
+
+  -- the bytes end within the unit
+  pub cut_off_there : (begins count : ℕ) (bad : BadSegment) → FeedsSegment feed own new (Ok count) → length own < size next.unit → behind ≡ []
+      → IsUnitOf begins fault walked.front rest next.unit bad → bad.read.items ≡ own → IsBadUnit before begins bytes bad
+  cut_off_there begins count bad feeds few none is read =
+      let whole : (walked.front ++ own) ++ behind ≡ walked.front ++ own =
+      ap (λ (l : List ℕ). (walked.front ++ own) ++ l) none ∙ append-nil (walked.front ++ own) in
+      let short : bad.fault ≡ Truncated =
+      is.fault_is ∙ faultless count (took_so count feeds) fault (subst (λ (bs : List ℕ). HasSegmentFault before bs fault) whole has_there) in
+      let few_read : length bad.read.items < size bad.unit =
+      subst (λ (u : SegmentUnit). length bad.read.items < size u) (sym is.unit_is) (subst (λ (l : List ℕ). length l < size next.unit) (sym read) few) in
+      bad_from begins bad is read (inl (few_read, none, short))
+
+  -- the unit is bad
+  pub bad_there : (begins : ℕ) (bad : BadSegment) → StepsOver feed next own new None → length own ≤ size next.unit
+      → (length own < size next.unit → behind ≡ []) → IsUnitOf begins fault walked.front rest next.unit bad → bad.read.items ≡ own
+      → IsBadUnit before begins bytes bad
+  bad_there begins bad (inl (few, (count, feeds))) within none is read = cut_off_there begins count bad feeds few (none few) is read
+  bad_there begins bad (inr (other, feeds)) within none is read = refused_there begins other bad feeds within is read
+
+-- ---- what comes behind
+
+-- the bad unit of bytes that have a lasting fault is that of all that begins with them
+pub bad_unit_lasts : (before : Option Layout) (begins : ℕ) (bytes rest : List ℕ) (bad : BadSegment) → IsBadUnit before begins bytes bad
+    → LastsAs (forms.Segment before) bytes bad.fault → IsBadUnit before begins (bytes ++ rest) bad
+bad_unit_lasts before begins bytes rest bad is lasts = record {
+  fault = lasts rest;
+  front = is.front;
+  behind = is.behind ++ rest;
+  parts = ap (λ (l : List ℕ). l ++ rest) is.parts ∙ append_assoc is.front (bad.read.items ++ is.behind) rest
+      ∙ ap (λ (l : List ℕ). is.front ++ l) (append_assoc bad.read.items is.behind rest);
+  segment = is.segment;
+  offset = is.offset;
+  next = is.next;
+  goes_on = is.goes_on;
+  unit = is.unit;
+  no_fault_yet = is.no_fault_yet;
+  shows = elim is.shows [
+    | inl (short, none, cut) ↦ inr (
+      omega (arith, short),
+      subst (λ (bs : List ℕ). LastsAs (forms.Segment before) bs bad.fault)
+          (is.parts ∙ ap (λ (l : List ℕ). is.front ++ (bad.read.items ++ l)) none ∙ ap (λ (l : List ℕ). is.front ++ l) (append-nil bad.read.items)) lasts,
+    )
+    | inr there ↦ inr there
+  ];
+  field = is.field;
+}
+
+-- ---- how much is walked
+
+pub some_size : (unit : SegmentUnit) → 1 ≤ size unit
+some_size (Shared Magic) = omega arith
+some_size (Shared VersionWord) = omega arith
+some_size (Shared Counts) = omega arith
+some_size (Shared (Place place)) = omega arith
+some_size (Shared (Event index)) = omega arith
+some_size (Shared (DumpHead replica)) = omega arith
+some_size (Shared (FrameNumber replica index)) = omega arith
+some_size (Shared (FrameWords replica index)) = omega arith
+some_size (Shared Behind) = omega arith
+some_size StartRoot = omega arith
+some_size (StartNumber index) = omega arith
+some_size (StartWords index) = omega arith
