@@ -192,25 +192,40 @@ def first_part():
         yield f"part 1 ends after {lines} lines, of {MOST_LINES} at most"
 
 
-AUDIT = {"vs_types", "vs_walk", "vs_plain", "vs_text", "nr_trace", "nr_dump", "nr_audit", "nr_explain", "nr_engines", "nr_touch", "nr_segment",
-         "nr_chain", "nr_chain_engines", "nr_chain_explain", "nr_chain_texts", "nr_pages", "nr_commands", "nrvs_audit",
-         "nrvs_audit_c"}
+AUDIT = "Traces and the audit"
+REPLICATION = ("The log and its replicas", "Recorded runs", "The protocol's core and its scripts", "The program")
+
+
+def crates_and_uses():
+    """The crates under each heading of crates.txt, and what each uses."""
+    under, uses, heading = {}, {}, ""
+    for line in (ROOT / "crates.txt").read_text().splitlines():
+        if line.startswith("# "):
+            heading = line[2:]
+        head, _, tail = line.partition("#")[0].partition(":")
+        if head.strip():
+            under.setdefault(heading, []).append(head.split()[0])
+            uses[head.split()[0]] = tail.split()
+    return under, uses
 
 
 def audit_alone():
-    """The dependencies of the audit's crates on other crates of this repository than the audit's own."""
-    lines = [re.sub(r"#.*", "", line) for line in (ROOT / "crates.txt").read_text().splitlines()]
-    uses = {head.split()[0]: tail.split() for head, _, tail in (line.partition(":") for line in lines if line.strip())}
-    for crate in sorted(AUDIT & uses.keys()):
-        for other in uses[crate]:
-            if other in uses and other not in AUDIT:
-                yield f"{crate} of the audit depends on {other}"
+    """The crates of the replication on which a crate of the audit depends, directly or not."""
+    under, uses = crates_and_uses()
+    replication = {crate for heading in REPLICATION for crate in under[heading]}
+    for crate in under[AUDIT]:
+        below, ahead = set(), [crate]
+        while ahead:
+            new = set(uses.get(ahead.pop(), ())) - below
+            below |= new
+            ahead.extend(new)
+        for other in sorted(below & replication):
+            yield f"{crate} of the audit depends on {other}"
 
 
 def listed():
     """The crates of crates.txt that the tables of ARCHITECTURE.md lack, or have twice, and those that they have beside."""
-    lines = [re.sub(r"#.*", "", line) for line in (ROOT / "crates.txt").read_text().splitlines()]
-    crates = sorted(line.partition(":")[0].split()[0] for line in lines if line.strip())
+    crates = sorted(crates_and_uses()[1])
     section = (ROOT / "docs/ARCHITECTURE.md").read_text().partition("\n## Crates\n")[2].partition("\n## ")[0]
     rows = [line.split("|")[1] for line in section.splitlines() if line.startswith("| ")]
     named = sorted(name for row in rows for name in re.findall(r"`(\w+)`", row))

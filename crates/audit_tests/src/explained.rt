@@ -186,103 +186,71 @@ fn holds(rt: &impl Abort, alloc: Global, cases: &[Case], name: &str, wanted: &[u
     panic!(rt; "{name}: no such case");
 }
 
-#[test]
-fn calls(rt: HostRuntime) {
-    let alloc = rt.alloc();
-    holds(&rt, alloc, &CALLS, "a thread's call is open", &[0, 1]);
-    holds(&rt, alloc, &CALLS, "a reply to a reply", &[3, 1, 2]);
-    holds(&rt, alloc, &CALLS, "a second reply", &[0, 1, 3]);
-    holds(&rt, alloc, &CALLS, "another place", &[0, 1, 1, 1, 0]);
-    holds(&rt, alloc, &CALLS, "a read past the log", &[2, 3, 2, 1]);
-    holds(
-        &rt,
-        alloc,
-        &CALLS,
-        "another physical address",
-        &[2, 3, 0x400123, 0x1123, 1],
-    );
-    holds(&rt, alloc, &CALLS, "a read in the log", &[0, 2, 1]);
-    holds(&rt, alloc, &CALLS, "an update twice in the log", &[0, 0, 1]);
+/// The name of a case, and the numbers that show its fault.
+type Numbers = (&'static str, &'static [u64]);
+
+fn hold_all(rt: &impl Abort, alloc: Global, cases: &[Case], numbers: &[Numbers]) {
+    for (name, wanted) in numbers {
+        holds(rt, alloc, cases, *name, *wanted);
+    }
 }
 
+static OF_CALLS: [Numbers; 8] = [
+    ("a thread's call is open", &[0, 1]),
+    ("a reply to a reply", &[3, 1, 2]),
+    ("a second reply", &[0, 1, 3]),
+    ("another place", &[0, 1, 1, 1, 0]),
+    ("a read past the log", &[2, 3, 2, 1]),
+    ("another physical address", &[2, 3, 0x400123, 0x1123, 1]),
+    ("a read in the log", &[0, 2, 1]),
+    ("an update twice in the log", &[0, 0, 1]),
+];
+
 #[test]
-fn orders_and_formats(rt: HostRuntime) {
-    let alloc = rt.alloc();
-    holds(
-        &rt,
-        alloc,
-        &ORDERS,
-        "two tables too many",
-        &[0, 1, 0x400000, 4, 0],
-    );
-    holds(
-        &rt,
-        alloc,
-        &ORDERS,
-        "a stale read is early",
-        &[3, 0, 1, 2, 1],
-    );
-    holds(
-        &rt,
-        alloc,
-        &ORDERS,
-        "an unanswered update is early",
-        &[2, 0, 2, 1, 0],
-    );
-    holds(
-        &rt,
-        alloc,
-        &FORMATS,
-        "an access has a fault",
-        &[2, 3, 0x400123, 0x1123, 1],
-    );
-    holds(
-        &rt,
-        alloc,
-        &FORMATS,
-        "a large page in the root of five levels",
-        &[5, 1, 0, 0x87],
-    );
-    holds(&rt, alloc, &FORMATS, "an event of another kind", &[20, 24]);
+fn calls(rt: HostRuntime) {
+    hold_all(&rt, rt.alloc(), &CALLS, &OF_CALLS);
 }
+
+static OF_ORDERS: [Numbers; 3] = [
+    ("two tables too many", &[0, 1, 0x400000, 4, 0]),
+    ("a stale read is early", &[3, 0, 1, 2, 1]),
+    ("an unanswered update is early", &[2, 0, 2, 1, 0]),
+];
+
+#[test]
+fn orders(rt: HostRuntime) {
+    hold_all(&rt, rt.alloc(), &ORDERS, &OF_ORDERS);
+}
+
+static OF_FORMATS: [Numbers; 3] = [
+    ("an access has a fault", &[2, 3, 0x400123, 0x1123, 1]),
+    ("a large page in the root of five levels", &[5, 1, 0, 0x87]),
+    ("an event of another kind", &[20, 24]),
+];
+
+#[test]
+fn formats(rt: HostRuntime) {
+    hold_all(&rt, rt.alloc(), &FORMATS, &OF_FORMATS);
+}
+
+static OF_DUMPS: [Numbers; 11] = [
+    ("a prefix past the log", &[2, 1]),
+    ("a prefix too short", &[0, 1, 1, 0]),
+    ("fewer rights", &[1, 0x1000, 0x1000, 1]),
+    (
+        "a reserved bit",
+        &[4, 1, 0, 0x2007, 3, 2, 0, 0x3007, 2, 3, 1, 0x202087],
+    ),
+    ("a large page", &[0, 0x200000, 0, 0]),
+    ("a frame reached twice", &[4, 1, 0, 0x1007]),
+    ("a frame that is not there", &[4, 1, 0, 0x2007]),
+    ("a frame that is not reached", &[2]),
+    ("a root that is not there", &[]),
+    ("a page before the map, none after it", &[0, 0x1000, 0, 0]),
+    ("no page after the map, one before it", &[1, 0, 0x1000, 1]),
+];
 
 #[test]
 fn dumps(rt: HostRuntime) {
-    let alloc = rt.alloc();
-    let two = [4, 1, 0, 0x2007, 3, 2, 0, 0x3007, 2, 3, 1, 0x202087];
-    holds(&rt, alloc, &DUMPS, "a prefix past the log", &[2, 1]);
-    holds(&rt, alloc, &DUMPS, "a prefix too short", &[0, 1, 1, 0]);
-    holds(&rt, alloc, &DUMPS, "fewer rights", &[1, 0x1000, 0x1000, 1]);
-    holds(&rt, alloc, &DUMPS, "a reserved bit", &two);
-    holds(&rt, alloc, &DUMPS, "a large page", &[0, 0x200000, 0, 0]);
-    holds(
-        &rt,
-        alloc,
-        &DUMPS,
-        "a frame reached twice",
-        &[4, 1, 0, 0x1007],
-    );
-    holds(
-        &rt,
-        alloc,
-        &DUMPS,
-        "a frame that is not there",
-        &[4, 1, 0, 0x2007],
-    );
-    holds(&rt, alloc, &DUMPS, "a frame that is not reached", &[2]);
-    holds(&rt, alloc, &DUMPS, "a root that is not there", &[]);
-    holds(
-        &rt,
-        alloc,
-        &DUMPS,
-        "a page before the map, none after it",
-        &[0, 0x1000, 0, 0],
-    );
-    holds(
-        &rt,
-        alloc,
-        &DUMPS,
-        "no page after the map, one before it",
-        &[1, 0, 0x1000, 1],
-    );
+    hold_all(&rt, rt.alloc(), &DUMPS, &OF_DUMPS);
 }

@@ -9,8 +9,6 @@ mod audit_cases;
 #[cfg(test)]
 mod bytes;
 #[cfg(test)]
-mod chains;
-#[cfg(test)]
 mod dump;
 #[cfg(test)]
 mod dump_cases;
@@ -19,15 +17,9 @@ mod events;
 #[cfg(test)]
 mod explained;
 #[cfg(test)]
-mod flush;
-#[cfg(test)]
 mod large;
 #[cfg(test)]
-mod named_files;
-#[cfg(test)]
 mod other_dumps;
-#[cfg(test)]
-mod pages;
 #[cfg(test)]
 mod pieces;
 #[cfg(test)]

@@ -44,23 +44,24 @@ fn segment_of(rt: &impl Abort, alloc: Global, bytes: &[u8], len: usize) -> Trace
     let mut feed = SegmentFeed::new(alloc, None);
     for piece in bytes.chunks(len) {
         assert!(rt; !feed.is_whole());
-        assert_eq!(rt; feed.feed(piece), Ok(piece.len()));
+        assert!(rt; feed.feed(piece) == Ok(piece.len()));
     }
     assert!(rt; feed.is_whole());
     feed.end().expect(rt, "a segment")
 }
 
+const SEGMENTS: [Bytes; 3] = [&NOTHING, &TOUCHES_NOTHING, &FORESEES_A_MAP];
+
 #[test]
 fn segments_are_read_in_pieces_and_written(rt: HostRuntime) {
     let alloc = rt.alloc();
-    let segments: [Bytes; 3] = [&NOTHING, &TOUCHES_NOTHING, &FORESEES_A_MAP];
-    for bytes in segments {
+    for bytes in &SEGMENTS {
         for len in [1, 7, 4096] {
             assert!(rt; len > 0);
-            let segment = segment_of(&rt, alloc, bytes, len);
-            assert_eq!(rt; segment.version(), Version::Segment);
+            let segment = segment_of(&rt, alloc, *bytes, len);
+            assert!(rt; segment.version() == Version::Segment);
             assert!(rt; segment.start().is_none());
-            assert!(rt; is_spelled(&rt, alloc, &segment, bytes), "{len}");
+            assert!(rt; is_spelled(&rt, alloc, &segment, *bytes), "{len}");
         }
     }
 }
@@ -83,21 +84,34 @@ fn a_touch_is_an_access(rt: HostRuntime) {
     );
 }
 
+/// A segment, and another one.
+fn two_segments(rt: &impl Abort, alloc: Global) -> Vec<u8> {
+    let mut bytes = Vec::from_slice(alloc, &NOTHING).expect(rt, "memory");
+    bytes.extend_from_slice(&NOTHING).expect(rt, "memory");
+    bytes
+}
+
 /// What comes after a segment is not taken.
 #[test]
 fn a_feed_stops_behind_a_segment(rt: HostRuntime) {
     let alloc = rt.alloc();
-    let mut bytes = Vec::from_slice(alloc, &NOTHING).expect(&rt, "memory");
-    bytes.extend_from_slice(&NOTHING).expect(&rt, "memory");
+    let bytes = two_segments(&rt, alloc);
     let mut feed = SegmentFeed::new(alloc, None);
-    assert_eq!(rt; feed.feed(&bytes), Ok(40));
+    assert!(rt; feed.feed(&bytes) == Ok(40));
     assert!(rt; feed.is_whole());
-    assert_eq!(rt; feed.feed(&bytes), Ok(0));
+    assert!(rt; feed.feed(&bytes) == Ok(0));
     let segment = feed.end().expect(&rt, "a segment");
     assert!(rt; is_spelled(&rt, alloc, &segment, &NOTHING));
-    let mut next = SegmentFeed::new(alloc, Some(segment.layout()));
-    assert_eq!(rt; next.feed(&bytes), Ok(40));
-    assert!(rt; next.is_whole());
+}
+
+#[test]
+fn a_feed_of_a_further_segment_stops_behind_it(rt: HostRuntime) {
+    let alloc = rt.alloc();
+    let bytes = two_segments(&rt, alloc);
+    let layout = segment_of(&rt, alloc, &NOTHING, 40).layout();
+    let mut feed = SegmentFeed::new(alloc, Some(layout));
+    assert!(rt; feed.feed(&bytes) == Ok(40));
+    assert!(rt; feed.is_whole());
 }
 
 /// Bytes with these changes have this fault as a segment.
@@ -138,15 +152,13 @@ fn fault_of(
 #[test]
 fn faults_of_segments(rt: HostRuntime) {
     let alloc = rt.alloc();
-    for (bytes, changes, fault) in FAULTS {
-        let mut other = changed(&rt, alloc, bytes, changes);
+    for (bytes, changes, fault) in &FAULTS {
+        let mut other = changed(&rt, alloc, *bytes, *changes);
         if changes.is_empty() {
             other.pop();
         }
-        assert_eq!(rt;
-            fault_of(alloc, None, &other),
-            Some(vs_types::Fail::Refused(fault))
-        );
+        let wanted = Some(vs_types::Fail::Refused(*fault));
+        assert!(rt; fault_of(alloc, None, &other) == wanted);
     }
 }
 

@@ -82,7 +82,7 @@ static BEGUN_WITH_A_PAGE: [(Case, usize); 6] = [
 ];
 
 /// The space with the page that the cases begin with, of a trace's depth and limit of tables.
-pub(crate) fn space_with_page(rt: &impl Abort, alloc: Global, trace: &Trace) -> PlainSpace
+fn space_with_page(rt: &impl Abort, alloc: Global, trace: &Trace) -> PlainSpace
     ensures depth { result.depth ≡ trace.now.layout.depth }
     ensures limit { result.limit ≡ trace.now.layout.tables }
 {
@@ -96,7 +96,7 @@ pub(crate) fn space_with_page(rt: &impl Abort, alloc: Global, trace: &Trace) -> 
 }
 
 /// The trace of a case.
-pub(crate) fn read_case(rt: &impl Abort, alloc: Global, case: &Case) -> Trace {
+fn read_case(rt: &impl Abort, alloc: Global, case: &Case) -> Trace {
     read(alloc, &trace_of(rt, alloc, case)).expect(rt, "a trace")
 }
 
@@ -104,11 +104,11 @@ pub(crate) fn read_case(rt: &impl Abort, alloc: Global, case: &Case) -> Trace {
 fn expect_case(rt: &impl Abort, case: &Case, judged: Judged) -> Option<PlainSpace> {
     match judged {
         Judged::Right(order, space) => {
-            assert_eq!(rt; Ok(order.calls()), case.verdict, "{}", case.name);
+            assert!(rt; Ok(order.calls()) == case.verdict, "{}", case.name);
             Some(space)
         }
         Judged::Wrong(fault) => {
-            assert_eq!(rt; Err(fault), case.verdict, "{}", case.name);
+            assert!(rt; Err(fault) == case.verdict, "{}", case.name);
             None
         }
     }
@@ -128,22 +128,39 @@ fn begun_with_a_page(rt: HostRuntime) {
     }
 }
 
+/// The space after a trace that is right from this one on, with an order of these calls.
+fn after(
+    rt: &impl Abort,
+    alloc: Global,
+    trace: &Trace,
+    start: PlainSpace,
+    calls: &[u32],
+) -> PlainSpace
+    requires depth { start.depth ≡ trace.now.layout.depth }
+    requires limit { start.limit ≡ trace.now.layout.tables }
+    ensures depth { result.depth ≡ trace.now.layout.depth }
+    ensures limit { result.limit ≡ trace.now.layout.tables }
+{
+    match judge_from(alloc, trace, start).expect(rt, "memory") {
+        Judged::Right(order, space) => {
+            assert!(rt; order.calls() == calls);
+            space
+        }
+        Judged::Wrong(_) => panic!(rt; "the trace is right"),
+    }
+}
+
 /// A trace goes on where another one ended.
 #[test]
 fn one_after_another(rt: HostRuntime) {
     let alloc = rt.alloc();
     let first = read_case(&rt, alloc, &RIGHT);
-    let second = read_case(&rt, alloc, &UNMAPPED);
     let layout = first.layout();
-    assert_eq!(&rt; second.layout(), layout);
     let empty = PlainSpace::new(alloc, layout.tables(), layout.depth());
-    let Judged::Right(_, space) = judge_from(alloc, &first, empty).expect(&rt, "memory") else {
-        panic!(&rt; "the first is right")
-    };
+    let space = after(&rt, alloc, &first, empty, &[0, 2]);
     assert_eq!(&rt; space.tables(), 4);
-    let Judged::Right(order, end) = judge_from(alloc, &second, space).expect(&rt, "memory") else {
-        panic!(&rt; "the second is right")
-    };
-    assert_eq!(&rt; Ok(order.calls()), UNMAPPED.verdict);
+    let second = read_case(&rt, alloc, &UNMAPPED);
+    assert!(&rt; second.layout() == layout);
+    let end = after(&rt, alloc, &second, space, &[0]);
     assert_eq!(&rt; end.tables(), 1);
 }

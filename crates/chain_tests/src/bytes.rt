@@ -3,9 +3,10 @@
 use nr_segment::{SegmentFault, StartFault};
 use nr_trace::{Fault, Format};
 use std::alloc::{AllocError, Global};
+use std::process::Abort;
 
 /// Of each frame of a page table, numbered from 1, the index of the one word that is not 0, and the word.
-type Words = &'static [(usize, u64)];
+pub type Words = &'static [(usize, u64)];
 
 /// A part of the bytes of a chain: some bytes, or the frames of a start or a dump.
 #[derive(Clone, Copy)]
@@ -28,7 +29,7 @@ pub struct Case {
 const ROOT: Words = &[(0, 0)];
 
 /// The page table with the page at 0x400000, mapped to 0x1000; and with it mapped to 0x2000.
-const TABLES: Words = &[(0, 0x2007), (0, 0x3007), (2, 0x4007), (0, 0x1007)];
+pub const TABLES: Words = &[(0, 0x2007), (0, 0x3007), (2, 0x4007), (0, 0x1007)];
 
 const OTHER_TABLES: Words = &[(0, 0x2007), (0, 0x3007), (2, 0x4007), (0, 0x2007)];
 
@@ -72,12 +73,15 @@ const FINDS_THE_PAGE: Part = Bytes(&[
     0, 0, 0, 0, 0, 0, 0, 0, 0, 0, 0, 0, 0, 0, 0, 0, // no dump
 ]);
 
-/// Nothing is recorded, and all but the last byte of that.
-const NOTHING: Part = Bytes(&[
-    0x4e, 0x52, 0x56, 0x53, 0, 1, 4, 1, 0, 1, 0, 4, 0, 0, 0, 0, 0, 0, 0, 0, 0, 0, 0, 0, 0, 0, 0, 0,
-    0, 0, 0, 0, 0, 0, 0, 0, 0, 0, 0, 0,
-]);
+/// One replica, one thread and four tables: nothing is recorded.
+pub const NOTHING_RECORDED: [u8; 40] = [
+    0x4e, 0x52, 0x56, 0x53, 0, 1, 4, 1, 0, 1, 0, 4, 0, 0, 0, 0, 0, 0, 0, 0, // counts
+    0, 0, 0, 0, 0, 0, 0, 0, 0, 0, 0, 0, 0, 0, 0, 0, 0, 0, 0, 0, // no start, no dump
+];
 
+const NOTHING: Part = Bytes(&NOTHING_RECORDED);
+
+/// All but the last byte of that.
 const NOTHING_CUT: Part = Bytes(&[
     0x4e, 0x52, 0x56, 0x53, 0, 1, 4, 1, 0, 1, 0, 4, 0, 0, 0, 0, 0, 0, 0, 0, 0, 0, 0, 0, 0, 0, 0, 0,
     0, 0, 0, 0, 0, 0, 0, 0, 0, 0, 0,
@@ -266,20 +270,25 @@ fn push_frame(bytes: &mut Vec<u8>, number: u64, index: usize, word: u64) -> Resu
     Ok(())
 }
 
+/// Adds the frames, numbered from 1.
+pub fn push_frames(bytes: &mut Vec<u8>, words: Words) -> Result<(), AllocError> {
+    let mut number = 0u64;
+    for (index, word) in words {
+        number = number.wrapping_add(1);
+        push_frame(bytes, number, *index, *word)?;
+    }
+    Ok(())
+}
+
 /// The bytes of a chain.
-pub fn bytes_of(alloc: Global, case: &Case) -> Result<Vec<u8>, AllocError> {
+pub fn bytes_of(rt: &impl Abort, alloc: Global, case: &Case) -> Vec<u8> {
     let mut bytes = Vec::new(alloc);
     for part in case.parts {
-        match part {
-            Bytes(some) => bytes.extend_from_slice(some)?,
-            Frames(words) => {
-                let mut number = 0u64;
-                for (index, word) in *words {
-                    number = number.wrapping_add(1);
-                    push_frame(&mut bytes, number, *index, *word)?;
-                }
-            }
-        }
+        let added = match part {
+            Bytes(some) => bytes.extend_from_slice(some),
+            Frames(words) => push_frames(&mut bytes, *words),
+        };
+        added.expect(rt, "memory");
     }
-    Ok(bytes)
+    bytes
 }

@@ -1,6 +1,6 @@
 //! Segments, each by itself.
 
-ghost use Rattle.std.specs.Prelude.{◌≡◌, IfOk, IfSome};
+ghost use Rattle.std.specs.Prelude.{◌≡◌, IfSome};
 ghost use Rattle.nr_segment.specs.Verdict.{FitsLayout};
 
 use crate::bytes::{CASES, bytes_of};
@@ -8,108 +8,93 @@ use nr_segment::{SegmentFault, SegmentVerdict, StartFault, judge_segment};
 use nr_trace::{Fault, SegmentFeed, Trace};
 use std::alloc::Global;
 use std::process::Abort;
-use std::test::Fail;
 use vs_plain::PlainSpace;
 use vs_types::{Op, Rights, Size};
 
 /// The first segment of the worked chain of this name.
-fn segment_of(rt: &impl Abort, alloc: Global, name: &str) -> Result<Trace, Fail> {
+fn segment_of(rt: &impl Abort, alloc: Global, name: &str) -> Trace {
     let mut feed = SegmentFeed::new(alloc, None);
     for case in &CASES {
         if case.name == name {
-            let bytes = bytes_of(alloc, case)?;
-            feed.feed(&bytes)?;
+            feed.feed(&bytes_of(rt, alloc, case)).expect(rt, "memory");
         }
     }
     assert!(rt; feed.is_whole(), "{name}");
-    Ok(feed.end()?)
+    feed.end().expect(rt, "a segment")
 }
 
 /// The space with the page at 0x400000 alone, mapped there, as a segment before this one would leave it.
-fn page_at(rt: &impl Abort, alloc: Global, segment: &Trace, phys: u64) -> Result<PlainSpace, Fail>
-    ensures depth { IfOk result (λ space. space.depth ≡ segment.now.layout.depth) }
-    ensures limit { IfOk result (λ space. space.limit ≡ segment.now.layout.tables) }
+fn page_at(rt: &impl Abort, alloc: Global, segment: &Trace, phys: u64) -> PlainSpace
+    ensures depth { result.depth ≡ segment.now.layout.depth }
+    ensures limit { result.limit ≡ segment.now.layout.tables }
 {
     let layout = segment.layout();
     let mut space = PlainSpace::new(alloc, layout.tables(), layout.depth());
-    let op = Op::map(layout.depth(), 0x400000, Size::K4, phys, Rights::ALL)?;
+    let op = Op::map(layout.depth(), 0x400000, Size::K4, phys, Rights::ALL);
+    let op = op.expect(rt, "an operation");
     assert!(rt; op.fits(space.depth()));
-    space.apply(op)?;
-    Ok(space)
+    space.apply(op).expect(rt, "memory");
+    space
 }
 
 /// How many calls the order of a segment has, and how many pages the space after it; or its fault.
-fn found(
-    alloc: Global,
-    segment: &Trace,
-    before: Option<PlainSpace>,
-) -> Result<Result<(usize, usize), SegmentFault>, Fail>
+type Found = Result<(usize, usize), SegmentFault>;
+
+fn found(rt: &impl Abort, alloc: Global, segment: &Trace, before: Option<PlainSpace>) -> Found
     requires { IfSome before (FitsLayout segment.now.layout) }
 {
-    match judge_segment(alloc, segment, before)? {
-        SegmentVerdict::Right(order, space) => Ok(Ok((order.calls().len(), space.pages()?.len()))),
-        SegmentVerdict::Wrong(fault) => Ok(Err(fault)),
+    match judge_segment(alloc, segment, before).expect(rt, "memory") {
+        SegmentVerdict::Right(order, space) => {
+            let pages = space.pages().expect(rt, "memory");
+            Ok((order.calls().len(), pages.len()))
+        }
+        SegmentVerdict::Wrong(fault) => Err(fault),
     }
 }
 
 /// The same, where the segment before leaves the page there.
-fn found_after_page(
-    rt: &impl Abort,
-    alloc: Global,
-    segment: &Trace,
-    phys: u64,
-) -> Result<Result<(usize, usize), SegmentFault>, Fail> {
-    let space = page_at(rt, alloc, segment, phys)?;
-    found(alloc, segment, Some(space))
+fn found_after_page(rt: &impl Abort, alloc: Global, segment: &Trace, phys: u64) -> Found {
+    let space = page_at(rt, alloc, segment, phys);
+    found(rt, alloc, segment, Some(space))
 }
 
 const DIFFERS: SegmentFault = SegmentFault::Start(StartFault::Differs(0x400000));
 
 #[test]
-fn a_first_segment(rt: HostRuntime) -> Result<(), Fail> {
+fn a_first_segment(rt: HostRuntime) {
     let alloc = rt.alloc();
-    let segment = segment_of(&rt, alloc, "two segments")?;
-    assert_eq!(rt; found(alloc, &segment, None)?, Ok((2, 1)));
+    let segment = segment_of(&rt, alloc, "two segments");
+    assert!(rt; found(&rt, alloc, &segment, None) == Ok((2, 1)));
     // Where the page is mapped already, the answer of the map is wrong.
     let overlaps = SegmentFault::Within(Fault::WrongAnswer(0));
-    assert_eq!(rt;
-        found_after_page(&rt, alloc, &segment, 0x1000)?,
-        Err(overlaps)
-    );
-    Ok(())
+    assert!(rt; found_after_page(&rt, alloc, &segment, 0x1000) == Err(overlaps));
 }
 
 /// A start is taken where the segment is the first one, and else compared.
 #[test]
-fn a_segment_with_a_start(rt: HostRuntime) -> Result<(), Fail> {
+fn a_segment_with_a_start(rt: HostRuntime) {
     let alloc = rt.alloc();
-    let segment = segment_of(&rt, alloc, "begins with a page")?;
-    assert_eq!(rt; found(alloc, &segment, None)?, Ok((1, 1)));
-    assert_eq!(rt; found_after_page(&rt, alloc, &segment, 0x1000)?, Ok((1, 1)));
-    assert_eq!(rt;
-        found_after_page(&rt, alloc, &segment, 0x2000)?,
-        Err(DIFFERS)
-    );
-    Ok(())
+    let segment = segment_of(&rt, alloc, "begins with a page");
+    assert!(rt; found(&rt, alloc, &segment, None) == Ok((1, 1)));
+    assert!(rt; found_after_page(&rt, alloc, &segment, 0x1000) == Ok((1, 1)));
+    assert!(rt; found_after_page(&rt, alloc, &segment, 0x2000) == Err(DIFFERS));
 }
 
 #[test]
-fn a_start_after_no_page(rt: HostRuntime) -> Result<(), Fail> {
+fn a_start_after_no_page(rt: HostRuntime) {
     let alloc = rt.alloc();
-    let segment = segment_of(&rt, alloc, "begins with a page")?;
+    let segment = segment_of(&rt, alloc, "begins with a page");
     let layout = segment.layout();
     let empty = PlainSpace::new(alloc, layout.tables(), layout.depth());
-    assert_eq!(rt; found(alloc, &segment, Some(empty))?, Err(DIFFERS));
-    Ok(())
+    assert!(rt; found(&rt, alloc, &segment, Some(empty)) == Err(DIFFERS));
 }
 
 /// A touch that found no page is right where there is none, and stale where there is one.
 #[test]
-fn a_touch_of_nothing(rt: HostRuntime) -> Result<(), Fail> {
+fn a_touch_of_nothing(rt: HostRuntime) {
     let alloc = rt.alloc();
-    let segment = segment_of(&rt, alloc, "a touch of nothing")?;
-    assert_eq!(rt; found(alloc, &segment, None)?, Ok((0, 0)));
+    let segment = segment_of(&rt, alloc, "a touch of nothing");
+    assert!(rt; found(&rt, alloc, &segment, None) == Ok((0, 0)));
     let stale = SegmentFault::Stale(0);
-    assert_eq!(rt; found_after_page(&rt, alloc, &segment, 0x1000)?, Err(stale));
-    Ok(())
+    assert!(rt; found_after_page(&rt, alloc, &segment, 0x1000) == Err(stale));
 }

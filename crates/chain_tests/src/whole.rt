@@ -5,7 +5,6 @@ use nr_audit::Order;
 use nr_chain::{ChainVerdict, audit_chain};
 use std::alloc::Global;
 use std::process::Abort;
-use std::test::Fail;
 
 /// Holds the orders of a chain against what is expected.
 fn expect_orders(rt: &impl Abort, case: &Case, orders: &[Order]) {
@@ -30,23 +29,20 @@ pub fn expect(rt: &impl Abort, case: &Case, verdict: &ChainVerdict) {
 }
 
 /// Audits the chain.
-fn run(rt: &impl Abort, alloc: Global, case: &Case) -> Result<(), Fail> {
-    let bytes = bytes_of(alloc, case)?;
-    let verdict = audit_chain(alloc, &bytes)?;
+fn run(rt: &impl Abort, alloc: Global, case: &Case) {
+    let bytes = bytes_of(rt, alloc, case);
+    let verdict = audit_chain(alloc, &bytes).expect(rt, "memory");
     expect(rt, case, &verdict);
-    Ok(())
 }
 
 #[test]
-fn one_chain(rt: HostRuntime) -> Result<(), Fail> {
-    let case = &CASES[0];
-    run(&rt, rt.alloc(), case)
+fn one_chain(rt: HostRuntime) {
+    run(&rt, rt.alloc(), &CASES[0]);
 }
 
 #[test]
-fn worked_chains(rt: HostRuntime) -> Result<(), Fail> {
+fn worked_chains(rt: HostRuntime) {
     for case in &CASES {
-        run(&rt, rt.alloc(), case)?;
+        run(&rt, rt.alloc(), case);
     }
-    Ok(())
 }

@@ -2,7 +2,8 @@
 
 use nr_core::Act;
 use nr_trace::Version;
-use vs_types::{Answer, BadConfig, Config, Depth, Rights, Size};
+use std::process::Abort;
+use vs_types::{Answer, Config, Depth, Rights, Size};
 
 /// What a call asks.
 #[derive(Clone, Copy)]
@@ -54,8 +55,9 @@ pub struct Case {
 }
 
 impl Case {
-    pub fn config(&self) -> Result<Config, BadConfig> {
-        Config::new(self.depth, self.replicas, self.threads, self.tables)
+    pub fn config(&self, rt: &impl Abort) -> Config {
+        let config = Config::new(self.depth, self.replicas, self.threads, self.tables);
+        config.expect(rt, "a configuration")
     }
 }
 

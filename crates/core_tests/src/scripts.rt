@@ -9,7 +9,7 @@ use nr_core::{Core, Step, run_steps};
 use nr_trace::{Trace, write};
 use std::alloc::Global;
 use std::process::Abort;
-use vs_types::{Config, Depth, Memory, Request};
+use vs_types::{Config, Depth, Request};
 
 /// That each request of a script is well formed at the depth.
 fn assert_fits(rt: &impl Abort, depth: Depth, script: &[Request])
@@ -40,9 +40,9 @@ pub fn run_at_once(
     config: Config,
     scripts: Vec<Vec<Request>>,
     steps: &[Step],
-) -> Result<Trace, Memory> {
+) -> Trace {
     assert_scripts(rt, config, &scripts);
-    run_steps(alloc, config, scripts, steps)
+    run_steps(alloc, config, scripts, steps).expect(rt, "memory")
 }
 
 /// How often a call is tried to which memory is refused: one that it is refused to changes nothing.
@@ -53,23 +53,23 @@ pub enum Tries {
 }
 
 /// Takes a step.
-fn take(core: &mut Core, step: Step, tries: Tries) -> Result<bool, Memory> {
+fn take(rt: &impl Abort, core: &mut Core, step: Step, tries: Tries) -> bool {
     if let Tries::Twice = tries
         && let Ok(done) = core.step(step)
     {
-        return Ok(done);
+        return done;
     }
-    core.step(step)
+    core.step(step).expect(rt, "memory")
 }
 
 /// The recording of the core as it is.
-fn recording_of(core: &Core, tries: Tries) -> Result<Trace, Memory> {
+fn recording_of(rt: &impl Abort, core: &Core, tries: Tries) -> Trace {
     if let Tries::Twice = tries
         && let Ok(trace) = core.trace()
     {
-        return Ok(trace);
+        return trace;
     }
-    core.trace()
+    core.trace().expect(rt, "memory")
 }
 
 /// The recording of the core after the steps; and of each step, whether it was made.
@@ -80,14 +80,15 @@ pub fn run_one_by_one(
     scripts: Vec<Vec<Request>>,
     steps: &[Step],
     tries: Tries,
-) -> Result<(Trace, Vec<bool>), Memory> {
+) -> (Trace, Vec<bool>) {
     assert_scripts(rt, config, &scripts);
-    let mut core = Core::new(alloc, config, scripts)?;
+    let mut core = Core::new(alloc, config, scripts).expect(rt, "memory");
     let mut made = Vec::new(alloc);
     for step in steps {
-        made.push(take(&mut core, *step, tries)?)?;
+        let done = take(rt, &mut core, *step, tries);
+        made.push(done).expect(rt, "memory");
     }
-    Ok((recording_of(&core, tries)?, made))
+    (recording_of(rt, &core, tries), made)
 }
 
 /// The order of a verdict, which has to be yes.
@@ -99,9 +100,9 @@ fn order_in(rt: &impl Abort, verdict: Verdict) -> Order {
 }
 
 /// The order with which the auditor says yes to the spelling of a trace.
-pub fn order_of(rt: &impl Abort, alloc: Global, trace: &Trace) -> Result<Order, Memory> {
-    let bytes = write(alloc, trace)?;
-    Ok(order_in(rt, audit(alloc, &bytes)?))
+pub fn order_of(rt: &impl Abort, alloc: Global, trace: &Trace) -> Order {
+    let bytes = write(alloc, trace).expect(rt, "memory");
+    order_in(rt, audit(alloc, &bytes).expect(rt, "memory"))
 }
 
 /// The order with which the auditor says yes to a run of the steps.
@@ -111,18 +112,15 @@ pub fn order_at_once(
     config: Config,
     scripts: Vec<Vec<Request>>,
     steps: &[Step],
-) -> Result<Order, Memory> {
+) -> Order {
     assert_scripts(rt, config, &scripts);
-    Ok(order_in(rt, judge_steps(alloc, config, scripts, steps)?))
+    let verdict = judge_steps(alloc, config, scripts, steps);
+    order_in(rt, verdict.expect(rt, "memory"))
 }
 
 /// That two traces are spelled alike.
-pub fn assert_alike(
-    rt: &impl Abort,
-    alloc: Global,
-    one: &Trace,
-    other: &Trace,
-) -> Result<(), Memory> {
-    assert!(rt; write(alloc, one)? == write(alloc, other)?);
-    Ok(())
+pub fn assert_alike(rt: &impl Abort, alloc: Global, one: &Trace, other: &Trace) {
+    let first = write(alloc, one).expect(rt, "memory");
+    let second = write(alloc, other).expect(rt, "memory");
+    assert!(rt; first == second);
 }

@@ -27,7 +27,7 @@ struct Wanted {
     work: Work,
 }
 
-/// The words are the number of threads, that of replicas, how many calls each thread makes, and how many of a hundred read.
+/// The words are the number of threads, that of replicas, how many calls each thread makes, how many of a hundred read, and perhaps `maps`.
 fn read_words<R: Env + AllocGlobal>(rt: &R) -> Result<Wanted, ProgFault> {
     let words: Vec<String> = env::args(rt)
         .map_err(|_| ProgFault::Memory)?
@@ -36,8 +36,13 @@ fn read_words<R: Env + AllocGlobal>(rt: &R) -> Result<Wanted, ProgFault> {
 }
 
 fn parse_words(words: &[String]) -> Result<Wanted, ProgFault> {
-    let [_, threads, replicas, calls, reads] = words else {
+    let [_, threads, replicas, calls, reads, rest @ ..] = words else {
         return Err(ProgFault::BadWords);
+    };
+    let maps = match rest {
+        [] => false,
+        [word] if word.as_str() == "maps" => true,
+        _ => return Err(ProgFault::BadWords),
     };
     let threads = threads.parse::<u16>()?;
     let replicas = replicas.parse::<u8>()?;
@@ -49,7 +54,7 @@ fn parse_words(words: &[String]) -> Result<Wanted, ProgFault> {
     Ok(Wanted {
         threads,
         replicas,
-        work: Work { calls, reads },
+        work: Work { calls, reads, maps },
     })
 }
 
@@ -97,6 +102,7 @@ fn print_rate<R: Eprint>(
         .saturating_add(u64::from(measured.time.subsec_nanos()));
     let rate = all.saturating_mul(1_000_000_000) / nanos.max(1);
     eprintln!(rt; "operations a second  {:>12}", "call")?;
-    eprintln!(rt; "reads_{reads}_{threads}_{replicas}  {rate:>12}")?;
+    let kind = if work.maps { "maps" } else { "reads" };
+    eprintln!(rt; "{kind}_{reads}_{threads}_{replicas}  {rate:>12}")?;
     Ok(())
 }

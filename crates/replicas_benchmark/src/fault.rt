@@ -5,7 +5,7 @@ use std::num::ParseIntError;
 /// Why the program ends early.
 #[derive(Clone, Copy)]
 pub enum ProgFault {
-    /// The program's words aren't how many threads and replicas there are, how many calls a thread makes and how many of a hundred read.
+    /// The program's words aren't how many threads and replicas there are, how many calls a thread makes, how many of a hundred read, and perhaps `maps`.
     BadWords,
     /// The threads' updates are more than the log has room for.
     LogEnded,
@@ -24,7 +24,7 @@ impl ProgFault {
     pub fn text(self) -> &'static str {
         match self {
             ProgFault::BadWords =>
-                "usage: replicas_benchmark THREADS REPLICAS CALLS READS, up to 64 threads and 4 replicas, and up to 100 READS of a hundred calls",
+                "usage: replicas_benchmark THREADS REPLICAS CALLS READS [maps], up to 64 threads and 4 replicas, and up to 100 READS of a hundred calls",
             ProgFault::LogEnded => "the log has ended",
             ProgFault::Stuck => "a thread is stuck",
             ProgFault::CannotWrite => "cannot write",

@@ -16,9 +16,11 @@ use std::thread::Threads;
 use std::time::{Duration, Instant};
 use vs_types::{Answer, Config, Depth, Op, Rights, Size};
 
-/// How many updates all threads may make when the pages are mapped: the log takes whole batches, as long as its tail is at most
-/// 65,520.
-const UPDATES: u32 = 65_520 - 16_384;
+/// How many updates map the pages: the last 32 of them one in each table of the pages that are the threads' own.
+const MAPS: u32 = 16_384 + 32;
+
+/// How many updates all threads may make then: the log takes whole batches, as long as its tail is at most 65,520.
+const UPDATES: u32 = 65_520 - MAPS;
 
 /// What each thread does.
 #[derive(Clone, Copy, Debug)]
@@ -27,6 +29,8 @@ pub struct Work {
     pub calls: u32,
     /// How many of a hundred read.
     pub reads: u8,
+    /// Whether its updates map and unmap pages of its own, in turn; else they protect pages of all.
+    pub maps: bool,
 }
 
 /// What a thread did.
@@ -151,26 +155,55 @@ fn callers_of<'a, J: LogName, K: ReplicasName>(
             return Err(ProgFault::Stuck);
         }
         let thread = thread as u16;
-        let end = PAGES as u32 + (u32::from(thread) + 1) * each;
+        let end = MAPS + (u32::from(thread) + 1) * each;
         let first = if thread == 0 { 0 } else { end - each };
         callers.push(Caller::new(replicas, pass, thread, Numbers { first, end }))?;
     }
     Ok(callers)
 }
 
-/// Maps all pages, each to the physical address that is its own.
+/// Maps all pages that are read, and one in each table of those that are the threads' own.
 fn map_pages<J: LogName, K: ReplicasName, R: Wait>(
     rt: &R,
     caller: &mut Caller<J, K>,
 ) -> Result<(), ProgFault> {
     for page in 0..PAGES {
-        let base = page * 4096;
-        let op = Op::map(Depth::Four, base, Size::K4, base, Rights::ALL)?;
-        let Answer::Done = caller.update(rt, op)? else {
-            return Err(ProgFault::Stuck);
-        };
+        map(rt, caller, page * 4096)?;
+    }
+    for table in 0..32u64 {
+        map(rt, caller, (PAGES + table * 512) * 4096)?;
     }
     Ok(())
+}
+
+/// Maps a page to the physical address that is its own.
+fn map<J: LogName, K: ReplicasName, R: Wait>(
+    rt: &R,
+    caller: &mut Caller<J, K>,
+    base: u64,
+) -> Result<(), ProgFault> {
+    let op = Op::map(Depth::Four, base, Size::K4, base, Rights::ALL)?;
+    match caller.update(rt, op)? {
+        Answer::Done => Ok(()),
+        _ => Err(ProgFault::Stuck),
+    }
+}
+
+/// Unmaps the page that the thread has mapped, or else maps the one that is drawn: the page that it has mapped then.
+fn map_or_unmap<J: LogName, K: ReplicasName, R: Wait>(
+    rt: &R,
+    caller: &mut Caller<J, K>,
+    drawn: Drawn,
+    mapped: Option<u64>,
+) -> Result<Option<u64>, ProgFault> {
+    let Some(base) = mapped else {
+        map(rt, caller, drawn.own)?;
+        return Ok(Some(drawn.own));
+    };
+    match caller.update(rt, Op::unmap(Depth::Four, base)?)? {
+        Answer::Removed(_, _, _) => Ok(None),
+        _ => Err(ProgFault::Stuck),
+    }
 }
 
 /// Makes the calls of a thread.
@@ -180,6 +213,7 @@ fn call_often<J: LogName, K: ReplicasName, R: Wait>(
     work: Work,
 ) -> Result<Done, ProgFault> {
     let mut draws = Draws::new(caller.thread());
+    let mut mapped = None;
     let mut done = Done {
         reads: 0,
         updates: 0,
@@ -191,10 +225,14 @@ fn call_often<J: LogName, K: ReplicasName, R: Wait>(
             let phys = read(rt, &mut caller, drawn.address)?;
             done.reads = done.reads.wrapping_add(1);
             done.sum = done.sum.wrapping_add(phys);
+            continue;
+        }
+        if work.maps {
+            mapped = map_or_unmap(rt, &mut caller, drawn, mapped)?;
         } else {
             protect(rt, &mut caller, drawn)?;
-            done.updates = done.updates.wrapping_add(1);
         }
+        done.updates = done.updates.wrapping_add(1);
     }
     Ok(done)
 }

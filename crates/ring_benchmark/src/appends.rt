@@ -8,7 +8,6 @@ use crate::entry::entry_of;
 use crate::fault::ProgFault;
 use arrayvec::ArrayVec;
 use crossbeam_utils::Backoff;
-use nr_ring::laws::needed_entries_fit_the_ring;
 use nr_ring::{AppendFault, LogName, LogPass, RingLog, Tails};
 use std::alloc::Global;
 use std::rt::Clock;
@@ -19,7 +18,7 @@ use std::time::Duration;
 use vs_types::{Depth, LogEntry};
 
 /// How often a thread tries what the others may hinder, before it says that it is stuck.
-const TRIES: u32 = 1 << 22;
+const TRIES: u32 = 1 << 30;
 
 /// What a replica has taken.
 #[derive(Clone, Copy, Debug)]
@@ -187,17 +186,10 @@ fn take<J: LogName, R: Wait>(rt: &R, log: &RingLog<J>, pass: &mut LogPass<J>, ta
     ensures owner { pass.new.view.owns ≡ pass.old.view.owns }
 {
     let mut entries = ArrayVec::new();
-    log.fetch(rt, pass, &mut entries);
-    let tails = log.look(pass);
-    let count = entries.len() as u32;
-    if taken.entries.saturating_add(count) != tails.tail {
+    if log.take(rt, pass, &mut entries).is_err() {
         return;
     }
-    needed_entries_fit_the_ring();
-    if log.advance(rt, pass, tails.tail).is_err() {
-        return;
-    }
-    taken.entries = tails.tail;
+    taken.entries = taken.entries.saturating_add(entries.len() as u32);
     for entry in &entries {
         taken.calls = taken.calls.wrapping_add(u64::from(entry.call));
     }

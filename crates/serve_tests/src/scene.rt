@@ -80,6 +80,22 @@ fn run_on_log<J: LogName + Send + Sync, G: Gate + Sync, R: Threads + Wait + Abor
     }
 }
 
+/// So many turns for each call of these scripts, one for each thread; the run has to be verified.
+pub fn shown_by<G: Gate + Sync, R: Threads + Wait + Abort + Sync>(
+    rt: &R,
+    alloc: Global,
+    replicas: u8,
+    scripts: &[&[Request]],
+    gate: &G,
+) -> Shown {
+    let mut all = Vec::new(alloc);
+    for script in scripts {
+        let script = Vec::from_slice(alloc, *script).expect(rt, "memory");
+        all.push(script).expect(rt, "memory");
+    }
+    verified(rt, alloc, replicas, all, TURNS, gate).expect(rt, "a run")
+}
+
 /// A run of a configuration, which has to be verified.
 pub fn verified_of<G: Gate + Sync, R: Threads + Wait + Abort + Sync>(
     rt: &R,

@@ -5,7 +5,7 @@ ghost use Rattle.vs_types.specs.Query.{AreScripts};
 
 use std::alloc::Global;
 use std::process::Abort;
-use vs_types::{Access, Config, Depth, Memory, Mode, Op, Request, Rights, Size};
+use vs_types::{Access, Config, Depth, Mode, Op, Request, Rights, Size};
 
 /// That each request of a script is well formed at the depth.
 fn assert_fits(rt: &impl Abort, depth: Depth, script: &[Request])
@@ -47,21 +47,25 @@ pub fn unmap_a(rt: &impl Abort) -> Request {
 
 /// 64 requests. Half are updates: that page and the page of 2 MiB that begins with it are mapped, the rights of what is there are
 /// changed, and it is unmapped.
-pub fn overlapping(rt: &impl Abort, alloc: Global) -> Result<Vec<Request>, Memory> {
+pub fn overlapping(rt: &impl Abort, alloc: Global) -> Vec<Request> {
     let whole = Op::map(Depth::Four, 0x400000, Size::M2, 0x200000, Rights::ALL).expect(rt, "a map");
     let rights = Op::protect(Depth::Four, 0x400000, Rights::ALL).expect(rt, "a protect");
+    let resolve = resolve_a(rt);
+    let eight = [
+        map_a(rt),
+        resolve,
+        Request::update(whole),
+        resolve,
+        Request::update(rights),
+        resolve,
+        unmap_a(rt),
+        resolve,
+    ];
     let mut script = Vec::new(alloc);
     for _ in 0..8u32 {
-        script.push(map_a(rt))?;
-        script.push(resolve_a(rt))?;
-        script.push(Request::update(whole))?;
-        script.push(resolve_a(rt))?;
-        script.push(Request::update(rights))?;
-        script.push(resolve_a(rt))?;
-        script.push(unmap_a(rt))?;
-        script.push(resolve_a(rt))?;
+        script.extend_from_slice(&eight).expect(rt, "memory");
     }
-    Ok(script)
+    script
 }
 
 /// A page of 4 KiB at 0x800000000000, which only five levels reach, is mapped to 0x1000 with no rights but to read in supervisor mode.

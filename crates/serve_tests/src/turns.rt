@@ -1,13 +1,12 @@
 //! How many turns a call has.
 use crate::scene::verified;
 use crate::scripts::unmap_a;
-use nr_serve::{AlwaysGo, NoThread, Said};
+use nr_serve::{AlwaysGo, Said};
 use std::alloc::Global;
 use std::process::Abort;
 use std::sync::Wait;
-use std::test;
 use std::thread::Threads;
-use vs_types::{Answer, Fail};
+use vs_types::Answer;
 
 /// How many updates the thread makes.
 const UPDATES: u32 = 20;
@@ -19,25 +18,27 @@ fn update_in_turns<R: Threads + Wait + Abort + Sync>(
     alloc: Global,
     turns: u32,
     answered: u32,
-) -> Result<(), Fail<NoThread>> {
-    let script = vec![in alloc; unmap_a(rt); UPDATES as usize]?;
+) {
+    let script = vec![in alloc; unmap_a(rt); UPDATES as usize].expect(rt, "memory");
     let mut said = Vec::new(alloc);
     for place in 0..answered {
-        said.push(Said::Answer(place, Answer::NotMapped))?;
+        let done = Said::Answer(place, Answer::NotMapped);
+        said.push(done).expect(rt, "memory");
     }
     if answered < UPDATES {
-        said.push(Said::Stopped)?;
+        said.push(Said::Stopped).expect(rt, "memory");
     }
-    let scripts = vec![in alloc; script, Vec::new(alloc), Vec::new(alloc), Vec::new(alloc)]?;
-    let shown = verified(rt, alloc, 4, scripts, turns, &AlwaysGo)?;
+    let none = Vec::new(alloc);
+    let scripts = vec![in alloc; script, none, Vec::new(alloc), Vec::new(alloc)];
+    let scripts = scripts.expect(rt, "memory");
+    let shown = verified(rt, alloc, 4, scripts, turns, &AlwaysGo).expect(rt, "a run");
     shown.assert_said(rt, 0, &said);
-    Ok(())
 }
 
 /// An update takes two turns: its batch, and the poll that finds the answer. The seventeenth finds the ring full, and takes eight, of
 /// which four bring a replica forward.
 #[test]
-fn turns_of_each_call(rt: HostRuntime) -> Result<(), test::Fail> {
+fn turns_of_each_call(rt: HostRuntime) {
     let rows = [
         (1, 0),
         (2, 16),
@@ -50,7 +51,6 @@ fn turns_of_each_call(rt: HostRuntime) -> Result<(), test::Fail> {
         (u32::MAX, UPDATES),
     ];
     for (turns, answered) in rows {
-        update_in_turns(&rt, rt.alloc(), turns, answered)?;
+        update_in_turns(&rt, rt.alloc(), turns, answered);
     }
-    Ok(())
 }
