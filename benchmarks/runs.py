@@ -4,7 +4,7 @@
     benchmarks/runs.py [RUNS]
 
 Build `nrvs` first. Half of the requests resolve a drawn address of 4,096 pages, the others map, protect or unmap a drawn page. The plain
-programs: the same design, whose trace is judged too; the same design with no verdict; and a design whose tails lie apart, which keeps no
+programs: the same design, whose trace is judged too; the same design with no verdict; and the protocol tuned for speed, which keeps no
 answers, with no verdict. Prints of 1 and 4 replicas the seconds and the peak memory of each (medians of RUNS runs of all in drawn order),
 and how many times as fast as it `nrvs run` is, by the median of the ratios of neighbouring runs.
 """
@@ -18,7 +18,7 @@ import time
 
 REQUESTS, THREADS, PAGES = 65536, 8, 4096
 NRVS = "crates/nrvs/out/nrvs"
-PLAIN = {"same, judged": ("same", "judged"), "same": ("same", "answers"), "tails apart": ("replicas", "answers")}
+PLAIN = {"same, judged": ("same", "judged"), "same": ("same", "answers"), "tuned": ("tuned", "answers")}
 
 
 def script():

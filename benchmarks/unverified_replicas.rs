@@ -1,29 +1,26 @@
 //! A replicated page table in plain Rust, with no proof, to compare with `Replicas`, and one page table under a lock:
 //!     rustc -O -C target-cpu=x86-64-v2 benchmarks/unverified_replicas.rs
-//!     ./unverified_replicas same|cell|replicas|mutex|rwlock THREADS REPLICAS CALLS READS
-//! `same` is the design of the proved program: its log lies in one cell, each replica keeps the entries that it has applied with their
-//! answers, and an update is confirmed by them. `cell` does without the last two, and the log of `replicas` has a cache line for each tail.
-//! 16,384 pages of 4 KiB are mapped first. Then each thread makes so many calls, of which READS in a hundred are resolves of
-//! drawn addresses, and the rest protects of drawn pages. The log has 65,536 places, so that there may be 49,152 protects in all.
+//!     ./unverified_replicas tuned|same|mutex|rwlock THREADS REPLICAS CALLS READS [maps]
+//! `tuned` is the protocol as one would write it for speed: the tails of its log lie apart, and nothing is confirmed. `same` is the design
+//! of the proved program: its log lies in one cell, each replica keeps the entries that it has applied with their answers, and an update
+//! is confirmed by them.
+//! 16,384 pages of 4 KiB are mapped first. Then each thread makes so many calls, of which READS in a hundred are resolves of drawn
+//! addresses, and the rest protects of drawn pages, or with `maps` a map and an unmap, in turn, of one of 128 further pages of its own.
+//! The log has 65,536 places, so that there may be 49,120 updates in all.
 #[allow(dead_code)]
 #[path = "unverified.rs"]
 pub mod table;
+pub mod unverified_log;
 
-use std::sync::atomic::{AtomicU64, Ordering, fence};
-use std::sync::{Mutex, MutexGuard, RwLock};
+use std::cell::UnsafeCell;
+use std::ops::{Deref, DerefMut};
+use std::sync::atomic::{AtomicBool, AtomicU64, Ordering};
+use std::sync::{Mutex, RwLock};
 use std::time::{Duration, Instant};
 use self::table::{Answer, Op, Space};
+use self::unverified_log::{Apart, Entry, Log, OneCell, PLACES, RING, Waits};
 
 const PAGES: u64 = 16_384;
-const PLACES: u64 = 65_536;
-const RING: usize = 16;
-
-/// An update as two words.
-#[derive(Clone, Copy, PartialEq)]
-pub struct Entry {
-    operation: u64,
-    frame: u64,
-}
 
 fn entry_of(op: Op) -> Entry {
     match op {
@@ -42,221 +39,132 @@ fn op_of(entry: Entry) -> Op {
     }
 }
 
-/// A word with a cache line of its own.
-#[repr(align(64))]
-#[derive(Default)]
-struct Word(AtomicU64);
-
-/// A cell of the ring: an entry, and one more than the place where it is.
-#[repr(align(64))]
-#[derive(Default)]
-struct Cell {
-    after: AtomicU64,
-    operation: AtomicU64,
-    frame: AtomicU64,
-}
-
-/// A log that replicas append to and take entries from.
-pub trait Log: Sync {
-    fn new(replicas: usize) -> Self;
-
-    /// Appends the entries, if no replica would have more than 16 to take. Where they are.
-    fn append(&self, entries: &[Entry]) -> Option<u64>;
-
-    /// Takes all entries from this place on, for a replica that has taken those before: how many they are.
-    fn take(&self, replica: usize, from: u64, entries: &mut [Entry; RING]) -> usize;
-
-    fn tail(&self) -> u64;
-
-    /// How many entries some replica has taken.
-    fn completed(&self) -> u64;
-}
-
-/// A log whose tails lie apart. Places are taken by an exchange of the tail, and filled one after another.
-pub struct Apart {
-    tail: Word,
-    completed: Word,
-    local: Vec<Word>,
-    cells: [Cell; RING],
-}
-
-impl Apart {
-    /// The entry at a place that is taken, once it is filled.
-    fn entry(&self, place: u64) -> Entry {
-        let cell = &self.cells[place as usize % RING];
-        let mut waits = Waits(0);
-        while cell.after.load(Ordering::Acquire) != place + 1 {
-            waits.wait();
+impl Waits {
+    /// Sleeps too, for longer each time, where it has waited for some time.
+    fn wait_long(&mut self) {
+        if self.0 > 10 {
+            std::thread::sleep(Duration::from_micros(1 << (self.0 - 10).min(6)));
         }
-        Entry { operation: cell.operation.load(Ordering::Relaxed), frame: cell.frame.load(Ordering::Relaxed) }
+        self.wait();
     }
 }
 
-impl Log for Apart {
-    fn new(replicas: usize) -> Apart {
-        let local = (0..replicas).map(|_| Word::default()).collect();
-        Apart { tail: Word::default(), completed: Word::default(), local, cells: Default::default() }
-    }
-
-    fn append(&self, entries: &[Entry]) -> Option<u64> {
-        let mut first = self.tail.0.load(Ordering::Acquire);
-        loop {
-            let end = first + entries.len() as u64;
-            assert!(end <= PLACES, "the log has ended");
-            if self.local.iter().any(|local| end > local.0.load(Ordering::Acquire) + RING as u64) {
-                return None;
-            }
-            match self.tail.0.compare_exchange_weak(first, end, Ordering::AcqRel, Ordering::Acquire) {
-                Ok(_) => break,
-                Err(tail) => first = tail,
-            }
-        }
-        for (place, entry) in (first..).zip(entries) {
-            let cell = &self.cells[place as usize % RING];
-            cell.operation.store(entry.operation, Ordering::Relaxed);
-            cell.frame.store(entry.frame, Ordering::Relaxed);
-            cell.after.store(place + 1, Ordering::Release);
-        }
-        Some(first)
-    }
-
-    fn take(&self, replica: usize, from: u64, entries: &mut [Entry; RING]) -> usize {
-        let to = self.tail();
-        for (place, entry) in (from..to).zip(entries.iter_mut()) {
-            *entry = self.entry(place);
-        }
-        if from < to {
-            self.local[replica].0.store(to, Ordering::Release);
-            self.completed.0.fetch_max(to, Ordering::AcqRel);
-        }
-        (to - from) as usize
-    }
-
-    fn tail(&self) -> u64 {
-        self.tail.0.load(Ordering::Acquire)
-    }
-
-    fn completed(&self) -> u64 {
-        self.completed.0.load(Ordering::Acquire)
-    }
+/// A value under a lock, which is only tried.
+struct Lock<T> {
+    taken: AtomicBool,
+    value: UnsafeCell<T>,
 }
 
-/// A log in one cell, as that of the proved program is: the ring, and a version that determines the tails, which each event of any
-/// replica exchanges. It is odd while entries are written.
-pub struct OneCell {
-    replicas: usize,
-    version: Word,
-    ring: Ring,
-}
+// SAFETY: the value is used under a guard alone, of which there is one at a time.
+unsafe impl<T: Send> Sync for Lock<T> {}
 
-#[repr(align(64))]
-#[derive(Default)]
-struct Ring([[AtomicU64; 2]; RING]);
+struct Guard<'a, T>(&'a Lock<T>);
 
-/// The tail and the local tails, of which the version has the tail and how much room each replica has.
-#[derive(Clone, Copy)]
-struct Tails {
-    tail: u64,
-    local: [u64; 4],
-}
-
-impl Tails {
-    fn of(version: u64) -> Tails {
-        let tail = version >> 21;
-        Tails { tail, local: std::array::from_fn(|n| tail + (version >> (1 + 5 * n)) % 32 - RING as u64) }
+impl<T> Lock<T> {
+    fn new(value: T) -> Lock<T> {
+        Lock { taken: AtomicBool::new(false), value: UnsafeCell::new(value) }
     }
 
-    fn version(self) -> u64 {
-        let rooms = (0..4).map(|n| (self.local[n] + RING as u64 - self.tail) << (1 + 5 * n));
-        rooms.sum::<u64>() | self.tail << 21
-    }
-}
-
-impl OneCell {
-    fn exchange(&self, version: u64, next: u64) -> bool {
-        self.version.0.compare_exchange(version, next, Ordering::AcqRel, Ordering::Acquire).is_ok()
-    }
-}
-
-impl Log for OneCell {
-    fn new(replicas: usize) -> OneCell {
-        let start = Tails { tail: 0, local: [0; 4] }.version();
-        OneCell { replicas, version: Word(AtomicU64::new(start)), ring: Ring::default() }
+    fn attempt(&self) -> Option<Guard<'_, T>> {
+        let taken = self.taken.load(Ordering::Relaxed) || self.taken.swap(true, Ordering::Acquire);
+        if taken { None } else { Some(Guard(self)) }
     }
 
-    fn append(&self, entries: &[Entry]) -> Option<u64> {
+    fn hold(&self) -> Guard<'_, T> {
         let mut waits = Waits(0);
         loop {
-            let version = self.version.0.load(Ordering::Acquire);
-            let tails = Tails::of(version);
-            let end = tails.tail + entries.len() as u64;
-            assert!(end <= PLACES, "the log has ended");
-            if tails.local[..self.replicas].iter().any(|local| end > local + RING as u64) {
-                return None;
+            match self.attempt() {
+                Some(guard) => return guard,
+                None => waits.wait_long(),
             }
-            if version % 2 == 0 && self.exchange(version, version + 1) {
-                fence(Ordering::Release);
-                for (place, entry) in (tails.tail..).zip(entries) {
-                    let words = &self.ring.0[place as usize % RING];
-                    words[0].store(entry.operation, Ordering::Relaxed);
-                    words[1].store(entry.frame, Ordering::Relaxed);
-                }
-                // A replica that isn't there has always taken all.
-                let local = std::array::from_fn(|n| if n < self.replicas { tails.local[n] } else { end });
-                self.version.0.store(Tails { tail: end, local }.version(), Ordering::Release);
-                return Some(tails.tail);
-            }
-            waits.wait();
         }
     }
+}
 
-    fn take(&self, replica: usize, from: u64, entries: &mut [Entry; RING]) -> usize {
-        let mut waits = Waits(0);
-        loop {
-            let version = self.version.0.load(Ordering::Acquire);
-            let mut tails = Tails::of(version);
-            if from == tails.tail {
-                return 0;
-            }
-            if version % 2 == 0 {
-                for (place, entry) in (from..tails.tail).zip(entries.iter_mut()) {
-                    let words = &self.ring.0[place as usize % RING];
-                    *entry = Entry { operation: words[0].load(Ordering::Relaxed), frame: words[1].load(Ordering::Relaxed) };
-                }
-                fence(Ordering::Acquire);
-                tails.local[replica] = tails.tail;
-                if self.exchange(version, tails.version()) {
-                    return (tails.tail - from) as usize;
-                }
-            }
-            waits.wait();
-        }
+impl<T> Deref for Guard<'_, T> {
+    type Target = T;
+    fn deref(&self) -> &T {
+        // SAFETY: the lock is taken.
+        unsafe { &*self.0.value.get() }
     }
+}
 
-    fn tail(&self) -> u64 {
-        Tails::of(self.version.0.load(Ordering::Acquire)).tail
+impl<T> DerefMut for Guard<'_, T> {
+    fn deref_mut(&mut self) -> &mut T {
+        // SAFETY: the lock is taken.
+        unsafe { &mut *self.0.value.get() }
     }
+}
 
-    fn completed(&self) -> u64 {
-        let tails = Tails::of(self.version.0.load(Ordering::Acquire));
-        tails.local[..self.replicas].iter().copied().max().unwrap_or(0)
+impl<T> Drop for Guard<'_, T> {
+    fn drop(&mut self) {
+        self.0.taken.store(false, Ordering::Release);
     }
+}
+
+/// Where a thread leaves its update and finds the answer. The state says which of them is there, and whose turn it is.
+#[repr(align(64))]
+struct Slot {
+    state: AtomicU64,
+    left: UnsafeCell<Left>,
 }
 
 #[derive(Clone, Copy)]
-enum Slot {
-    Empty,
-    Posted(Entry),
-    Taken,
-    Ready(u64, Answer),
+struct Left {
+    entry: Entry,
+    place: u64,
+    answer: Answer,
 }
 
-/// A replica's table, how many entries it has applied, and the threads and entries of a batch, with its place if it has one.
+// SAFETY: who may use what is left follows from the state.
+unsafe impl Sync for Slot {}
+
+const EMPTY: u64 = 0;
+const POSTED: u64 = 1;
+const READY: u64 = 2;
+
+impl Slot {
+    fn new() -> Slot {
+        let left = Left { entry: Entry::default(), place: 0, answer: Answer::Done };
+        Slot { state: AtomicU64::new(EMPTY), left: UnsafeCell::new(left) }
+    }
+
+    fn post(&self, entry: Entry) {
+        // SAFETY: it is empty, and its thread alone fills it.
+        unsafe { (*self.left.get()).entry = entry };
+        self.state.store(POSTED, Ordering::Release);
+    }
+
+    /// What is posted, for a combiner, which holds its replica's lock.
+    fn posted(&self) -> Option<Entry> {
+        // SAFETY: it is posted, and its thread waits.
+        (self.state.load(Ordering::Acquire) == POSTED).then(|| unsafe { (*self.left.get()).entry })
+    }
+
+    fn answer(&self, place: u64, answer: Answer) {
+        // SAFETY: it is posted, and its thread waits.
+        unsafe { ((*self.left.get()).place, (*self.left.get()).answer) = (place, answer) };
+        self.state.store(READY, Ordering::Release);
+    }
+
+    fn poll(&self) -> Option<(u64, Answer)> {
+        if self.state.load(Ordering::Acquire) != READY {
+            return None;
+        }
+        self.state.store(EMPTY, Ordering::Relaxed);
+        // SAFETY: it was ready, so no combiner uses it.
+        let left = unsafe { *self.left.get() };
+        Some((left.place, left.answer))
+    }
+}
+
+/// A replica's table, how many entries it has applied, and the slots and entries of a batch, with its place if it has one.
 struct Node {
     space: Space,
     applied: u64,
-    threads: Vec<usize>,
-    entries: Vec<Entry>,
+    count: usize,
+    slots: [usize; RING],
+    entries: [Entry; RING],
     first: Option<u64>,
     /// The entries that it has applied, each with its answer, where they are kept.
     told: Vec<(Entry, Answer)>,
@@ -266,8 +174,9 @@ struct Node {
 #[repr(align(128))]
 pub struct Replica {
     number: usize,
-    node: Mutex<Node>,
-    slots: Vec<Mutex<Slot>>,
+    node: Lock<Node>,
+    /// Those of its own threads.
+    slots: Vec<Slot>,
 }
 
 /// With `KEEPS` each replica keeps what it has applied, and an update is confirmed by that.
@@ -279,84 +188,52 @@ pub struct Replicas<L: Log, const KEEPS: bool> {
 impl Replica {
     /// Takes all entries and applies them, and leaves the answers of the batch in the slots.
     fn catch_up<const KEEPS: bool>(&self, node: &mut Node, log: &impl Log) {
-        let from = node.applied;
-        let mut entries = [Entry { operation: 0, frame: 0 }; RING];
-        let taken = log.take(self.number, from, &mut entries);
-        if taken == 0 {
-            return;
-        }
-        let to = from + taken as u64;
-        let own = node.first.unwrap_or(to);
-        for (place, entry) in (from..).zip(&entries[..taken]) {
+        let mut entries = [Entry::default(); RING];
+        let taken = log.take(self.number, node.applied, &mut entries);
+        for (place, entry) in (node.applied..).zip(&entries[..taken]) {
             let answer = node.space.apply(op_of(*entry));
             if KEEPS {
                 node.told.push((*entry, answer));
             }
-            if let Some(thread) = place.checked_sub(own).and_then(|n| node.threads.get(n as usize)) {
-                *self.slots[*thread].lock().unwrap() = Slot::Ready(place, answer);
+            let Some(first) = node.first.filter(|first| *first <= place) else { continue };
+            if let Some(slot) = node.slots[..node.count].get((place - first) as usize) {
+                self.slots[*slot].answer(place, answer);
             }
         }
-        node.applied = to;
-        if node.first.take().is_some() {
-            node.threads.clear();
-            node.entries.clear();
+        node.applied += taken as u64;
+        if taken > 0 && node.first.take().is_some() {
+            node.count = 0;
         }
     }
 
     /// Tests that an update is at its place, which is not below this one, and was answered so.
     fn confirm(&self, from: u64, place: u64, entry: Entry, answer: Answer) {
-        let node = self.node.lock().unwrap();
-        assert!(place >= from && node.told[place as usize] == (entry, answer), "not confirmed");
+        assert!(place >= from && self.node.hold().told[place as usize] == (entry, answer), "not confirmed");
     }
 
     /// Adds its part of a trace: how many entries it has applied, and its page table.
     pub fn dump(&mut self, bytes: &mut Vec<u8>) {
-        let node = self.node.get_mut().unwrap();
+        let node = self.node.value.get_mut();
         bytes.extend((node.applied as u32).to_be_bytes());
         node.space.dump(bytes);
     }
 
     /// Collects updates, puts them into the log and catches up. Answers whether the log was full.
     fn combine<const KEEPS: bool>(&self, node: &mut Node, log: &impl Log) -> bool {
-        if node.threads.is_empty() {
-            for (thread, slot) in self.slots.iter().enumerate() {
-                let mut slot = slot.lock().unwrap();
-                if let Slot::Posted(entry) = *slot {
-                    *slot = Slot::Taken;
-                    node.threads.push(thread);
-                    node.entries.push(entry);
-                }
-                if node.threads.len() == RING {
-                    break;
-                }
+        if node.count == 0 {
+            let posted = self.slots.iter().enumerate().filter_map(|(slot, at)| Some((slot, at.posted()?)));
+            for (slot, entry) in posted.take(RING) {
+                (node.slots[node.count], node.entries[node.count]) = (slot, entry);
+                node.count += 1;
             }
         }
-        let mut full = false;
-        if node.first.is_none() && !node.entries.is_empty() {
-            node.first = log.append(&node.entries);
-            full = node.first.is_none();
+        let waits = node.count > 0 && node.first.is_none();
+        if waits {
+            node.first = log.append(&node.entries[..node.count]);
         }
+        let full = waits && node.first.is_none();
         self.catch_up::<KEEPS>(node, log);
         full
-    }
-}
-
-/// Spins a little, then yields, then sleeps for longer each time.
-struct Waits(u32);
-
-impl Waits {
-    fn wait(&mut self) {
-        match self.0 {
-            0..=6 => (0..1 << self.0).for_each(|_| std::hint::spin_loop()),
-            7..=10 => std::thread::yield_now(),
-            _ => std::thread::sleep(Duration::from_micros(1 << (self.0 - 10).min(6))),
-        }
-        self.0 += 1;
-    }
-
-    /// The lock, which is tried while waiting is short, and then waited for.
-    fn lock<'a, T>(&mut self, lock: &'a Mutex<T>) -> Option<MutexGuard<'a, T>> {
-        if self.0 > 10 { lock.lock().ok() } else { lock.try_lock().ok() }
     }
 }
 
@@ -365,70 +242,66 @@ impl<L: Log, const KEEPS: bool> Replicas<L, KEEPS> {
         let node = || Node {
             space: Space::new(4),
             applied: 0,
-            threads: Vec::with_capacity(RING),
-            entries: Vec::with_capacity(RING),
+            count: 0,
+            slots: [0; RING],
+            entries: [Entry::default(); RING],
             first: None,
             told: Vec::with_capacity(if KEEPS { PLACES as usize } else { 0 }),
         };
         let replica = |number| Replica {
             number,
-            node: Mutex::new(node()),
-            slots: (0..threads).map(|_| Mutex::new(Slot::Empty)).collect(),
+            node: Lock::new(node()),
+            slots: (number..threads).step_by(replicas).map(|_| Slot::new()).collect(),
         };
         Replicas { log: L::new(replicas), replicas: (0..replicas).map(replica).collect() }
     }
 
     pub fn update(&self, thread: usize, op: Op) -> (u64, Answer) {
         let home = &self.replicas[thread % self.replicas.len()];
+        let slot = &home.slots[thread / self.replicas.len()];
         let from = if KEEPS { self.log.tail() } else { 0 };
-        *home.slots[thread].lock().unwrap() = Slot::Posted(entry_of(op));
+        slot.post(entry_of(op));
         let mut waits = Waits(0);
         loop {
-            let mut slot = home.slots[thread].lock().unwrap();
-            if let Slot::Ready(place, answer) = *slot {
-                *slot = Slot::Empty;
-                drop(slot);
+            let full = match home.node.attempt() {
+                Some(mut node) => home.combine::<KEEPS>(&mut node, &self.log),
+                None => false,
+            };
+            if let Some((place, answer)) = slot.poll() {
                 if KEEPS {
                     home.confirm(from, place, entry_of(op), answer);
                 }
                 return (place, answer);
             }
-            drop(slot);
-            let Some(mut node) = waits.lock(&home.node) else {
-                waits.wait();
-                continue;
-            };
-            let full = home.combine::<KEEPS>(&mut node, &self.log);
-            drop(node);
             if full {
-                for replica in &self.replicas {
-                    replica.catch_up::<KEEPS>(&mut replica.node.lock().unwrap(), &self.log);
-                }
+                self.catch_up_all();
+            }
+            waits.wait_long();
+        }
+    }
+
+    /// Has each replica apply all entries, but those at which another thread works.
+    fn catch_up_all(&self) {
+        for replica in &self.replicas {
+            if let Some(mut node) = replica.node.attempt() {
+                replica.catch_up::<KEEPS>(&mut node, &self.log);
             }
         }
     }
 
     pub fn read(&self, thread: usize, address: u64) -> (u64, Answer) {
         let home = &self.replicas[thread % self.replicas.len()];
-        let completed = self.log.completed();
-        let mut waits = Waits(0);
-        loop {
-            let Some(mut node) = waits.lock(&home.node) else {
-                waits.wait();
-                continue;
-            };
-            if node.applied < completed {
-                home.catch_up::<KEEPS>(&mut node, &self.log);
-            }
-            return (node.applied, node.space.resolve(address));
+        let seen = self.log.look();
+        let mut node = home.node.hold();
+        if !self.log.serves(seen, node.applied) {
+            home.catch_up::<KEEPS>(&mut node, &self.log);
         }
+        (node.applied, node.space.resolve(address))
     }
 
     /// Has each replica apply all entries, after all threads have ended: how many there are.
     pub fn settle(&mut self) -> u64 {
-        for replica in &self.replicas {
-            replica.catch_up::<KEEPS>(&mut replica.node.lock().unwrap(), &self.log);
-        }
+        self.catch_up_all();
         self.log.tail()
     }
 }
@@ -441,28 +314,55 @@ struct Done {
     sum: u64,
 }
 
+/// How many calls each thread makes, how many of a hundred read, and whether the others map and unmap.
+#[derive(Clone, Copy)]
+struct Work {
+    calls: u64,
+    reads: u64,
+    maps: bool,
+}
+
+/// The next update of a thread, and what it answers. With `maps` it unmaps the page that it has mapped, or maps one of its own.
+fn update(work: Work, thread: u64, drawn: u64, mapped: &mut Option<u64>) -> (Op, Answer) {
+    if !work.maps {
+        return (Op::Protect(drawn % PAGES * 4096, drawn / 7 % 8), Answer::Changed(0));
+    }
+    match mapped.take() {
+        Some(base) => (Op::Unmap(base), Answer::Removed(base, 1, 7)),
+        None => {
+            let base = (PAGES + drawn % 128 * 128 + 1 + thread) * 4096;
+            *mapped = Some(base);
+            (Op::Map(base, 1, base, 7), Answer::Done)
+        }
+    }
+}
+
 /// The calls of a thread, drawn from its number.
-fn calls(thread: usize, calls: u64, reads: u64, mut call: impl FnMut(Option<Op>, u64) -> Answer) -> Done {
+fn calls(thread: usize, work: Work, mut call: impl FnMut(Option<Op>, u64) -> Answer) -> Done {
     let mut done = Done::default();
     let mut state = 0x9E37_79B9_7F4A_7C15u64.wrapping_mul(thread as u64 + 1);
-    for _ in 0..calls {
+    let mut mapped = None;
+    for _ in 0..work.calls {
         state = state.wrapping_mul(6_364_136_223_846_793_005).wrapping_add(1_442_695_040_888_963_407);
         let drawn = state >> 33;
         let address = drawn % PAGES * 4096 + drawn % 4096;
-        if drawn / PAGES % 100 < reads {
+        if drawn / PAGES % 100 < work.reads {
             let Answer::Mapped(phys, ..) = call(None, address) else { panic!("not mapped") };
             done.reads += 1;
             done.sum = done.sum.wrapping_add(phys);
         } else {
-            let Answer::Changed(_) = call(Some(Op::Protect(address & !4095, drawn / 7 % 8)), address) else { panic!("not there") };
+            let (op, wanted) = update(work, thread as u64, drawn, &mut mapped);
+            let answer = call(Some(op), address);
+            assert!(answer == wanted || !work.maps && matches!(answer, Answer::Changed(_)), "another answer");
             done.updates += 1;
         }
     }
     done
 }
 
+/// The pages that are read and protected, and one of each table of those that are mapped and unmapped.
 fn maps() -> impl Iterator<Item = Op> {
-    (0..PAGES).map(|n| Op::Map(n * 4096, 1, n * 4096, 7))
+    (0..PAGES).chain((PAGES..2 * PAGES).step_by(512)).map(|n| Op::Map(n * 4096, 1, n * 4096, 7))
 }
 
 /// What so many threads did, and the time of all together.
@@ -477,15 +377,33 @@ fn in_threads(threads: usize, work: impl Fn(usize) -> Done + Sync) -> (Vec<Done>
 }
 
 /// The calls on replicas.
-fn on_replicas<L: Log, const KEEPS: bool>(threads: usize, replicas: usize, each: u64, reads: u64) -> (Vec<Done>, Duration) {
+fn on_replicas<L: Log, const KEEPS: bool>(threads: usize, replicas: usize, work: Work) -> (Vec<Done>, Duration) {
     let service = Replicas::<L, KEEPS>::new(replicas, threads);
     maps().for_each(|op| {
         service.update(0, op);
     });
     in_threads(threads, |thread| {
-        calls(thread, each, reads, |op, address| match op {
+        calls(thread, work, |op, address| match op {
             Some(op) => service.update(thread, op).1,
             None => service.read(thread, address).1,
+        })
+    })
+}
+
+/// The calls on one page table: how an update is made on it, and how a read.
+fn on_one(
+    threads: usize,
+    work: Work,
+    update: impl Fn(Op) -> Answer + Sync,
+    read: impl Fn(u64) -> Answer + Sync,
+) -> (Vec<Done>, Duration) {
+    maps().for_each(|op| {
+        update(op);
+    });
+    in_threads(threads, |thread| {
+        calls(thread, work, |op, address| match op {
+            Some(op) => update(op),
+            None => read(address),
         })
     })
 }
@@ -493,40 +411,20 @@ fn on_replicas<L: Log, const KEEPS: bool>(threads: usize, replicas: usize, each:
 fn main() {
     let words: Vec<String> = std::env::args().collect();
     let number = |n: usize| words[n].parse::<u64>().expect("a number");
-    let (threads, replicas, each, reads) = (number(2) as usize, number(3) as usize, number(4), number(5));
+    let (threads, replicas) = (number(2) as usize, number(3) as usize);
+    let work = Work { calls: number(4), reads: number(5), maps: words.get(6).is_some() };
+    let (mutex, rwlock) = (Mutex::new(Space::new(4)), RwLock::new(Space::new(4)));
     let (done, time) = match words[1].as_str() {
-        "same" => on_replicas::<OneCell, true>(threads, replicas, each, reads),
-        "cell" => on_replicas::<OneCell, false>(threads, replicas, each, reads),
-        "replicas" => on_replicas::<Apart, false>(threads, replicas, each, reads),
-        "mutex" => {
-            let space = Mutex::new(Space::new(4));
-            maps().for_each(|op| {
-                space.lock().unwrap().apply(op);
-            });
-            in_threads(threads, |thread| {
-                calls(thread, each, reads, |op, address| match op {
-                    Some(op) => space.lock().unwrap().apply(op),
-                    None => space.lock().unwrap().resolve(address),
-                })
-            })
-        }
-        "rwlock" => {
-            let space = RwLock::new(Space::new(4));
-            maps().for_each(|op| {
-                space.write().unwrap().apply(op);
-            });
-            in_threads(threads, |thread| {
-                calls(thread, each, reads, |op, address| match op {
-                    Some(op) => space.write().unwrap().apply(op),
-                    None => space.read().unwrap().resolve(address),
-                })
-            })
-        }
-        _ => panic!("same, cell, replicas, mutex or rwlock"),
+        "tuned" => on_replicas::<Apart, false>(threads, replicas, work),
+        "same" => on_replicas::<OneCell, true>(threads, replicas, work),
+        "mutex" => on_one(threads, work, |op| mutex.lock().unwrap().apply(op), |address| mutex.lock().unwrap().resolve(address)),
+        "rwlock" => on_one(threads, work, |op| rwlock.write().unwrap().apply(op), |address| rwlock.read().unwrap().resolve(address)),
+        _ => panic!("tuned, same, mutex or rwlock"),
     };
     for done in done {
         println!("reads {} updates {} sum {}", done.reads, done.updates, done.sum);
     }
+    let kind = if work.maps { "maps" } else { "reads" };
     eprintln!("operations a second  {:>12}", "call");
-    eprintln!("reads_{reads}_{threads}_{replicas}  {:>12}", (threads as f64 * each as f64 / time.as_secs_f64()) as u64);
+    eprintln!("{kind}_{}_{threads}_{replicas}  {:>12}", work.reads, (threads as f64 * work.calls as f64 / time.as_secs_f64()) as u64);
 }

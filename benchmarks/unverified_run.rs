@@ -1,6 +1,6 @@
 //! A script's threads on the replicated page table in plain Rust, with no proof, recorded, to compare with `nrvs run`:
 //!     rustc -O -C target-cpu=x86-64-v2 benchmarks/unverified_run.rs
-//!     ./unverified_run same|cell|replicas REPLICAS answers|judged|trace <SCRIPT
+//!     ./unverified_run tuned|same REPLICAS answers|judged|trace <SCRIPT
 //! The first word is the design, as in `unverified_replicas`. It makes the trace, and prints the answers by thread and then by call, or
 //! the bytes of the trace; with `judged` it audits these bytes too, and says so. The script has pages of 4 KiB and no access.
 #[allow(dead_code)]
@@ -10,7 +10,8 @@ mod replicas;
 mod audit;
 
 use replicas::table::{Answer, Op};
-use replicas::{Apart, Log, OneCell, Replicas};
+use replicas::unverified_log::{Apart, Log, OneCell};
+use replicas::Replicas;
 use std::fmt::Write as _;
 use std::io::{Read, Write};
 use std::sync::atomic::{AtomicU64, Ordering};
@@ -190,13 +191,12 @@ fn run<L: Log, const KEEPS: bool>(replicas: usize, shown: &str, scripts: &[Vec<R
 
 fn main() {
     let words: Vec<String> = std::env::args().collect();
-    let [_, design, replicas, shown] = words.as_slice() else { panic!("same|cell|replicas REPLICAS answers|judged|trace") };
+    let [_, design, replicas, shown] = words.as_slice() else { panic!("tuned|same REPLICAS answers|judged|trace") };
     let mut lines = String::new();
     std::io::stdin().read_to_string(&mut lines).expect("a script");
     let (scripts, replicas) = (script(&lines), replicas.parse().expect("a number of replicas"));
     let shown = match design.as_str() {
         "same" => run::<OneCell, true>(replicas, shown, &scripts),
-        "cell" => run::<OneCell, false>(replicas, shown, &scripts),
         _ => run::<Apart, false>(replicas, shown, &scripts),
     };
     std::io::stdout().write_all(&shown).expect("an output");
