@@ -51,6 +51,7 @@ class Guest:
     monitor: bool = False           # .. and a process too, by a second copy of the plugin
     files: tuple[str, ...] = ()     # more files, for its /bin
     options: str = ""               # of the kernel's command line, with one before them
+    maps: bool = False              # what its kernel says of a process's mappings comes by a serial line, to NAME.maps
 
 
 def pack(name: str, command: str, files: list[str], package: str = "") -> str:
@@ -173,6 +174,8 @@ def command(name: str, guest: Guest, kernel: Kernel, initrd: str) -> list[str]:
               f"file:{OUT}/{name}.serial", "-d", "int,plugin", "-D", f"{OUT}/{name}.raw", *plugins(memory, guest, kernel)]
     if guest.code:
         words += ["-serial", f"unix:{OUT}/{name}.line,server,nowait", "-gdb", f"unix:{OUT}/{name}.debug,server,nowait"]
+    if guest.maps:
+        words += ["-serial", f"file:{OUT}/{name}.maps"]
     return words
 
 
@@ -193,7 +196,7 @@ def record(name: str, guest: Guest, kernel: Kernel, limit: int = LIMIT, take: Ca
     compile_parts()
     files = [f"{OUT}/{WORKLOAD}", f"{HERE}/guest/script.py", *guest.files] + (kernel.modules if guest.nested else [])
     initrd = pack(name, (INSERT if guest.nested else "") + guest.command, files, guest.package)
-    for ending in ("raw", "serial", "memory", "line", "debug"):
+    for ending in ("raw", "serial", "memory", "line", "debug", "maps"):
         remove(f"{OUT}/{name}.{ending}")
     if take:
         os.mkfifo(f"{OUT}/{name}.raw")

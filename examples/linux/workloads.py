@@ -28,12 +28,13 @@ class Workload:
     chain: int = 0              # it is too long for a trace, or has a start: updates in a segment of its chain
     limit: int = LIMIT          # seconds
     options: str = ""
+    maps: bool = False          # its pages are compared with what the guest's kernel says of its mappings
 
     def guest(self, seed: int, plant: Plant | None = None) -> Guest:
         command = f"/bin/workload {self.command.replace('SEED', str(seed))}"
         ticking = f"/bin/workload tick {self.tick} &\n" if self.tick else ""
         return Guest(ticking + command, self.processors, self.levels, self.isolated, self.rest, self.memory, plant.code if plant else (),
-                     self.package, self.nested, self.monitor, (self.file(),) if self.file else (), self.options)
+                     self.package, self.nested, self.monitor, (self.file(),) if self.file else (), self.options, self.maps)
 
 
 WORKLOADS = {
@@ -42,6 +43,10 @@ WORKLOADS = {
     "whole": Workload("all parts, from exec to exit, 1 processor", f"die SEED 5 {PARTS}"),
     "long": Workload("all parts, 3 processors", f"live SEED 10 {PARTS}", 3, 50),
     "here": Workload("all parts, from when it has 3,000 pages on, 3 processors", f"here SEED 10 {PARTS}", 3, 50, chain=1000),
+    "maps": Workload("mappings of each kind, whose pages are compared with those that the guest's kernel says there are, 2 processors",
+                     "maps SEED 5 threads shootdown cow huge kinds", 2, 50, maps=True),
+    "maps-here": Workload("the same where it begins and where it ends, from when it has 3,000 pages on, 2 processors",
+                          "maps-here SEED 5 threads shootdown cow huge emptied", 2, 50, chain=1000, maps=True),
     "crowd": Workload("a hundred threads that map, protect and unmap, 4 processors", "live SEED 2 crowd", 4, 50, chain=1000),
     "five": Workload("five levels, 2 processors", "live SEED 5 threads shootdown cow huge moved files", 2, 50, levels=5),
     "isolated": Workload("the user's table of page-table isolation, 2 processors",

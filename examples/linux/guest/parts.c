@@ -351,7 +351,44 @@ static void files(void)
 	munmap(at, 32 * PAGE);
 }
 
-static void put(const char *path, const char *text)
+/* One mapping of each kind, with pages in it; they stay mapped. */
+static void kinds(void)
+{
+	int file = open("/proc/self/exe", O_RDONLY | O_CLOEXEC);
+	char *large = map_at(0x110000000, 10 * MIB, READ_WRITE, PRIVATE, -1), *at;
+
+	madvise(large, 10 * MIB, MADV_HUGEPAGE);
+	memset(large, 1, 6 * MIB); /* what is read first becomes a page of zeros, and then small ones */
+	mprotect(large + 2 * MIB, 2 * MIB, PROT_READ);
+	mprotect(large + 4 * MIB + 64 * KIB, PAGE, PROT_READ); /* a large page is split */
+	look(large + 6 * MIB, PAGE);                           /* the large page of zeros */
+	at = map_at(0x120000000, 64 * PAGE, READ_WRITE, PRIVATE, -1);
+	look(at, 48 * PAGE);
+	touch(at, 16 * PAGE);
+	mprotect(at + 8 * PAGE, 4 * PAGE, PROT_NONE);
+	mprotect(at + 20 * PAGE, 4 * PAGE, PROT_READ | PROT_EXEC);
+	mprotect(at + 28 * PAGE, 4 * PAGE, PROT_READ);
+	touch(map_at(0x121000000, 8 * PAGE, READ_WRITE | PROT_EXEC, PRIVATE, -1), 6 * PAGE);
+	at = map_at(0x122000000, 16 * PAGE, READ_WRITE, MAP_SHARED | MAP_ANONYMOUS, -1);
+	touch(at, 8 * PAGE);
+	mprotect(at + 4 * PAGE, 8 * PAGE, PROT_READ);
+	at = map_at(0x123000000, 32 * PAGE, READ_WRITE, PRIVATE, -1);
+	touch(at, 32 * PAGE);
+	if (!fork())
+		_exit(0);
+	wait(NULL); /* what the child shared isn't writable in the tables until it is written to */
+	touch(at, 8 * PAGE);
+	touch(large, PAGE);
+	if (file < 0)
+		return;
+	at = map_at(0x124000000, 128 * PAGE, READ_WRITE, MAP_PRIVATE, file);
+	look(at, 64 * PAGE);
+	touch(at + 16 * PAGE, 8 * PAGE);
+	look(map_at(0x125000000, 16 * PAGE, PROT_READ | PROT_EXEC, MAP_SHARED, file), 16 * PAGE);
+	close(file);
+}
+
+void put(const char *path, const char *text)
 {
 	int file = open(path, O_WRONLY | O_CLOEXEC);
 
@@ -435,7 +472,7 @@ static const struct {
 } parts[] = {
 	{ "threads", threads }, { "crowd", crowd }, { "shootdown", shootdown }, { "copied", copied }, { "cow", cow }, { "huge", huge },
 	{ "moved", moved }, { "files", files }, { "merged", merged }, { "reclaimed", reclaimed }, { "emptied", emptied },
-	{ "planted", planted },
+	{ "kinds", kinds }, { "planted", planted },
 };
 
 void run_part(const char *name)

@@ -30,4 +30,7 @@ uint64_t draw(uint64_t *state, uint64_t below);
 void touch(volatile char *at, uint64_t bytes);
 void look(const volatile char *at, uint64_t bytes);
 
+/* A word to the kernel, by a file of its own. */
+void put(const char *path, const char *text);
+
 #endif

@@ -4,6 +4,9 @@
  *     workload live SEED ROUNDS PART..     has its own address space watched, from exec to the mark at its end
  *     workload die SEED ROUNDS PART..      .. to its exit, where nothing is mapped any more
  *     workload here SEED ROUNDS PART..     .. from a mark on, when it has a few thousand pages, to the mark at its end
+ *     workload maps SEED ROUNDS PART..     .. as with live; where it ends it stops, and what the kernel says of its mappings is written
+ *     workload maps-here SEED ROUNDS PART..    .. as with here; the same where it begins and where it ends
+ *     workload dump SEED ROUNDS PART..     has the kernel dump the tables of a process that has stopped after these parts, and ends QEMU
  *     workload fork SEED PAGES             has the address space watched that fork makes of one with so many pages
  *     workload exec PROGRAM WORD..         has another program's watched, from exec to exit
  *     workload later N PROGRAM WORD..      .. the one that is made when N others were made from that exec on, to its end
@@ -17,11 +20,13 @@
  * A store to the page of marks is a word to the plugin (plugin/watch.c). A line WRONG says that the process saw something
  * that shouldn't be.
  */
+#include "mappings.h"
 #include "monitor.h"
 #include "others.h"
 #include "parts.h"
 
 #include <errno.h>
+#include <signal.h>
 #include <stdio.h>
 #include <stdlib.h>
 #include <string.h>
@@ -29,7 +34,7 @@
 #include <unistd.h>
 
 #define MARKS ((volatile uint64_t *)0x6e7276730000)
-enum mark { MARK_NEXT = 1, MARK_END = 2, MARK_WHEN_EMPTY = 3, MARK_HERE = 4, MARK_LATER = 0x100, MARK_CHOSEN = 0x200 };
+enum mark { MARK_NONE = 0, MARK_NEXT = 1, MARK_END = 2, MARK_WHEN_EMPTY = 3, MARK_HERE = 4, MARK_LATER = 0x100, MARK_CHOSEN = 0x200 };
 
 /* A word to the plugin, which follows no code until it is asked to: from the block on that comes after a nop of its own. */
 static void say(uint64_t value)
@@ -39,12 +44,18 @@ static void say(uint64_t value)
 	*MARKS = value;
 }
 
-static void report(const char *what, pid_t child)
+static int report(const char *what, int status)
+{
+	printf("ENDED %s with status %x\n", what, (unsigned)status);
+	return 0;
+}
+
+static int end_of(pid_t child)
 {
 	int status;
 
 	waitpid(child, &status, 0);
-	printf("ENDED %s with status %x\n", what, (unsigned)status);
+	return status;
 }
 
 /* The next address space that is made is that of the program which the child becomes; `mark` says which is watched. */
@@ -65,8 +76,7 @@ static pid_t begin_program(int until_empty, uint64_t mark, char **words)
 
 static int exec_watched(int until_empty, uint64_t mark, char **words)
 {
-	report(words[0], begin_program(until_empty, mark, words));
-	return 0;
+	return report(words[0], end_of(begin_program(until_empty, mark, words)));
 }
 
 /* A program runs already when it is watched from here on; nothing of it is under way then. */
@@ -78,8 +88,7 @@ static int attach(unsigned seconds, uint64_t mark, char **words)
 	stop_others();
 	say(MARK_HERE);
 	let_others_run();
-	report(words[0], child);
-	return 0;
+	return report(words[0], end_of(child));
 }
 
 static int fork_watched(uint64_t pages)
@@ -98,8 +107,7 @@ static int fork_watched(uint64_t pages)
 		_exit(0);
 	}
 	touch(at, pages / 4 * PAGE);
-	report("fork", child);
-	return 0;
+	return report("fork", end_of(child));
 }
 
 static int monitor_watched(const char *what, char **names)
@@ -131,6 +139,92 @@ static int run_parts(int marks_end, char **names)
 	return wrong != 0;
 }
 
+/* Where it ends it stops, so that another can ask for its mappings. Nothing is mapped between its mark and its stop: what is done there
+ * was done before. */
+static int run_parts_and_stop(char **names)
+{
+	int status;
+
+	kill(getpid(), 0);
+	status = run_parts(1, names);
+	stop();
+	return status;
+}
+
+static void use_pages(void)
+{
+	touch(map_at(0x40000000, 3000 * PAGE, READ_WRITE, PRIVATE, -1), 3000 * PAGE);
+}
+
+/* The same, and it stops before it is watched. */
+static int tell_from_here_on(char **names)
+{
+	pid_t child;
+
+	let_pages_be();
+	child = fork();
+	if (child)
+		return report("maps-here", tell_at_each_stop(child));
+	use_pages();
+	run_part("kinds");
+	say(MARK_NONE);
+	stop();
+	say(MARK_HERE);
+	return run_parts_and_stop(names);
+}
+
+static int dump_after(char **names)
+{
+	pid_t child;
+
+	let_pages_be();
+	child = fork();
+	if (child) {
+		dump_at_stop(child);
+		return 1;
+	}
+	catch_faults();
+	use_pages();
+	for (; *names; names++)
+		run_part(*names);
+	stop();
+	return 0;
+}
+
+/* The program again, watched from its birth on. */
+static int run_again(const char *name, int until_empty, char **words)
+{
+	words[1] = (char *)name;
+	return exec_watched(until_empty, MARK_NEXT, words);
+}
+
+static int tell_of_program(char **words)
+{
+	let_pages_be();
+	words[1] = "watched-maps";
+	return report(words[0], tell_at_each_stop(begin_program(0, MARK_NEXT, words)));
+}
+
+static int run_named(const char *what, char **words)
+{
+	if (!strcmp(what, "live"))
+		return run_again("watched-live", 0, words);
+	if (!strcmp(what, "die"))
+		return run_again("watched-die", 1, words);
+	if (!strcmp(what, "maps"))
+		return tell_of_program(words);
+	if (!strcmp(what, "maps-here"))
+		return tell_from_here_on(words + 4);
+	if (!strcmp(what, "dump"))
+		return dump_after(words + 4);
+	if (!strcmp(what, "watched-maps"))
+		return run_parts_and_stop(words + 4);
+	if (!strncmp(what, "watched-", 8))
+		return run_parts(!strcmp(what, "watched-live"), words + 4);
+	printf("WRONG the command line\n");
+	return 2;
+}
+
 int main(int count, char **words)
 {
 	const char *what = count > 2 ? words[1] : "";
@@ -153,16 +247,9 @@ int main(int count, char **words)
 	if (!strcmp(what, "fork") && count > 3)
 		return fork_watched(rounds);
 	if (!strcmp(what, "here") && count > 3) {
-		touch(map_at(0x40000000, 3000 * PAGE, READ_WRITE, PRIVATE, -1), 3000 * PAGE);
+		use_pages();
 		say(MARK_HERE);
 		return run_parts(1, words + 4);
 	}
-	if (!strncmp(what, "watched-", 8) && count > 3)
-		return run_parts(!strcmp(what, "watched-live"), words + 4);
-	if ((!strcmp(what, "live") || !strcmp(what, "die")) && count > 3) {
-		words[1] = !strcmp(what, "live") ? "watched-live" : "watched-die";
-		return exec_watched(!strcmp(what, "die"), MARK_NEXT, words);
-	}
-	printf("WRONG the command line\n");
-	return 2;
+	return run_named(count > 3 ? what : "", words);
 }
