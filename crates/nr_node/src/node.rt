@@ -1,4 +1,4 @@
-ghost use Rattle.std.specs.Prelude.{◌≡◌, ◌≤◌, ◌+◌, ℕ, All, IfErr, IfOk, IfSome, MatchOption, None, OnErr, OnOk, Some, [], ◌∷◌, length, slice_get};
+ghost use Rattle.std.specs.Prelude.{◌≡◌, ◌≢◌, ◌<◌, ◌≤◌, ◌+◌, ℕ, All, IfErr, IfOk, IfSome, MatchOption, None, OnErr, OnOk, Some, [], ◌∷◌, length, slice_get};
 ghost use Rattle.std.specs.FinMap as finite;
 ghost use Rattle.vs_types.specs.Depth.{IsCanonical};
 ghost use Rattle.vs_types.specs.LogEntry.{IsLogEntry};
@@ -12,6 +12,7 @@ ghost use Rattle.nr_ring.specs.Calls.{HasLooked, HasMoved, copy_of, joint_view};
 ghost use Rattle.nr_ring.specs.Entries.{HasAppended, IsReason};
 ghost use Rattle.nr_ring.specs.LogHistory.{log_after, tail};
 ghost use Rattle.nr_ring.specs.View.{HasSeenAdvances, StartsWith};
+ghost use Rattle.nr_slots.specs.Batch.{Rises};
 ghost use Rattle.nr_slots.specs.declared.waiting.Waiting.{Waiting};
 ghost use Rattle.nr_node.specs.Calls.{HasCaughtUp, HasStayed, answers_of, entries_of};
 ghost use Rattle.nr_node.specs.Node.{IsNode, applied_of, held_of, log_of, new_node, node_space, replica_of, taken_by};
@@ -144,14 +145,18 @@ impl<S: FrameStore, J: LogName> Node<S, J> {
         }
     }
 
-    /// Holds a batch of the updates that wait in these slots, where there are any; it holds nothing before. What is posted there is
-    /// well formed at the log's depth, by the rule of the slots.
+    /// Holds updates that wait in these slots, by rising thread, of each its own, 16 at most, or none; it holds nothing before. What is
+    /// posted there is well formed at the log's depth, by the rule of the slots.
     #[inline(always)]
     pub fn collect<P: SlotRule>(&mut self, slots: &Slots<P>)
         requires nothing { self.old.batch ≡ [] }
         requires fit { (waiting : Waiting)
             → ∥ P.posted waiting.thread waiting.call waiting.op ∥₁ → IsAction J.depth waiting.op }
-        ensures { self.new ≡ record self.old { batch = self.new.batch } }
+        ensures held { self.new ≡ record self.old { batch = self.new.batch } }
+        ensures rising { Rises self.new.batch }
+        ensures below { All (λ waiting. waiting.thread < slots.now) self.new.batch }
+        ensures rule { All (λ waiting. ∥ P.posted waiting.thread waiting.call waiting.op ∥₁)
+            self.new.batch }
     {
         slots.collect(&mut self.batch);
         let _few = self.batch.as_slice();
@@ -259,7 +264,8 @@ impl<S: FrameStore, J: LogName> Node<S, J> {
     #[inline(always)]
     pub fn answer_to(&self, place: u32, entry: LogEntry) -> Option<Answer>
         requires { IsLogEntry J.depth entry }
-        ensures { IfSome result (λ answer.
+        ensures { MatchOption result (place < applied_of J.replicas self.now
+            → slice_get (log_of J.replicas self.now).entries place ≢ Some entry) (λ answer.
             (slice_get (log_of J.replicas self.now).entries place ≡ Some entry)
             × (answer ≡ answer_at J.depth self.now.tables
             (log_of J.replicas self.now).entries place entry.op)

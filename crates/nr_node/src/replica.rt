@@ -1,4 +1,4 @@
-ghost use Rattle.std.specs.Prelude.{◌≡◌, ℕ, ◌+◌, ◌<◌, ◌≤◌, All, [], ◌∷◌, ◌++◌, IfErr, IfOk, IfSome, MatchOption, Some, length, slice_get};
+ghost use Rattle.std.specs.Prelude.{◌≡◌, ◌≢◌, ℕ, ◌+◌, ◌<◌, ◌≤◌, All, [], ◌∷◌, ◌++◌, IfErr, IfOk, IfSome, MatchOption, Some, length, slice_get};
 ghost use Rattle.std.specs.FinMap as finite;
 ghost use Rattle.vs_types.specs.Depth.{IsCanonical};
 ghost use Rattle.vs_types.specs.LogEntry.{IsLogEntry};
@@ -184,7 +184,8 @@ impl<S: FrameStore> Replica<S> {
     #[inline(always)]
     pub(crate) fn answer_to(&self, place: u32, entry: LogEntry) -> Option<Answer>
         requires { IsLogEntry self.now.depth entry }
-        ensures { IfSome result (λ answer. (slice_get self.now.entries place ≡ Some entry)
+        ensures { MatchOption result (slice_get self.now.entries place ≢ Some entry)
+            (λ answer. (slice_get self.now.entries place ≡ Some entry)
             × (answer
             ≡ answer_at self.now.depth self.now.tables self.now.entries place entry.op)) }
     {

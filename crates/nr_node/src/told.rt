@@ -1,5 +1,5 @@
 //! What a replica keeps of an entry that it has applied.
-ghost use Rattle.std.specs.Prelude.{◌≡◌, IsTrue};
+ghost use Rattle.std.specs.Prelude.{◌≡◌, ◌↔◌, IsTrue};
 ghost use Rattle.vs_types.specs.LogEntry.{IsLogEntry};
 ghost use Rattle.vs_types.specs.declared.depth.Depth.TheVariants.{Five};
 
@@ -56,7 +56,7 @@ impl Told {
     /// Whether it is this entry, which is well formed at five levels: whether the words are the same.
     pub(crate) fn is(&self, entry: LogEntry) -> bool
         requires { IsLogEntry Five entry }
-        ensures { IsTrue result → self.now.entry ≡ entry }
+        ensures { IsTrue result ↔ self.now.entry ≡ entry }
     {
         let [operation, rest] = pack(entry);
         if self.words[0] != operation {
