@@ -26,18 +26,16 @@ Words = List (List ℕ)
 -- ---- frames
 
 take_flagged : (n : ℕ) (words after : Words) → IsLentSameButFlags words after → IsLentSameButFlags (take n words) (take n after)
-take_flagged zero words after are = tt
-take_flagged (suc n) [] [] are = tt
 take_flagged (suc n) [] (frame ∷ after) are = absurd are
 take_flagged (suc n) (frame ∷ words) [] are = absurd are
 take_flagged (suc n) (frame ∷ words) (next ∷ after) are = (are.0, take_flagged n words after are.1)
+take_flagged _ _ _ are = tt
 
 frame_flagged : (words after : Words) → IsLentSameButFlags words after → (index : ℕ) → AllZip IsSameButFlags (get_or words index []) (get_or after index [])
 frame_flagged [] [] are index = tt
-frame_flagged [] (frame ∷ after) are index = absurd are
-frame_flagged (frame ∷ words) [] are index = absurd are
 frame_flagged (frame ∷ words) (next ∷ after) are zero = are.0
 frame_flagged (frame ∷ words) (next ∷ after) are (suc index) = frame_flagged words after are.1 index
+frame_flagged _ _ are index = absurd are
 
 module _ (uses : List Bool) (words after : Words) (are : IsLentSameButFlags words after) where
   abbrev frames : Words → Store

@@ -1,5 +1,5 @@
 -- The numbers of a handle whose page table is in the memory lent are in range.
-use Rattle.std.proofs.Common.{◌≡◌, ◌≢◌, ℕ, zero, suc, ◌+◌, ◌-◌, ◌<◌, ◌≤◌, Bool, true, false, List, length, take, ⊎_elim, refl, sym, ap, subst, ◌∙◌, arith}
+use Rattle.std.proofs.Common.{◌≡◌, ◌≢◌, ℕ, ◌+◌, ◌-◌, ◌<◌, Bool, true, false, List, length, take, ⊎_elim, refl, sym, ap, ◌∙◌, arith}
 use Rattle.std.specs.Prelude.{◌||◌, ◌&&◌, nat_eq, nat_lt, if◌then◌else◌}
 use Rattle.std.proofs.lemmas.Bool.{cases_eq, eq-eqb, lt-ltb, le-leb, le-ltb}
 use Rattle.vs_types.specs.Depth.{levels}
@@ -12,7 +12,7 @@ use Rattle.vs_space.proofs.Numbered.{named}
 use Rattle.vs_space.proofs.Paths.{table_first}
 use Rattle.vs_types.specs.declared.depth.Depth.{Depth}
 use Rattle.vs_types.specs.declared.depth.Depth.TheVariants.{Four, Five}
-use Rattle.nrvs_c.specs.Table.{depth_in, is_in_range, lent_status, IsOpen, IsUsable}
+use Rattle.nrvs_c.specs.Table.{depth_in, is_in_range, IsOpen, IsUsable}
 use Rattle.nrvs_c.specs.declared.table.TheConstants.{MADE}
 use Rattle.nrvs_c.specs.declared.table.Table.{Table}
 

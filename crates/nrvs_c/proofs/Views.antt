@@ -43,10 +43,8 @@ AreAmong memory more = (number : ℕ) (words : List ℕ) → finite.get memory n
 entry_same : (level : ℕ) (rights : Rights) (address : ℕ) (below further : ℕ → Rights → Walk)
     → ((next : ℕ) (own : Rights) → below next own ≢ Missing → further next own ≡ below next own) → (at : Meaning)
     → walk_entry level rights address below at ≢ Missing → walk_entry level rights address further at ≡ walk_entry level rights address below at
-entry_same level rights address below further same entry.Absent none = refl
-entry_same level rights address below further same entry.Reserved none = refl
-entry_same level rights address below further same (entry.Leaf phys own) none = refl
 entry_same level rights address below further same (entry.Table next own) none = same next (intersection rights own) none
+entry_same level rights address below further same _ none = refl
 
 words_same : (some more : Option (List ℕ)) (go further : List ℕ → Walk) → ((words : List ℕ) → some ≡ Some words → more ≡ Some words)
     → ((words : List ℕ) → go words ≢ Missing → further words ≡ go words) → walk_words some go ≢ Missing → walk_words more further ≡ walk_words some go

@@ -2,7 +2,7 @@
 use Rattle.std.proofs.Common.{◌≡◌, ℕ, ◌+◌, ◌%◌, ◌^◌, ◌<◌, ◌≤◌, min, Bool, true, false, not, Option, Some, None, ⊎_elim, refl, sym, ap, subst, ◌∙◌, arith}
 use Rattle.std.specs.Prelude.{◌&&◌, ◌||◌, ◌==◌, nat_lt, if◌then◌else◌}
 use Rattle.std.proofs.lemmas.Bool.{le-ltb, lt-ltb, cases_lt}
-use Rattle.vs_types.specs.Depth.{is_canonical, IsCanonical}
+use Rattle.vs_types.specs.Depth.{is_canonical}
 use Rattle.vs_types.specs.Page.{bytes_of}
 use Rattle.vs_types.specs.declared.page.Page.{Page}
 use Rattle.vs_plan.specs.declared.request.BadRequest.{BadRequest}

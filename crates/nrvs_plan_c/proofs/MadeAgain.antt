@@ -1,5 +1,5 @@
 -- The plan that found a word with other flags, in numbers.
-use Rattle.std.proofs.Common.{◌≡◌, ℕ, zero, suc, ◌<◌, List, [], ◌∷◌, length, take, false, Option, Some, None, refl, sym, ap, subst, ◌∙◌, arith}
+use Rattle.std.proofs.Common.{◌≡◌, ℕ, zero, suc, ◌<◌, List, [], ◌∷◌, length, false, Option, Some, None, refl, sym, ap, subst, ◌∙◌, arith}
 use Rattle.std.specs.Prelude.{◌&&◌, ◌||◌, not, nat_eq, slice_index_or, slice_set, if◌then◌else◌}
 use Rattle.std.proofs.Math.Seq.{take-set-lt}
 use Rattle.std.proofs.lemmas.Bool.{ne_eqb}
@@ -16,18 +16,8 @@ use Rattle.nrvs_plan_c.specs.Told.{IsTold, bits_told, fill_numbers, plan_again, 
 
 -- the bits of a plan with a store are said as they are
 plain_bits : (reply : outcomes.Reply) (stores : List Store) → 0 < length stores → ((Changes reply → ⊥) → stores ≡ []) → (bits : ℕ) → bits_told reply bits ≡ bits
-plain_bits (replies.Answer answer) stores some nothing bits = refl
-plain_bits replies.NoFrame stores some nothing bits = refl
-plain_bits (replies.FrameRange number) stores some nothing bits = refl
-plain_bits replies.Rights stores some nothing bits = refl
-plain_bits (replies.Empty number) stores some nothing bits = refl
 plain_bits (replies.Reserved number index) stores some nothing bits = absurd (omega (arith, some, ap length (nothing (λ none. none))))
-plain_bits replies.PhysUnaligned stores some nothing bits = refl
-plain_bits replies.PhysRange stores some nothing bits = refl
-plain_bits replies.Smallest stores some nothing bits = refl
-plain_bits replies.Largest stores some nothing bits = refl
-plain_bits replies.Unaligned stores some nothing bits = refl
-plain_bits (replies.Apart index) stores some nothing bits = refl
+plain_bits _ stores some nothing bits = refl
 
 -- a list that isn't empty has no length of 0
 some_count : (count number : ℕ) (numbers : List ℕ) → count ≡ length (number ∷ numbers) → nat_eq count 0 ≡ false
@@ -47,9 +37,11 @@ bits_same (suc index) count unlinked found new bits is =
 fill_same : (fills found : ℕ) (fill : Fill) (made : Option Fill) → (fills, fill) ≡ fill_numbers made
     → (fills, if nat_eq fills 0 then fill else record fill { first = flags_into found fill.first }) ≡ fill_numbers (fill_made found made)
 fill_same fills found fill None is =
-    subst (λ (x : ℕ × Fill). (x.0, if nat_eq x.0 0 then x.1 else record x.1 { first = flags_into found x.1.first }) ≡ fill_numbers (fill_made found None)) (sym is) refl
+    subst (λ (x : ℕ × Fill). (x.0, if nat_eq x.0 0 then x.1 else record x.1 { first = flags_into found x.1.first })
+    ≡ fill_numbers (fill_made found None)) (sym is) refl
 fill_same fills found fill (Some table) is =
-    subst (λ (x : ℕ × Fill). (x.0, if nat_eq x.0 0 then x.1 else record x.1 { first = flags_into found x.1.first }) ≡ fill_numbers (fill_made found (Some table))) (sym is) refl
+    subst (λ (x : ℕ × Fill). (x.0, if nat_eq x.0 0 then x.1 else record x.1 { first = flags_into found x.1.first })
+    ≡ fill_numbers (fill_made found (Some table))) (sym is) refl
 
 new_same : (fills count : ℕ) (made : Option Fill) (unlinked : List ℕ) (found new : ℕ) → fills ≡ (fill_numbers made).0 → count ≡ length unlinked
     → (if not (nat_eq fills 0) || not (nat_eq count 0) then new else with_flags_of found new) ≡ new_again made unlinked found new

@@ -4,6 +4,7 @@
 #![tactic(auto)]
 
 mod byte_aligned;
+pub mod laws;
 mod mapping;
 mod page_map;
 mod pages;

@@ -9,16 +9,15 @@ use Rattle.vs_types.specs.declared.page.Size.{Size}
 use Rattle.vs_types.specs.declared.page.Size.TheVariants.{K4, M2, G1}
 use Rattle.vs_types.specs.declared.entry.Meaning.TheVariants as entry
 use Rattle.vs_walk.proofs.Walks.{leaf_level}
-use Rattle.vs_plan.specs.Bits.{AreBits, placed, bits_in, with_address, flagged}
-use Rattle.vs_plan.proofs.Words.{said, said_same, reserved_from, rights_from}
+use Rattle.vs_plan.specs.Bits.{AreBits, placed, with_address}
+use Rattle.vs_space.proofs.FlaggedWords.{said, said_same, reserved_from}
+use Rattle.vs_plan.proofs.Words.{rights_from}
 
 -- a leaf with another address
 leaf_placed : (p r l : Bool) (x : Rights) (a n other number phys : ℕ) (own : Rights) → said p r l x a n ≡ entry.Leaf phys own
     → said p r l x other number ≡ entry.Leaf other own
-leaf_placed true true l x a n other number phys own e = absurd (cc)
 leaf_placed true false true x a n other number phys own e = let same : x ≡ own = cc in ap (entry.Leaf other) same
-leaf_placed true false false x a n other number phys own e = absurd (cc)
-leaf_placed false r l x a n other number phys own e = absurd (cc)
+leaf_placed _ _ _ x a n other number phys own e = absurd (cc)
 
 same_rights : (old new : ℕ) → bit_at new 1 ≡ bit_at old 1 → bit_at new 2 ≡ bit_at old 2 → bit_at new 63 ≡ bit_at old 63 → rights_of new ≡ rights_of old
 same_rights old new a b c =
@@ -55,7 +54,8 @@ medium word phys other own says aligned within = by (word % 2 ^ 21 + phys + word
       let second : bit_at new 2 ≡ bit_at word 2 = omega (arith, low) in
       let seventh : bit_at new 7 ≡ bit_at word 7 = omega (arith, low) in
       let last : bit_at new 63 ≡ bit_at word 63 = omega (arith, high) in
-      said_same _ _ _ _ _ _ _ _ _ _ (new % 2 ^ 52 / 2 ^ 12) (new % 2 ^ 52 / 2 ^ 12) (ap (λ b. b == 1) zeroth) (reserved_from _ _ offset _ _ seventh) (ap (λ b. b == 1) seventh)
+      said_same _ _ _ _ _ _ _ _ _ _ (new % 2 ^ 52 / 2 ^ 12) (new % 2 ^ 52 / 2 ^ 12) (ap (λ b. b == 1) zeroth)
+      (reserved_from _ _ offset _ _ seventh) (ap (λ b. b == 1) seventh)
       (same_rights word new first second last) place refl
       ∙ leaf_placed _ _ _ _ _ (word % 2 ^ 52 / 2 ^ 12) phys (new % 2 ^ 52 / 2 ^ 12) other own says
 
@@ -73,7 +73,8 @@ large word phys other own says aligned within = by (word % 2 ^ 30 + phys + word 
       let second : bit_at new 2 ≡ bit_at word 2 = omega (arith, low) in
       let seventh : bit_at new 7 ≡ bit_at word 7 = omega (arith, low) in
       let last : bit_at new 63 ≡ bit_at word 63 = omega (arith, high) in
-      said_same _ _ _ _ _ _ _ _ _ _ (new % 2 ^ 52 / 2 ^ 12) (new % 2 ^ 52 / 2 ^ 12) (ap (λ b. b == 1) zeroth) (reserved_from _ _ offset _ _ seventh) (ap (λ b. b == 1) seventh)
+      said_same _ _ _ _ _ _ _ _ _ _ (new % 2 ^ 52 / 2 ^ 12) (new % 2 ^ 52 / 2 ^ 12) (ap (λ b. b == 1) zeroth)
+      (reserved_from _ _ offset _ _ seventh) (ap (λ b. b == 1) seventh)
       (same_rights word new first second last) place refl
       ∙ leaf_placed _ _ _ _ _ (word % 2 ^ 52 / 2 ^ 12) phys (new % 2 ^ 52 / 2 ^ 12) other own says
 
@@ -87,16 +88,6 @@ with_address_reads (suc (suc zero)) word phys other own some says aligned within
 with_address_reads (suc (suc (suc zero))) word phys other own some says aligned within = large word phys other own says aligned within
 with_address_reads (suc (suc (suc (suc level)))) word phys other own some says aligned within =
     let few = (leaf_level (suc (suc (suc (suc level)))) word other own says).0 in absurd (omega (arith, few))
-
--- ---- the bits of an entry are bits
-
-pub bits_are : (size : Size) (word : ℕ) → AreBits (bits_in size word)
-bits_are K4 word = record { above = omega arith; low = omega arith; high = omega arith }
-bits_are M2 word = record { above = omega arith; low = omega arith; high = omega arith }
-bits_are G1 word = record { above = omega arith; low = omega arith; high = omega arith }
-
-pub flagged_are : (bits : ℕ) → AreBits bits → AreBits (flagged bits)
-flagged_are bits are = record { above = omega (arith, are.above); low = omega (arith, are.low); high = omega (arith, are.high) }
 
 -- ---- an entry is a word of 64 bits
 
@@ -112,8 +103,7 @@ room : (w u x : ℕ) → w ≤ 2 → u ≤ 4 → x ≤ 2 ^ 63 → (size : Size) 
     → (large : ℕ) → large ≤ 2 ^ 7 → (bytes_of size ≡ 2 ^ 12 → large ≡ 0) → phys + 1 + w + u + large + x + placed size bits < 2 ^ 64
 room w u x a b c K4 phys bits aligned few are large most small =
     let none = small refl in omega (arith, a, b, c, aligned, few, are.above, are.low, are.high, none)
-room w u x a b c M2 phys bits aligned few are large most small = omega (arith, a, b, c, aligned, few, are.above, are.low, are.high, most)
-room w u x a b c G1 phys bits aligned few are large most small = omega (arith, a, b, c, aligned, few, are.above, are.low, are.high, most)
+room w u x a b c _ phys bits aligned few are large most small = omega (arith, a, b, c, aligned, few, are.above, are.low, are.high, most)
 
 pub word_room : (size : Size) (phys bits : ℕ) (rights : Rights) → phys % bytes_of size ≡ 0 → phys < 2 ^ 52 → AreBits bits
     → {word more : ℕ} → word ≡ leaf_word size phys rights → more ≡ placed size bits → word + more < 2 ^ 64

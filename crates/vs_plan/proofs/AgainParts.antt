@@ -11,7 +11,7 @@ use Rattle.vs_types.specs.Space.{Space}
 use Rattle.vs_types.specs.declared.page.Page.{Page}
 use Rattle.vs_types.specs.declared.page.Rights.{Rights}
 use Rattle.vs_types.specs.declared.page.Size.{Size}
-use Rattle.vs_types.specs.declared.page.Size.TheVariants.{K4, M2, G1}
+use Rattle.vs_types.specs.declared.page.Size.TheVariants.{K4}
 use Rattle.vs_types.specs.declared.entry.Meaning.TheVariants as entry
 use Rattle.vs_walk.specs.Memory.{Memory}
 use Rattle.vs_space.specs.Flags.{IsSameButFlags, AreSameButFlags}
@@ -70,28 +70,24 @@ last_even false = refl
 whole_large : (size : Size) (phys : ℕ) (rights : Rights) (bits : ℕ) → size ≢ K4 → phys % 2 ^ 12 ≡ 0 → bits % 2 ^ 3 ≡ 0
     → bit_at (leaf_word size phys rights + placed size bits) 7 ≡ 1
 whole_large K4 phys rights bits large at low = absurd (large refl)
-whole_large M2 phys rights bits large at low = omega (arith, at, low, second_low rights.write, third_low rights.user, last_even rights.exec)
-whole_large G1 phys rights bits large at low = omega (arith, at, low, second_low rights.write, third_low rights.user, last_even rights.exec)
+whole_large _ phys rights bits large at low = omega (arith, at, low, second_low rights.write, third_low rights.user, last_even rights.exec)
 
-part_odd : (size : Size) (phys : ℕ) (rights : Rights) (bits : ℕ) → phys % 2 ^ 12 ≡ 0 → bits % 2 ^ 3 ≡ 0 → (leaf_word size phys rights + placed size bits) % 2 ≡ 1
+part_odd : (size : Size) (phys : ℕ) (rights : Rights) (bits : ℕ) → phys % 2 ^ 12 ≡ 0 → bits % 2 ^ 3 ≡ 0
+    → (leaf_word size phys rights + placed size bits) % 2 ≡ 1
 part_odd K4 phys rights bits at low = omega (arith, at, low, first_even rights.write, second_even rights.user, last_even rights.exec)
-part_odd M2 phys rights bits at low = omega (arith, at, low, first_even rights.write, second_even rights.user, last_even rights.exec)
-part_odd G1 phys rights bits at low = omega (arith, at, low, first_even rights.write, second_even rights.user, last_even rights.exec)
+part_odd _ phys rights bits at low = omega (arith, at, low, first_even rights.write, second_even rights.user, last_even rights.exec)
 
 part_step : (size : Size) → bytes_of (smaller size) % 2 ^ 7 ≡ 0
 part_step K4 = refl
-part_step M2 = refl
-part_step G1 = refl
+part_step _ = refl
 
 never_smallest : (size : Size) → larger size ≢ K4
 never_smallest K4 e = cc
-never_smallest M2 e = cc
-never_smallest G1 e = cc
+never_smallest _ e = cc
 
 second_level : (size : Size) → size ≢ K4 → 2 ≤ level_of size
 second_level K4 large = absurd (large refl)
-second_level M2 large = omega arith
-second_level G1 large = omega arith
+second_level _ large = omega arith
 
 flags_back : (old new : ℕ) → HasFlagsSet old new → HasFlagsSet new old
 flags_back old new is = record { present = omega (arith, is.present, is.below); below = sym is.below; above = sym is.above }
@@ -103,8 +99,7 @@ again_of fill unlinked word s = record s { old = word; new = new_again fill unli
 
 new_alike : (fill : Option Fill) (unlinked : List ℕ) (word new : ℕ) → IsSameButFlags new (new_again fill unlinked word new)
 new_alike None [] word new = flags_kept word new
-new_alike None (number ∷ numbers) word new = same_word new
-new_alike (Some fill) unlinked word new = same_word new
+new_alike _ _ word new = same_word new
 
 pair_again : (fill : Option Fill) (unlinked : List ℕ) (word : ℕ) (s : Store) → HasFlagsSet s.old word → ArePaired s (again_of fill unlinked word s)
 pair_again fill unlinked word s is = record { frame = refl; index = refl; old = flags_set s.old word is; new = new_alike fill unlinked word s.new }
@@ -164,7 +159,7 @@ module _ (target : Target) {old new : Memory} (same : AreSameButFlags old new) (
   remap_changed base phys rights s is was =
       let answer = changed_answer reply (s ∷ []) was.nothing (some_stores s) in
       let due : refusal target space (Remap base phys rights) ≡ None = was.due ∙ ap refusal_in answer.1 in
-      let said = subst (IsReply target (Remap base phys rights) old space offered) answer.1 was.reply_is in
+      let said = subst (IsReply target (Remap base phys rights) old space offered) answer.1 was.reply in
       let low = remap_low target space base phys rights due (ap changes (sym said) ∙ answer.2) in
       let writes : (size : Size) → s.new ≡ with_rights (with_address size s.old phys) rights
       → new_again fill unlinked word s.new ≡ with_rights (with_address size word phys) rights = λ size wrote.
@@ -190,7 +185,9 @@ module _ (target : Target) {old new : Memory} (same : AreSameButFlags old new) (
       let leaf : meaning (level_of split.size) word ≡ entry.Leaf split.phys split.own =
       flagged_meaning (flags_set s.old word is) (level_of split.size) (omega (arith, second_level split.size split.large)) ∙ split.says in
       record {
-        begins = subst (λ (f : Option Fill). AreSameButFlags (filled old f) (filled new (fill_again word f))) (sym was.put.1) (same_fills same table word odd even);
+        begins =
+            subst (λ (f : Option Fill). AreSameButFlags (filled old f) (filled new (fill_again word f))) (sym was.put.1)
+            (same_fills same table word odd even);
         writes = (
           stays,
           λ tbl fills. (
@@ -206,7 +203,8 @@ module _ (target : Target) {old new : Memory} (same : AreSameButFlags old new) (
             omega (arith, one, none));
       }
 
-  join_changed : (base : ℕ) (s : Store) → HasFlagsSet s.old word → Was (Join base) (s ∷ []) → IsChanged (Join base) (s ∷ []) (again_of fill unlinked word s ∷ [])
+  join_changed : (base : ℕ) (s : Store) → HasFlagsSet s.old word → Was (Join base) (s ∷ [])
+      → IsChanged (Join base) (s ∷ []) (again_of fill unlinked word s ∷ [])
   join_changed base s is was =
       let join = was.put.1 in
       let stays : new_again fill unlinked word s.new ≡ s.new =
@@ -263,24 +261,18 @@ module _ (target : Target) {old new : Memory} (same : AreSameButFlags old new) (
       some : (ss : List Store) → index < length ss → ss ≡ [] → ⊥
       some [] low none = omega arith
       some (s ∷ ss) low none = cc
-  changed_by (Protect base rights) [] index store within there is was = absurd (omega arith)
   changed_by (Protect base rights) (s ∷ []) index store within there is was =
       one_store (Protect base rights) s index store within there is was (λ flags. protect_changed base rights s flags was)
   changed_by (Protect base rights) (s ∷ (x ∷ xs)) index store within there is was = let alone = was.written.1 in absurd (cc)
-  changed_by (Ask address) [] index store within there is was = absurd (omega arith)
   changed_by (Ask address) (s ∷ xs) index store within there is was = absurd was.flushed
-  changed_by (Remap base phys rights) [] index store within there is was = absurd (omega arith)
   changed_by (Remap base phys rights) (s ∷ []) index store within there is was =
       one_store (Remap base phys rights) s index store within there is was (λ flags. remap_changed base phys rights s flags was)
-  changed_by (Remap base phys rights) (s ∷ (x ∷ xs)) index store within there is was = let alone = was.written in absurd (cc)
-  changed_by (Split base) [] index store within there is was = absurd (omega arith)
   changed_by (Split base) (s ∷ []) index store within there is was =
       one_store (Split base) s index store within there is was (λ flags. split_changed base s flags was)
-  changed_by (Split base) (s ∷ (x ∷ xs)) index store within there is was = let alone = was.written in absurd (cc)
-  changed_by (Join base) [] index store within there is was = absurd (omega arith)
   changed_by (Join base) (s ∷ []) index store within there is was =
       one_store (Join base) s index store within there is was (λ flags. join_changed base s flags was)
-  changed_by (Join base) (s ∷ (x ∷ xs)) index store within there is was = let alone = was.written in absurd (cc)
+  changed_by _ (s ∷ (x ∷ xs)) index store within there is was = let alone = was.written in absurd (cc)
+  changed_by _ [] index store within there is was = absurd (omega arith)
 
   -- ---- the bits that are answered
 
@@ -289,7 +281,7 @@ module _ (target : Target) {old new : Memory} (same : AreSameButFlags old new) (
       → IsEntryOf target new base second now → ((z : Size) → bits ≡ bits_in z before → next ≡ bits_in z now) → IsTold target new base next reply
   tell request base xs {next = next} some no_map was told before now moves =
       let answer = changed_answer reply xs was.nothing some in
-      let said : answer.0 ≡ (stepped target.depth space request).answer = subst (IsReply target request old space offered) answer.1 was.reply_is in
+      let said : answer.0 ≡ (stepped target.depth space request).answer = subst (IsReply target request old space offered) answer.1 was.reply in
       subst (IsTold target new base next) (sym answer.1)
       (told_moved target same base answer.0 answer.2
       (λ done. never_done target space request no_map (ap changes (sym said) ∙ answer.2) (sym said ∙ done)) before now moves
@@ -310,7 +302,6 @@ module _ (target : Target) {old new : Memory} (same : AreSameButFlags old new) (
       let even = All-get_or (λ (s : Store). s.old % 2 ≡ 0) xs index store within was.one_way in
       let none : store.old % 2 ≡ 0 = ap (λ (s : Store). s.old % 2) there ∙ even in
       absurd (omega (arith, none, is.present))
-  told_by (Unmap base) [] index store within there is was put joins = absurd (omega arith)
   told_by (Unmap base) (s ∷ xs) zero store within there is was put joins =
       let none : store.new ≡ 0 = ap (λ (x : Store). x.new) there ∙ All-head (λ (x : Store). x.new ≡ 0) s xs was.one_way in
       tell (Unmap base) base (s ∷ xs) (λ e. cc) (λ page w e. cc) was was.told was.put.1.entry_is put.1.entry_is
@@ -320,62 +311,30 @@ module _ (target : Target) {old new : Memory} (same : AreSameButFlags old new) (
       ∙ All-get_or (λ (x : Store). x.new ≡ 0) (s ∷ xs) (suc index) store within was.one_way in
       tell (Unmap base) base (s ∷ xs) (λ e. cc) (λ page w e. cc) was was.told was.put.1.entry_is put.1.entry_is
       (bits_moved (suc index) unlinked word store.new bits s.old s.old (inr none) (λ e. absurd (omega arith)) (λ no. refl))
-  told_by (Protect base rights) [] index store within there is was put joins = absurd (omega arith)
   told_by (Protect base rights) (s ∷ xs) zero store within there is was put joins =
       tell (Protect base rights) base (s ∷ xs) (λ e. cc) (λ page w e. cc) was was.told was.put.1.entry_is put.1.entry_is
       (bits_moved zero unlinked word store.new bits s.old word (inl was.put.2) (λ e. (refl, found_first s store there is)) (λ no. absurd (no refl)))
-  told_by (Protect base rights) (s ∷ []) (suc index) store within there is was put joins = absurd (omega arith)
   told_by (Protect base rights) (s ∷ (x ∷ xs)) (suc index) store within there is was put joins = let alone = was.written.1 in absurd (cc)
-  told_by (Ask address) [] index store within there is was put joins = absurd (omega arith)
   told_by (Ask address) (s ∷ xs) index store within there is was put joins = absurd was.flushed
-  told_by (Remap base phys rights) [] index store within there is was put joins = absurd (omega arith)
   told_by (Remap base phys rights) (s ∷ xs) zero store within there is was put joins =
       tell (Remap base phys rights) base (s ∷ xs) (λ e. cc) (λ page w e. cc) was was.told was.put.1.entry_is put.1.entry_is
       (bits_moved zero unlinked word store.new bits s.old word (inl was.put.2) (λ e. (refl, found_first s store there is)) (λ no. absurd (no refl)))
-  told_by (Remap base phys rights) (s ∷ []) (suc index) store within there is was put joins = absurd (omega arith)
-  told_by (Remap base phys rights) (s ∷ (x ∷ xs)) (suc index) store within there is was put joins = let alone = was.written in absurd (cc)
-  told_by (Split base) [] index store within there is was put joins = absurd (omega arith)
   told_by (Split base) (s ∷ xs) zero store within there is was put joins =
       tell (Split base) base (s ∷ xs) (λ e. cc) (λ page w e. cc) was was.told was.put.2.entry_is put.2.entry_is
       (bits_moved zero unlinked word store.new bits s.old word (inl was.put.3) (λ e. (refl, found_first s store there is)) (λ no. absurd (no refl)))
-  told_by (Split base) (s ∷ []) (suc index) store within there is was put joins = absurd (omega arith)
-  told_by (Split base) (s ∷ (x ∷ xs)) (suc index) store within there is was put joins = let alone = was.written in absurd (cc)
   told_by (Join base) xs index store within there is was put joins = joins base refl
+  told_by _ (s ∷ (x ∷ xs)) (suc index) store within there is was put joins = let alone = was.written in absurd (cc)
+  told_by _ _ _ store within there is was put joins = absurd (omega arith)
 
 -- ---- whole plans
 
 module _ {target : Target} {request : Request} {memory : Memory} {space : Space} {offered : List (Option ℕ)} where
-  parts_from : (plan : Plan) → IsRight target request memory space offered plan
-      → Parts target request memory space offered plan.reply plan.bits plan.fill plan.stores.items plan.flush plan.unlinked.items
-  parts_from plan right = record {
-    reply_is = right.reply;
-    due = right.due;
-    put = right.put;
-    fits = right.fits;
-    safe = right.safe;
-    found = right.found;
-    meant = right.meant;
-    nothing = right.nothing;
-    written = right.written;
-    already = right.already;
-    changing = right.changing;
-    one_way = right.one_way;
-    told = right.told;
-    flushed = right.flushed;
-    gone = right.unlinked;
-    pruned = right.pruned;
-    named_once = right.named_once;
-    whole = right.whole;
-    own = right.own;
-    reaches = right.reaches;
-  }
-
   pub right_elsewhere : (now : Memory) (plan : Plan) → IsPremise target.depth memory target.root (address_of request) space
       → IsRight target request memory space offered plan → AreSameButFlags memory now → FindTheirWords (begun now plan) plan.stores.items
       → IsTold target now (address_of request) plan.bits plan.reply → IsRight target request now space offered plan
   right_elsewhere now plan premise right same found told = right_as plan refl refl refl refl refl refl
       (parts_moved target memory now space offered plan.reply plan.bits plan.bits plan.fill plan.fill plan.unlinked.items plan.flush
-      request plan.stores.items plan.stores.items (parts_from plan right) (record {
+      request plan.stores.items plan.stores.items right (record {
         same = same;
         begins = filled_alike same plan.fill;
         own = premise.own;
@@ -399,15 +358,16 @@ module _ {target : Target} {request : Request} {memory : Memory} {space : Space}
       let unlinked = plan.unlinked.items in
       let ys = slice_set xs index (again_of fill unlinked word is.store) in
       let other = fill_again word fill in
-      let was = parts_from plan right in
-      let changed = changed_by target same space offered plan.reply plan.bits fill plan.flush unlinked word request xs index is.store is.within is.there is.flags was in
+      let changed = changed_by target same space offered plan.reply plan.bits fill plan.flush unlinked word request xs index is.store
+      is.within is.there is.flags right in
       let pairs = zip_at xs index is.store (again_of fill unlinked word is.store) is.there (pair_again fill unlinked word is.store is.flags) in
       let finds : FindTheirWords (filled now other) ys =
       subst (λ (f : Option Fill). FindTheirWords (filled now f) ys) is.fill
       (subst (λ (ss : List Store). FindTheirWords (filled now again.fill) ss) is.stores found) in
       let put = put_moved target same offered fill other unlinked request xs ys pairs finds changed.writes right.put in
       right_as again is.reply is.bits is.fill is.stores is.flush (ap (λ u. u.items) is.unlinked)
-      (parts_moved target memory now space offered plan.reply (bits_again index unlinked word is.store.new plan.bits) plan.bits fill other unlinked plan.flush request xs ys was (record {
+      (parts_moved target memory now space offered plan.reply (bits_again index unlinked word is.store.new plan.bits) plan.bits fill other
+      unlinked plan.flush request xs ys right (record {
         same = same;
         begins = changed.begins;
         own = premise.own;
@@ -417,7 +377,7 @@ module _ {target : Target} {request : Request} {memory : Memory} {space : Space}
         put = put;
         written = changed.written;
         changing = changed.changing;
-        told = told_by target same space offered plan.reply plan.bits fill plan.flush unlinked word request xs index is.store is.within is.there is.flags was
+        told = told_by target same space offered plan.reply plan.bits fill plan.flush unlinked word request xs index is.store is.within is.there is.flags right
             put (λ base joins. subst (IsTold target now base (bits_again index unlinked word is.store.new plan.bits)) is.reply
             (subst (λ b. IsTold target now base b again.reply) is.bits (told base joins)));
       }))

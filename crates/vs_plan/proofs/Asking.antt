@@ -52,22 +52,14 @@ stepped_none target space (Join base) no_map none = change_none space base _ non
 -- no refusal is due where no page begins at the address
 pub no_refusal : (target : Target) (space : Space) (request : Request)
     → ((q : Page) → page_at space (address_of request) ≡ Some q → q.base ≢ address_of request) → refusal target space request ≡ None
-no_refusal target space (Map page bits) begins = refl
-no_refusal target space (Unmap base) begins = refl
-no_refusal target space (Protect base rights) begins = refl
-no_refusal target space (Ask address) begins = refl
 no_refusal target space (Remap base phys rights) begins = why_none base _ (page_at space base) begins
 no_refusal target space (Split base) begins = why_none base _ (page_at space base) begins
 no_refusal target space (Join base) begins = why_none base _ (page_at space base) begins
+no_refusal target space _ begins = refl
 
 lowest_no_map : (request : Request) → IsNoMap request → lowest_of request ≡ 1
 lowest_no_map (Map page bits) no_map = absurd no_map
-lowest_no_map (Unmap base) no_map = refl
-lowest_no_map (Protect base rights) no_map = refl
-lowest_no_map (Ask address) no_map = refl
-lowest_no_map (Remap base phys rights) no_map = refl
-lowest_no_map (Split base) no_map = refl
-lowest_no_map (Join base) no_map = refl
+lowest_no_map _ no_map = refl
 
 module _ {p : Planner} {word : ℕ} (end : IsAtEnd p) where
   module _ {memory : Memory} {space : Space} (ended : HasEnded memory p word)
@@ -190,16 +182,4 @@ module _ {p : Planner} {word : ℕ} (end : IsAtEnd p) {phys : ℕ} {own : Rights
   remap_in {base} {other} {rights} is = inside_right (λ b space q place here apart.
       ap (stepped p.target.depth space) (is ∙ ap (λ x. Remap x other rights) (sym (ap address_of is) ∙ place))
       ∙ change_inside space b _ q here apart)
-      (ap address_of is)
-
-  pub split_in : {base : ℕ} → p.request ≡ Split base → base % bytes_of (size_at p.level) ≢ 0 → (plan : Plan)
-      → ChangesNothing (replies.Answer (answers.Inside (base - base % bytes_of (size_at p.level)))) 0 plan → IsRightAt p word plan
-  split_in {base} is = inside_right (λ b space q place here apart.
-      ap (stepped p.target.depth space) (is ∙ ap Split (sym (ap address_of is) ∙ place)) ∙ change_inside space b _ q here apart)
-      (ap address_of is)
-
-  pub join_in : {base : ℕ} → p.request ≡ Join base → base % bytes_of (size_at p.level) ≢ 0 → (plan : Plan)
-      → ChangesNothing (replies.Answer (answers.Inside (base - base % bytes_of (size_at p.level)))) 0 plan → IsRightAt p word plan
-  join_in {base} is = inside_right (λ b space q place here apart.
-      ap (stepped p.target.depth space) (is ∙ ap Join (sym (ap address_of is) ∙ place)) ∙ change_inside space b _ q here apart)
       (ap address_of is)

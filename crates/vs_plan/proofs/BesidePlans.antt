@@ -16,7 +16,7 @@ use Rattle.vs_plan.specs.declared.plan.Fill.{Fill}
 use Rattle.vs_plan.specs.declared.plan.Plan.{Plan}
 use Rattle.vs_plan.specs.declared.plan.Store.{Store}
 use Rattle.vs_plan.specs.declared.request.Request.{Request}
-use Rattle.vs_plan.specs.declared.request.Request.TheVariants.{Map, Unmap, Protect, Ask, Remap, Split, Join}
+use Rattle.vs_plan.specs.declared.request.Request.TheVariants.{Join}
 use Rattle.vs_plan.specs.declared.target.Target.{Target}
 use Rattle.vs_plan.specs.Other.{HasSameTables, IsShared, MeetsNone, LeadsNotTo, IsBeside, IsRightBeside}
 use Rattle.vs_plan.specs.Premise.{IsPremise}
@@ -63,13 +63,8 @@ store_of other keeps (OfSpare spare low) = OffWays spare.unreached
 
 store_by : (target : Target) (memory : Memory) (request : Request) (unlinked : List ℕ) (other : ℕ) (s : Store)
     → Keeps target memory (address_of request) other → IsMeantBy target memory request unlinked s → IsStore target memory (address_of request) other s
-store_by target memory (Map page bits) unlinked other s keeps meant = store_of other keeps meant
-store_by target memory (Unmap base) unlinked other s keeps meant = store_of other keeps meant
-store_by target memory (Protect base rights) unlinked other s keeps meant = store_of other keeps meant
-store_by target memory (Ask address) unlinked other s keeps meant = store_of other keeps meant
-store_by target memory (Remap base phys rights) unlinked other s keeps meant = store_of other keeps meant
-store_by target memory (Split base) unlinked other s keeps meant = store_of other keeps meant
 store_by target memory (Join base) unlinked other s keeps meant = link_store other keeps meant.on meant.may
+store_by target memory _ unlinked other s keeps meant = store_of other keeps meant
 
 -- an address whose way from the other root meets no table on its own way from the root isn't shared
 pub meets_unshared : (depth : Depth) (memory : Memory) (root other base : ℕ) → MeetsNone depth memory root other base base
@@ -180,7 +175,8 @@ module _ (target : Target) (request : Request) (memory : Memory) (space : Space)
     own = begins_own target.depth target.root memory (begun memory plan) filled_root (address_of request) premise.own;
     meant = All-weaker (IsMeantBy target memory request plan.unlinked.items) (IsStore target (begun memory plan) (address_of request) other)
         (λ s meant. begins_store target memory (begun memory plan) filled_root other filled_other (address_of request) s
-        (store_by target memory request plan.unlinked.items other s (beside_keeps target memory (address_of request) plan other beside) meant)) plan.stores.items right.meant;
+        (store_by target memory request plan.unlinked.items other s (beside_keeps target memory (address_of request) plan other beside) meant))
+        plan.stores.items right.meant;
     found = right.found;
     gone = gone_there;
   }
@@ -197,14 +193,17 @@ module _ (target : Target) (request : Request) (memory : Memory) (space : Space)
         (shared_stays target (begun memory plan) (address_of request) plan.stores.items plan.unlinked.items other are is_other
         done address (begins_shared target memory (begun memory plan) filled_root other filled_other address shared));
     apart = λ done address low none. apart_walk target (begun memory plan) (address_of request) plan.stores.items plan.unlinked.items other are is_other
-        done address (begins_none target memory (begun memory plan) filled_root other filled_other (address_of request) address none) ∙ unread_walk target.depth other memory (begun memory plan) filled_other address;
+        done address (begins_none target memory (begun memory plan) filled_root other filled_other (address_of request) address none)
+        ∙ unread_walk target.depth other memory (begun memory plan) filled_other address;
     freed = λ number named level address at. other_freed target (begun memory plan) (address_of request) plan.stores.items plan.unlinked.items other
         are is_other number named level address at;
     suffices = form_suffices target.depth other (begun memory plan) plan.stores.items plan.flush plan.unlinked.items
-        (form_of target memory (begun memory plan) space offered plan.reply plan.fill request plan.stores.items plan.unlinked.items plan.flush (parts_of premise right))
+        (form_of target memory (begun memory plan) space offered plan.reply plan.fill request plan.stores.items plan.unlinked.items
+        plan.flush (parts_of premise right))
         (other_switched target (begun memory plan) (address_of request) plan.stores.items plan.unlinked.items other are is_other
         (switched (parts_of premise right)))
         (other_freed target (begun memory plan) (address_of request) plan.stores.items plan.unlinked.items other are is_other)
         (for_other target (begun memory plan) (address_of request) plan.stores.items plan.unlinked.items other are is_other plan.flush
-        (are_for target memory (begun memory plan) space offered plan.reply plan.fill request plan.stores.items plan.unlinked.items plan.flush (parts_of premise right)));
+        (are_for target memory (begun memory plan) space offered plan.reply plan.fill request plan.stores.items plan.unlinked.items
+        plan.flush (parts_of premise right)));
   }

@@ -1,6 +1,7 @@
 -- Roots that have only tables in common that are the same from both stay so, and keep what plans ask of them.
 use Rattle.std.proofs.Common.{◌≡◌, ◌≢◌, ℕ, List, Contains, Option, Some, None, true, ◌⊎◌, inl, inr, ⊎_elim, refl, sym, ap, subst, ◌∙◌, arith, All}
 use Rattle.std.proofs.lemmas.Bool.{cases_eq}
+use Rattle.std.proofs.lemmas.Option.{same_Some}
 use Rattle.vs_types.specs.Depth.{levels, IsCanonical}
 use Rattle.vs_types.specs.Space.{Space}
 use Rattle.vs_types.specs.Step.{look}
@@ -10,7 +11,6 @@ use Rattle.vs_walk.specs.Memory.{Memory}
 use Rattle.vs_walk.specs.Walk.{walk, as_walk, TranslatesAs}
 use Rattle.vs_space.specs.Path.{table_at}
 use Rattle.vs_space.proofs.Paths.{table_first, reached_within}
-use Rattle.vs_space.proofs.Trees.{one_some}
 use Rattle.vs_plan.specs.declared.plan.Fill.{Fill}
 use Rattle.vs_plan.specs.declared.plan.Plan.{Plan}
 use Rattle.vs_plan.specs.declared.plan.Store.{Store}
@@ -61,7 +61,7 @@ beside_of target memory base plan other roots pinned spare fill = record {
 module _ (depth : Depth) (memory : Memory) (root other : ℕ) (roots : AreBeside depth memory root other)
     (own : (address : ℕ) → HasOwnWay depth memory root address) where
   is_other_root : (level address number : ℕ) → level ≡ levels depth → table_at (levels depth) memory other level address ≡ Some number → other ≡ number
-  is_other_root level address number top at = one_some other number
+  is_other_root level address number top at = same_Some other number
       (sym (table_first (levels depth) other memory address) ∙ sym (ap (λ l. table_at (levels depth) memory other l address) top) ∙ at)
 
   root_off : LeadsNotTo depth memory other root
@@ -171,7 +171,7 @@ module _ (target : Target) (request : Request) (memory : Memory) (space : Space)
       ⊎ (table_at (levels target.depth) after target.root level address ≡ Some number)
   where_from level address number at = ⊎_elim
       (λ (top : level ≡ levels target.depth).
-      let same : other ≡ number = one_some other number (sym (table_first (levels target.depth) other after address)
+      let same : other ≡ number = same_Some other number (sym (table_first (levels target.depth) other after address)
       ∙ sym (ap (λ l. table_at (levels target.depth) after other l address) top) ∙ at) in
       inl (
         ap (λ l. table_at (levels target.depth) memory other l address) top ∙ table_first (levels target.depth) other memory address ∙ ap Some same,

@@ -72,7 +72,8 @@ module _ {p : Planner} {word : ℕ} (end : IsAtEnd p) {phys : ℕ} {own : Rights
       nothing_right premise due plan none tt due premise.translates refl
 
   -- the split waits for a frame
-  pub division_begins : base % bytes_of (size_at p.level) ≡ 0 → 1 < p.level → {memory : Memory} → HasEnded memory p word → (height : ℕ) (stores : ArrayVec Store)
+  pub division_begins : base % bytes_of (size_at p.level) ≡ 0 → 1 < p.level → {memory : Memory} → HasEnded memory p word
+      → (height : ℕ) (stores : ArrayVec Store)
       → IsDivided memory (record p { phase = phases.Division; height = height; stores = stores })
   division_begins aligned large {memory} ended height stores = record {
     base = base;

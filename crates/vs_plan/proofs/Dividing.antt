@@ -9,7 +9,7 @@ use Rattle.vs_types.specs.Step.{Stepped}
 use Rattle.vs_types.specs.declared.page.Page.{Page}
 use Rattle.vs_types.specs.declared.page.Rights.{Rights}
 use Rattle.vs_types.specs.declared.page.Size.{Size}
-use Rattle.vs_types.specs.declared.page.Size.TheVariants.{K4, M2, G1}
+use Rattle.vs_types.specs.declared.page.Size.TheVariants.{K4}
 use Rattle.vs_types.specs.declared.entry.Meaning.TheVariants as entry
 use Rattle.vs_types.specs.declared.answer.Answer.TheVariants as answers
 use Rattle.vs_types.proofs.Lists.{Contains-head}
@@ -19,7 +19,7 @@ use Rattle.vs_space.specs.Held.{word_at}
 use Rattle.vs_space.specs.Path.{table_in, table_at}
 use Rattle.vs_space.specs.Table.{IsTableOf}
 use Rattle.vs_space.proofs.Numbered.{get-insert_same}
-use Rattle.vs_space.proofs.Regions.{IsLeafPage}
+use Rattle.vs_space.proofs.Regions.{IsLeafPage, level_back}
 use Rattle.vs_plan.specs.declared.plan.Fill.{Fill}
 use Rattle.vs_plan.specs.declared.plan.Flush.TheVariants as flushes
 use Rattle.vs_plan.specs.declared.plan.Reply.TheVariants as replies
@@ -36,7 +36,7 @@ use Rattle.vs_plan.proofs.Asking.{entry_of}
 use Rattle.vs_plan.proofs.EntryStores.{IsOwnTable, walk_off, whole_store}
 use Rattle.vs_plan.proofs.Filled.{own_as, table_as, translates_as, unreached_as, walk_as, way_as, whole_as, word_as}
 use Rattle.vs_plan.proofs.PartSpaces.{refused_there}
-use Rattle.vs_plan.proofs.Pages.{table_from, level_back, page_here}
+use Rattle.vs_plan.proofs.Pages.{table_from, page_here}
 use Rattle.vs_plan.proofs.Parts.{none_named, Parts, safe_one, store_at, words_apart, EndAt}
 use Rattle.vs_plan.proofs.Runs.{IsRun}
 use Rattle.vs_plan.proofs.Splitting.{LiesLarge, are_bits_in, large_at, own_parts, parts_reached, run_filled, smaller_at, split_is, split_translates, stepping_long, walk_parts}
@@ -87,8 +87,7 @@ module _ (target : Target) {memory : Memory} {space : Space} {base low number wo
 
     by : (size : Size) → size ≢ K4 → smallest size ≡ None
     by K4 large = absurd (large refl)
-    by M2 large = refl
-    by G1 large = refl
+    by _ large = refl
 
   module _ {frame : ℕ} (within : frame < frames_end target) (spare : IsSpare target.depth memory target.root frame)
       (leads : meaning (suc low) (table_word frame) ≡ entry.Table frame all_rights) where
@@ -130,7 +129,7 @@ module _ (target : Target) {memory : Memory} {space : Space} {base low number wo
         (bits_in (size_at (suc low)) word) (Some fill) (s ∷ []) (flushes.Range base (size_at (suc low))) []
     unfolding entry_here
     parts_at = record {
-      reply_is = sym (ap (λ (t : Stepped). t.answer) (split_is table page.1 some few aligned));
+      reply = sym (ap (λ (t : Stepped). t.answer) (split_is table page.1 some few aligned));
       due = not_refused;
       fits = tt;
       put = (
@@ -157,7 +156,8 @@ module _ (target : Target) {memory : Memory} {space : Space} {base low number wo
       );
       safe = safe_one s (translates_as target.depth memory target.root frame words spare.unreached space end.premise.translates)
           (split_translates table page.1 some few aligned (stored m s)
-          (λ b path. walk_parts here (way_as target.depth memory target.root frame words spare.unreached end.way) frame low phys (table_word frame) own refl some leads run (unreached_as target.depth memory target.root frame words spare.unreached) b path)
+          (λ b path. walk_parts here (way_as target.depth memory target.root frame words spare.unreached end.way) frame low phys
+          (table_word frame) own refl some leads run (unreached_as target.depth memory target.root frame words spare.unreached) b path)
           (λ b apart. walk_off here (table_word frame) b apart ∙ walk_as target.depth memory target.root frame words spare.unreached b));
       found = (word_is, tt);
       meant = All-cons (IsMeantBy target memory (Split base) []) s []
@@ -170,11 +170,12 @@ module _ (target : Target) {memory : Memory} {space : Space} {base low number wo
       one_way = tt;
       told = (size_at (suc low), word, entry_here, refl);
       flushed = (size_at (suc low), entry_here, refl);
-      gone = All-nil _;
+      unlinked = All-nil _;
       pruned = tt;
       named_once = none_named;
       whole = whole_store here (table_word frame);
-      own = λ a has. own_parts here (way_as target.depth memory target.root frame words spare.unreached end.way) frame low phys (table_word frame) own refl some leads run (unreached_as target.depth memory target.root frame words spare.unreached) a
+      own = λ a has. own_parts here (way_as target.depth memory target.root frame words spare.unreached end.way) frame low phys
+          (table_word frame) own refl some leads run (unreached_as target.depth memory target.root frame words spare.unreached) a
           (own_as target.depth memory target.root frame words spare.unreached a has);
       reaches = λ j b q at. ⊎_elim
           (λ old. inl (sym (table_as target.depth memory target.root frame words spare.unreached j b) ∙ old))

@@ -1,8 +1,9 @@
 -- A spare frame is given other words: nothing that is reached changes.
 use Rattle.std.proofs.Common.{◌≡◌, ◌≢◌, ℕ, List, length, Some, ⊎_elim, sym, ap, ◌∙◌}
-use Rattle.std.specs.Prelude.{option_map, slice_index}
+use Rattle.std.specs.Prelude.{option_map}
 use Rattle.std.proofs.lemmas.Bool.{cases_eq}
 use Rattle.std.specs.FinMap as finite
+use Rattle.std.proofs.lemmas.Option.{same_Some}
 use Rattle.vs_types.specs.Depth.{levels}
 use Rattle.vs_types.specs.Entry.{meaning}
 use Rattle.vs_types.specs.Space.{Space}
@@ -12,6 +13,7 @@ use Rattle.vs_walk.specs.Memory.{Memory, AreWhole}
 use Rattle.vs_walk.specs.Walk.{walk, TranslatesAs}
 use Rattle.vs_space.specs.Held.{word_at}
 use Rattle.vs_space.specs.Path.{entry_in, table_at}
+use Rattle.vs_space.proofs.Written.{word_alike}
 use Rattle.vs_space.proofs.Numbered.{get-insert_same, get-insert_other}
 use Rattle.vs_space.proofs.Trees.{unreached_table, unreached_walk}
 use Rattle.vs_space.proofs.Writes.{found_alike}
@@ -22,22 +24,16 @@ use Rattle.vs_plan.proofs.Ways.{way_kept}
 pub whole_as : (m : Memory) (number : ℕ) (words : List ℕ) → AreWhole m → length words ≡ 512 → AreWhole (finite.insert m number words)
 whole_as m number words whole long q other got = ⊎_elim
     (λ (same : q ≡ number).
-    ap length (one other words (sym got ∙ ap (finite.get (finite.insert m number words)) same ∙ get-insert_same m number words)) ∙ long)
+    ap length (same_Some other words (sym got ∙ ap (finite.get (finite.insert m number words)) same ∙ get-insert_same m number words)) ∙ long)
     (λ (apart : q ≢ number). whole q other (sym (get-insert_other m number words q apart) ∙ got))
     (cases_eq q number)
-  where
-    one : (x y : List ℕ) → Some x ≡ Some y → x ≡ y
-    one x y e = cc
-
-pub word_alike : (m m' : Memory) (n i : ℕ) → finite.get m' n ≡ finite.get m n → word_at m' n i ≡ word_at m n i
-unfolding word_at
-word_alike m m' n i same = ap (option_map (λ (words : List ℕ). slice_index words i)) same
 
 pub entry_alike : (level : ℕ) (m m' : Memory) (n i : ℕ) → finite.get m' n ≡ finite.get m n → entry_in level m' n i ≡ entry_in level m n i
 unfolding entry_in
 entry_alike level m m' n i same = ap (option_map (meaning level)) (word_alike m m' n i same)
 
-module _ (depth : Depth) (m : Memory) (root number : ℕ) (words : List ℕ) (unreached : (level b : ℕ) → table_at (levels depth) m root level b ≢ Some number) where
+module _ (depth : Depth) (m : Memory) (root number : ℕ) (words : List ℕ) (unreached : (level b : ℕ)
+    → table_at (levels depth) m root level b ≢ Some number) where
   abbrev pub filled_as : Memory
   filled_as = finite.insert m number words
 

@@ -5,11 +5,12 @@ use Rattle.std.specs.FinMap as finite
 use Rattle.std.specs.Int.{bit_at}
 use Rattle.std.specs.List.{AllZip}
 use Rattle.std.proofs.lemmas.Bool.{cases_eq}
+use Rattle.std.proofs.lemmas.Option.{same_Some}
 use Rattle.vs_types.specs.Entry.{leaf_word}
 use Rattle.vs_types.specs.declared.page.Page.{Page}
 use Rattle.vs_types.specs.declared.page.Rights.{Rights}
 use Rattle.vs_types.specs.declared.page.Size.{Size}
-use Rattle.vs_types.specs.declared.page.Size.TheVariants.{K4, M2, G1}
+use Rattle.vs_types.specs.declared.page.Size.TheVariants.{K4}
 use Rattle.vs_walk.specs.Memory.{Memory}
 use Rattle.vs_space.specs.Flags.{IsSameButFlags, AreSameButFlags}
 use Rattle.vs_space.proofs.Numbered.{get-insert_same, get-insert_other}
@@ -35,9 +36,6 @@ zip_steps first other step (suc count) is even = (
   }) even,
 )
 
-one_list : (x y : List ℕ) → Some x ≡ Some y → x ≡ y
-one_list x y e = cc
-
 -- memories that differ in flags alone still do once a frame has words that do
 pub same_filled : {old new : Memory} → AreSameButFlags old new → (n : ℕ) (xs ys : List ℕ) → AllZip IsSameButFlags xs ys
     → AreSameButFlags (finite.insert old n xs) (finite.insert new n ys)
@@ -50,8 +48,8 @@ same_filled {old} {new} is n xs ys zipped = record {
       (cases_eq f n);
   words = λ f before after got had. ⊎_elim
       (λ (here : f ≡ n).
-      let first = one_list xs before (sym (ap (finite.get (finite.insert old n xs)) here ∙ get-insert_same old n xs) ∙ got) in
-      let second = one_list ys after (sym (ap (finite.get (finite.insert new n ys)) here ∙ get-insert_same new n ys) ∙ had) in
+      let first = same_Some xs before (sym (ap (finite.get (finite.insert old n xs)) here ∙ get-insert_same old n xs) ∙ got) in
+      let second = same_Some ys after (sym (ap (finite.get (finite.insert new n ys)) here ∙ get-insert_same new n ys) ∙ had) in
       subst (λ (b : List ℕ). AllZip IsSameButFlags b after) first (subst (AllZip IsSameButFlags xs) second zipped))
       (λ (other : f ≢ n). is.words f before after (sym (get-insert_other old n xs f other) ∙ got) (sym (get-insert_other new n ys f other) ∙ had))
       (cases_eq f n);
@@ -80,14 +78,12 @@ last_high false = refl
 -- a page's word without bits has none of bits 6:3
 leaf_low : (size : Size) (phys : ℕ) (rights : Rights) → phys % 2 ^ 12 ≡ 0 → leaf_word size phys rights % 2 ^ 7 < 2 ^ 3
 leaf_low K4 phys rights at = omega (arith, at, second_low rights.write, third_low rights.user, last_high rights.exec)
-leaf_low M2 phys rights at = omega (arith, at, second_low rights.write, third_low rights.user, last_high rights.exec)
-leaf_low G1 phys rights at = omega (arith, at, second_low rights.write, third_low rights.user, last_high rights.exec)
+leaf_low _ phys rights at = omega (arith, at, second_low rights.write, third_low rights.user, last_high rights.exec)
 
 placed_again : (size : Size) (leaf bits word : ℕ) → leaf % 2 ^ 7 < 2 ^ 3 → bits % 2 ^ 3 ≡ 0
     → flags_into word (leaf + placed size bits) ≡ leaf + placed size (flags_into word bits)
 placed_again K4 leaf bits word low at = omega (arith, low, at)
-placed_again M2 leaf bits word low at = let pat : bit_at (flags_into word bits) 7 ≡ bit_at bits 7 = omega arith in omega (arith, low, at, pat)
-placed_again G1 leaf bits word low at = let pat : bit_at (flags_into word bits) 7 ≡ bit_at bits 7 = omega arith in omega (arith, low, at, pat)
+placed_again _ leaf bits word low at = let pat : bit_at (flags_into word bits) 7 ≡ bit_at bits 7 = omega arith in omega (arith, low, at, pat)
 
 pub split_again : (page : Page) (size : Size) (old word : ℕ) → page.phys % 2 ^ 12 ≡ 0 → HasFlagsSet old word
     → flags_into word (page_word page (bits_in size old)) ≡ page_word page (bits_in size word)

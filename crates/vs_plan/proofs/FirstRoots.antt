@@ -123,17 +123,7 @@ module _ {target : Target} {space : Space} (is : IsSpace target.depth space) whe
       → IsSpace target.depth (space_after target request space reply)
   space_again request (replies.Answer answer) stores good due fits made =
       stepped_space request stores good due fits (λ none base is changed. made none base is due refl changed)
-  space_again request replies.NoFrame stores good due fits made = is
-  space_again request (replies.FrameRange number) stores good due fits made = is
-  space_again request replies.Rights stores good due fits made = is
-  space_again request (replies.Empty number) stores good due fits made = is
-  space_again request (replies.Reserved number index) stores good due fits made = is
-  space_again request replies.PhysUnaligned stores good due fits made = is
-  space_again request replies.PhysRange stores good due fits made = is
-  space_again request replies.Smallest stores good due fits made = is
-  space_again request replies.Largest stores good due fits made = is
-  space_again request replies.Unaligned stores good due fits made = is
-  space_again request (replies.Apart index) stores good due fits made = is
+  space_again request _ stores good due fits made = is
 
 -- a join that changes something has a store
 joins_store : {target : Target} {base : ℕ} {memory : Memory} {space : Space} {offered : List (Option ℕ)} {plan : Plan}

@@ -7,6 +7,7 @@ use Rattle.std.specs.List.{AllZip}
 use Rattle.std.proofs.lemmas.Bool.{cases_eq, ne_eqb}
 use Rattle.std.proofs.lemmas.List.Elements.{All-nil, All-cons, All-head, All-tail, length_all_zip}
 use Rattle.std.proofs.lemmas.Nat.Bits.{same_from_bits}
+use Rattle.std.proofs.lemmas.Option.{same_Some}
 use Rattle.vs_types.specs.Depth.{levels, index_at}
 use Rattle.vs_types.specs.Entry.{meaning}
 use Rattle.vs_types.specs.Page.{bytes_of}
@@ -20,7 +21,8 @@ use Rattle.vs_walk.specs.Memory.{Memory}
 use Rattle.vs_space.specs.Flags.{IsSameButFlags, AreSameButFlags}
 use Rattle.vs_space.specs.Held.{word_at}
 use Rattle.vs_space.specs.Path.{table_at, entry_in}
-use Rattle.vs_space.proofs.FlaggedWords.{flagged_at, flagged_meaning, flagged_zeros}
+use Rattle.vs_space.proofs.Flagged.{both, flagged_found}
+use Rattle.vs_space.proofs.FlaggedWords.{bit_above, flagged_at, flagged_meaning, flagged_zeros}
 use Rattle.vs_space.proofs.Prunes.{word_in}
 use Rattle.vs_plan.specs.declared.plan.Store.{Store}
 use Rattle.vs_plan.specs.declared.target.Target.{Target}
@@ -31,7 +33,7 @@ use Rattle.vs_plan.specs.Right.{FollowBelow, IsEntryOf, HasWord}
 use Rattle.vs_plan.specs.Stores.{stored, stored_all, FindTheirWords}
 use Rattle.vs_plan.specs.Way.{IsWay}
 use Rattle.vs_plan.proofs.FlagsKept.{flags_table}
-use Rattle.vs_plan.proofs.OtherFlags.{bit_above, both, protect_again, remap_again, same_found, same_stored}
+use Rattle.vs_plan.proofs.OtherFlags.{protect_again, remap_again, same_stored}
 use Rattle.vs_plan.proofs.PlansSuffice.{some_level}
 use Rattle.vs_plan.proofs.WordOrders.{even_absent, told_used}
 use Rattle.vs_plan.proofs.Ways.{way_kept}
@@ -94,18 +96,12 @@ place_stays size a b phys rights at is same = sym (own_flags a b is) ∙ ap (wit
 
 -- ---- what is found
 
-one_some : (x y : ℕ) → Some x ≡ Some y → x ≡ y
-one_some x y e = cc
-
-one_list : (x y : List ℕ) → Some x ≡ Some y → x ≡ y
-one_list x y e = cc
-
 module _ {old new : Memory} (is : AreSameButFlags old new) where
   pub word_flags : (number index word : ℕ) → word_at old number index ≡ Some word
       → (now : ℕ) × (word_at new number index ≡ Some now) × IsSameButFlags word now
   word_flags number index word told =
       let here = both is number (told_used old number index word told) in
-      let first : slice_index here.0 index ≡ word = one_some _ _ (sym (word_in old number index here.0 here.2) ∙ told) in (
+      let first : slice_index here.0 index ≡ word = same_Some _ _ (sym (word_in old number index here.0 here.2) ∙ told) in (
         slice_index here.1 index,
         word_in new number index here.1 here.3,
         subst (λ w. IsSameButFlags w (slice_index here.1 index)) first (flagged_at here.0 here.1 here.4 index),
@@ -115,7 +111,7 @@ module _ {old new : Memory} (is : AreSameButFlags old new) where
   zeros_flags number clear =
       let here = both is number (ap is_some clear) in
       here.3 ∙ ap Some (flagged_zeros FRAME_WORDS here.1
-      (subst (λ (b : List ℕ). AllZip IsSameButFlags b here.1) (one_list here.0 zeros (sym here.2 ∙ clear)) here.4))
+      (subst (λ (b : List ℕ). AllZip IsSameButFlags b here.1) (same_Some here.0 zeros (sym here.2 ∙ clear)) here.4))
 
   pub has_word : (number : ℕ) → HasWord old number → HasWord new number
   has_word number has =
@@ -136,7 +132,7 @@ module _ {old new : Memory} (is : AreSameButFlags old new) where
     pub way_flags : (address level number : ℕ) (rights : Rights) → IsWay depth old root address level number rights
         → IsWay depth new root address level number rights
     way_flags address level number rights way =
-        way_kept new level number rights way (λ j q over at. same_found is j q address (omega (arith, over)))
+        way_kept new level number rights way (λ j q over at. flagged_found is j q address (omega (arith, over)))
 
     pub own_before : (address : ℕ) → HasOwnWay depth new root address → HasOwnWay depth old root address
     own_before address own = record {
@@ -212,18 +208,16 @@ zip_none (s ∷ xs) ys zip none = absurd (cc)
 
 pub zip_all : (P Q : Store → Type 0) → ((s t : Store) → ArePaired s t → P s → Q t) → (xs ys : List Store) → AllZip ArePaired xs ys → All P xs → All Q ys
 zip_all P Q each [] [] zip all = All-nil Q
-zip_all P Q each [] (t ∷ ys) zip all = absurd zip
-zip_all P Q each (s ∷ xs) [] zip all = absurd zip
 zip_all P Q each (s ∷ xs) (t ∷ ys) zip all = All-cons Q t ys (each s t zip.0 (All-head P s xs all)) (zip_all P Q each xs ys zip.1 (All-tail P s xs all))
+zip_all P Q each _ _ zip all = absurd zip
 
 -- what holds by two facts
 pub zip_both : (P R Q : Store → Type 0) → ((s t : Store) → ArePaired s t → P s → R s → Q t) → (xs ys : List Store) → AllZip ArePaired xs ys
     → All P xs → All R xs → All Q ys
 zip_both P R Q each [] [] zip all other = All-nil Q
-zip_both P R Q each [] (t ∷ ys) zip all other = absurd zip
-zip_both P R Q each (s ∷ xs) [] zip all other = absurd zip
 zip_both P R Q each (s ∷ xs) (t ∷ ys) zip all other = All-cons Q t ys (each s t zip.0 (All-head P s xs all) (All-head R s xs other))
     (zip_both P R Q each xs ys zip.1 (All-tail P s xs all) (All-tail R s xs other))
+zip_both P R Q each _ _ zip all other = absurd zip
 
 pub zip_length : (xs ys : List Store) → AllZip ArePaired xs ys → length xs ≡ length ys
 zip_length = length_all_zip ArePaired

@@ -16,6 +16,7 @@ use Rattle.vs_walk.specs.declared.walk.Walk.{Walk}
 use Rattle.vs_walk.proofs.Walks.{walk_nowhere}
 use Rattle.vs_space.specs.Flags.{IsSameButFlags, AreSameButFlags}
 use Rattle.vs_space.specs.Path.{found_at, table_at}
+use Rattle.vs_space.proofs.Flagged.{flagged_found}
 use Rattle.vs_space.proofs.Paths.{agree_table, walk_found, walk_lost}
 use Rattle.vs_space.proofs.Writes.{words_in}
 use Rattle.vs_plan.specs.declared.plan.Flush.{Flush}
@@ -25,14 +26,14 @@ use Rattle.vs_plan.specs.Lived.{AreButFlags, AsTold, Next, Later, Flushed, Suffi
 use Rattle.vs_plan.specs.Premise.{IsPremise, HasOwnWay}
 use Rattle.vs_plan.specs.Processor.{region_number, Kept, PagingEntry, MayKeepBy, KeptBefore, OfRoot, OfTable, OfPage, Moment, MayKeep, MayFind, ByTranslation, ByWalk, IsUpToDate}
 use Rattle.vs_plan.proofs.Kept.{IsClosed, Reads, all_kept, all_reads}
-use Rattle.vs_plan.proofs.OtherFlags.{same_found, same_translations}
+use Rattle.vs_plan.proofs.OtherFlags.{same_translations}
 
 -- ---- the memory
 
 module _ {old new : Memory} (is : AreSameButFlags old new) where
   pub flags_table : (depth : Depth) (root level address : ℕ) → table_at (levels depth) new root level address ≡ table_at (levels depth) old root level address
   flags_table depth root level address = agree_table (levels depth) root old new address level
-      (λ j number above at. same_found is j number address (omega (arith, above)))
+      (λ j number above at. flagged_found is j number address (omega (arith, above)))
 
   pub flags_own : (depth : Depth) (root address : ℕ) → HasOwnWay depth old root address → HasOwnWay depth new root address
   flags_own depth root address own = record {
@@ -70,10 +71,10 @@ module _ {old new : Memory} (is : AreSameButFlags old new) where
       by : ((next : ℕ) (own : Rights) → walk_from new below next own address ≡ walk_from old below next own address) → (o : Option Meaning)
           → found_at (suc below) old number address ≡ o
           → walk_from new (suc below) number rights address ≡ walk_from old (suc below) number rights address
-      by go None found = walk_lost new below number rights address (same_found is (suc below) number address (omega arith) ∙ found)
+      by go None found = walk_lost new below number rights address (flagged_found is (suc below) number address (omega arith) ∙ found)
           ∙ sym (walk_lost old below number rights address found)
       by go (Some means) found =
-          walk_found new below number rights address means (same_found is (suc below) number address (omega arith) ∙ found) ∙ at go means
+          walk_found new below number rights address means (flagged_found is (suc below) number address (omega arith) ∙ found) ∙ at go means
           ∙ sym (walk_found old below number rights address means found)
 
   -- ---- what is kept
@@ -82,18 +83,18 @@ module _ {old new : Memory} (is : AreSameButFlags old new) where
   old_closed depth root before = record {
     of_root = λ address canonical. OfRoot address canonical;
     of_table = λ address below number next rights own canonical table found. OfTable address below number next rights own canonical table
-        (same_found is (suc below) number address (omega arith) ∙ found);
+        (flagged_found is (suc below) number address (omega arith) ∙ found);
     of_page = λ address below number phys rights own canonical table found. OfPage address below number phys rights own canonical table
-        (same_found is (suc below) number address (omega arith) ∙ found);
+        (flagged_found is (suc below) number address (omega arith) ∙ found);
   }
 
   new_closed : (depth : Depth) (root : ℕ) (before : Kept → Type 0) → IsClosed depth root new (MayKeepBy depth root old before)
   new_closed depth root before = record {
     of_root = λ address canonical. OfRoot address canonical;
     of_table = λ address below number next rights own canonical table found. OfTable address below number next rights own canonical table
-        (sym (same_found is (suc below) number address (omega arith)) ∙ found);
+        (sym (flagged_found is (suc below) number address (omega arith)) ∙ found);
     of_page = λ address below number phys rights own canonical table found. OfPage address below number phys rights own canonical table
-        (sym (same_found is (suc below) number address (omega arith)) ∙ found);
+        (sym (flagged_found is (suc below) number address (omega arith)) ∙ found);
   }
 
   pub flags_reads : (depth : Depth) (root : ℕ) (kept : Kept) → Reads depth root old kept → Reads depth root new kept

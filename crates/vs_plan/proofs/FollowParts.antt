@@ -17,19 +17,16 @@ use Rattle.vs_plan.proofs.RunWords.{leaf_parts}
 -- ---- bits by the rights
 
 bit_same : (a b : ℕ) → a < 2 → b < 2 → (a == 1) ≡ (b == 1) → a ≡ b
-bit_same zero zero la lb e = refl
 bit_same zero (suc zero) la lb e = absurd (cc)
 bit_same (suc zero) zero la lb e = absurd (cc)
-bit_same (suc zero) (suc zero) la lb e = refl
-bit_same zero (suc (suc b)) la lb e = absurd (omega (arith, lb))
-bit_same (suc zero) (suc (suc b)) la lb e = absurd (omega (arith, lb))
 bit_same (suc (suc a)) b la lb e = absurd (omega (arith, la))
+bit_same _ (suc (suc b)) la lb e = absurd (omega (arith, lb))
+bit_same _ _ la lb e = refl
 
 not_same : (a b : Bool) → not a ≡ not b → a ≡ b
-not_same true true e = refl
 not_same true false e = absurd (cc)
 not_same false true e = absurd (cc)
-not_same false false e = refl
+not_same _ _ e = refl
 
 record HasSameRights (word first : ℕ) : Type 0 where
   one : bit_at word 1 ≡ bit_at first 1

@@ -2,18 +2,15 @@
 use Rattle.std.proofs.Common.{◌≡◌, ℕ, zero, suc, ◌+◌, ◌*◌, ◌%◌, ◌^◌, ◌<◌, ◌≤◌, ap, ◌∙◌, arith}
 use Rattle.vs_types.specs.Depth.{entry_bytes}
 use Rattle.vs_types.specs.Entry.{meaning, size_at}
-use Rattle.vs_types.specs.Page.{bytes_of}
 use Rattle.vs_types.specs.declared.page.Rights.{Rights}
-use Rattle.vs_types.specs.declared.page.Size.{Size}
-use Rattle.vs_types.specs.declared.page.Size.TheVariants.{K4, M2, G1}
 use Rattle.vs_types.specs.declared.entry.Meaning.TheVariants as entry
 use Rattle.vs_walk.proofs.Walks.{leaf_level}
 use Rattle.vs_space.proofs.FlaggedWords.{flagged_meaning}
+use Rattle.vs_space.proofs.Regions.{level_back}
 use Rattle.vs_plan.specs.Again.{HasFlagsSet}
 use Rattle.vs_plan.specs.Bits.{AreBits, unflagged, flagged}
 use Rattle.vs_plan.specs.Right.{Follows}
 use Rattle.vs_plan.proofs.OtherFlags.{flags_set}
-use Rattle.vs_plan.proofs.Pages.{level_back}
 use Rattle.vs_plan.proofs.RunWords.{leaf_parts, leaf_later}
 
 -- ---- the first entry
@@ -26,20 +23,12 @@ room_of (suc zero) word phys own says some few aligned = let at = (leaf_parts 1 
 room_of (suc (suc zero)) word phys own says some few aligned = let at = (leaf_parts 2 word phys own says).address in omega (arith, at, aligned)
 room_of (suc (suc (suc level))) word phys own says some few aligned = absurd (omega (arith, few))
 
--- so no bit is carried
-pub no_carry : (size : Size) (first index : ℕ) → first < 2 ^ 64 → first % (512 * bytes_of size) < bytes_of size → index < 512
-    → first + index * bytes_of size < 2 ^ 64
-no_carry K4 first index fits room low = omega arith
-no_carry M2 first index fits room low = omega arith
-no_carry G1 first index fits room low = omega arith
-
 -- and all pages that follow on lie below 2^52
 within : (level phys index : ℕ) → 1 ≤ level → level ≤ 2 → phys < 2 ^ 52 → phys % entry_bytes (suc level) ≡ 0 → index < 512
     → phys + index * entry_bytes level < 2 ^ 52
 within zero phys index some few below aligned low = absurd (omega (arith, some))
-within (suc zero) phys index some few below aligned low = omega (arith, below, aligned, low)
-within (suc (suc zero)) phys index some few below aligned low = omega (arith, below, aligned, low)
 within (suc (suc (suc level))) phys index some few below aligned low = absurd (omega (arith, few))
+within _ phys index some few below aligned low = omega (arith, below, aligned, low)
 
 -- ---- an entry that follows on is that of the next page
 
@@ -53,9 +42,8 @@ flagged_same word present = record { present = present; below = omega arith; abo
 -- nor does an even number that is added
 still_odd : (level first index sum : ℕ) → 1 ≤ level → level ≤ 2 → first % 2 ≡ 1 → sum ≡ unflagged first + index * entry_bytes level → sum % 2 ≡ 1
 still_odd zero first index sum some few odd is = absurd (omega (arith, some))
-still_odd (suc zero) first index sum some few odd is = omega (arith, odd, is)
-still_odd (suc (suc zero)) first index sum some few odd is = omega (arith, odd, is)
 still_odd (suc (suc (suc level))) first index sum some few odd is = absurd (omega (arith, few))
+still_odd _ first index sum some few odd is = omega (arith, odd, is)
 
 pub follows_reads : (level first index word phys : ℕ) (own : Rights) → 1 ≤ level → level ≤ 2 → meaning level first ≡ entry.Leaf phys own
     → phys % entry_bytes (suc level) ≡ 0 → index < 512 → Follows (size_at level) first index word

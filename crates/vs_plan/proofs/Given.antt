@@ -119,12 +119,7 @@ pub record WasUnlinked (target : Target) (memory after : Memory) (address number
 pub was_unlinked : (target : Target) (memory after : Memory) (request : Request) (number : ℕ) → IsUnlinkedBy target memory after request number
     → WasUnlinked target memory after (address_of request) number
 was_unlinked target memory after (Map page bits) number is = record { level = is.level; was = is.was; lower = is.lower; unreached = is.unreached }
-was_unlinked target memory after (Unmap base) number is = record { level = is.level; was = is.was; lower = is.lower; unreached = is.unreached }
-was_unlinked target memory after (Protect base rights) number is = record { level = is.level; was = is.was; lower = is.lower; unreached = is.unreached }
-was_unlinked target memory after (Ask address) number is = record { level = is.level; was = is.was; lower = is.lower; unreached = is.unreached }
-was_unlinked target memory after (Remap base phys rights) number is = record { level = is.level; was = is.was; lower = is.lower; unreached = is.unreached }
-was_unlinked target memory after (Split base) number is = record { level = is.level; was = is.was; lower = is.lower; unreached = is.unreached }
-was_unlinked target memory after (Join base) number is = record { level = is.level; was = is.was; lower = is.lower; unreached = is.unreached }
+was_unlinked target memory after _ number is = record { level = is.level; was = is.was; lower = is.lower; unreached = is.unreached }
 
 pub all_unreached : (target : Target) (memory after : Memory) (request : Request) (unlinked : List ℕ)
     → All (IsUnlinkedBy target memory after request) unlinked → AreUnreached target.depth target.root after unlinked
@@ -140,17 +135,7 @@ changed_answer (replies.Answer answer) stores nothing some = by (changes answer)
   by : (b : Bool) → changes answer ≡ b → (a : Answer) × (replies.Answer answer ≡ replies.Answer a) × (changes a ≡ true)
   by true is = (answer, refl, is)
   by false is = absurd (some (nothing (λ change. change is)))
-changed_answer replies.NoFrame stores nothing some = absurd (some (nothing (λ none. none)))
-changed_answer (replies.FrameRange number) stores nothing some = absurd (some (nothing (λ none. none)))
-changed_answer replies.Rights stores nothing some = absurd (some (nothing (λ none. none)))
-changed_answer (replies.Empty number) stores nothing some = absurd (some (nothing (λ none. none)))
-changed_answer (replies.Reserved number index) stores nothing some = absurd (some (nothing (λ none. none)))
-changed_answer replies.PhysUnaligned stores nothing some = absurd (some (nothing (λ none. none)))
-changed_answer replies.PhysRange stores nothing some = absurd (some (nothing (λ none. none)))
-changed_answer replies.Smallest stores nothing some = absurd (some (nothing (λ none. none)))
-changed_answer replies.Largest stores nothing some = absurd (some (nothing (λ none. none)))
-changed_answer replies.Unaligned stores nothing some = absurd (some (nothing (λ none. none)))
-changed_answer (replies.Apart index) stores nothing some = absurd (some (nothing (λ none. none)))
+changed_answer _ stores nothing some = absurd (some (nothing (λ none. none)))
 
 module _ (space : Space) (base : ℕ) where
   abbrev pub BeginsThere : Type 0
@@ -174,26 +159,20 @@ begins_canonical {depth} {space} is base there =
 
 -- the requests by which a page is changed in another way than by its rights
 abbrev pub IsChange : Request → ℕ → Type 0
-IsChange (Map page bits) base = ⊥
-IsChange (Unmap at) base = ⊥
-IsChange (Protect at rights) base = ⊥
-IsChange (Ask address) base = ⊥
 IsChange (Remap at phys rights) base = at ≡ base
 IsChange (Split at) base = at ≡ base
 IsChange (Join at) base = at ≡ base
+IsChange _ base = ⊥
 
 pub change_begins : (depth : Depth) (space : Space) (request : Request) → IsChange request (address_of request)
     → changes (stepped depth space request).answer ≡ true → BeginsThere space (address_of request)
-change_begins depth space (Map page bits) is changed = absurd is
-change_begins depth space (Unmap base) is changed = absurd is
-change_begins depth space (Protect base rights) is changed = absurd is
-change_begins depth space (Ask address) is changed = absurd is
 change_begins depth space (Remap base phys rights) is changed = change_begins_at space base
     (λ page. finite.insert space page.base (record page { phys = phys; rights = rights })) (page_at space base) refl changed
 change_begins depth space (Split base) is changed = change_begins_at space base
     (λ page. with_parts (finite.remove space page.base) page 512) (page_at space base) refl changed
 change_begins depth space (Join base) is changed = change_begins_at space base
     (λ page. finite.insert (without_parts space (whole_of page)) page.base (whole_of page)) (page_at space base) refl changed
+change_begins depth space _ is changed = absurd is
 
 pub change_canonical : {target : Target} {request : Request} {memory start : Memory} {space : Space} {offered : List (Option ℕ)} {reply : Reply}
     {fill : Option Fill} {stores : List Store} {unlinked : List ℕ} {flush : Flush}

@@ -1,5 +1,5 @@
 -- What a planner that waits for a frame has found.
-use Rattle.std.proofs.Common.{◌≡◌, ◌≢◌, ℕ, None, refl, sym, subst, ◌∙◌}
+use Rattle.std.proofs.Common.{◌≡◌, ℕ, None, refl, sym, subst, ◌∙◌}
 use Rattle.vs_types.specs.Space.{Space}
 use Rattle.vs_types.specs.declared.page.Page.{Page}
 use Rattle.vs_walk.specs.Memory.{Memory}
@@ -42,16 +42,6 @@ waits_division p awaits {base} is = by p.phase awaits where
   by phases.Search awaits = absurd awaits
   by phases.Growth awaits = let both : Map awaits.is_map.0 awaits.is_map.1 ≡ Split base = sym awaits.is_map.2 ∙ is in absurd (cc)
   by phases.Division awaits = awaits
-  by phases.Ended awaits = absurd awaits
-
--- no other planner waits for a frame
-pub waits_else : (p : Planner) → AwaitsFrame p → ((page : Page) (bits : ℕ) → p.request ≢ Map page bits) → ((base : ℕ) → p.request ≢ Split base) → ⊥
-waits_else p awaits no_map no_split = by p.phase awaits where
-  by : (phase : Phase) → AwaitsFrameIn phase p → ⊥
-  by phases.Descent awaits = absurd awaits
-  by phases.Search awaits = absurd awaits
-  by phases.Growth awaits = no_map awaits.is_map.0 awaits.is_map.1 awaits.is_map.2
-  by phases.Division awaits = no_split awaits.is_split.0 awaits.is_split.1
   by phases.Ended awaits = absurd awaits
 
 pub grown_shown : {memory : Memory} (p : Planner) → AwaitsGrowth p → IsShown memory p → IsGrown memory p

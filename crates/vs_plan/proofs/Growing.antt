@@ -96,9 +96,6 @@ zero_absent level = refl
 
 -- ---- one more table is filled
 
-path_down : (top level a b : ℕ) → SamePath (suc top) level a b → SamePath top level a b
-path_down top level a b same = λ i from to. same i from (omega arith)
-
 path_up : (top level a b : ℕ) → SamePath top level a b → index_at (suc top) a ≡ index_at (suc top) b → SamePath (suc top) level a b
 path_up top level a b same here = λ i from to. ⊎_elim
     (λ (last : i ≡ suc top). subst (λ j. index_at j a ≡ index_at j b) (sym last) here)
@@ -239,7 +236,9 @@ module _ {depth : Depth} {memory : Memory} {root : ℕ} {page : Page} {bits : �
       → (level_of page.size < height → (w ≡ table_word below) × (meaning height w ≡ entry.Table below all_rights))
       → AreFilled depth memory root page bits (height + 1) number (stores ++ s ∷ [])
   filled_more at above = record {
-    found = found_push memory stores s filled.found (word_in mk number (index_at height page.base) zeros clear ∙ ap Some (zeros_are (index_at height page.base)));
+    found =
+        found_push memory stores s filled.found
+        (word_in mk number (index_at height page.base) zeros clear ∙ ap Some (zeros_are (index_at height page.base)));
     spare = All-push (λ (t : Store). IsSpare depth memory root t.frame) stores s filled.spare spare;
     written = written_push stores filled.written filled.ends (λ none.
         let empty : length stores ≡ 0 = ap length none in (at (omega (arith, count, empty))).0)

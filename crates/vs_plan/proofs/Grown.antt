@@ -38,7 +38,7 @@ use Rattle.vs_plan.proofs.Asking.{page_met, offset_met}
 use Rattle.vs_plan.proofs.Growing.{filled_more}
 use Rattle.vs_plan.proofs.Mapping.{would_add, alone_parts, link_parts}
 use Rattle.vs_plan.proofs.Parts.{right_as, nothing_right, due_as, store_at, EndAt, end_at}
-use Rattle.vs_plan.proofs.Steps.{map_overlaps}
+use Rattle.vs_space.proofs.Maps.{map_overlaps}
 
 -- the growth, by the page and the bits that are asked for
 pub record GrownAt (memory : Memory) (p : Planner) (page : Page) (bits : ℕ) : Type 0 where
@@ -62,7 +62,8 @@ grown_at {memory} {p} {page} {bits} grown is =
     (subst (λ g. GrownAt memory p g grown.bits) (same_page grown.page page grown.bits bits e)
     (record { way = grown.way; word_is = grown.word_is; absent = grown.absent; allows = grown.allows; within = grown.within; filled = grown.filled }))
 
-pub grown_more : {memory : Memory} {p : Planner} {page : Page} {bits number index w : ℕ} {stores : ArrayVec Store} → IsGrown memory p → p.request ≡ Map page bits
+pub grown_more : {memory : Memory} {p : Planner} {page : Page} {bits number index w : ℕ} {stores : ArrayVec Store} → IsGrown memory p
+    → p.request ≡ Map page bits
     → level_of page.size ≤ p.height → length p.stores.items + level_of page.size ≡ p.height → IsSpareFor memory p number → number < frames_end p.target
     → (p.height ≡ level_of page.size → (w ≡ page_word page bits) × (meaning (level_of page.size) w ≡ entry.Leaf page.phys page.rights))
     → (level_of page.size < p.height → (w ≡ table_word p.below) × (meaning p.height w ≡ entry.Table p.below all_rights))
@@ -93,7 +94,8 @@ module _ (p : Planner) {page : Page} {bits : ℕ} (request : IsRequest p.target 
 
   module _ {word : ℕ} (end : IsAtEnd p) (says : meaning p.level word ≡ entry.Absent) (lowest : level_of page.size ≤ p.level) where
     -- the growth begins
-    pub growth_begins : intersection p.rights page.rights ≡ page.rights → {memory : Memory} → HasEnded memory p word → {height : ℕ} → height ≡ level_of page.size
+    pub growth_begins : intersection p.rights page.rights ≡ page.rights → {memory : Memory} → HasEnded memory p word → {height : ℕ}
+        → height ≡ level_of page.size
         → {stores : ArrayVec Store} → stores.items ≡ []
         → IsGrown memory (record p { phase = phases.Growth; height = height; below = 0; stores = stores })
     growth_begins allows {memory} ended {height} is_low {stores} none = record {
@@ -108,11 +110,21 @@ module _ (p : Planner) {page : Page} {bits : ℕ} (request : IsRequest p.target 
       within = subst (λ (xs : List Store). All (λ (s : Store). s.frame < frames_end p.target) xs) (sym none) (All-nil _);
       filled = subst (λ h. AreFilled p.target.depth memory p.target.root page bits h 0 stores.items) (sym is_low)
           (subst (λ (xs : List Store). AreFilled p.target.depth memory p.target.root page bits (level_of page.size) 0 xs) (sym none)
-          (record { found = tt; spare = All-nil _; written = tt; hang = λ deep. absurd (omega arith); ends = tt; absent = All-nil _; changing = All-nil _; lone = λ deep. absurd (omega arith) }));
+          (record {
+            found = tt;
+            spare = All-nil _;
+            written = tt;
+            hang = λ deep. absurd (omega arith);
+            ends = tt;
+            absent = All-nil _;
+            changing = All-nil _;
+            lone = λ deep. absurd (omega arith);
+          }));
     }
 
     pub alone_right : intersection p.rights page.rights ≡ page.rights → p.level ≡ level_of page.size → {w : ℕ} → w ≡ page_word page bits
-        → meaning (level_of page.size) w ≡ entry.Leaf page.phys page.rights → {plan : Plan} → plan.reply ≡ replies.Answer answers.Done → plan.bits ≡ 0 → plan.fill ≡ None
+        → meaning (level_of page.size) w ≡ entry.Leaf page.phys page.rights → {plan : Plan} → plan.reply ≡ replies.Answer answers.Done
+        → plan.bits ≡ 0 → plan.fill ≡ None
         → plan.stores.items ≡ store_at p.number (index_at p.level page.base) word w ∷ [] → plan.flush ≡ flushes.Nothing → plan.unlinked.items ≡ []
         → IsRightAt p word plan
     alone_right allows at {w} is_word leads {plan} reply told fill stores flush unlinked memory ended space premise =
@@ -179,4 +191,5 @@ module _ (p : Planner) {page : Page} {bits : ℕ} (request : IsRequest p.target 
       subst (λ r. IsRight p.target r memory space offered plan) (sym is)
       (right_as plan reply told fill stores flush unlinked
       (link_parts p.target bits end some mapped.good here.absent (omega (arith, deep)) here.allows
-      (subst (λ h. AreFilled p.target.depth memory p.target.root page bits h p.below p.stores.items) height_is here.filled) here.within deep w link_is leads offered))
+      (subst (λ h. AreFilled p.target.depth memory p.target.root page bits h p.below p.stores.items) height_is here.filled) here.within deep
+      w link_is leads offered))

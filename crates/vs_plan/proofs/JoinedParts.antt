@@ -23,20 +23,12 @@ use Rattle.vs_plan.proofs.PartSpaces.{part_at}
 
 larger_back : (size : Size) → size ≢ K4 → larger (smaller size) ≡ size
 larger_back K4 some = absurd (some refl)
-larger_back M2 some = refl
-larger_back G1 some = refl
+larger_back _ some = refl
 
 -- the place of an address in an aligned page
 place_in : (size : Size) (base a : ℕ) → base % bytes_of size ≡ 0 → base ≤ a → a < base + bytes_of size → a % bytes_of size ≡ a - base
 place_in K4 base a aligned low high = omega (arith, aligned, low, high)
-place_in M2 base a aligned low high = omega (arith, aligned, low, high)
-place_in G1 base a aligned low high = omega (arith, aligned, low, high)
-
--- the level of the parts
-low_level : Size → ℕ
-low_level K4 = 0
-low_level M2 = 1
-low_level G1 = 2
+place_in _ base a aligned low high = omega (arith, aligned, low, high)
 
 record HasLevels (size : Size) (low : ℕ) : Type 0 where
   some : 1 ≤ low
@@ -124,7 +116,9 @@ module _ {depth : Depth} {space : Space} (is : IsSpace depth space) (page : Page
       (join_is space page.base at.0 page.phys page.rights (part page 0) at.1.some at.1.few first_here first_base at.1.small_is first_phys refl)
 
   pub join_stays_space : IsSpace depth (join space page.base).space
-  join_stays_space = subst (IsSpace depth) (sym joined_to) (is_joined_space is page.base at.0 page.phys page.rights canonical at.1.some at.1.few base_in phys_in small_part)
+  join_stays_space =
+      subst (IsSpace depth) (sym joined_to)
+      (is_joined_space is page.base at.0 page.phys page.rights canonical at.1.some at.1.few base_in phys_in small_part)
 
   looks : LooksChanged (large at.0 page.base page.phys page.rights) (as_in (large at.0 page.base page.phys page.rights)) space
       (in_place space (large at.0 page.base page.phys page.rights))

@@ -19,28 +19,26 @@ use Rattle.vs_walk.specs.Walk.{walk, as_walk, TranslatesAs}
 use Rattle.vs_walk.specs.declared.walk.Walk.TheVariants.{NotMapped, Mapped}
 use Rattle.vs_space.specs.Path.{SamePath}
 use Rattle.vs_space.specs.Table.{IsTableOf}
-use Rattle.vs_space.proofs.Regions.{stretch_same, in_block, path_covers, translates_changed, walked_to_nothing}
+use Rattle.vs_space.proofs.Regions.{stretch_same, in_block, path_covers, translates_changed, walked_to_nothing, level_back}
 use Rattle.vs_plan.specs.Changes.{smaller, larger, part, HasParts, whole_of, without_parts, join}
 use Rattle.vs_plan.proofs.Changing.{change_here}
-use Rattle.vs_plan.proofs.Pages.{table_from, level_back}
+use Rattle.vs_plan.proofs.Pages.{table_from}
 use Rattle.vs_plan.proofs.Splitting.{smaller_at}
 
 -- ---- numbers
 
 pub larger_at : (level : ℕ) → 1 ≤ level → level ≤ 2 → larger (size_at level) ≡ size_at (suc level)
 larger_at zero some few = absurd (omega (arith, some))
-larger_at (suc zero) some few = refl
-larger_at (suc (suc zero)) some few = refl
 larger_at (suc (suc (suc level))) some few = absurd (omega (arith, few))
+larger_at _ some few = refl
 
 -- a stretch of small pages lies in an aligned large one that has an address of it
 lies_within : (level base b low : ℕ) → 1 ≤ level → level ≤ 2 → base % entry_bytes (suc level) ≡ 0 → low % entry_bytes level ≡ 0
     → base ≤ b → b < base + entry_bytes (suc level) → low ≤ b → b < low + entry_bytes level
     → (base ≤ low) × (low + entry_bytes level ≤ base + entry_bytes (suc level))
 lies_within zero base b low some few aligned even a c d e = absurd (omega (arith, some))
-lies_within (suc zero) base b low some few aligned even a c d e = (omega (arith, aligned, even, a, c, d, e), omega (arith, aligned, even, a, c, d, e))
-lies_within (suc (suc zero)) base b low some few aligned even a c d e = (omega (arith, aligned, even, a, c, d, e), omega (arith, aligned, even, a, c, d, e))
 lies_within (suc (suc (suc level))) base b low some few aligned even a c d e = absurd (omega (arith, few))
+lies_within _ base b low some few aligned even a c d e = (omega (arith, aligned, even, a, c, d, e), omega (arith, aligned, even, a, c, d, e))
 
 -- where the last of the small pages lies
 last_lies : (level base low phys place limit : ℕ) → 1 ≤ level → level ≤ 2 → base % entry_bytes (suc level) ≡ 0 → low % entry_bytes level ≡ 0
@@ -48,37 +46,32 @@ last_lies : (level base low phys place limit : ℕ) → 1 ≤ level → level �
     → place + (base + 511 * entry_bytes level - low) ≡ phys + (base + 511 * entry_bytes level) % entry_bytes (suc level) → place + entry_bytes level ≤ limit
     → phys + entry_bytes (suc level) ≤ limit
 last_lies zero base low phys place limit some few aligned even a b at fits = absurd (omega (arith, some))
-last_lies (suc zero) base low phys place limit some few aligned even a b at fits = omega (arith, aligned, even, a, b, at, fits)
-last_lies (suc (suc zero)) base low phys place limit some few aligned even a b at fits = omega (arith, aligned, even, a, b, at, fits)
 last_lies (suc (suc (suc level))) base low phys place limit some few aligned even a b at fits = absurd (omega (arith, few))
+last_lies _ base low phys place limit some few aligned even a b at fits = omega (arith, aligned, even, a, b, at, fits)
 
 last_in : (level base : ℕ) → 1 ≤ level → level ≤ 2 → base + 511 * entry_bytes level < base + entry_bytes (suc level)
 last_in zero base some few = absurd (omega (arith, some))
-last_in (suc zero) base some few = omega arith
-last_in (suc (suc zero)) base some few = omega arith
 last_in (suc (suc (suc level))) base some few = absurd (omega (arith, few))
+last_in _ base some few = omega arith
 
 -- the small page at its own place
 part_high : (level base n : ℕ) → 1 ≤ level → level ≤ 2 → n < 512 → base + n * entry_bytes level < base + entry_bytes (suc level)
 part_high zero base n some few low = absurd (omega (arith, some))
-part_high (suc zero) base n some few low = omega (arith, low)
-part_high (suc (suc zero)) base n some few low = omega (arith, low)
 part_high (suc (suc (suc level))) base n some few low = absurd (omega (arith, few))
+part_high _ base n some few low = omega (arith, low)
 
 part_begins : (level base n low : ℕ) → 1 ≤ level → level ≤ 2 → base % entry_bytes (suc level) ≡ 0 → low % entry_bytes level ≡ 0
     → low ≤ base + n * entry_bytes level → base + n * entry_bytes level < low + entry_bytes level → low ≡ base + n * entry_bytes level
 part_begins zero base n low some few aligned even a b = absurd (omega (arith, some))
-part_begins (suc zero) base n low some few aligned even a b = omega (arith, aligned, even, a, b)
-part_begins (suc (suc zero)) base n low some few aligned even a b = omega (arith, aligned, even, a, b)
 part_begins (suc (suc (suc level))) base n low some few aligned even a b = absurd (omega (arith, few))
+part_begins _ base n low some few aligned even a b = omega (arith, aligned, even, a, b)
 
 part_phys : (level base n phys place : ℕ) → 1 ≤ level → level ≤ 2 → base % entry_bytes (suc level) ≡ 0 → n < 512
     → place + (base + n * entry_bytes level - (base + n * entry_bytes level)) ≡ phys + (base + n * entry_bytes level) % entry_bytes (suc level)
     → place ≡ phys + n * entry_bytes level
 part_phys zero base n phys place some few aligned low at = absurd (omega (arith, some))
-part_phys (suc zero) base n phys place some few aligned low at = omega (arith, aligned, low, at)
-part_phys (suc (suc zero)) base n phys place some few aligned low at = omega (arith, aligned, low, at)
 part_phys (suc (suc (suc level))) base n phys place some few aligned low at = absurd (omega (arith, few))
+part_phys _ base n phys place some few aligned low at = omega (arith, aligned, low, at)
 
 -- ---- the pages of a space off a page
 
@@ -216,7 +209,8 @@ module _ {depth : Depth} {space : Space} (is : IsSpace depth space) (base level 
       let even = subst (λ k. q.base % k ≡ 0) bytes (is.well_formed q at.1.held).aligned in
       let begins : q.base ≡ b = part_begins level base n q.base some few aligned even own.0 (subst (λ k. b < q.base + k) bytes own.1) in
       let small = smaller_at level some (omega (arith, few)) in
-      let step : bytes_of (smaller (size_at (suc level))) ≡ entry_bytes level = ap bytes_of small ∙ ap entry_bytes (level_back level (omega (arith, some)) (omega (arith, few))) in
+      let step : bytes_of (smaller (size_at (suc level))) ≡ entry_bytes level = ap bytes_of small
+      ∙ ap entry_bytes (level_back level (omega (arith, some)) (omega (arith, few))) in
       let place : q.phys ≡ phys + n * entry_bytes level = part_phys level base n phys q.phys some few aligned low
       (ap (λ k. q.phys + (b - k)) (sym begins) ∙ at.1.place) in
       let is_part : q ≡ part page n = same_page q (part page n) (begins ∙ ap (λ k. base + n * k) (sym step)) (at.1.size ∙ sym small)

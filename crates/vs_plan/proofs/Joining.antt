@@ -4,6 +4,7 @@ use Rattle.std.proofs.lemmas.Bool.{cases_eq, eq-eqb, ne_eqb}
 use Rattle.std.proofs.lemmas.List.Elements.{All-nil, All-cons}
 use Rattle.std.specs.Prelude.{slice_index}
 use Rattle.std.specs.FinMap as finite
+use Rattle.std.proofs.lemmas.Option.{same_Some}
 use Rattle.vs_types.specs.Depth.{levels, entry_bytes, index_at}
 use Rattle.vs_types.specs.Entry.{meaning, size_at}
 use Rattle.vs_types.specs.Laws.{changes}
@@ -27,8 +28,7 @@ use Rattle.vs_space.specs.Held.{word_at}
 use Rattle.vs_space.specs.Path.{table_at, table_in, SamePath}
 use Rattle.vs_space.specs.Table.{IsTableOf}
 use Rattle.vs_space.proofs.Prunes.{entry_word, word_in}
-use Rattle.vs_space.proofs.Regions.{IsLeafPage}
-use Rattle.vs_space.proofs.Trees.{one_some, one_meaning}
+use Rattle.vs_space.proofs.Regions.{IsLeafPage, level_back}
 use Rattle.vs_space.proofs.Writes.{get_written_other}
 use Rattle.vs_plan.specs.declared.plan.Flush.TheVariants as flushes
 use Rattle.vs_plan.specs.declared.plan.Plan.{Plan}
@@ -51,7 +51,7 @@ use Rattle.vs_plan.proofs.Changing.{change_here, change_inside, why_here}
 use Rattle.vs_plan.proofs.Following.{follows_reads, flagged_are}
 use Rattle.vs_plan.proofs.JoinedMemory.{IsLinkedBy, linked_by, walk_run, walk_joined, walk_apart, whole_joined, own_joined, fewer_joined, unreached}
 use Rattle.vs_plan.proofs.JoinedSpace.{in_place, large, larger_at, join_after, join_is, joined_translates, parts_there, small_walked}
-use Rattle.vs_plan.proofs.Pages.{table_from, found_word, level_back, page_here}
+use Rattle.vs_plan.proofs.Pages.{table_from, found_word, page_here}
 use Rattle.vs_plan.proofs.Parts.{Parts, due_as, right_as, nothing_right, safe_one, store_at, words_apart, EndAt, end_at}
 use Rattle.vs_plan.proofs.Runs.{IsRun}
 use Rattle.vs_plan.proofs.Splitting.{are_bits_in}
@@ -63,9 +63,8 @@ use Rattle.vs_plan.proofs.Words.{page_reads}
 -- an aligned base takes the first entry of the table
 pub first_index : (level base : ℕ) → 1 ≤ level → level ≤ 2 → base % entry_bytes (suc level) ≡ 0 → index_at level base ≡ 0
 first_index zero base some few aligned = absurd (omega (arith, some))
-first_index (suc zero) base some few aligned = omega (arith, aligned)
-first_index (suc (suc zero)) base some few aligned = omega (arith, aligned)
 first_index (suc (suc (suc level))) base some few aligned = absurd (omega (arith, few))
+first_index _ base some few aligned = omega (arith, aligned)
 
 larger_size : (level : ℕ) → 1 ≤ level → level ≤ 2 → size_at (suc level) ≢ K4
 larger_size zero some few e = omega (arith, some)
@@ -79,10 +78,8 @@ pub larger_bytes : (level : ℕ) → 1 ≤ level → level ≤ 2 → bytes_of (l
 larger_bytes level some few = ap bytes_of (larger_at level some few) ∙ ap entry_bytes (level_back (suc level) (omega arith) (omega (arith, few)))
 
 pub small_level : (level : ℕ) → size_at level ≢ G1 → level ≤ 2
-small_level zero small = omega arith
-small_level (suc zero) small = omega arith
-small_level (suc (suc zero)) small = omega arith
 small_level (suc (suc (suc level))) small = absurd (small refl)
+small_level _ small = omega arith
 
 four_levels : (depth : Depth) → 4 ≤ levels depth
 four_levels Four = omega arith
@@ -106,7 +103,8 @@ unaligned_cases P base phys size first second none = ⊎_elim
     (cases_eq (base % bytes_of size) 0)
 
 -- what the refusal can be
-pub first_cases : (P : Option Reply → Type 0) (base phys : ℕ) (size : Size) → P (Some replies.Largest) → P (Some replies.Unaligned) → P (Some replies.PhysUnaligned)
+pub first_cases : (P : Option Reply → Type 0) (base phys : ℕ) (size : Size) → P (Some replies.Largest) → P (Some replies.Unaligned)
+    → P (Some replies.PhysUnaligned)
     → (size ≢ G1 → base % bytes_of (larger size) ≡ 0 → phys % bytes_of (larger size) ≡ 0 → P None) → P (not_first base phys size)
 first_cases P base phys K4 largest first second none = unaligned_cases P base phys M2 (λ odd. first) (λ odd. second) (none (λ e. cc))
 first_cases P base phys M2 largest first second none = unaligned_cases P base phys G1 (λ odd. first) (λ odd. second) (none (λ e. cc))
@@ -203,10 +201,10 @@ module _ (target : Target) {memory : Memory} {space : Space} {base level number 
 
         linked : IsLinkedBy target.depth memory target.root base level number above given last.1 last.2
         linked = subst (λ x. IsLinkedBy target.depth memory target.root base level number x given last.1 last.2)
-            (one_some last.0 above (sym (way_table (suc level) last.0 last.1 last.3.way) ∙ reached_above)) last.3
+            (same_Some last.0 above (sym (way_table (suc level) last.0 last.1 last.3.way) ∙ reached_above)) last.3
 
         pub leads : meaning (suc level) link ≡ entry.Table number last.2
-        leads = one_meaning (meaning (suc level) link) (entry.Table number last.2)
+        leads = same_Some (meaning (suc level) link) (entry.Table number last.2)
             (sym (found_word (suc level) memory above base link met.word_is) ∙ linked.found)
 
         apart : number ≢ above
@@ -237,10 +235,11 @@ module _ (target : Target) {memory : Memory} {space : Space} {base level number 
         entry_here : IsEntryOf target memory base (size_at level) word
         entry_here = entry_of end.way end.word_is says
 
-        pub join_parts : Parts target (Join base) memory space [] (replies.Answer (answers.Changed (intersection given own))) (bits_in (size_at level) word) None
+        pub join_parts : Parts target (Join base) memory space [] (replies.Answer (answers.Changed (intersection given own)))
+            (bits_in (size_at level) word) None
             (s ∷ []) (flushes.Range base (larger (size_at level))) (number ∷ [])
         join_parts = record {
-          reply_is = sym (ap (λ (t : Stepped). t.answer) join_at);
+          reply = sym (ap (λ (t : Stepped). t.answer) join_at);
           due = not_refused;
           put = (
             refl,
@@ -291,7 +290,7 @@ module _ (target : Target) {memory : Memory} {space : Space} {base level number 
           one_way = tt;
           told = (size_at level, word, entry_here, refl);
           flushed = (size_at level, word, entry_here, refl);
-          gone = All-cons (IsUnlinkedBy target memory (stored memory s) (Join base)) number [] (record {
+          unlinked = All-cons (IsUnlinkedBy target memory (stored memory s) (Join base)) number [] (record {
             level = level;
             was = reached;
             lower = lower;
@@ -327,7 +326,8 @@ module _ {p : Planner} {word : ℕ} (end : IsAtEnd p) {phys : ℕ} {own : Rights
     -- it is no first part of a larger one
     pub first_right : (reply : Reply) → not_first base phys (size_at p.level) ≡ Some reply → (plan : Plan) → ChangesNothing reply 0 plan → IsRightAt p word plan
     first_right reply refused plan none memory ended space premise =
-        first_cases (λ o. not_first base phys (size_at p.level) ≡ o → o ≡ Some reply → IsRight p.target p.request memory space [] plan) base phys (size_at p.level)
+        first_cases (λ o. not_first base phys (size_at p.level) ≡ o → o ≡ Some reply → IsRight p.target p.request memory space [] plan) base
+        phys (size_at p.level)
         (λ e same. let one : replies.Largest ≡ reply = cc in refused_as replies.Largest one (due_by ended premise ∙ e) (λ due none.
         nothing_right premise {reply = replies.Largest} due plan none tt due premise.translates refl))
         (λ e same. let one : replies.Unaligned ≡ reply = cc in refused_as replies.Unaligned one (due_by ended premise ∙ e) (λ due none.
@@ -344,7 +344,7 @@ module _ {p : Planner} {word : ℕ} (end : IsAtEnd p) {phys : ℕ} {own : Rights
 
     module _ (first : not_first base phys (size_at p.level) ≡ None) where
       is_first : {memory : Memory} {words : List ℕ} → HasEnded memory p word → finite.get memory p.number ≡ Some words → slice_index words 0 ≡ word
-      is_first {memory} {words} ended there = one_some (slice_index words 0) word
+      is_first {memory} {words} ended there = same_Some (slice_index words 0) word
           (sym (word_in memory p.number 0 words there) ∙ ap (word_at memory p.number) (sym (index_first_of p.level base phys end.some first))
           ∙ subst (λ r. word_at memory p.number (index_at p.level (address_of r)) ≡ Some word) is ended.word_is)
 
@@ -394,7 +394,8 @@ module _ {p : Planner} {word : ℕ} (end : IsAtEnd p) {phys : ℕ} {own : Rights
           let up : p.level + 1 ≡ suc p.level = omega arith in
           let rights : whole.allowed ≡ (last p.target here end.some says starts (may_join base phys (size_at p.level) first) there follow_here met_here).2 =
           whole.leads p.number (last p.target here end.some says starts (may_join base phys (size_at p.level) first) there follow_here met_here).2
-          (subst (λ l. meaning l (slice_index p.words l) ≡ entry.Table p.number (last p.target here end.some says starts (may_join base phys (size_at p.level) first) there follow_here met_here).2)
+          (subst (λ l. meaning l (slice_index p.words l) ≡ entry.Table p.number
+          (last p.target here end.some says starts (may_join base phys (size_at p.level) first) there follow_here met_here).2)
           (sym up) (leads p.target here end.some says starts (may_join base phys (size_at p.level) first) there follow_here met_here)) in
           subst (λ r. IsRight p.target r memory space [] plan) (sym is)
           (right_as plan (reply ∙ ap (λ r. replies.Answer (answers.Changed r)) answer_is) (bits ∙ bits_are) fill
@@ -403,7 +404,9 @@ module _ {p : Planner} {word : ℕ} (end : IsAtEnd p) {phys : ℕ} {own : Rights
         where
           store_as : {above : ℕ} → above ≡ suc p.level → {a b : Rights} → a ≡ b
               → store_at (slice_index p.numbers above) (index_at above base) (slice_index p.words above)
-              (page_word (record { base = base; size = larger (size_at p.level); rights = intersection a own; phys = phys }) (flagged (bits_in (size_at p.level) word)))
+              (page_word (record { base = base; size = larger (size_at p.level); rights = intersection a own; phys = phys })
+              (flagged (bits_in (size_at p.level) word)))
               ≡ store_at (slice_index p.numbers (suc p.level)) (index_at (suc p.level) base) (slice_index p.words (suc p.level))
-              (page_word (record { base = base; size = larger (size_at p.level); rights = intersection b own; phys = phys }) (flagged (bits_in (size_at p.level) word)))
+              (page_word (record { base = base; size = larger (size_at p.level); rights = intersection b own; phys = phys })
+              (flagged (bits_in (size_at p.level) word)))
           store_as same alike = rw (same, alike) refl

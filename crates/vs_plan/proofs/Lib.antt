@@ -30,7 +30,6 @@ mod AgainParts
 pub mod Ways
 pub mod Stored
 pub mod Filled
-pub mod OneStore
 pub mod Pages
 pub mod Descending
 pub mod Parts
@@ -49,7 +48,6 @@ pub mod Splitting
 pub mod Dividing
 pub mod Divided
 mod FillsAgain
-pub mod Stretches
 pub mod Searching
 pub mod Grown
 pub mod Requests

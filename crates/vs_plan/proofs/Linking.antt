@@ -5,6 +5,7 @@ use Rattle.std.proofs.lemmas.Bool.{cases_eq, cases_lt}
 use Rattle.std.proofs.lemmas.List.{get_or-set_same, get_or-set_other, length-replicate}
 use Rattle.std.proofs.lemmas.List.Elements.{Contains-append_left, Contains-append_right}
 use Rattle.std.specs.FinMap as finite
+use Rattle.std.proofs.lemmas.Option.{same_Some}
 use Rattle.vs_types.specs.Depth.{levels, index_at}
 use Rattle.vs_types.specs.Entry.{meaning}
 use Rattle.vs_types.specs.declared.depth.Depth.{Depth}
@@ -22,9 +23,6 @@ use Rattle.vs_plan.specs.Premise.{HasOwnWay}
 use Rattle.vs_plan.specs.Shown.{IsLone}
 use Rattle.vs_plan.proofs.EntryStores.{IsOwnTable, after_store, table_off, table_above, table_here, found_stored}
 use Rattle.vs_plan.proofs.WordOrders.{found_word}
-
-one_some : (x y : ℕ) → Some x ≡ Some y → x ≡ y
-one_some x y e = cc
 
 split_down : (m : Memory) (top root t b n j : ℕ) → t ≤ top → j < t → table_at top m root (suc j) b ≡ table_at t m n (suc j) b
     → (o : Option ℕ) → table_at top m root (suc j) b ≡ o → table_at top m root j b ≡ table_at t m n j b
@@ -59,7 +57,7 @@ module _ (m : Memory) (number index w : ℕ) (low : index < 512) (is : finite.ge
       → IsLone m base top number frames
   lone_lowest base top frames some ends among level b q at = ⊎_elim
       (λ (same : level ≡ top).
-      let q_is : q ≡ number = one_some q number (sym at ∙ ap (λ l. table_at top m number l b) same ∙ table_first top number m b) in (
+      let q_is : q ≡ number = same_Some q number (sym at ∙ ap (λ l. table_at top m number l b) same ∙ table_first top number m b) in (
         subst (Contains frames) (sym q_is) among,
         λ i from to. absurd (omega arith),
         λ other c there. ⊎_elim
@@ -103,7 +101,7 @@ module _ (m : Memory) (base low below number w : ℕ) (rights : Rights) (frames 
 
   upper : (b j q : ℕ) → table_at (suc low) m number j b ≡ Some q → (j ≤ low) ⊎ ((j ≡ suc low) × (q ≡ number))
   upper b j q at = ⊎_elim
-      (λ (same : j ≡ suc low). inr (same, one_some q number (sym at ∙ ap (λ l. table_at (suc low) m number l b) same ∙ table_first (suc low) number m b)))
+      (λ (same : j ≡ suc low). inr (same, same_Some q number (sym at ∙ ap (λ l. table_at (suc low) m number l b) same ∙ table_first (suc low) number m b)))
       (λ (other : j ≢ suc low). inl (omega (arith, reached_within (suc low) number m j b q at, other)))
       (cases_eq j (suc low))
 

@@ -1,6 +1,6 @@
 -- A plan that adds a page.
-use Rattle.std.proofs.Common.{◌≡◌, ℕ, suc, ◌+◌, ◌-◌, ◌%◌, ◌<◌, ◌≤◌, List, [], ◌∷◌, ◌++◌, take, Option, Some, None, Contains, inl, inr, ⊎_elim, refl, sym, ap, subst, ◌∙◌, arith, ◌≢◌}
-use Rattle.std.specs.Prelude.{IsSome, option_map, slice_index, All}
+use Rattle.std.proofs.Common.{◌≡◌, ℕ, ◌+◌, ◌-◌, ◌%◌, ◌<◌, ◌≤◌, List, [], ◌∷◌, ◌++◌, take, Option, Some, None, Contains, inl, inr, ⊎_elim, refl, sym, ap, subst, ◌∙◌, arith, ◌≢◌}
+use Rattle.std.specs.Prelude.{All}
 use Rattle.std.proofs.lemmas.Bool.{cases_lt}
 use Rattle.std.proofs.lemmas.List.Elements.{All-nil, All-cons, All-push, All-take, Contains-append_left}
 use Rattle.std.specs.FinMap as finite
@@ -19,9 +19,8 @@ use Rattle.vs_walk.specs.Memory.{Memory, AreWhole}
 use Rattle.vs_walk.specs.Walk.{walk, walk_from, TranslatesAs}
 use Rattle.vs_walk.specs.declared.walk.Walk.TheVariants.{NotMapped, Mapped}
 use Rattle.vs_space.specs.Held.{word_at}
-use Rattle.vs_space.specs.Path.{found_at, table_in, table_at, SamePath}
+use Rattle.vs_space.specs.Path.{table_in, table_at, SamePath}
 use Rattle.vs_space.specs.Table.{IsTableOf}
-use Rattle.vs_space.proofs.Paths.{found_same, walk_found}
 use Rattle.vs_space.proofs.Writes.{get_written_other, found_alike, same_or_not}
 use Rattle.vs_space.proofs.Written.{size_same}
 use Rattle.vs_plan.specs.declared.plan.Flush.TheVariants as flushes
@@ -37,18 +36,14 @@ use Rattle.vs_plan.specs.Stores.{stored, stored_all}
 use Rattle.vs_plan.specs.Target.{frames_end}
 use Rattle.vs_plan.specs.Way.{IsWay}
 use Rattle.vs_plan.proofs.Growing.{frame_among, links_push, all_of, not_spare, walk_filled, table_filled, alike, whole_filled}
-use Rattle.vs_plan.proofs.OneStore.{walk_off, walk_on, walk_leaf, fewer, own_on}
 use Rattle.vs_plan.proofs.Pages.{table_from, found_word}
-use Rattle.vs_plan.proofs.EntryStores.{IsOwnTable}
+use Rattle.vs_plan.proofs.EntryStores.{IsOwnTable, walk_off, walk_here, whole_store, fewer, own_after}
+use Rattle.vs_space.proofs.Written.{word_alike}
 use Rattle.vs_plan.proofs.Linking.{old_or_new, own_linked}
-use Rattle.vs_plan.proofs.Parts.{words_apart, none_named, Parts, safe_one, safe_last, store_at, EndAt}
+use Rattle.vs_plan.proofs.Parts.{words_apart, none_named, Parts, safe_one, safe_last, store_at, EndAt, own_table}
 use Rattle.vs_plan.proofs.Steps.{added_answer, added_translates}
-use Rattle.vs_plan.proofs.Stored.{stored_push, found_push, used_word, whole_stored}
-use Rattle.vs_plan.proofs.Ways.{way_table, way_within, way_walk, way_kept}
-
-word_same : (m m' : Memory) (n i : ℕ) → finite.get m' n ≡ finite.get m n → word_at m' n i ≡ word_at m n i
-unfolding word_at
-word_same m m' n i same = ap (option_map (λ (words : List ℕ). slice_index words i)) same
+use Rattle.vs_plan.proofs.Stored.{stored_push, found_push, used_word}
+use Rattle.vs_plan.proofs.Ways.{way_table, way_within, walk_at, way_kept}
 
 -- the frames of more stores
 frames_push : (stores : List Store) (s : Store) → frames_of (stores ++ s ∷ []) ≡ frames_of stores ++ s.frame ∷ []
@@ -69,17 +64,13 @@ module _ (target : Target) (bits : ℕ) {memory : Memory} {space : Space} {page 
   table : IsTableOf (table_from target.depth memory target.root) space
   table = record { is_space = end.premise.is_space; translates = end.premise.translates }
 
-  used : IsSome (finite.get memory number)
-  used = used_word memory number (index_at level page.base) word end.word_is
+  table_here : IsOwnTable target.depth memory target.root level page.base number
+  table_here = own_table end
 
   -- nothing is mapped where the entry is taken
   absent_below : (b : ℕ) → SamePath (levels target.depth) level page.base b → walk target.depth memory target.root b ≡ NotMapped
-  absent_below b path = way_walk level number given end.way b (λ i from to. path i (omega arith) to) ∙ by (level - 1) (omega arith) where
-    by : (below : ℕ) → level ≡ suc below → walk_from memory level number given b ≡ NotMapped
-    by below one = subst (λ l. found_at l memory number b ≡ Some entry.Absent → walk_from memory l number given b ≡ NotMapped) (sym one)
-        (λ found. walk_found memory below number given b entry.Absent found)
-        (found_same level memory number b page.base (sym (path level (omega arith) (way_within level number given end.way)))
-        ∙ found_word level memory number page.base word end.word_is ∙ ap Some says)
+  absent_below b path =
+      walk_at end.way some entry.Absent (found_word level memory number page.base word end.word_is ∙ ap Some says) b path
 
   nothing : (b : ℕ) → IsCanonical target.depth b → SamePath (levels target.depth) (level_of page.size) page.base b
       → walk target.depth memory target.root b ≡ NotMapped
@@ -112,24 +103,25 @@ module _ (target : Target) (bits : ℕ) {memory : Memory} {space : Space} {page 
 
     -- ---- the page's entry alone is written
 
-    pub alone_parts : (offered : List (Option ℕ)) → level ≡ level_of page.size → (w : ℕ) → w ≡ page_word page bits → meaning (level_of page.size) w ≡ entry.Leaf page.phys page.rights
+    pub alone_parts : (offered : List (Option ℕ)) → level ≡ level_of page.size → (w : ℕ) → w ≡ page_word page bits
+        → meaning (level_of page.size) w ≡ entry.Leaf page.phys page.rights
         → Parts target (Map page bits) memory space offered (replies.Answer answers.Done) 0 None (store_at number (index_at level page.base) word w ∷ [])
         flushes.Nothing []
     alone_parts offered at w is leads =
         let says_new : meaning level w ≡ entry.Leaf page.phys page.rights = ap (λ l. meaning l w) at ∙ leads in
         record {
-          reply_is = sym (added_answer table good nothing);
+          reply = sym (added_answer table good nothing);
           due = refl;
           put = refl;
           fits = tt;
           safe = safe_one (store_at number (index_at level page.base) word w) end.premise.translates (added_translates table good nothing
               (stored memory (store_at number (index_at level page.base) word w))
               (λ b canonical path.
-              walk_leaf end.way end.premise.own used w end.premise.whole says_new some b (λ i from to. path i (omega (arith, at)) to)
+              walk_here table_here w end.way some (entry.Leaf page.phys page.rights) says_new b (λ i from to. path i (omega (arith, at)) to)
               ∙ ap (λ l. Mapped (page.phys + b % entry_bytes l) (size_at l) (intersection given page.rights)) at
               ∙ ap (λ z. Mapped (page.phys + b % bytes_of page.size) z (intersection given page.rights)) (size_same page.size)
               ∙ ap (Mapped (page.phys + b % bytes_of page.size) page.size) allows)
-              (λ b apart. walk_off end.way end.premise.own used w b (λ path. apart (λ i from to. path i (omega (arith, at)) to))));
+              (λ b apart. walk_off table_here w b (λ path. apart (λ i from to. path i (omega (arith, at)) to))));
           found = (end.word_is, tt);
           meant = All-cons (IsMeant target memory page.base []) (store_at number (index_at level page.base) word w) []
               (OfPage (record { level = level; reached = way_table level number given end.way; index = refl }) (ap (λ e. table_in (Some e)) says)) (All-nil _);
@@ -141,17 +133,18 @@ module _ (target : Target) (bits : ℕ) {memory : Memory} {space : Space} {page 
           one_way = All-cons (λ (t : Store). t.old % 2 ≡ 0) (store_at number (index_at level page.base) word w) [] (absent_even level word says) (All-nil _);
           told = refl;
           flushed = refl;
-          gone = All-nil _;
+          unlinked = All-nil _;
           pruned = tt;
           named_once = none_named;
-          whole = whole_stored memory number (index_at level page.base) w end.premise.whole used;
-          own = own_on end.way end.premise.own used w end.premise.whole (ap (λ e. table_in (Some e)) says_new) some;
-          reaches = λ l b q at. inl (fewer end.way end.premise.own used w end.premise.whole (ap (λ e. table_in (Some e)) says_new) some l b q at);
+          whole = whole_store table_here w;
+          own = own_after table_here w (ap (λ e. table_in (Some e)) says_new);
+          reaches = λ l b q at. inl (fewer table_here w (ap (λ e. table_in (Some e)) says_new) b l q at);
         }
 
     -- ---- new tables are linked
 
-    module _ {below : ℕ} {stores : List Store} (filled : AreFilled target.depth memory target.root page bits level below stores) (within : All (λ (t : Store). t.frame < frames_end target) stores)
+    module _ {below : ℕ} {stores : List Store} (filled : AreFilled target.depth memory target.root page bits level below stores)
+        (within : All (λ (t : Store). t.frame < frames_end target) stores)
         (deep : level_of page.size < level)
         (w : ℕ) (link_is : w ≡ table_word below) (leads : meaning level w ≡ entry.Table below all_rights) where
       abbrev s : Store
@@ -176,14 +169,16 @@ module _ (target : Target) (bits : ℕ) {memory : Memory} {space : Space} {page 
       }
 
       word_filled : word_at mk number (index_at level page.base) ≡ Some word
-      word_filled = word_same memory mk number (index_at level page.base)
+      word_filled = word_alike memory mk number (index_at level page.base)
           (alike stores filled.spare level page.base number (way_table level number given end.way)) ∙ end.word_is
 
-      used_filled : IsSome (finite.get mk number)
-      used_filled = used_word mk number (index_at level page.base) word word_filled
-
-      whole_mk : AreWhole mk
-      whole_mk = whole_filled memory stores end.premise.whole filled.found
+      filled_table : IsOwnTable target.depth mk target.root level page.base number
+      filled_table = record {
+        own = own_filled page.base end.premise.own;
+        whole = whole_filled memory stores end.premise.whole filled.found;
+        used = used_word mk number (index_at level page.base) word word_filled;
+        at = way_table level number given way;
+      }
 
       hung : LeadsToPage target.depth m' page (level - 1) below
       hung = (filled.hang deep).1 m' (λ q among. get_written_other mk number (index_at level page.base) w q
@@ -191,7 +186,7 @@ module _ (target : Target) (bits : ℕ) {memory : Memory} {space : Space} {page 
 
       walk_linked : (b : ℕ) → SamePath (levels target.depth) level page.base b
           → walk target.depth m' target.root b ≡ walk_from m' (level - 1) below (intersection given all_rights) b
-      walk_linked b path = walk_on way (own_filled page.base end.premise.own) used_filled w whole_mk (entry.Table below all_rights) leads some b path
+      walk_linked b path = walk_here filled_table w way some (entry.Table below all_rights) leads b path
 
       there : (b : ℕ) → IsCanonical target.depth b → SamePath (levels target.depth) (level_of page.size) page.base b
           → walk target.depth m' target.root b ≡ Mapped (page.phys + b % bytes_of page.size) page.size page.rights
@@ -210,7 +205,7 @@ module _ (target : Target) (bits : ℕ) {memory : Memory} {space : Space} {page 
           (λ (over : level ≤ i). path i over to)
           (cases_lt i level)))
           ∙ sym (absent_below b path))
-          (λ off. walk_off way (own_filled page.base end.premise.own) used_filled w b off ∙ walk_filled stores filled.spare b)
+          (λ off. walk_off filled_table w b off ∙ walk_filled stores filled.spare b)
           (same_or_not (levels target.depth) level page.base b)
 
       here : m' ≡ stored_all memory (stores ++ s ∷ [])
@@ -225,12 +220,9 @@ module _ (target : Target) (bits : ℕ) {memory : Memory} {space : Space} {page 
           let among = subst (λ (xs : List Store). Contains (frames_of xs) below) none (filled.hang deep).0 in
           not_in_nil below among
 
-      own_table : IsOwnTable target.depth mk target.root level page.base number
-      own_table = record { own = own_filled page.base end.premise.own; whole = whole_mk; used = used_filled; at = way_table level number given way }
-
       own_link : (a : ℕ) → HasOwnWay target.depth memory target.root a → HasOwnWay target.depth (stored_all memory (stores ++ s ∷ [])) target.root a
       own_link a has = subst (λ (n : Memory). HasOwnWay target.depth n target.root a) here
-          (own_linked own_table w below (level - 1) all_rights leads (omega arith) (frames_of stores)
+          (own_linked filled_table w below (level - 1) all_rights leads (omega arith) (frames_of stores)
           (filled.lone deep m' (λ q among. get_written_other mk number (index_at level page.base) w q
           (λ e. number_apart (subst (Contains (frames_of stores)) e among))))
           (λ q among j b r. not_spare stores filled.spare j b q (sym (table_filled stores filled.spare j b) ∙ r) among) a (own_filled a has))
@@ -242,7 +234,7 @@ module _ (target : Target) (bits : ℕ) {memory : Memory} {space : Space} {page 
             spare = frame_among stores q new.0 (λ n. IsSpare target.depth memory target.root n) filled.spare;
             written = frames_more stores s q new.0;
           }))
-          (old_or_new own_table w below (level - 1) all_rights leads (omega arith) (frames_of stores)
+          (old_or_new filled_table w below (level - 1) all_rights leads (omega arith) (frames_of stores)
           (filled.lone deep m' (λ q among. get_written_other mk number (index_at level page.base) w q
           (λ e. number_apart (subst (Contains (frames_of stores)) e among))))
           (λ q among j b r. not_spare stores filled.spare j b q (sym (table_filled stores filled.spare j b) ∙ r) among)
@@ -251,7 +243,7 @@ module _ (target : Target) (bits : ℕ) {memory : Memory} {space : Space} {page 
       pub link_parts : (offered : List (Option ℕ))
           → Parts target (Map page bits) memory space offered (replies.Answer answers.Done) 0 None (stores ++ s ∷ []) flushes.Nothing []
       link_parts offered = record {
-        reply_is = sym (added_answer table good nothing);
+        reply = sym (added_answer table good nothing);
         due = refl;
         put = put_map offered (stores ++ s ∷ []);
         fits = fits_map (stores ++ s ∷ []);
@@ -273,10 +265,10 @@ module _ (target : Target) (bits : ℕ) {memory : Memory} {space : Space} {page 
         one_way = All-push (λ (t : Store). t.old % 2 ≡ 0) stores s filled.absent (absent_even level word says);
         told = refl;
         flushed = flushed_map (stores ++ s ∷ []);
-        gone = All-nil _;
+        unlinked = All-nil _;
         pruned = pruned_map (stored_all memory (stores ++ s ∷ [])) (stores ++ s ∷ []);
         named_once = none_named;
-        whole = subst AreWhole here (whole_stored mk number (index_at level page.base) w whole_mk used_filled);
+        whole = subst AreWhole here (whole_store filled_table w);
         own = own_link;
         reaches = reaches_link;
       }

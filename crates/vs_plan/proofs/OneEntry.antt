@@ -1,6 +1,7 @@
 -- What one store into the entry for a base changes, of the walks of all addresses.
 use Rattle.std.proofs.Common.{◌≡◌, ℕ, zero, suc, ◌+◌, ◌-◌, ◌*◌, ◌/◌, ◌%◌, ◌≤◌, Some, IsSome, ◌⊎◌, inl, inr, ⊎_elim, sym, ap, subst, ◌∙◌, arith}
 use Rattle.std.specs.FinMap as finite
+use Rattle.std.proofs.lemmas.Option.{same_Some}
 use Rattle.vs_types.specs.Depth.{levels, entry_bytes, index_at, IsCanonical}
 use Rattle.vs_types.specs.Entry.{size_at}
 use Rattle.vs_types.specs.Page.{bytes_of, level_of, intersection}
@@ -14,21 +15,18 @@ use Rattle.vs_walk.specs.declared.walk.Walk.TheVariants.{Mapped}
 use Rattle.vs_walk.proofs.TranslatedBits.{entry_is_table}
 use Rattle.vs_space.specs.Held.{with_word}
 use Rattle.vs_space.specs.Path.{found_at, table_at, SamePath}
-use Rattle.vs_space.proofs.Paths.{table_first, table_before, reached_within, walk_found, found_same}
-use Rattle.vs_space.proofs.Regions.{same_stretch, stretch_same, block}
+use Rattle.vs_space.proofs.Paths.{table_first, table_before, reached_within}
+use Rattle.vs_space.proofs.Regions.{same_stretch, stretch_same, block, level_back}
 use Rattle.vs_space.proofs.Writes.{same_or_not}
 use Rattle.vs_plan.specs.declared.plan.Store.{Store}
 use Rattle.vs_plan.specs.Premise.{HasOwnWay}
 use Rattle.vs_plan.specs.Stores.{stored}
 use Rattle.vs_plan.specs.Way.{IsWay, Begins, Leads}
-use Rattle.vs_plan.proofs.OneStore.{walk_off}
-use Rattle.vs_plan.proofs.Stays.{ChangesPageAlone, ChangesRangeAlone, level_back}
-use Rattle.vs_plan.proofs.Ways.{way_walk}
+use Rattle.vs_plan.proofs.EntryStores.{walked_off}
+use Rattle.vs_plan.proofs.Stays.{ChangesPageAlone, ChangesRangeAlone}
+use Rattle.vs_plan.proofs.Ways.{walk_at}
 
 -- ---- a table that is reached has a way
-
-one_number : (x y : ℕ) → Some x ≡ Some y → x ≡ y
-one_number x y e = cc
 
 way_down : (depth : Depth) (m : Memory) (root a d level n : ℕ) → d + level ≡ levels depth → table_at (levels depth) m root level a ≡ Some n
     → (rights : Rights) × IsWay depth m root a level n rights
@@ -36,7 +34,7 @@ way_down depth m root a zero level n is at =
     let top : level ≡ levels depth = omega arith in
     let first : table_at (levels depth) m root level a ≡ Some root =
     subst (λ l. table_at (levels depth) m root l a ≡ Some root) (sym top) (table_first (levels depth) root m a) in
-    let same : root ≡ n = one_number root n (sym first ∙ at) in
+    let same : root ≡ n = same_Some root n (sym first ∙ at) in
     subst (λ l. (rights : Rights) × IsWay depth m root a l n rights) (sym top)
     (subst (λ x. (rights : Rights) × IsWay depth m root a (levels depth) x rights) same (_, Begins))
 way_down depth m root a (suc d) level n is at =
@@ -52,12 +50,9 @@ way_of depth m root a level n at =
 
 -- addresses that take a leaf are mapped by it
 pub leaf_walk : {depth : Depth} {m : Memory} {root a n : ℕ} {rights : Rights} (low phys : ℕ) (own : Rights) → IsWay depth m root a (suc low) n rights
-    → found_at (suc low) m n a ≡ Some (entry.Leaf phys own) → (b : ℕ) → SamePath (levels depth) (suc low) a b → suc low ≤ levels depth
+    → found_at (suc low) m n a ≡ Some (entry.Leaf phys own) → (b : ℕ) → SamePath (levels depth) (suc low) a b
     → walk depth m root b ≡ Mapped (phys + b % entry_bytes (suc low)) (size_at (suc low)) (intersection rights own)
-leaf_walk {depth} {m} {root} {a} {n} {rights} low phys own way found b same within =
-    way_walk (suc low) n rights way b (λ i from to. same i (omega arith) to)
-    ∙ walk_found m low n rights b (entry.Leaf phys own)
-    (found_same (suc low) m n b a (sym (same (suc low) (omega arith) within)) ∙ found)
+leaf_walk low phys own way found b same = walk_at way (omega arith) (entry.Leaf phys own) found b same
 
 -- ---- one store, into the entry for a base
 
@@ -79,7 +74,7 @@ module _ {depth : Depth} {m : Memory} {root base low : ℕ} {s : Store} (at : Is
       (λ same. inr (subst (λ bytes. base / bytes ≡ address / bytes) (sym (entry_is_table low))
       (same_stretch depth low base address at.canonical canonical (omega (arith, within)) same)))
       (λ apart. inl (subst (λ i. walk depth (with_word m s.frame i s.new) root address ≡ walk depth m root address) (sym at.index)
-      (walk_off (way_of depth m root base (suc low) s.frame at.reached).1 at.own at.used s.new address apart)))
+      (walked_off at.own at.reached at.used s.new address apart)))
       (same_or_not (levels depth) (suc low) base address)
 
   -- where the entry was a page's
@@ -90,7 +85,7 @@ module _ {depth : Depth} {m : Memory} {root base low : ℕ} {s : Store} (at : Is
       (λ there.
       let path : SamePath (levels depth) (suc low) base address =
       stretch_same (levels depth) low base address (subst (λ bytes. base / bytes ≡ address / bytes) (entry_is_table low) there) in
-      let here = leaf_walk low phys own (way_of depth m root base (suc low) s.frame at.reached).1 found address path within in
+      let here = leaf_walk low phys own (way_of depth m root base (suc low) s.frame at.reached).1 found address path in
       let size_is : size ≡ size_at (suc low) = sizes _ _ size (size_at (suc low)) rights _ (sym walked ∙ here) in
       let level_is : level_of size ≡ suc low = ap level_of size_is ∙ level_back (suc low) (omega arith) few in
       inr (subst (λ l. address / entry_bytes l ≡ base / entry_bytes l) (sym level_is) (sym there)))

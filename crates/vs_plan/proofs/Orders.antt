@@ -1,5 +1,6 @@
 -- Memories of which one has entries that the other lacks.
 use Rattle.std.proofs.Common.{◌≡◌, ℕ, zero, suc, List, [], ◌∷◌, Option, Some, None, ◌⊎◌, inl, inr, ⊎_elim, refl, sym, ◌∙◌}
+use Rattle.std.proofs.lemmas.Option.{same_Some}
 use Rattle.vs_types.specs.Page.{intersection}
 use Rattle.vs_types.specs.declared.depth.Depth.{Depth}
 use Rattle.vs_types.specs.declared.page.Rights.{Rights}
@@ -38,11 +39,8 @@ less_found : (less more : Memory) → IsLess less more → (level number address
     → found_at level less number address ≡ Some means → found_at level more number address ≡ Some means
 less_found less more is level number address means some found = ⊎_elim
     (λ same. sym same ∙ found)
-    (λ none. absurd (some (one means entry.Absent (sym found ∙ none))))
+    (λ none. absurd (some (same_Some means entry.Absent (sym found ∙ none))))
     (is level number address)
-  where
-    one : (x y : Meaning) → Some x ≡ Some y → x ≡ y
-    one x y e = cc
 
 less_closed : (depth : Depth) (root : ℕ) (less more : Memory) → IsLess less more → IsClosed depth root less (Reads depth root more)
 less_closed depth root less more is = record {
@@ -82,7 +80,8 @@ less_walk less more is (suc below) number rights address = ⊎_elim
     at go (entry.Leaf phys own) = inl refl
     at go (entry.Table next own) = go next (intersection rights own)
 
-    by : Goes less more below address → (o : Option Meaning) → found_at (suc below) less number address ≡ o → found_at (suc below) less number address ≡ found_at (suc below) more number address
+    by : Goes less more below address → (o : Option Meaning) → found_at (suc below) less number address ≡ o
+        → found_at (suc below) less number address ≡ found_at (suc below) more number address
         → (walk_from less (suc below) number rights address ≡ walk_from more (suc below) number rights address)
         ⊎ (walk_from less (suc below) number rights address ≡ NotMapped)
     by go None is same = inl (walk_lost less below number rights address is ∙ sym (walk_lost more below number rights address (sym same ∙ is)))

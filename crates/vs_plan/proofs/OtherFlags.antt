@@ -1,76 +1,40 @@
 -- Memories in which the accessed flag and the dirty flag differ: they translate alike, and so they do after stores that differ so.
-use lib.Pow.{shr-shr}
-use Rattle.std.proofs.Common.{◌≡◌, ◌≢◌, ℕ, zero, suc, ◌+◌, ◌-◌, ◌*◌, ◌/◌, ◌%◌, ◌^◌, ◌<◌, ◌≤◌, true, false, List, [], ◌∷◌, Option, Some, None, ⊎_elim, refl, sym, ap, subst, ◌∙◌, nat_eq, cond, Bool, arith}
-use Rattle.std.specs.Prelude.{IsSome, is_some, option_map, slice_set, unwrap_or}
+use Rattle.std.proofs.Common.{◌≡◌, ◌≢◌, ℕ, zero, suc, ◌+◌, ◌-◌, ◌*◌, ◌/◌, ◌%◌, ◌^◌, ◌<◌, ◌≤◌, true, false, List, [], ◌∷◌, Some, ⊎_elim, refl, sym, ap, subst, ◌∙◌, nat_eq, cond, Bool, arith}
+use Rattle.std.specs.Prelude.{IsSome, is_some, slice_set, unwrap_or}
 use Rattle.std.specs.FinMap as finite
 use Rattle.std.specs.Int.{bit_at}
 use Rattle.std.specs.List.{AllZip}
 use Rattle.std.proofs.lemmas.Bool.{cases_eq, cases_lt, eqb-false, ne_eqb}
-use Rattle.vs_types.specs.Depth.{levels, index_at}
-use Rattle.vs_types.specs.Entry.{meaning}
+use Rattle.std.proofs.lemmas.Option.{same_Some}
+use Rattle.vs_types.specs.Depth.{levels}
 use Rattle.vs_types.specs.Space.{Space}
 use Rattle.vs_types.specs.declared.depth.Depth.{Depth}
 use Rattle.vs_walk.specs.Memory.{Memory}
 use Rattle.vs_walk.specs.Walk.{TranslatesAs}
 use Rattle.vs_types.specs.declared.page.Rights.{Rights}
 use Rattle.vs_types.specs.declared.page.Size.{Size}
-use Rattle.vs_types.specs.declared.page.Size.TheVariants.{K4, M2, G1}
+use Rattle.vs_types.specs.declared.page.Size.TheVariants.{K4}
 use Rattle.vs_plan.specs.Again.{HasFlagsSet, flags_into, with_flags_of}
 use Rattle.vs_plan.specs.Bits.{bits_in, with_address, with_rights}
 use Rattle.vs_space.specs.Held.{with_word}
 use Rattle.vs_space.specs.Flags.{IsSameButFlags, AreSameButFlags}
-use Rattle.vs_space.specs.Path.{found_at}
 use Rattle.vs_space.proofs.Paths.{agree_walk}
-use Rattle.vs_space.proofs.Prunes.{word_in}
 use Rattle.vs_space.proofs.Writes.{words_in, get_written, get_written_other}
-use Rattle.vs_space.proofs.Written.{word_alike}
-use Rattle.vs_space.proofs.FlaggedWords.{flagged_meaning, flagged_at}
-
-no_frame : (o : Option (List ℕ)) → is_some o ≡ false → o ≡ None
-no_frame None none = refl
-no_frame (Some words) none = let wrong : true ≡ false = none in absurd (cc)
+use Rattle.vs_space.proofs.Flagged.{flagged_found}
+use Rattle.vs_space.proofs.FlaggedWords.{bit_above}
 
 module _ {old new : Memory} (is : AreSameButFlags old new) where
-  used_after : (n : ℕ) → IsSome (finite.get old n) → IsSome (finite.get new n)
-  used_after n used = is.frames n ∙ used
-
-  -- the words of a frame in use before and after
-  pub both : (n : ℕ) → IsSome (finite.get old n)
-      → (before : List ℕ) × (after : List ℕ) × (finite.get old n ≡ Some before) × (finite.get new n ≡ Some after) × AllZip IsSameButFlags before after
-  both n used =
-      let first = words_in old n used in
-      let second = words_in new n (used_after n used) in
-      (_, _, first, second, is.words n _ _ first second)
-
-  pub same_found : (level n a : ℕ) → 1 ≤ level → found_at level new n a ≡ found_at level old n a
-  unfolding found_at
-  same_found level n a some = by (finite.get old n) refl where
-    by : (o : Option (List ℕ)) → finite.get old n ≡ o → found_at level new n a ≡ found_at level old n a
-    by None none =
-        let gone : finite.get new n ≡ None = no_frame (finite.get new n) (is.frames n ∙ ap is_some none) in
-        ap (option_map (meaning level)) (word_alike old new n (index_at level a) (gone ∙ sym none))
-    by (Some words) got =
-        let here = both n (ap is_some got) in
-        let index = index_at level a in
-        ap (option_map (meaning level)) (word_in new n index here.1 here.3)
-        ∙ ap Some (flagged_meaning (flagged_at here.0 here.1 here.4 index) level some)
-        ∙ sym (ap (option_map (meaning level)) (word_in old n index here.0 here.2))
-
   pub same_translations : (depth : Depth) (root : ℕ) (space : Space) → TranslatesAs depth old root space → TranslatesAs depth new root space
   same_translations depth root space translates address canonical =
-      agree_walk (levels depth) root old new address (λ j n over at. same_found j n address over) ∙ translates address canonical
+      agree_walk (levels depth) root old new address (λ j n over at. flagged_found is j n address over) ∙ translates address canonical
 
 -- ---- stores
 
 zip_set : (xs ys : List ℕ) → AllZip IsSameButFlags xs ys → (i w v : ℕ) → IsSameButFlags w v → AllZip IsSameButFlags (slice_set xs i w) (slice_set ys i v)
 zip_set [] [] are i w v same = tt
-zip_set [] (y ∷ ys) are i w v same = absurd are
-zip_set (x ∷ xs) [] are i w v same = absurd are
 zip_set (x ∷ xs) (y ∷ ys) are zero w v same = (same, are.1)
 zip_set (x ∷ xs) (y ∷ ys) are (suc i) w v same = (are.0, zip_set xs ys are.1 i w v same)
-
-one_list : (x y : List ℕ) → Some x ≡ Some y → x ≡ y
-one_list x y e = cc
+zip_set _ _ are i w v same = absurd are
 
 module _ {old new : Memory} (is : AreSameButFlags old new) (n i w v : ℕ) (used : IsSome (finite.get old n)) (same : IsSameButFlags w v) where
   stored_here : (f : ℕ) → f ≡ n → finite.get (with_word old n i w) f ≡ Some (slice_set (unwrap_or (finite.get old n) []) i w)
@@ -87,9 +51,9 @@ module _ {old new : Memory} (is : AreSameButFlags old new) (n i w v : ℕ) (used
         (cases_eq f n);
     words = λ f before after got had. ⊎_elim
         (λ (here : f ≡ n).
-        let first = one_list _ before (sym (stored_here f here) ∙ got) in
-        let second = one_list _ after (sym (stored_there f here) ∙ had) in
-        let zipped = zip_set _ _ (is.words n _ _ (words_in old n used) (words_in new n (used_after is n used))) i w v same in
+        let first = same_Some _ before (sym (stored_here f here) ∙ got) in
+        let second = same_Some _ after (sym (stored_there f here) ∙ had) in
+        let zipped = zip_set _ _ (is.words n _ _ (words_in old n used) (words_in new n (is.frames n ∙ used))) i w v same in
         subst (λ (b : List ℕ). AllZip IsSameButFlags b after) first
         (subst (AllZip IsSameButFlags (slice_set (unwrap_or (finite.get old n) []) i w)) second zipped))
         (λ (other : f ≢ n).
@@ -99,16 +63,9 @@ module _ {old new : Memory} (is : AreSameButFlags old new) (n i w v : ℕ) (used
 
 -- ---- one store that found other flags
 
-pub bit_above : (n k i : ℕ) → bit_at (n / 2 ^ k) i ≡ bit_at n (k + i)
-bit_above n k i = ap (λ x. x % 2) (shr-shr n k i)
-
 low_bit : (old new : ℕ) → old % 32 ≡ new % 32 → (bit : ℕ) → bit < 5 → bit_at new bit ≡ bit_at old bit
-low_bit old new same zero low = omega (arith, same)
-low_bit old new same (suc zero) low = omega (arith, same)
-low_bit old new same (suc (suc zero)) low = omega (arith, same)
-low_bit old new same (suc (suc (suc zero))) low = omega (arith, same)
-low_bit old new same (suc (suc (suc (suc zero)))) low = omega (arith, same)
 low_bit old new same (suc (suc (suc (suc (suc bit))))) low = absurd (omega (arith, low))
+low_bit old new same _ low = omega (arith, same)
 
 pub flags_set : (old new : ℕ) → HasFlagsSet old new → IsSameButFlags old new
 flags_set old new is = record {
@@ -164,12 +121,7 @@ moved_flags K4 word old phys at is = record {
   below = omega (arith, at, is.below);
   above = omega (arith, at, is.below, is.above);
 }
-moved_flags M2 word old phys at is = record {
-  present = omega (arith, at, is.present);
-  below = omega (arith, at, is.below);
-  above = omega (arith, at, is.below, is.above);
-}
-moved_flags G1 word old phys at is = record {
+moved_flags _ word old phys at is = record {
   present = omega (arith, at, is.present);
   below = omega (arith, at, is.below);
   above = omega (arith, at, is.below, is.above);
@@ -177,8 +129,7 @@ moved_flags G1 word old phys at is = record {
 
 moved_low : (size : Size) (word phys : ℕ) → phys % 2 ^ 12 ≡ 0 → with_address size word phys % 2 ^ 7 / 2 ^ 5 ≡ word % 2 ^ 7 / 2 ^ 5
 moved_low K4 word phys at = omega (arith, at)
-moved_low M2 word phys at = omega (arith, at)
-moved_low G1 word phys at = omega (arith, at)
+moved_low _ word phys at = omega (arith, at)
 
 same_flags : (word other entry : ℕ) → word % 2 ^ 7 / 2 ^ 5 ≡ other % 2 ^ 7 / 2 ^ 5 → with_flags_of word entry ≡ with_flags_of other entry
 same_flags word other entry same = ap (λ f. cond (nat_eq (entry % 2) 0) entry (entry % 2 ^ 5 + f * 2 ^ 5 + entry / 2 ^ 7 * 2 ^ 7)) same
@@ -191,5 +142,4 @@ remap_again size word old phys rights at is =
 
 pub bits_after : (size : Size) (word old : ℕ) → HasFlagsSet old word → flags_into word (bits_in size old) ≡ bits_in size word
 bits_after K4 word old is = omega (arith, is.below, is.above)
-bits_after M2 word old is = omega (arith, is.below, is.above)
-bits_after G1 word old is = omega (arith, is.below, is.above)
+bits_after _ word old is = omega (arith, is.below, is.above)

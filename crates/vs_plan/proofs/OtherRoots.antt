@@ -1,5 +1,5 @@
 -- What the stores of a right plan do to the walks from another root that may share tables.
-use Rattle.std.proofs.Common.{◌≡◌, ◌≢◌, ℕ, zero, suc, ◌-◌, List, [], ◌∷◌, All, Contains, take, length, Some, None, ◌⊎◌, inl, inr, ⊎_elim, refl, sym, ap, subst, ◌∙◌, arith}
+use Rattle.std.proofs.Common.{◌≡◌, ◌≢◌, ℕ, suc, ◌-◌, List, [], ◌∷◌, All, Contains, take, length, Some, None, ◌⊎◌, inl, inr, ⊎_elim, refl, sym, ap, subst, ◌∙◌, arith}
 use Rattle.std.specs.Prelude.{if◌then◌else◌, option_and_then}
 use Rattle.std.proofs.lemmas.Bool.{ne_eqb, cases_eq}
 use Rattle.std.proofs.Math.Seq.{take-length}
@@ -42,9 +42,8 @@ frame_kept memory number (s ∷ later) all =
     ∙ get_written_other memory s.frame s.index s.new number (All-head (λ (s : Store). number ≢ s.frame) s later all)
 
 pub found_take : (memory : Memory) (n : ℕ) (stores : List Store) → FindTheirWords memory stores → FindTheirWords memory (take n stores)
-found_take memory zero stores found = tt
-found_take memory (suc n) [] found = tt
 found_take memory (suc n) (s ∷ later) found = (found.0, found_take (stored memory s) n later found.1)
+found_take memory _ _ found = tt
 
 -- ---- roots whose entries for an address lead to one table
 

@@ -22,8 +22,7 @@ use Rattle.vs_plan.specs.Changes.{smaller, smallest, part, with_parts, split, sp
 part_in : (size : Size) (base a i : ℕ) → size ≢ K4 → i < 512 → base + i * bytes_of (smaller size) ≤ a
     → a < base + i * bytes_of (smaller size) + bytes_of (smaller size) → (base ≤ a) × (a < base + bytes_of size)
 part_in K4 base a i large low from to = absurd (large refl)
-part_in M2 base a i large low from to = (omega arith, omega arith)
-part_in G1 base a i large low from to = (omega arith, omega arith)
+part_in _ base a i large low from to = (omega arith, omega arith)
 
 -- each address of the page is one of a part's
 pub part_at : (size : Size) (base a : ℕ) → size ≢ K4 → base ≤ a → a < base + bytes_of size
@@ -36,19 +35,16 @@ part_at G1 base a large from to = ((a - base) / 2097152, omega arith, omega arit
 one_part : (size : Size) (base a i j : ℕ) → base + i * bytes_of (smaller size) ≤ a → a < base + i * bytes_of (smaller size) + bytes_of (smaller size)
     → base + j * bytes_of (smaller size) ≤ a → a < base + j * bytes_of (smaller size) + bytes_of (smaller size) → i ≡ j
 one_part K4 base a i j from to from' to' = omega arith
-one_part M2 base a i j from to from' to' = omega arith
-one_part G1 base a i j from to from' to' = omega arith
+one_part _ base a i j from to from' to' = omega arith
 
 part_aligned : (size : Size) (base i : ℕ) → size ≢ K4 → base % bytes_of size ≡ 0 → (base + i * bytes_of (smaller size)) % bytes_of (smaller size) ≡ 0
 part_aligned K4 base i large at = absurd (large refl)
-part_aligned M2 base i large at = omega arith
-part_aligned G1 base i large at = omega arith
+part_aligned _ base i large at = omega arith
 
 part_range : (size : Size) (phys i limit : ℕ) → size ≢ K4 → i < 512 → phys + bytes_of size ≤ limit
     → phys + i * bytes_of (smaller size) + bytes_of (smaller size) ≤ limit
 part_range K4 phys i limit large low at = absurd (large refl)
-part_range M2 phys i limit large low at = omega arith
-part_range G1 phys i limit large low at = omega arith
+part_range _ phys i limit large low at = omega arith
 
 -- ---- what is held
 
@@ -178,7 +174,8 @@ module _ {depth : Depth} {space : Space} (is : IsSpace depth space) {page : Page
           let other : (b : ℕ) → IsTrue (covers page b) → IsTrue (covers p b) → ⊥ = λ b by_page by_other.
           let covered = subst (λ (z : Page). IsTrue (covers z a)) (sym (is.apart page p b holds got by_page by_other)) by_p in cc in
           held_still page (finite.remove space page.base) 512 p.base
-          (λ i low e. other p.base (page_covers p.base i low (subst (λ b. IsTrue (covers (part page i) b)) (sym e) (covers_base (part page i)))) (covers_base p))
+          (λ i low e. other p.base (page_covers p.base i low (subst (λ b. IsTrue (covers (part page i) b)) (sym e) (covers_base (part page i))))
+          (covers_base p))
           ∙ get_remove_other space page.base p.base
           (λ e. other p.base (subst (λ b. IsTrue (covers page b)) (sym e) (covers_base page)) (covers_base p))
           ∙ got,
@@ -206,8 +203,7 @@ refused_there space base page e same = why_here base (λ (z : Page). smallest z.
 
 has_parts : (size : Size) → smallest size ≡ None → size ≢ K4
 has_parts K4 none e = cc
-has_parts M2 none e = cc
-has_parts G1 none e = cc
+has_parts _ none e = cc
 
 -- the space after a split that isn't refused is the one before, or has the parts of a page in its place
 split_cases : (space : Space) (base : ℕ) → split_refusal space base ≡ None → (P : Space → Type 0) → P space

@@ -1,5 +1,5 @@
 -- A plan is right by its parts.
-use Rattle.std.proofs.Common.{AllPairs, ◌≡◌, ◌≢◌, ℕ, zero, suc, ◌<◌, ◌≤◌, List, [], ◌∷◌, ◌++◌, length, take, Option, Some, None, All, inl, refl, sym, ap, subst, ◌∙◌, arith}
+use Rattle.std.proofs.Common.{AllPairs, ◌≡◌, ◌≢◌, ℕ, zero, suc, ◌<◌, ◌≤◌, List, [], ◌∷◌, ◌++◌, length, take, Option, Some, None, inl, refl, sym, ap, subst, ◌∙◌, arith}
 use Rattle.std.proofs.lemmas.List.{length-append, take-append-le}
 use Rattle.std.proofs.lemmas.List.Elements.{All-nil}
 use Rattle.std.proofs.Math.Seq.{take-length}
@@ -9,7 +9,7 @@ use Rattle.vs_types.specs.Space.{Space}
 use Rattle.vs_types.specs.declared.page.Rights.{Rights}
 use Rattle.vs_space.specs.Held.{word_at}
 use Rattle.vs_types.specs.declared.depth.Depth.{Depth}
-use Rattle.vs_walk.specs.Memory.{Memory, AreWhole}
+use Rattle.vs_walk.specs.Memory.{Memory}
 use Rattle.vs_walk.specs.Walk.{TranslatesAs}
 use Rattle.vs_plan.specs.declared.plan.Fill.{Fill}
 use Rattle.vs_plan.specs.declared.plan.Flush.{Flush}
@@ -21,17 +21,18 @@ use Rattle.vs_plan.specs.declared.plan.Step.TheVariants as steps
 use Rattle.vs_plan.specs.declared.plan.Store.{Store}
 use Rattle.vs_plan.specs.Shown.{IsNext}
 use Rattle.vs_plan.specs.declared.request.Request.{Request}
-use Rattle.vs_plan.specs.declared.request.Request.TheVariants.{Map, Unmap, Protect, Ask, Remap, Split, Join}
+use Rattle.vs_plan.specs.declared.request.Request.TheVariants.{Map, Unmap}
 use Rattle.vs_plan.specs.declared.target.Target.{Target}
-use Rattle.vs_plan.specs.Planner.{Awaits, HasGiven}
-use Rattle.vs_plan.specs.declared.planner.Phase.TheVariants as phases
-use Rattle.vs_plan.specs.Premise.{HasOwnWay, IsPremise}
+use Rattle.vs_plan.specs.Premise.{IsPremise}
 use Rattle.vs_plan.specs.Request.{address_of, refusal}
-use Rattle.vs_plan.specs.Right.{IsReply, refusal_in, space_after, Changes, IsMeantBy, IsWritten, IsOneWay, IsPruned, IsTold, IsPut, Fits, IsAlready, IsFlushed, IsUnlinkedBy, ReachesNoOther, IsRight}
-use Rattle.vs_plan.specs.Stores.{stored, stored_all, filled, FindTheirWords, AreSafe}
+use Rattle.vs_plan.specs.Right.{IsReply, refusal_in, space_after, IsWritten, IsOneWay, IsTold, IsPut, IsAlready, IsFlushed, IsRight}
+use Rattle.vs_plan.specs.Stores.{stored, stored_all, AreSafe}
 use Rattle.vs_plan.specs.Way.{IsWay}
 use Rattle.vs_plan.specs.declared.planner.Planner.{Planner}
-use Rattle.vs_plan.specs.inside.Ended.{IsEnd, IsAtEnd, HasEnded, ChangesNothing, IsPlanned}
+use Rattle.vs_plan.specs.inside.Ended.{IsAtEnd, HasEnded, ChangesNothing, IsPlanned}
+use Rattle.vs_plan.proofs.EntryStores.{IsOwnTable}
+use Rattle.vs_plan.proofs.Stored.{used_word}
+use Rattle.vs_plan.proofs.Ways.{way_table}
 
 -- where no table is unlinked
 pub none_named : AllPairs (λ (number other : ℕ). number ≢ other) []
@@ -41,67 +42,28 @@ none_named i j d lt within = absurd (omega arith)
 pub words_apart : (level old new : ℕ) → (meaning level old ≡ meaning level new → ⊥) → old ≢ new
 words_apart level old new apart same = apart (ap (meaning level) same)
 
-pub record Parts (target : Target) (request : Request) (memory : Memory) (space : Space) (offered : List (Option ℕ)) (reply : Reply) (bits : ℕ)
-    (fill : Option Fill) (stores : List Store) (flush : Flush) (unlinked : List ℕ) : Type 0 where
-  pub reply_is : IsReply target request memory space offered reply
-  pub due : refusal target space request ≡ refusal_in reply
-  pub put : IsPut target request memory offered fill stores unlinked
-  pub fits : Fits request space stores
-  pub safe : AreSafe target.depth (filled memory fill) target.root space (space_after target request space reply) stores
-  pub found : FindTheirWords (filled memory fill) stores
-  pub meant : All (IsMeantBy target memory request unlinked) stores
-  pub nothing : (Changes reply → ⊥) → stores ≡ []
-  pub written : IsWritten request stores
-  pub already : IsAlready target memory request reply stores
-  pub changing : All (λ (store : Store). store.old ≢ store.new) stores
-  pub one_way : IsOneWay request stores
-  pub told : IsTold target memory (address_of request) bits reply
-  pub flushed : IsFlushed target memory request stores unlinked flush
-  pub gone : All (IsUnlinkedBy target memory (stored_all (filled memory fill) stores) request) unlinked
-  pub pruned : IsPruned target (stored_all (filled memory fill) stores) request stores
-  pub named_once : AllPairs (λ number other. number ≢ other) unlinked
-  pub whole : AreWhole (stored_all (filled memory fill) stores)
-  pub own : (a : ℕ) → HasOwnWay target.depth memory target.root a
-      → HasOwnWay target.depth (stored_all (filled memory fill) stores) target.root a
-  pub reaches : ReachesNoOther target memory (stored_all (filled memory fill) stores) fill stores
+-- a plan with these parts is right
+abbrev pub Parts : Target → Request → Memory → Space → List (Option ℕ) → Reply → ℕ → Option Fill → List Store → Flush → List ℕ → Type 0
+Parts target request memory space offered reply bits fill stores flush unlinked = IsRight target request memory space offered (record {
+  reply = reply;
+  bits = bits;
+  fill = fill;
+  stores = record { items = stores };
+  flush = flush;
+  unlinked = record { items = unlinked };
+})
 
 module _ {target : Target} {request : Request} {memory : Memory} {space : Space} {offered : List (Option ℕ)} where
-  right_of : (plan : Plan)
-      → Parts target request memory space offered plan.reply plan.bits plan.fill plan.stores.items plan.flush plan.unlinked.items
-      → IsRight target request memory space offered plan
-  right_of plan parts = record {
-    reply = parts.reply_is;
-    due = parts.due;
-    put = parts.put;
-    fits = parts.fits;
-    safe = parts.safe;
-    found = parts.found;
-    meant = parts.meant;
-    nothing = parts.nothing;
-    written = parts.written;
-    already = parts.already;
-    changing = parts.changing;
-    one_way = parts.one_way;
-    told = parts.told;
-    flushed = parts.flushed;
-    unlinked = parts.gone;
-    pruned = parts.pruned;
-    named_once = parts.named_once;
-    whole = parts.whole;
-    own = parts.own;
-    reaches = parts.reaches;
-  }
-
   pub right_as : (plan : Plan) {reply : Reply} {bits : ℕ} {fill : Option Fill} {stores : List Store} {flush : Flush} {unlinked : List ℕ}
       → plan.reply ≡ reply → plan.bits ≡ bits → plan.fill ≡ fill → plan.stores.items ≡ stores → plan.flush ≡ flush → plan.unlinked.items ≡ unlinked
       → Parts target request memory space offered reply bits fill stores flush unlinked → IsRight target request memory space offered plan
-  right_as plan {reply} {bits} {fill} {stores} {flush} {unlinked} e1 e2 e3 e4 e5 e6 parts = right_of plan
-      (subst (λ r. Parts target request memory space offered r plan.bits plan.fill plan.stores.items plan.flush plan.unlinked.items) (sym e1)
+  right_as plan {reply} {bits} {fill} {stores} {flush} {unlinked} e1 e2 e3 e4 e5 e6 parts =
+      subst (λ r. Parts target request memory space offered r plan.bits plan.fill plan.stores.items plan.flush plan.unlinked.items) (sym e1)
       (subst (λ b. Parts target request memory space offered reply b plan.fill plan.stores.items plan.flush plan.unlinked.items) (sym e2)
       (subst (λ f. Parts target request memory space offered reply bits f plan.stores.items plan.flush plan.unlinked.items) (sym e3)
       (subst (λ s. Parts target request memory space offered reply bits fill s plan.flush plan.unlinked.items) (sym e4)
       (subst (λ f. Parts target request memory space offered reply bits fill stores f plan.unlinked.items) (sym e5)
-      (subst (λ u. Parts target request memory space offered reply bits fill stores flush u) (sym e6) parts))))))
+      (subst (λ u. Parts target request memory space offered reply bits fill stores flush u) (sym e6) parts)))))
 
 -- a refusal that is due of a request, where the request is written otherwise
 pub due_as : (target : Target) (space : Space) {request other : Request} {due : Option Reply} → request ≡ other → refusal target space other ≡ due
@@ -155,10 +117,11 @@ module _ {depth : Depth} {m : Memory} {root : ℕ} {before after : Space} where
 module _ {target : Target} {request : Request} {memory : Memory} {space : Space} {offered : List (Option ℕ)}
     (premise : IsPremise target.depth memory target.root (address_of request) space) {reply : Reply} {bits : ℕ}
     (due : refusal target space request ≡ refusal_in reply) where
-  nothing_parts : IsAlready target memory request reply [] → IsReply target request memory space offered reply → TranslatesAs target.depth memory target.root (space_after target request space reply)
+  pub nothing_parts : IsAlready target memory request reply [] → IsReply target request memory space offered reply
+      → TranslatesAs target.depth memory target.root (space_after target request space reply)
       → IsTold target memory (address_of request) bits reply → Parts target request memory space offered reply bits None [] flushes.Nothing []
   nothing_parts already is then told = record {
-    reply_is = is;
+    reply = is;
     due = due;
     put = put_none request;
     fits = tt;
@@ -172,7 +135,7 @@ module _ {target : Target} {request : Request} {memory : Memory} {space : Space}
     one_way = one_way_none request;
     told = told;
     flushed = flushed_none request;
-    gone = All-nil _;
+    unlinked = All-nil _;
     pruned = tt;
     named_once = none_named;
     whole = premise.whole;
@@ -188,11 +151,7 @@ module _ {target : Target} {request : Request} {memory : Memory} {space : Space}
     one_way_none : (request : Request) → IsOneWay request []
     one_way_none (Map page bits) = All-nil _
     one_way_none (Unmap base) = All-nil _
-    one_way_none (Protect base rights) = tt
-    one_way_none (Ask address) = tt
-    one_way_none (Remap base phys rights) = tt
-    one_way_none (Split base) = tt
-    one_way_none (Join base) = tt
+    one_way_none _ = tt
 
     flushed_none : (request : Request) → IsFlushed target memory request [] [] flushes.Nothing
     flushed_none request = refl
@@ -223,6 +182,16 @@ pub record EndAt (target : Target) (memory : Memory) (space : Space) (level numb
   pub way : IsWay target.depth memory target.root address level number rights
   pub word_is : word_at memory number (index_at level address) ≡ Some word
   pub canonical : IsCanonical target.depth address
+
+-- which is a table with no other way
+pub own_table : {target : Target} {memory : Memory} {space : Space} {level number : ℕ} {rights : Rights} {word address : ℕ}
+    → EndAt target memory space level number rights word address → IsOwnTable target.depth memory target.root level address number
+own_table {memory = memory} {level = level} {number} {rights} {word} {address} end = record {
+  own = end.premise.own;
+  whole = end.premise.whole;
+  used = used_word memory number (index_at level address) word end.word_is;
+  at = way_table level number rights end.way;
+}
 
 pub end_at : {p : Planner} {word : ℕ} → IsAtEnd p → {memory : Memory} {space : Space} → HasEnded memory p word
     → IsPremise p.target.depth memory p.target.root (address_of p.request) space → {address : ℕ} → address_of p.request ≡ address
@@ -257,19 +226,3 @@ planned_next {memory} p p' {offered} (steps.Planned plan) same_target same_reque
     (right plan planned space
     (subst (λ (r : Request). IsPremise p.target.depth memory p.target.root (address_of r) space) same_request
     (subst (λ (t : Target). IsPremise t.depth memory t.root (address_of p'.request) space) same_target premise))))
-
--- a planner that has refused awaits nothing
-pub planned_awaits : (reply : Reply) (p : Planner) (step : Step) → p.phase ≡ phases.Ended → IsPlanned reply step → Awaits p step
-planned_awaits reply p (steps.See number) ended planned = absurd planned
-planned_awaits reply p steps.Give ended planned = absurd planned
-planned_awaits reply p (steps.Planned plan) ended planned = ended
-
-pub planned_given : (reply : Reply) (p : Planner) (frames : List ℕ) (step : Step) → IsPlanned reply step → HasGiven p frames step
-planned_given reply p frames (steps.See number) planned = absurd planned
-planned_given reply p frames steps.Give planned = absurd planned
-planned_given reply p frames (steps.Planned plan) planned = tt
-
-pub end_given : (p : Planner) (frames : List ℕ) (step : Step) → IsEnd step → HasGiven p frames step
-end_given p frames (steps.See number) planned = absurd planned
-end_given p frames steps.Give planned = absurd planned
-end_given p frames (steps.Planned plan) planned = tt

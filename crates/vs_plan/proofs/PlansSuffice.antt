@@ -18,6 +18,7 @@ use Rattle.vs_space.specs.Path.{found_at, table_in, table_at}
 use Rattle.vs_types.proofs.Pages.{three_levels}
 use Rattle.vs_walk.proofs.TranslatedBits.{no_table_below}
 use Rattle.vs_space.proofs.Paths.{none_past, reached_within, table_before, table_below, words_found}
+use Rattle.vs_space.proofs.Regions.{level_back}
 use Rattle.vs_plan.specs.declared.plan.Fill.{Fill}
 use Rattle.vs_plan.specs.declared.plan.Flush.{Flush}
 use Rattle.vs_plan.specs.declared.plan.Flush.TheVariants.{Nothing, Page, Range}
@@ -36,7 +37,7 @@ use Rattle.vs_plan.specs.Right.{IsRight, IsMeant, OfPage, OfLink, OfSpare, IsEnt
 use Rattle.vs_plan.specs.Stores.{stored, stored_all, FindTheirWords}
 use Rattle.vs_plan.specs.Flushed.{Suffices}
 use Rattle.vs_plan.proofs.Orders.{AllAdd}
-use Rattle.vs_plan.proofs.Stays.{ChangesPageAlone, level_back}
+use Rattle.vs_plan.proofs.Stays.{ChangesPageAlone}
 use Rattle.vs_plan.proofs.WordOrders.{even_absent, fill_is_more, found_word, told_used}
 use Rattle.vs_plan.proofs.Sufficing.{IsSwitched}
 use Rattle.vs_plan.proofs.Unread.{unread_table}
@@ -101,17 +102,7 @@ switched {target} {request} {memory} {start} {space} given done address low cano
 after_cases : (P : Space → Type 0) (target : Target) (request : Request) (space : Space) (reply : Reply) → P space
     → P (stepped target.depth space request).space → P (space_after target request space reply)
 after_cases P target request space (replies.Answer answer) same step = step
-after_cases P target request space replies.NoFrame same step = same
-after_cases P target request space (replies.FrameRange number) same step = same
-after_cases P target request space replies.Rights same step = same
-after_cases P target request space (replies.Empty number) same step = same
-after_cases P target request space (replies.Reserved number index) same step = same
-after_cases P target request space replies.PhysUnaligned same step = same
-after_cases P target request space replies.PhysRange same step = same
-after_cases P target request space replies.Smallest same step = same
-after_cases P target request space replies.Largest same step = same
-after_cases P target request space replies.Unaligned same step = same
-after_cases P target request space (replies.Apart index) same step = same
+after_cases P target request space _ same step = same
 
 -- ---- the entry of a page
 
@@ -151,10 +142,9 @@ entry_sizes target m base size other word second a b =
     a.size_is ∙ ap size_at (omega arith) ∙ sym b.size_is
 
 larger_level : (level : ℕ) → 1 ≤ level → level < 3 → level_of (larger (size_at level)) ≡ suc level
-larger_level zero some few = absurd (omega arith)
 larger_level (suc zero) some few = refl
 larger_level (suc (suc zero)) some few = refl
-larger_level (suc (suc (suc level))) some few = absurd (omega arith)
+larger_level _ some few = absurd (omega arith)
 
 pub some_stores : (s : Store) → s ∷ [] ≡ [] → ⊥
 some_stores s none = cc
@@ -181,25 +171,18 @@ module _ (target : Target) (memory start : Memory) (space : Space) (offered : Li
   form_of (Map page bits) [] unlinked flush given = form_of_none flush given.flushed
   form_of (Map page bits) (s ∷ later) unlinked flush given = subst (Starts (s ∷ later)) (sym given.flushed)
       (Adds (s ∷ later) (adds start (s ∷ later) given.found given.one_way))
-  form_of (Unmap base) [] unlinked flush given = form_of_none flush given.flushed
   form_of (Unmap base) (s ∷ later) [] flush given = subst (Starts (s ∷ later)) (sym given.flushed.2)
       (Clears (s ∷ later) base given.flushed.0 given.found given.one_way)
   form_of (Unmap base) (s ∷ later) (number ∷ numbers) flush given = subst (Starts (s ∷ later)) (sym given.flushed.2)
       (Unlinks (s ∷ later) base given.flushed.0 given.found given.one_way)
-  form_of (Protect base rights) [] unlinked flush given = form_of_none flush given.flushed
   form_of (Protect base rights) (s ∷ []) unlinked flush given = subst (Starts (s ∷ [])) (sym given.flushed.2) (Replaces s base given.flushed.0 given.found)
   form_of (Protect base rights) (s ∷ (t ∷ later)) unlinked flush given = let alone = given.written.1 in absurd (cc)
-  form_of (Ask address) [] unlinked flush given = form_of_none flush given.flushed
   form_of (Ask address) (s ∷ later) unlinked flush given = absurd given.flushed
-  form_of (Remap base phys rights) [] unlinked flush given = form_of_none flush given.flushed
   form_of (Remap base phys rights) (s ∷ []) unlinked flush given = subst (Starts (s ∷ [])) (sym given.flushed.2) (Replaces s base given.flushed.0 given.found)
-  form_of (Remap base phys rights) (s ∷ (t ∷ later)) unlinked flush given = let alone = given.written in absurd (cc)
-  form_of (Split base) [] unlinked flush given = form_of_none flush given.flushed
   form_of (Split base) (s ∷ []) unlinked flush given = subst (Starts (s ∷ [])) (sym given.flushed.2) (Resizes s base given.flushed.0 given.found)
-  form_of (Split base) (s ∷ (t ∷ later)) unlinked flush given = let alone = given.written in absurd (cc)
-  form_of (Join base) [] unlinked flush given = form_of_none flush given.flushed
   form_of (Join base) (s ∷ []) unlinked flush given = subst (Starts (s ∷ [])) (sym given.flushed.3) (Resizes s base (larger given.flushed.0) given.found)
-  form_of (Join base) (s ∷ (t ∷ later)) unlinked flush given = let alone = given.written in absurd (cc)
+  form_of _ (s ∷ (t ∷ later)) unlinked flush given = let alone = given.written in absurd (cc)
+  form_of _ [] unlinked flush given = form_of_none flush given.flushed
 
   -- ---- what they are for the root
 
@@ -224,14 +207,16 @@ module _ (target : Target) (memory start : Memory) (space : Space) (offered : Li
   unmap_alone : (base : ℕ) (stores : List Store) (unlinked : List ℕ) (flush : Flush) → Says (Unmap base) stores unlinked flush
       → ChangesPageAlone target.depth target.root start (stored_all start stores) base
   unmap_alone base stores unlinked flush given = changes_alone target.depth start (stored_all start stores) target.root space
-      (space_after target (Unmap base) space reply) base (begins_as target.depth target.root memory start given.same space given.premise.translates) given.safe.done
+      (space_after target (Unmap base) space reply) base
+      (begins_as target.depth target.root memory start given.same space given.premise.translates) given.safe.done
       (λ address. after_cases (λ after. LooksApart space after base address) target (Unmap base) space reply (λ page at. inl refl)
       (unmap_apart given.premise.is_space 0 base address))
 
   protect_alone : (base : ℕ) (rights : Rights) (stores : List Store) (unlinked : List ℕ) (flush : Flush) → Says (Protect base rights) stores unlinked flush
       → ChangesPageAlone target.depth target.root start (stored_all start stores) base
   protect_alone base rights stores unlinked flush given = changes_alone target.depth start (stored_all start stores) target.root space
-      (space_after target (Protect base rights) space reply) base (begins_as target.depth target.root memory start given.same space given.premise.translates) given.safe.done
+      (space_after target (Protect base rights) space reply) base
+      (begins_as target.depth target.root memory start given.same space given.premise.translates) given.safe.done
       (λ address. after_cases (λ after. LooksApart space after base address) target (Protect base rights) space reply (λ page at. inl refl)
       (protect_apart given.premise.is_space 0 base rights address))
 
@@ -336,9 +321,7 @@ module _ (target : Target) (memory start : Memory) (space : Space) (offered : Li
       )
 
   pub are_for : (request : Request) (stores : List Store) (unlinked : List ℕ) (flush : Flush) → Says request stores unlinked flush → ForRoot stores flush
-  are_for (Map page bits) [] unlinked flush given = for_none flush given.flushed
   are_for (Map page bits) (s ∷ later) unlinked flush given = subst (ForRoot (s ∷ later)) (sym given.flushed) tt
-  are_for (Unmap base) [] unlinked flush given = for_none flush given.flushed
   are_for (Unmap base) (s ∷ later) [] flush given = subst (ForRoot (s ∷ later)) (sym given.flushed.2) (
     unmap_alone base (s ∷ later) [] flush given,
     All-weaker (IsMeant target memory base []) (IsEndFor target.depth start target.root) (λ t meant. is_end t given (nothing_unlinked meant))
@@ -346,7 +329,6 @@ module _ (target : Target) (memory start : Memory) (space : Space) (offered : Li
   )
   are_for (Unmap base) (s ∷ later) (number ∷ numbers) flush given = subst (ForRoot (s ∷ later)) (sym given.flushed.2)
       (unmap_alone base (s ∷ later) (number ∷ numbers) flush given)
-  are_for (Protect base rights) [] unlinked flush given = for_none flush given.flushed
   are_for (Protect base rights) (s ∷ []) unlinked flush given = subst (ForRoot (s ∷ [])) (sym given.flushed.2) (
     protect_alone base rights (s ∷ []) unlinked flush given,
     All-cons (IsEndFor target.depth start target.root) s []
@@ -354,20 +336,15 @@ module _ (target : Target) (memory start : Memory) (space : Space) (offered : Li
         (All-nil (IsEndFor target.depth start target.root)),
   )
   are_for (Protect base rights) (s ∷ (t ∷ later)) unlinked flush given = let alone = given.written.1 in absurd (cc)
-  are_for (Ask address) [] unlinked flush given = for_none flush given.flushed
   are_for (Ask address) (s ∷ later) unlinked flush given = absurd given.flushed
-  are_for (Remap base phys rights) [] unlinked flush given = for_none flush given.flushed
   are_for (Remap base phys rights) (s ∷ []) unlinked flush given = subst (ForRoot (s ∷ [])) (sym given.flushed.2)
       (remap_for base phys rights s unlinked flush given.flushed.0 given)
-  are_for (Remap base phys rights) (s ∷ (t ∷ later)) unlinked flush given = let alone = given.written in absurd (cc)
-  are_for (Split base) [] unlinked flush given = for_none flush given.flushed
   are_for (Split base) (s ∷ []) unlinked flush given = subst (ForRoot (s ∷ [])) (sym given.flushed.2)
       (split_for base s unlinked flush given.flushed.0 s.old given.flushed.1 given)
-  are_for (Split base) (s ∷ (t ∷ later)) unlinked flush given = let alone = given.written in absurd (cc)
-  are_for (Join base) [] unlinked flush given = for_none flush given.flushed
   are_for (Join base) (s ∷ []) unlinked flush given = subst (ForRoot (s ∷ [])) (sym given.flushed.3)
       (join_for base s unlinked flush given.flushed.0 given.flushed.1 given.flushed.2 given)
-  are_for (Join base) (s ∷ (t ∷ later)) unlinked flush given = let alone = given.written in absurd (cc)
+  are_for _ [] unlinked flush given = for_none flush given.flushed
+  are_for _ (s ∷ (t ∷ later)) unlinked flush given = let alone = given.written in absurd (cc)
 
 pub plan_suffices : (target : Target) (request : Request) (memory : Memory) (space : Space) (offered : List (Option ℕ)) (plan : Plan)
     → IsPremise target.depth memory target.root (address_of request) space → IsRight target request memory space offered plan

@@ -1,7 +1,7 @@
 -- A plan that changes the rights of a page.
-use Rattle.std.proofs.Common.{◌≡◌, ◌≢◌, ℕ, suc, ◌+◌, ◌-◌, ◌%◌, ◌≤◌, [], ◌∷◌, Some, None, inl, refl, sym, ap, subst, ◌∙◌, arith}
+use Rattle.std.proofs.Common.{◌≡◌, ◌≢◌, ℕ, ◌+◌, ◌-◌, ◌%◌, ◌≤◌, [], ◌∷◌, Some, None, inl, refl, sym, ap, subst, ◌∙◌}
 use Rattle.std.proofs.lemmas.List.Elements.{All-nil, All-cons}
-use Rattle.vs_types.specs.Depth.{levels, entry_bytes, index_at}
+use Rattle.vs_types.specs.Depth.{entry_bytes, index_at}
 use Rattle.vs_types.specs.Entry.{meaning, size_at}
 use Rattle.vs_types.specs.Laws.{changes}
 use Rattle.vs_types.specs.Page.{bytes_of, intersection}
@@ -14,11 +14,9 @@ use Rattle.vs_types.specs.declared.page.Size.{Size}
 use Rattle.vs_types.specs.declared.entry.Meaning.TheVariants as entry
 use Rattle.vs_types.specs.declared.answer.Answer.TheVariants as answers
 use Rattle.vs_walk.specs.Memory.{Memory}
-use Rattle.vs_walk.specs.Walk.{walk_from}
 use Rattle.vs_walk.specs.declared.walk.Walk.TheVariants.{Mapped}
-use Rattle.vs_space.specs.Path.{found_at, table_in, SamePath}
+use Rattle.vs_space.specs.Path.{table_in}
 use Rattle.vs_space.specs.Table.{IsTableOf}
-use Rattle.vs_space.proofs.Paths.{found_same, walk_found}
 use Rattle.vs_space.proofs.Regions.{IsLeafPage}
 use Rattle.vs_plan.specs.declared.plan.Flush.TheVariants as flushes
 use Rattle.vs_plan.specs.declared.plan.Plan.{Plan}
@@ -34,13 +32,12 @@ use Rattle.vs_plan.specs.Stores.{stored}
 use Rattle.vs_plan.specs.Way.{IsWay}
 use Rattle.vs_plan.specs.inside.Ended.{IsAtEnd, IsRightAt, ChangesNothing}
 use Rattle.vs_plan.proofs.Asking.{entry_of}
-use Rattle.vs_plan.proofs.OneStore.{walk_off, walk_leaf, fewer, own_on}
+use Rattle.vs_plan.proofs.EntryStores.{walk_off, walk_here, whole_store, fewer, own_after}
 use Rattle.vs_plan.proofs.Pages.{table_from, found_word, page_here}
-use Rattle.vs_plan.proofs.Parts.{none_named, Parts, right_as, safe_none, safe_one, nothing_right, due_as, store_at, EndAt, end_at}
-use Rattle.vs_plan.proofs.Stored.{used_word, whole_stored}
-use Rattle.vs_plan.proofs.Steps.{changed_answer, changed_translates}
+use Rattle.vs_plan.proofs.Parts.{none_named, Parts, right_as, safe_one, nothing_right, nothing_parts, due_as, store_at, EndAt, end_at, own_table}
+use Rattle.vs_space.proofs.LeafSteps.{begins_at, changed_answer, changed_translates}
 use Rattle.vs_plan.proofs.Words.{with_rights_reads}
-use Rattle.vs_plan.proofs.Ways.{way_table, way_within, way_walk}
+use Rattle.vs_plan.proofs.Ways.{way_table, walk_at}
 
 one_leaf : (phys : ℕ) (own : Rights) (other : ℕ) (rights : Rights) → entry.Leaf phys own ≡ entry.Leaf other rights → own ≡ rights
 one_leaf phys own other rights e = cc
@@ -54,7 +51,7 @@ would_change target {memory} {space} rights end some says aligned =
     let page = page_here end.way some end.word_is end.premise.is_space end.premise.translates end.canonical says in
     let table : IsTableOf (table_from target.depth memory target.root) space =
     record { is_space = end.premise.is_space; translates = end.premise.translates } in
-    changed_answer table page.1 aligned rights
+    changed_answer 0 table page.1 (begins_at page.1 aligned) rights
 
 module _ (target : Target) {memory : Memory} {space : Space} {base level number word phys : ℕ} {given own rights : Rights}
     (end : EndAt target memory space level number given word base) (some : 1 ≤ level) (says : meaning level word ≡ entry.Leaf phys own)
@@ -78,60 +75,33 @@ module _ (target : Target) {memory : Memory} {space : Space} {base level number 
   same_parts same leads =
       let rights_are : intersection given own ≡ rights =
       ap (intersection given) (one_leaf phys own phys rights (sym says ∙ ap (meaning level) same ∙ leads)) ∙ allows in
-      record {
-        reply_is = sym (changed_answer table page.1 aligned rights);
-        due = refl;
-        put = refl;
-        fits = tt;
-        safe = safe_none end.premise.translates (changed_translates table page.1 aligned rights memory
-            (λ b path. way_walk level number given way b (λ i from to. path i (omega arith) to) ∙ walks b path rights_are)
-            (λ b apart. refl));
-        found = tt;
-        meant = All-nil _;
-        nothing = λ none. refl;
-        written = tt;
-        already = (size_at level, word, entry_of way end.word_is says, same);
-        changing = All-nil _;
-        one_way = tt;
-        told = told;
-        flushed = refl;
-        gone = All-nil _;
-        pruned = tt;
-        named_once = none_named;
-        whole = end.premise.whole;
-        own = λ a has. has;
-        reaches = λ level address number at. inl at;
-      } where
-        walks : (b : ℕ) → SamePath (levels target.depth) level base b → intersection given own ≡ rights
-            → walk_from memory level number given b ≡ Mapped (phys + b % entry_bytes level) (size_at level) rights
-        walks b path are = by (level - 1) (omega arith) where
-          by : (below : ℕ) → level ≡ suc below → walk_from memory level number given b ≡ Mapped (phys + b % entry_bytes level) (size_at level) rights
-          by below one = subst (λ l. found_at l memory number b ≡ Some (entry.Leaf phys own)
-              → walk_from memory l number given b ≡ Mapped (phys + b % entry_bytes l) (size_at l) rights) (sym one)
-              (λ found. walk_found memory below number given b (entry.Leaf phys own) found
-              ∙ ap (Mapped (phys + b % entry_bytes (suc below)) (size_at (suc below))) are)
-              (found_same level memory number b base (sym (path level (omega arith) (way_within level number given way)))
-              ∙ found_word level memory number base word end.word_is ∙ ap Some says)
+      nothing_parts {request = Protect base rights} end.premise refl (size_at level, word, entry_of way end.word_is says, same)
+      (sym (changed_answer 0 table page.1 (begins_at page.1 aligned) rights))
+      (changed_translates 0 table page.1 (begins_at page.1 aligned) rights memory
+      (λ b path. walk_at way some (entry.Leaf phys own) (found_word level memory number base word end.word_is ∙ ap Some says) b path
+      ∙ ap (Mapped (phys + b % entry_bytes level) (size_at level)) rights_are)
+      (λ b apart. refl)) told
 
   -- the entry is written with them
   pub written_parts : word ≢ with_rights word rights → meaning level (with_rights word rights) ≡ entry.Leaf phys rights
       → Parts target (Protect base rights) memory space [] (replies.Answer (answers.Changed (intersection given own))) (bits_in (size_at level) word)
       None (store_at number (index_at level base) word (with_rights word rights) ∷ []) (flushes.Page base (size_at level)) []
   written_parts new leads =
-      let used = used_word memory number (index_at level base) word end.word_is in
-      let own = end.premise.own in
+      let here = own_table end in
       record {
-        reply_is = sym (changed_answer table page.1 aligned rights);
+        reply = sym (changed_answer 0 table page.1 (begins_at page.1 aligned) rights);
         due = refl;
         put = (refl, record { size = size_at level; entry_is = entry_of way end.word_is says; frame = refl; at = refl }, refl);
         fits = tt;
-        safe = safe_one (store_at number (index_at level base) word (with_rights word rights)) end.premise.translates (changed_translates table page.1 aligned rights
+        safe = safe_one (store_at number (index_at level base) word (with_rights word rights)) end.premise.translates
+            (changed_translates 0 table page.1 (begins_at page.1 aligned) rights
             (stored memory (store_at number (index_at level base) word (with_rights word rights)))
-            (λ b path. walk_leaf way own used (with_rights word rights) end.premise.whole leads some b path
+            (λ b path. walk_here here (with_rights word rights) way some (entry.Leaf phys rights) leads b path
             ∙ ap (Mapped (phys + b % entry_bytes level) (size_at level)) allows)
-            (λ b apart. walk_off way own used (with_rights word rights) b apart));
+            (walk_off here (with_rights word rights)));
         found = (end.word_is, tt);
-        meant = All-cons (IsMeant target memory base []) (store_at number (index_at level base) word (with_rights word rights)) [] (OfPage (record { level = level; reached = way_table level number given way; index = refl })
+        meant = All-cons (IsMeant target memory base []) (store_at number (index_at level base) word (with_rights word rights)) []
+            (OfPage (record { level = level; reached = way_table level number given way; index = refl })
             (ap (λ e. table_in (Some e)) says)) (All-nil _);
         nothing = λ none. absurd (none (λ e. cc));
         written = (refl, refl);
@@ -140,12 +110,12 @@ module _ (target : Target) {memory : Memory} {space : Space} {base level number 
         one_way = tt;
         told = told;
         flushed = (size_at level, entry_of way end.word_is says, refl);
-        gone = All-nil _;
+        unlinked = All-nil _;
         pruned = tt;
         named_once = none_named;
-        whole = whole_stored memory number (index_at level base) (with_rights word rights) end.premise.whole used;
-        own = own_on way own used (with_rights word rights) end.premise.whole (ap (λ e. table_in (Some e)) leads) some;
-        reaches = λ l b q at. inl (fewer way own used (with_rights word rights) end.premise.whole (ap (λ e. table_in (Some e)) leads) some l b q at);
+        whole = whole_store here (with_rights word rights);
+        own = own_after here (with_rights word rights) (ap (λ e. table_in (Some e)) leads);
+        reaches = λ l b q at. inl (fewer here (with_rights word rights) (ap (λ e. table_in (Some e)) leads) b l q at);
       }
 
 -- ---- as the code has it
@@ -169,7 +139,8 @@ module _ {p : Planner} {word : ℕ} (end : IsAtEnd p) {phys : ℕ} {own : Rights
       premise.translates refl
 
   module _ (allows : intersection p.rights rights ≡ rights) {answer : Rights} (answer_is : answer ≡ intersection p.rights own) {bits : ℕ}
-      (bits_are : bits ≡ bits_in (size_at p.level) word) {plan : Plan} (reply : plan.reply ≡ replies.Answer (answers.Changed answer)) (told : plan.bits ≡ bits) where
+      (bits_are : bits ≡ bits_in (size_at p.level) word) {plan : Plan} (reply : plan.reply ≡ replies.Answer (answers.Changed answer))
+      (told : plan.bits ≡ bits) where
     pub same_right : plan.fill ≡ None → plan.stores.items ≡ [] → plan.flush ≡ flushes.Nothing → plan.unlinked.items ≡ [] → word ≡ with_rights word rights
         → IsRightAt p word plan
     same_right fill stores flush unlinked same memory ended space premise =

@@ -17,7 +17,7 @@ use Rattle.vs_space.proofs.Written.{leaf_aligned}
 use Rattle.vs_plan.specs.declared.plan.Fill.{Fill}
 use Rattle.vs_plan.specs.declared.plan.Store.{Store}
 use Rattle.vs_plan.specs.declared.request.Request.{Request}
-use Rattle.vs_plan.specs.declared.request.Request.TheVariants.{Map, Unmap, Protect, Ask, Remap, Split, Join}
+use Rattle.vs_plan.specs.declared.request.Request.TheVariants.{Unmap, Protect, Remap, Split, Join}
 use Rattle.vs_plan.specs.declared.target.Target.{Target}
 use Rattle.vs_plan.specs.Again.{HasFlagsSet, flags_into}
 use Rattle.vs_plan.specs.Bits.{bits_in, flagged, page_word, with_address, with_rights}
@@ -137,12 +137,7 @@ module _ (target : Target) {old new : Memory} (is : AreSameButFlags old new) whe
 
 -- how the first store of a request, and what is filled, goes with the word that is found
 abbrev pub IsRewritten : Request → Option Fill → Option Fill → List Store → List Store → Type 0
-IsRewritten request fill other [] ys = other ≡ fill
 IsRewritten request fill other (s ∷ xs) [] = Unit {0}
-IsRewritten (Map page bits) fill other (s ∷ xs) (t ∷ ys) = other ≡ fill
-IsRewritten (Unmap base) fill other (s ∷ xs) (t ∷ ys) = other ≡ fill
-IsRewritten (Protect base rights) fill other (s ∷ xs) (t ∷ ys) = other ≡ fill
-IsRewritten (Ask address) fill other (s ∷ xs) (t ∷ ys) = other ≡ fill
 IsRewritten (Remap base phys rights) fill other (s ∷ xs) (t ∷ ys) = (other ≡ fill)
     × ((size : Size) → s.old % 2 ≡ 1 → s.new ≡ with_rights (with_address size s.old phys) rights → t.new ≡ with_rights (with_address size t.old phys) rights)
 IsRewritten (Split base) fill other (s ∷ xs) (t ∷ ys) = (t.new ≡ s.new)
@@ -150,6 +145,7 @@ IsRewritten (Split base) fill other (s ∷ xs) (t ∷ ys) = (t.new ≡ s.new)
     × ((page : Page) (size : Size) → page.phys % 2 ^ 12 ≡ 0 → table.first ≡ page_word page (bits_in size s.old)
     → first ≡ page_word page (bits_in size t.old)))
 IsRewritten (Join base) fill other (s ∷ xs) (t ∷ ys) = (other ≡ fill) × (t.new ≡ s.new)
+IsRewritten _ fill other _ _ = other ≡ fill
 
 module _ (target : Target) {old new : Memory} (is : AreSameButFlags old new) (offered : List (Option ℕ)) (fill other : Option Fill) (unlinked : List ℕ) where
   -- where nothing is filled
@@ -158,15 +154,12 @@ module _ (target : Target) {old new : Memory} (is : AreSameButFlags old new) (of
 
   pub put_moved : (request : Request) (xs ys : List Store) → AllZip ArePaired xs ys → FindTheirWords (filled new other) ys
       → IsRewritten request fill other xs ys → IsPut target request old offered fill xs unlinked → IsPut target request new offered other ys unlinked
-  put_moved request [] [] pairs found writes put = writes ∙ put
   put_moved request [] (t ∷ ys) pairs found writes put = absurd pairs
   put_moved request (s ∷ xs) [] pairs found writes put = absurd pairs
-  put_moved (Map page bits) (s ∷ xs) (t ∷ ys) pairs found writes put = writes ∙ put
   put_moved (Unmap base) (s ∷ xs) (t ∷ ys) pairs found writes put =
       (writes ∙ put.0, page_moved target is base put.1 pairs.0 (told_there t writes put.0 found.0))
   put_moved (Protect base rights) (s ∷ xs) (t ∷ ys) pairs found writes put =
       (writes ∙ put.0, page_moved target is base put.1 pairs.0 (told_there t writes put.0 found.0), put.2)
-  put_moved (Ask address) (s ∷ xs) (t ∷ ys) pairs found writes put = writes ∙ put
   put_moved (Remap base phys rights) (s ∷ xs) (t ∷ ys) pairs found writes put = (
     writes.0 ∙ put.0,
     remapped_moved target is base phys rights put.1 pairs.0 (told_there t writes.0 put.0 found.0)
@@ -199,18 +192,16 @@ module _ (target : Target) {old new : Memory} (is : AreSameButFlags old new) (of
       some_of G1 = omega arith
   put_moved (Join base) (s ∷ xs) (t ∷ ys) pairs found writes put =
       (writes.0 ∙ put.0, joined_moved target is base unlinked put.1 pairs.0 writes.1)
+  put_moved _ _ _ pairs found writes put = writes ∙ put
 
 -- ---- the same stores
 
 pub rewritten_same : (request : Request) (fill : Option Fill) (xs : List Store) → IsRewritten request fill fill xs xs
 rewritten_same request fill [] = refl
-rewritten_same (Map page bits) fill (s ∷ xs) = refl
-rewritten_same (Unmap base) fill (s ∷ xs) = refl
-rewritten_same (Protect base rights) fill (s ∷ xs) = refl
-rewritten_same (Ask address) fill (s ∷ xs) = refl
 rewritten_same (Remap base phys rights) fill (s ∷ xs) = (refl, λ size odd writes. writes)
 rewritten_same (Split base) fill (s ∷ xs) = (refl, λ table is. (table.first, is, λ page size at writes. writes))
 rewritten_same (Join base) fill (s ∷ xs) = (refl, refl)
+rewritten_same _ fill (s ∷ xs) = refl
 
 pub filled_alike : {old new : Memory} → AreSameButFlags old new → (fill : Option Fill) → AreSameButFlags (filled old fill) (filled new fill)
 filled_alike is None = is

@@ -1,5 +1,5 @@
 -- A plan that lets a page lead elsewhere.
-use Rattle.std.proofs.Common.{◌≡◌, ◌≢◌, ℕ, suc, ◌+◌, ◌-◌, ◌%◌, ◌^◌, ◌≤◌, ◌⊎◌, inl, inr, [], ◌∷◌, Option, Some, None, Bool, true, false, not, min, cond, ⊎_elim, eqb-true, refl, sym, ap, subst, ◌∙◌, arith}
+use Rattle.std.proofs.Common.{◌≡◌, ◌≢◌, ℕ, ◌+◌, ◌-◌, ◌%◌, ◌^◌, ◌≤◌, ◌⊎◌, inl, inr, [], ◌∷◌, Option, Some, None, Bool, true, false, not, min, cond, ⊎_elim, eqb-true, refl, sym, ap, subst, ◌∙◌, arith}
 use Rattle.std.specs.Prelude.{◌==◌, nat_lt, if◌then◌else◌}
 use lib.Pow.{pow_mono}
 use Rattle.std.proofs.lemmas.Bool.{cases_eq, ltb-false}
@@ -19,12 +19,11 @@ use Rattle.vs_types.specs.declared.entry.Meaning.TheVariants as entry
 use Rattle.vs_types.specs.declared.answer.Answer.TheVariants as answers
 use Rattle.vs_types.proofs.Spaces.{get_inserted, insert_space, look_of_page, look_same, page_at_after_insert, page_at_means}
 use Rattle.vs_walk.specs.Memory.{Memory}
-use Rattle.vs_walk.specs.Walk.{walk, walk_from, TranslatesAs}
+use Rattle.vs_walk.specs.Walk.{walk, TranslatesAs}
 use Rattle.vs_walk.specs.declared.walk.Walk.TheVariants.{Mapped}
-use Rattle.vs_space.specs.Path.{found_at, table_in, SamePath}
+use Rattle.vs_space.specs.Path.{table_in, SamePath}
 use Rattle.vs_space.specs.Table.{IsTableOf}
-use Rattle.vs_space.proofs.Paths.{found_same, walk_found}
-use Rattle.vs_space.proofs.Regions.{IsLeafPage, page_path, path_covers, translates_changed}
+use Rattle.vs_space.proofs.Regions.{IsLeafPage}
 use Rattle.vs_plan.specs.declared.plan.Flush.TheVariants as flushes
 use Rattle.vs_plan.specs.declared.plan.Plan.{Plan}
 use Rattle.vs_plan.specs.declared.plan.Reply.{Reply}
@@ -44,13 +43,12 @@ use Rattle.vs_plan.specs.inside.Ended.{IsAtEnd, IsRightAt, HasEnded, ChangesNoth
 use Rattle.vs_plan.proofs.Addresses.{with_address_reads}
 use Rattle.vs_plan.proofs.Asking.{entry_of}
 use Rattle.vs_plan.proofs.Changing.{change_none, change_inside, change_here, why_here}
-use Rattle.vs_plan.proofs.OneStore.{walk_off, walk_leaf, fewer, own_on}
+use Rattle.vs_plan.proofs.EntryStores.{walk_off, walk_here, whole_store, fewer, own_after}
 use Rattle.vs_plan.proofs.Pages.{table_from, found_word, page_here}
-use Rattle.vs_plan.proofs.Parts.{none_named, Parts, right_as, safe_none, safe_one, nothing_right, nothing_as, due_as, store_at, EndAt, end_at}
-use Rattle.vs_plan.proofs.Stored.{used_word, whole_stored}
-use Rattle.vs_plan.proofs.Steps.{begins}
+use Rattle.vs_plan.proofs.Parts.{none_named, Parts, right_as, safe_one, nothing_right, nothing_parts, nothing_as, due_as, store_at, EndAt, end_at, own_table}
+use Rattle.vs_space.proofs.LeafSteps.{begins_at, leaf_translates}
 use Rattle.vs_plan.proofs.Words.{with_rights_reads}
-use Rattle.vs_plan.proofs.Ways.{way_table, way_within, way_walk}
+use Rattle.vs_plan.proofs.Ways.{way_table, walk_at}
 
 -- ---- a page of a space leads elsewhere
 
@@ -116,12 +114,12 @@ remap_space {depth} {space} is base phys phys_bits rights none =
 module _ {depth : Depth} {m : Memory} {root : ℕ} {space : Space} (of : IsTableOf (table_from depth m root) space) {base level old : ℕ} {given : Rights}
     {q : Page} (leaf : IsLeafPage depth space base level old given q) (aligned : base % bytes_of (size_at level) ≡ 0) where
   pub remap_refused : (phys phys_bits : ℕ) → remap_refusal space base phys phys_bits ≡ phys_refusal phys phys_bits (size_at level)
-  remap_refused phys phys_bits = why_here base _ q leaf.here (begins of leaf aligned) ∙ ap (phys_refusal phys phys_bits) leaf.size
+  remap_refused phys phys_bits = why_here base _ q leaf.here (begins_at leaf aligned) ∙ ap (phys_refusal phys phys_bits) leaf.size
 
   module _ (phys : ℕ) (rights : Rights) where
     remap_is : remap space base phys rights
         ≡ record { space = finite.insert space q.base (record q { phys = phys; rights = rights }); answer = answers.Changed q.rights }
-    remap_is = change_here space base _ q leaf.here (begins of leaf aligned)
+    remap_is = change_here space base _ q leaf.here (begins_at leaf aligned)
 
     pub remap_answer : (remap space base phys rights).answer ≡ answers.Changed given
     remap_answer = ap (λ (s : Stepped). s.answer) remap_is ∙ ap answers.Changed leaf.rights
@@ -135,14 +133,11 @@ module _ {depth : Depth} {m : Memory} {root : ℕ} {space : Space} (of : IsTable
         let looks = moved_looks of.is_space q leaf.held phys rights (subst (λ n. phys % n ≡ 0) (sym bytes) phys_aligned)
         (subst (λ n. phys + n ≤ 2 ^ 51) (sym bytes) within) in
         subst (λ (s : Stepped). TranslatesAs depth m' root s.space) (sym remap_is)
-        (translates_changed m' of leaf.good looks
-        (λ b canonical same.
-        let at = (path_covers depth q leaf.good b canonical same).1 in
-        let offset : phys + b % entry_bytes level ≡ phys + (b - q.base) =
-        subst (λ l. phys + b % entry_bytes l ≡ phys + (b - q.base)) leaf.level_is (omega (arith, at)) in
-        there b ((page_path leaf (begins of leaf aligned) b).0 same) ∙ ap (λ p. Mapped p (size_at level) rights) offset
-        ∙ ap (λ z. Mapped (phys + (b - q.base)) z rights) (sym leaf.size))
-        (λ b canonical apart. elsewhere b (λ same. apart ((page_path leaf (begins of leaf aligned) b).1 same))))
+        (leaf_translates of leaf (begins_at leaf aligned) m' looks
+        (λ b canonical same at.
+        let offset : phys + b % entry_bytes level ≡ phys + (b - q.base) = omega (arith, at) in
+        there b same ∙ ap (λ p. Mapped p (size_at level) rights) offset ∙ ap (λ z. Mapped (phys + (b - q.base)) z rights) (sym leaf.size))
+        (λ b canonical apart. elsewhere b apart))
 
 -- ---- the plan
 
@@ -189,51 +184,22 @@ module _ (target : Target) {memory : Memory} {space : Space} {base level number 
     same_parts same =
         let both = one_leaf old own phys rights (sym says ∙ ap (meaning level) same ∙ leads) in
         let rights_are : intersection given own ≡ rights = ap (intersection given) both.1 ∙ allows in
-        record {
-          reply_is = sym would_change;
-          due = refused ∙ none;
-          put = refl;
-          fits = tt;
-          safe = safe_none end.premise.translates (remap_translates table page.1 aligned phys rights good.0 good.1 memory
-              (λ b path. way_walk level number given way b (λ i from to. path i (omega arith) to) ∙ walks b path rights_are both.0)
-              (λ b apart. refl));
-          found = tt;
-          meant = All-nil _;
-          nothing = λ none. refl;
-          written = tt;
-          already = (size_at level, word, entry_of way end.word_is says, same);
-          changing = All-nil _;
-          one_way = tt;
-          told = told;
-          flushed = refl;
-          gone = All-nil _;
-          pruned = tt;
-          named_once = none_named;
-          whole = end.premise.whole;
-          own = λ a has. has;
-          reaches = λ level address number at. inl at;
-        } where
-          walks : (b : ℕ) → SamePath (levels target.depth) level base b → intersection given own ≡ rights → old ≡ phys
-              → walk_from memory level number given b ≡ Mapped (phys + b % entry_bytes level) (size_at level) rights
-          walks b path are placed = by (level - 1) (omega arith) where
-            by : (below : ℕ) → level ≡ suc below → walk_from memory level number given b ≡ Mapped (phys + b % entry_bytes level) (size_at level) rights
-            by below one = subst (λ l. found_at l memory number b ≡ Some (entry.Leaf old own)
-                → walk_from memory l number given b ≡ Mapped (phys + b % entry_bytes l) (size_at l) rights) (sym one)
-                (λ found. walk_found memory below number given b (entry.Leaf old own) found
-                ∙ ap (Mapped (old + b % entry_bytes (suc below)) (size_at (suc below))) are
-                ∙ ap (λ p. Mapped (p + b % entry_bytes (suc below)) (size_at (suc below)) rights) placed)
-                (found_same level memory number b base (sym (path level (omega arith) (way_within level number given way)))
-                ∙ found_word level memory number base word end.word_is ∙ ap Some says)
+        nothing_parts {request = Remap base phys rights} end.premise (refused ∙ none) (size_at level, word, entry_of way end.word_is says, same)
+        (sym would_change)
+        (remap_translates table page.1 aligned phys rights good.0 good.1 memory
+        (λ b path. walk_at way some (entry.Leaf old own) (found_word level memory number base word end.word_is ∙ ap Some says) b path
+        ∙ ap (Mapped (old + b % entry_bytes level) (size_at level)) rights_are
+        ∙ ap (λ p. Mapped (p + b % entry_bytes level) (size_at level) rights) both.0)
+        (λ b apart. refl)) told
 
     -- the entry is written
     pub written_parts : word ≢ new
         → Parts target (Remap base phys rights) memory space [] (replies.Answer (answers.Changed (intersection given own))) (bits_in (size_at level) word)
         None (store_at number (index_at level base) word new ∷ []) (flushes.Page base (size_at level)) []
     written_parts differs =
-        let used = used_word memory number (index_at level base) word end.word_is in
-        let own_way = end.premise.own in
+        let here = own_table end in
         record {
-          reply_is = sym would_change;
+          reply = sym would_change;
           due = refused ∙ none;
           put = (
             refl,
@@ -249,9 +215,9 @@ module _ (target : Target) {memory : Memory} {space : Space} {base level number 
           fits = tt;
           safe = safe_one (store_at number (index_at level base) word new) end.premise.translates
               (remap_translates table page.1 aligned phys rights good.0 good.1 (stored memory (store_at number (index_at level base) word new))
-              (λ b path. walk_leaf way own_way used new end.premise.whole leads some b path
+              (λ b path. walk_here here new way some (entry.Leaf phys rights) leads b path
               ∙ ap (Mapped (phys + b % entry_bytes level) (size_at level)) allows)
-              (λ b apart. walk_off way own_way used new b apart));
+              (walk_off here new));
           found = (end.word_is, tt);
           meant = All-cons (IsMeantBy target memory (Remap base phys rights) []) (store_at number (index_at level base) word new) []
               (OfPage (record { level = level; reached = way_table level number given way; index = refl }) (ap (λ e. table_in (Some e)) says)) (All-nil _);
@@ -262,12 +228,12 @@ module _ (target : Target) {memory : Memory} {space : Space} {base level number 
           one_way = tt;
           told = told;
           flushed = (size_at level, entry_of way end.word_is says, refl);
-          gone = All-nil _;
+          unlinked = All-nil _;
           pruned = tt;
           named_once = none_named;
-          whole = whole_stored memory number (index_at level base) new end.premise.whole used;
-          own = own_on way own_way used new end.premise.whole (ap (λ e. table_in (Some e)) leads) some;
-          reaches = λ l b q at. inl (fewer way own_way used new end.premise.whole (ap (λ e. table_in (Some e)) leads) some l b q at);
+          whole = whole_store here new;
+          own = own_after here new (ap (λ e. table_in (Some e)) leads);
+          reaches = λ l b q at. inl (fewer here new (ap (λ e. table_in (Some e)) leads) b l q at);
         }
 
 -- ---- as the code has it
@@ -326,7 +292,8 @@ module _ {p : Planner} {word : ℕ} (end : IsAtEnd p) {old : ℕ} {own : Rights}
     module _ (allows : intersection p.rights rights ≡ rights) {answer : Rights} (answer_is : answer ≡ intersection p.rights own) {bits : ℕ}
         (bits_are : bits ≡ bits_in (size_at p.level) word) {plan : Plan} (reply : plan.reply ≡ replies.Answer (answers.Changed answer))
         (told : plan.bits ≡ bits) (fill : plan.fill ≡ None) where
-      pub same_right : plan.stores.items ≡ [] → plan.flush ≡ flushes.Nothing → plan.unlinked.items ≡ [] → word ≡ moved_word p.level word phys rights → IsRightAt p word plan
+      pub same_right : plan.stores.items ≡ [] → plan.flush ≡ flushes.Nothing → plan.unlinked.items ≡ []
+          → word ≡ moved_word p.level word phys rights → IsRightAt p word plan
       same_right stores flush unlinked same memory ended space premise =
           subst (λ r. IsRight p.target r memory space [] plan) (sym is)
           (right_as plan (reply ∙ ap (λ r. replies.Answer (answers.Changed r)) answer_is) (told ∙ bits_are) fill stores flush unlinked

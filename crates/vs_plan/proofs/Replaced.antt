@@ -24,7 +24,8 @@ use Rattle.vs_plan.proofs.Kept.{IsClosed, all_kept, Reads, all_reads, entry_walk
 abbrev pub IsCalm : Depth → ℕ → Memory → Memory → Type 0
 IsCalm depth root old new = (address level number : ℕ) (rights : Rights) → IsCanonical depth address
     → Reads depth root old (PagingEntry level (region_number level address) number rights)
-    → (found_at level new number address ≡ found_at level old number address) ⊎ Reads depth root new (PagingEntry level (region_number level address) number rights)
+    → (found_at level new number address ≡ found_at level old number address)
+    ⊎ Reads depth root new (PagingEntry level (region_number level address) number rights)
 
 module _ (depth : Depth) (root : ℕ) (old new : Memory) (calm : IsCalm depth root old new) where
   abbrev OfEither : Kept → Type 0

@@ -9,7 +9,7 @@ use Rattle.vs_types.specs.declared.page.Page.{Page}
 use Rattle.vs_types.proofs.Pages.{level_at_most}
 use Rattle.vs_plan.specs.declared.request.BadRequest.{BadRequest}
 use Rattle.vs_plan.specs.declared.request.Request.{Request}
-use Rattle.vs_plan.specs.declared.request.Request.TheVariants.{Map, Unmap, Protect, Ask, Remap, Split, Join}
+use Rattle.vs_plan.specs.declared.request.Request.TheVariants.{Map, Ask}
 use Rattle.vs_plan.specs.declared.target.Target.{Target}
 use Rattle.vs_plan.specs.Bits.{AreBits}
 use Rattle.vs_plan.specs.Request.{IsRequest, IsMapped, IsWhole, address_of, lowest_of, are_bits, request_fault, page_fault, base_fault, whole_fault}
@@ -52,7 +52,8 @@ page_good target page bits canonical is =
     let first = passed (not (page.base % bytes_of page.size == 0)) _ _ is in
     let second = passed (not (page.phys % bytes_of page.size == 0)) _ _ first.1 in
     let third = passed (nat_lt (2 ^ min target.phys_bits 51) (page.phys + bytes_of page.size)) _ _ second.1 in
-    let within : page.phys + bytes_of page.size ≤ 2 ^ min target.phys_bits 51 = ltb-false (2 ^ min target.phys_bits 51) (page.phys + bytes_of page.size) third.0 in
+    let within : page.phys + bytes_of page.size ≤ 2 ^ min target.phys_bits 51 =
+    ltb-false (2 ^ min target.phys_bits 51) (page.phys + bytes_of page.size) third.0 in
     let low : 2 ^ min target.phys_bits 51 ≤ 2 ^ 51 = let le : min target.phys_bits 51 ≤ 51 = omega arith in pow_mono {j = 51} le in
     let own : 2 ^ min target.phys_bits 51 ≤ 2 ^ target.phys_bits =
     let le : min target.phys_bits 51 ≤ target.phys_bits = omega arith in pow_mono {j = target.phys_bits} le in
@@ -72,12 +73,8 @@ base_good base is = eqb-true (base % 4096) 0 (passes (base % 4096 == 0) _ is)
 
 whole_good : (target : Target) (request : Request) → IsCanonical target.depth (address_of request) → whole_fault target request ≡ None → IsWhole target request
 whole_good target (Map page bits) canonical is = page_good target page bits canonical is
-whole_good target (Unmap base) canonical is = base_good base is
-whole_good target (Protect base rights) canonical is = base_good base is
 whole_good target (Ask address) canonical is = tt
-whole_good target (Remap base phys rights) canonical is = base_good base is
-whole_good target (Split base) canonical is = base_good base is
-whole_good target (Join base) canonical is = base_good base is
+whole_good target request canonical is = base_good (address_of request) is
 
 pub request_good : (target : Target) (request : Request) → request_fault target request ≡ None → IsRequest target request
 request_good target request is =
@@ -96,9 +93,4 @@ request_good target request is =
 -- the level at which a way ends at the latest is one of pages
 pub low_request : (request : Request) → lowest_of request ≤ 3
 low_request (Map page bits) = level_at_most page.size
-low_request (Unmap base) = omega arith
-low_request (Protect base rights) = omega arith
-low_request (Ask address) = omega arith
-low_request (Remap base phys rights) = omega arith
-low_request (Split base) = omega arith
-low_request (Join base) = omega arith
+low_request _ = omega arith

@@ -12,7 +12,7 @@ use Rattle.vs_types.specs.declared.answer.Answer.TheVariants as answers
 use Rattle.vs_types.specs.declared.page.Page.{Page}
 use Rattle.vs_types.specs.declared.page.Rights.{Rights}
 use Rattle.vs_types.specs.declared.page.Size.{Size}
-use Rattle.vs_types.specs.declared.page.Size.TheVariants.{K4, M2, G1}
+use Rattle.vs_types.specs.declared.page.Size.TheVariants.{K4}
 use Rattle.vs_walk.specs.Memory.{Memory}
 use Rattle.vs_space.specs.Flags.{AreSameButFlags}
 use Rattle.vs_space.specs.Path.{table_in, table_at}
@@ -25,7 +25,7 @@ use Rattle.vs_plan.specs.declared.plan.Reply.{Reply}
 use Rattle.vs_plan.specs.declared.plan.Reply.TheVariants as replies
 use Rattle.vs_plan.specs.declared.plan.Store.{Store}
 use Rattle.vs_plan.specs.declared.request.Request.{Request}
-use Rattle.vs_plan.specs.declared.request.Request.TheVariants.{Map, Unmap, Protect, Ask, Remap, Split, Join}
+use Rattle.vs_plan.specs.declared.request.Request.TheVariants.{Map, Unmap, Protect, Remap, Split, Join}
 use Rattle.vs_plan.specs.declared.target.Target.{Target}
 use Rattle.vs_plan.specs.Changes.{phys_refusal}
 use Rattle.vs_plan.specs.Premise.{HasOwnWay, IsSpare}
@@ -48,8 +48,7 @@ use Rattle.vs_plan.proofs.WrittenFrames.{written_same}
 
 low_bits : (size : Size) (phys : ℕ) → phys % bytes_of size ≡ 0 → phys % 2 ^ 12 ≡ 0
 low_bits K4 phys at = at
-low_bits M2 phys at = omega (arith, at)
-low_bits G1 phys at = omega (arith, at)
+low_bits _ phys at = omega (arith, at)
 
 -- the physical address of a remap that changes something is a multiple of 4 KiB
 pub remap_low : (target : Target) (space : Space) (base phys : ℕ) (rights : Rights) → refusal target space (Remap base phys rights) ≡ None
@@ -73,12 +72,9 @@ module _ (target : Target) {old new : Memory} (is : AreSameButFlags old new) whe
 
   wants_flags : (request : Request) → WantsMore target old request → WantsMore target new request
   wants_flags (Map page bits) more = less_flags page.base page.rights more
-  wants_flags (Unmap base) more = absurd more
   wants_flags (Protect base rights) more = less_flags base rights more
-  wants_flags (Ask address) more = absurd more
   wants_flags (Remap base phys rights) more = less_flags base rights more
-  wants_flags (Split base) more = absurd more
-  wants_flags (Join base) more = absurd more
+  wants_flags _ more = absurd more
 
   over_flags : (request : Request) (number : ℕ) → LiesOverEmpty target old request number → LiesOverEmpty target new request number
   over_flags (Map page bits) number over = record {
@@ -91,20 +87,9 @@ module _ (target : Target) {old new : Memory} (is : AreSameButFlags old new) whe
     empty = λ index low. absent_flags is over.level number index
         (some_level target.depth old target.root over.level over.address number (way_table over.level number over.rights over.way)) (over.empty index low);
   }
-  over_flags (Unmap base) number over = absurd over
-  over_flags (Protect base rights) number over = absurd over
-  over_flags (Ask address) number over = absurd over
-  over_flags (Remap base phys rights) number over = absurd over
-  over_flags (Split base) number over = absurd over
-  over_flags (Join base) number over = absurd over
+  over_flags _ number over = absurd over
 
   apart_flags : (request : Request) (index : ℕ) → KeepsApart target old request index → KeepsApart target new request index
-  apart_flags (Map page bits) index apart = absurd apart
-  apart_flags (Unmap base) index apart = absurd apart
-  apart_flags (Protect base rights) index apart = absurd apart
-  apart_flags (Ask address) index apart = absurd apart
-  apart_flags (Remap base phys rights) index apart = absurd apart
-  apart_flags (Split base) index apart = absurd apart
   apart_flags (Join base) index apart =
       let first = word_flags is apart.number (index_at apart.level base) apart.first apart.first_is in
       let word = word_flags is apart.number index apart.word apart.word_is in
@@ -123,24 +108,19 @@ module _ (target : Target) {old new : Memory} (is : AreSameButFlags old new) whe
         );
         within = apart.within;
         word_is = word.1;
-        apart = λ follows. apart.apart (sym (alike_unflagged word.2) ∙ follows ∙ ap (λ n. n + index * bytes_of (size_at apart.level)) (alike_unflagged first.2));
+        apart =
+            λ follows. apart.apart (sym (alike_unflagged word.2) ∙ follows
+            ∙ ap (λ n. n + index * bytes_of (size_at apart.level)) (alike_unflagged first.2));
         before = follow_flags is apart.number (size_at apart.level) apart.first first.0 index first.2 apart.before;
       }
+  apart_flags _ index apart = absurd apart
 
   reply_flags : (request : Request) (space : Space) (offered : List (Option ℕ)) (reply : Reply) → IsReply target request old space offered reply
       → IsReply target request new space offered reply
-  reply_flags request space offered (replies.Answer answer) said = said
-  reply_flags request space offered replies.NoFrame said = said
-  reply_flags request space offered (replies.FrameRange number) said = said
   reply_flags request space offered replies.Rights said = (wants_flags request said.0, said.1)
   reply_flags request space offered (replies.Empty number) said = over_flags request number said
-  reply_flags request space offered (replies.Reserved number index) said = said
-  reply_flags request space offered replies.PhysUnaligned said = said
-  reply_flags request space offered replies.PhysRange said = said
-  reply_flags request space offered replies.Smallest said = said
-  reply_flags request space offered replies.Largest said = said
-  reply_flags request space offered replies.Unaligned said = said
   reply_flags request space offered (replies.Apart index) said = (apart_flags request index said.0, said.1)
+  reply_flags request space offered _ said = said
 
   -- ---- what the stores are
 
@@ -166,12 +146,6 @@ module _ (target : Target) {old new : Memory} (is : AreSameButFlags old new) whe
 
   meant_by : (request : Request) (unlinked : List ℕ) (s t : Store) → ArePaired s t → IsMeantBy target old request unlinked s
       → IsMeantBy target new request unlinked t
-  meant_by (Map page bits) unlinked s t pair meant = meant_flags pair meant
-  meant_by (Unmap base) unlinked s t pair meant = meant_flags pair meant
-  meant_by (Protect base rights) unlinked s t pair meant = meant_flags pair meant
-  meant_by (Ask address) unlinked s t pair meant = meant_flags pair meant
-  meant_by (Remap base phys rights) unlinked s t pair meant = meant_flags pair meant
-  meant_by (Split base) unlinked s t pair meant = meant_flags pair meant
   meant_by (Join base) unlinked s t pair meant = record {
     on = on_flags pair meant.on;
     below = meant.below;
@@ -179,17 +153,15 @@ module _ (target : Target) {old new : Memory} (is : AreSameButFlags old new) whe
     named = meant.named;
     may = meant.may;
   }
+  meant_by _ unlinked s t pair meant = meant_flags pair meant
 
   -- ---- where there is no store
 
   so_flags : (request : Request) (space : Space) → refusal target space request ≡ None → changes (stepped target.depth space request).answer ≡ true
       → IsSoAlready target old request → IsSoAlready target new request
-  so_flags (Map page bits) space due changed so = tt
-  so_flags (Unmap base) space due changed so = tt
   so_flags (Protect base rights) space due changed so =
       let now = entry_flags is target base so.1 so.0 so.2 in
       (so.0, now.0, now.1, rights_stay now.0 so.1 rights (set_flags now.2 (leaf_odd so.2.level so.1 so.2.leaf.0 so.2.leaf.1 so.2.leaf.2)) so.3)
-  so_flags (Ask address) space due changed so = tt
   so_flags (Remap base phys rights) space due changed so =
       let now = entry_flags is target base so.1 so.0 so.2 in (
         so.0,
@@ -198,32 +170,12 @@ module _ (target : Target) {old new : Memory} (is : AreSameButFlags old new) whe
         place_stays so.0 now.0 so.1 phys rights (remap_low target space base phys rights due changed)
             (set_flags now.2 (leaf_odd so.2.level so.1 so.2.leaf.0 so.2.leaf.1 so.2.leaf.2)) so.3,
       )
-  so_flags (Split base) space due changed so = tt
-  so_flags (Join base) space due changed so = tt
+  so_flags _ space due changed so = tt
 
   already_none : (request : Request) (space : Space) (offered : List (Option ℕ)) (reply : Reply) → refusal target space request ≡ refusal_in reply
       → IsReply target request old space offered reply → IsAlready target old request reply [] → IsAlready target new request reply []
-  already_none request space offered (replies.Answer answers.Done) due said so = tt
-  already_none request space offered (replies.Answer (answers.Overlap base)) due said so = tt
-  already_none request space offered (replies.Answer (answers.Full need)) due said so = tt
-  already_none request space offered (replies.Answer (answers.Removed phys size rights)) due said so = tt
-  already_none request space offered (replies.Answer answers.NotMapped) due said so = tt
-  already_none request space offered (replies.Answer (answers.Inside base)) due said so = tt
   already_none request space offered (replies.Answer (answers.Changed rights)) due said so = so_flags request space due (ap changes (sym said)) so
-  already_none request space offered (replies.Answer (answers.Mapped phys size rights)) due said so = tt
-  already_none request space offered (replies.Answer (answers.Allowed phys)) due said so = tt
-  already_none request space offered (replies.Answer (answers.Fault code)) due said so = tt
-  already_none request space offered replies.NoFrame due said so = tt
-  already_none request space offered (replies.FrameRange number) due said so = tt
-  already_none request space offered replies.Rights due said so = tt
-  already_none request space offered (replies.Empty number) due said so = tt
-  already_none request space offered (replies.Reserved number index) due said so = tt
-  already_none request space offered replies.PhysUnaligned due said so = tt
-  already_none request space offered replies.PhysRange due said so = tt
-  already_none request space offered replies.Smallest due said so = tt
-  already_none request space offered replies.Largest due said so = tt
-  already_none request space offered replies.Unaligned due said so = tt
-  already_none request space offered (replies.Apart index) due said so = tt
+  already_none request space offered _ due said so = tt
 
 -- ---- a plan of the same stores, but for flags
 
@@ -253,52 +205,33 @@ module _ (target : Target) (old new : Memory) (space : Space) (offered : List (O
   ends_alike {request} {xs} {ys} was moves = all_stored moves.begins xs ys moves.pairs was.found
 
   fits_moved : (request : Request) (xs ys : List Store) → AllZip ArePaired xs ys → Fits request space xs → Fits request space ys
-  fits_moved request [] [] pairs fits = tt
   fits_moved request [] (t ∷ ys) pairs fits = absurd pairs
   fits_moved request (s ∷ xs) [] pairs fits = absurd pairs
-  fits_moved (Map page bits) (s ∷ xs) (t ∷ ys) pairs fits = tt
-  fits_moved (Unmap base) (s ∷ xs) (t ∷ ys) pairs fits = tt
-  fits_moved (Protect base rights) (s ∷ xs) (t ∷ ys) pairs fits = tt
-  fits_moved (Ask address) (s ∷ xs) (t ∷ ys) pairs fits = tt
-  fits_moved (Remap base phys rights) (s ∷ xs) (t ∷ ys) pairs fits = tt
-  fits_moved (Split base) (s ∷ xs) (t ∷ ys) pairs fits = tt
   fits_moved (Join base) (s ∷ xs) (t ∷ ys) pairs fits = fits
+  fits_moved _ _ _ pairs fits = tt
 
   already_moved : (request : Request) (xs ys : List Store) → Was request xs → Moves request xs ys → IsAlready target new request reply ys
-  already_moved request [] [] was moves = already_none target moves.same request space offered reply was.due was.reply_is was.already
-  already_moved request [] (t ∷ ys) was moves = absurd moves.pairs
-  already_moved request (s ∷ xs) [] was moves = absurd moves.pairs
+  already_moved request [] [] was moves = already_none target moves.same request space offered reply was.due was.reply was.already
   already_moved request (s ∷ xs) (t ∷ ys) was moves = tt
+  already_moved request _ _ was moves = absurd moves.pairs
 
   one_way_moved : (request : Request) (xs ys : List Store) → AllZip ArePaired xs ys → IsOneWay request xs → IsOneWay request ys
   one_way_moved (Map page bits) xs ys pairs one_way =
-      zip_all (λ (s : Store). s.old % 2 ≡ 0) (λ (s : Store). s.old % 2 ≡ 0) (λ s t pair even. ap (λ n. n % 2) (alike_even pair.old even) ∙ even) xs ys pairs one_way
+      zip_all (λ (s : Store). s.old % 2 ≡ 0) (λ (s : Store). s.old % 2 ≡ 0)
+      (λ s t pair even. ap (λ n. n % 2) (alike_even pair.old even) ∙ even) xs ys pairs one_way
   one_way_moved (Unmap base) xs ys pairs one_way =
       zip_all (λ (s : Store). s.new ≡ 0) (λ (s : Store). s.new ≡ 0) (λ s t pair none. alike_zero pair.new none) xs ys pairs one_way
-  one_way_moved (Protect base rights) xs ys pairs one_way = tt
-  one_way_moved (Ask address) xs ys pairs one_way = tt
-  one_way_moved (Remap base phys rights) xs ys pairs one_way = tt
-  one_way_moved (Split base) xs ys pairs one_way = tt
-  one_way_moved (Join base) xs ys pairs one_way = tt
+  one_way_moved _ xs ys pairs one_way = tt
 
   pruned_moved : (request : Request) (xs ys : List Store) → Was request xs → Moves request xs ys
       → IsPruned target (stored_all (filled new other) ys) request ys
-  pruned_moved request [] [] was moves = tt
   pruned_moved request [] (t ∷ ys) was moves = absurd moves.pairs
   pruned_moved request (s ∷ xs) [] was moves = absurd moves.pairs
-  pruned_moved (Map page bits) (s ∷ xs) (t ∷ ys) was moves = tt
   pruned_moved (Unmap base) (s ∷ xs) (t ∷ ys) was moves = λ level number low at.
       has_word (ends_alike was moves) number (was.pruned level number low (at_before (ends_alike was moves) target.depth target.root level base number at))
-  pruned_moved (Protect base rights) (s ∷ xs) (t ∷ ys) was moves = tt
-  pruned_moved (Ask address) (s ∷ xs) (t ∷ ys) was moves = tt
-  pruned_moved (Remap base phys rights) (s ∷ xs) (t ∷ ys) was moves = tt
-  pruned_moved (Split base) (s ∷ xs) (t ∷ ys) was moves = tt
-  pruned_moved (Join base) (s ∷ xs) (t ∷ ys) was moves = tt
+  pruned_moved _ _ _ was moves = tt
 
   -- ---- what is flushed
-
-  abbrev IsEntryThere : ℕ → Size → ℕ → Type 0
-  IsEntryThere base size word = IsEntryOf target new base size word
 
   -- the size of a page's entry is as it was
   flushed_size : {base word now : ℕ} {size other : Size} → AreSameButFlags old new → IsEntryOf target old base size word → IsEntryOf target new base other now
@@ -309,17 +242,14 @@ module _ (target : Target) (old new : Memory) (space : Space) (offered : List (O
 
   flushed_moved : (request : Request) (xs ys : List Store) (unlinked : List ℕ) → AreSameButFlags old new → AllZip ArePaired xs ys
       → IsPut target request new offered other ys unlinked → IsFlushed target old request xs unlinked flush → IsFlushed target new request ys unlinked flush
-  flushed_moved request [] [] unlinked same pairs put flushed = flushed
   flushed_moved request [] (t ∷ ys) unlinked same pairs put flushed = absurd pairs
   flushed_moved request (s ∷ xs) [] unlinked same pairs put flushed = absurd pairs
-  flushed_moved (Map page bits) (s ∷ xs) (t ∷ ys) unlinked same pairs put flushed = flushed
   flushed_moved (Unmap base) (s ∷ xs) (t ∷ ys) [] same pairs put flushed =
       (put.1.size, put.1.entry_is, flushed.2 ∙ ap (flushes.Page base) (flushed_size same flushed.1 put.1.entry_is))
   flushed_moved (Unmap base) (s ∷ xs) (t ∷ ys) (number ∷ numbers) same pairs put flushed =
       (put.1.size, put.1.entry_is, flushed.2 ∙ ap (flushes.PageAndTables base) (flushed_size same flushed.1 put.1.entry_is))
   flushed_moved (Protect base rights) (s ∷ xs) (t ∷ ys) unlinked same pairs put flushed =
       (put.1.size, put.1.entry_is, flushed.2 ∙ ap (flushes.Page base) (flushed_size same flushed.1 put.1.entry_is))
-  flushed_moved (Ask address) (s ∷ xs) (t ∷ ys) unlinked same pairs put flushed = flushed
   flushed_moved (Remap base phys rights) (s ∷ xs) (t ∷ ys) unlinked same pairs put flushed =
       (put.1.size, put.1.entry_is, flushed.2 ∙ ap (flushes.Page base) (flushed_size same flushed.1 put.1.entry_is))
   flushed_moved (Split base) (s ∷ xs) (t ∷ ys) unlinked same pairs put flushed =
@@ -327,6 +257,7 @@ module _ (target : Target) (old new : Memory) (space : Space) (offered : List (O
   flushed_moved (Join base) (s ∷ xs) (t ∷ ys) unlinked same pairs put flushed =
       let now = entry_flags same target base flushed.1 flushed.0 flushed.2 in
       (flushed.0, now.0, now.1, flushed.3)
+  flushed_moved _ _ _ unlinked same pairs put flushed = flushed
 
   -- ---- which tables are unlinked
 
@@ -374,18 +305,6 @@ module _ (target : Target) (old new : Memory) (space : Space) (offered : List (O
 
   unlinked_moved : (request : Request) (xs ys : List Store) → Was request xs → Moves request xs ys
       → All (IsUnlinkedBy target new (stored_all (filled new other) ys) request) unlinked
-  unlinked_moved (Map page bits) xs ys was moves = All-weaker (IsUnlinked target old (stored_all (filled old fill) xs) page.base)
-      (IsUnlinked target new (stored_all (filled new other) ys) page.base) (gone_moved was moves page.base) unlinked was.gone
-  unlinked_moved (Unmap base) xs ys was moves = All-weaker (IsUnlinked target old (stored_all (filled old fill) xs) base)
-      (IsUnlinked target new (stored_all (filled new other) ys) base) (gone_moved was moves base) unlinked was.gone
-  unlinked_moved (Protect base rights) xs ys was moves = All-weaker (IsUnlinked target old (stored_all (filled old fill) xs) base)
-      (IsUnlinked target new (stored_all (filled new other) ys) base) (gone_moved was moves base) unlinked was.gone
-  unlinked_moved (Ask address) xs ys was moves = All-weaker (IsUnlinked target old (stored_all (filled old fill) xs) address)
-      (IsUnlinked target new (stored_all (filled new other) ys) address) (gone_moved was moves address) unlinked was.gone
-  unlinked_moved (Remap base phys rights) xs ys was moves = All-weaker (IsUnlinked target old (stored_all (filled old fill) xs) base)
-      (IsUnlinked target new (stored_all (filled new other) ys) base) (gone_moved was moves base) unlinked was.gone
-  unlinked_moved (Split base) xs ys was moves = All-weaker (IsUnlinked target old (stored_all (filled old fill) xs) base)
-      (IsUnlinked target new (stored_all (filled new other) ys) base) (gone_moved was moves base) unlinked was.gone
   unlinked_moved (Join base) [] [] was moves = All-weaker (IsLeft target old (stored_all (filled old fill) []) base)
       (IsLeft target new (stored_all (filled new other) []) base) (λ number left. record {
         level = left.level;
@@ -393,22 +312,23 @@ module _ (target : Target) (old new : Memory) (space : Space) (offered : List (O
         lower = left.lower;
         same = ap (λ (o : Option Fill). finite.get (filled new o) number) moves.put;
         unreached = λ level b at. left.unreached level b (at_before moves.begins target.depth target.root level b number at);
-      }) unlinked was.gone
-  unlinked_moved (Join base) [] (t ∷ ys) was moves = absurd moves.pairs
-  unlinked_moved (Join base) (s ∷ xs) [] was moves = absurd moves.pairs
+      }) unlinked was.unlinked
   unlinked_moved (Join base) (s ∷ xs) (t ∷ ys) was moves =
       let number = moves.put.1.number in
       let named : unlinked ≡ number ∷ [] = moves.put.1.unlinked_is in
       subst (All (IsLeft target new (stored_all (filled new other) (t ∷ ys)) base)) (sym named)
       (All-cons (IsLeft target new (stored_all (filled new other) (t ∷ ys)) base) number []
       (left_moved was moves (All-head (IsLeft target old (stored_all (filled old fill) (s ∷ xs)) base) number []
-      (subst (All (IsLeft target old (stored_all (filled old fill) (s ∷ xs)) base)) named was.gone)) named)
+      (subst (All (IsLeft target old (stored_all (filled old fill) (s ∷ xs)) base)) named was.unlinked)) named)
       (All-nil (IsLeft target new (stored_all (filled new other) (t ∷ ys)) base)))
+  unlinked_moved (Join base) _ _ was moves = absurd moves.pairs
+  unlinked_moved request xs ys was moves = All-weaker (IsUnlinked target old (stored_all (filled old fill) xs) (address_of request))
+      (IsUnlinked target new (stored_all (filled new other) ys) (address_of request)) (gone_moved was moves (address_of request)) unlinked was.unlinked
 
   pub parts_moved : (request : Request) (xs ys : List Store) → Was request xs → Moves request xs ys
       → Parts target request new space offered reply bits other ys flush unlinked
   parts_moved request xs ys was moves = record {
-    reply_is = reply_flags target moves.same request space offered reply was.reply_is;
+    reply = reply_flags target moves.same request space offered reply was.reply;
     due = was.due;
     put = moves.put;
     fits = fits_moved request xs ys moves.pairs was.fits;
@@ -430,7 +350,7 @@ module _ (target : Target) (old new : Memory) (space : Space) (offered : List (O
     one_way = one_way_moved request xs ys moves.pairs was.one_way;
     told = moves.told;
     flushed = flushed_moved request xs ys unlinked moves.same moves.pairs moves.put was.flushed;
-    gone = unlinked_moved request xs ys was moves;
+    unlinked = unlinked_moved request xs ys was moves;
     pruned = pruned_moved request xs ys was moves;
     named_once = was.named_once;
     whole = flags_whole (ends_alike was moves) was.whole;

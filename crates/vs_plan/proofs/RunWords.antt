@@ -8,7 +8,7 @@ use Rattle.vs_types.specs.Entry.{meaning, is_leaf, has_reserved, rights_of}
 use Rattle.vs_types.specs.declared.page.Rights.{Rights}
 use Rattle.vs_types.specs.declared.entry.Meaning.TheVariants as entry
 use Rattle.vs_walk.proofs.Walks.{leaf_level}
-use Rattle.vs_plan.proofs.Words.{said, reserved_from}
+use Rattle.vs_space.proofs.FlaggedWords.{said, reserved_from, rights_same}
 
 -- ---- what a leaf's word says, bit by bit
 
@@ -21,10 +21,8 @@ pub record IsLeafWord (level word phys : ℕ) (own : Rights) : Type 0 where
 
 said_parts : (p r l : Bool) (x : Rights) (a n phys : ℕ) (own : Rights) → said p r l x a n ≡ entry.Leaf phys own
     → (p ≡ true) × (r ≡ false) × (l ≡ true) × (a ≡ phys) × (x ≡ own)
-said_parts true true l x a n phys own e = absurd (cc)
 said_parts true false true x a n phys own e = (refl, refl, refl, cc, cc)
-said_parts true false false x a n phys own e = absurd (cc)
-said_parts false r l x a n phys own e = absurd (cc)
+said_parts _ _ _ x a n phys own e = absurd (cc)
 
 said_back : (p r l : Bool) (x : Rights) (a n phys : ℕ) (own : Rights) → p ≡ true → r ≡ false → l ≡ true → a ≡ phys → x ≡ own
     → said p r l x a n ≡ entry.Leaf phys own
@@ -41,10 +39,6 @@ leaf_of level word phys own is = said_back (bit_at word 0 == 1) (has_reserved le
     (word % 2 ^ 52 / entry_bytes level * entry_bytes level) (word % 2 ^ 52 / 2 ^ 12) phys own
     (eq-eqb (bit_at word 0) 1 is.present) is.plain is.leaf is.address is.rights
 
-rights_same : (a a' b b' c c' : ℕ) → a ≡ a' → b ≡ b' → c ≡ c'
-    → ◌≡◌ {A = Rights} (record { write = a == 1; user = b == 1; exec = not (c == 1) }) (record { write = a' == 1; user = b' == 1; exec = not (c' == 1) })
-rights_same a a' b b' c c' e1 e2 e3 = rw (e1, e2, e3) refl
-
 -- ---- an address some entries further on
 
 -- the words are alike but for the address, which lies this many entries further on
@@ -60,11 +54,8 @@ later_is zero old k new some few is fits = absurd (omega arith)
 later_is (suc zero) old k new some few is fits =
     let bottom : new % 2 ^ 12 ≡ old % 2 ^ 12 = omega arith in
     record { bottom = bottom; low = bottom; address = omega arith; high = omega arith }
-later_is (suc (suc zero)) old k new some few is fits =
-    record { bottom = omega arith; low = omega arith; address = omega arith; high = omega arith }
-later_is (suc (suc (suc zero))) old k new some few is fits =
-    record { bottom = omega arith; low = omega arith; address = omega arith; high = omega arith }
 later_is (suc (suc (suc (suc level)))) old k new some few is fits = absurd (omega arith)
+later_is _ old k new some few is fits = record { bottom = omega arith; low = omega arith; address = omega arith; high = omega arith }
 
 module _ {level old new k : ℕ} (is : IsLater level old new k) where
   bit_7 : bit_at new 7 ≡ bit_at old 7
@@ -78,13 +69,12 @@ module _ {level old new k : ℕ} (is : IsLater level old new k) where
       (omega (arith, is.bottom)) (omega (arith, is.bottom)) (omega (arith, is.high))
 
 reserved_later : (level old new k : ℕ) → 1 ≤ level → level ≤ 3 → IsLater level old new k → has_reserved level new ≡ has_reserved level old
-reserved_later zero old new k some few is = absurd (omega arith)
 reserved_later (suc zero) old new k some few is = ap (λ n. not (n / 2 ^ 13 == 0)) is.low
 reserved_later (suc (suc zero)) old new k some few is =
     reserved_from (new % 2 ^ 21 / 2 ^ 13) (old % 2 ^ 21 / 2 ^ 13) (ap (λ n. n / 2 ^ 13) is.low) _ _ (bit_7 is)
 reserved_later (suc (suc (suc zero))) old new k some few is =
     reserved_from (new % 2 ^ 30 / 2 ^ 13) (old % 2 ^ 30 / 2 ^ 13) (ap (λ n. n / 2 ^ 13) is.low) _ _ (bit_7 is)
-reserved_later (suc (suc (suc (suc level)))) old new k some few is = absurd (omega arith)
+reserved_later _ old new k some few is = absurd (omega arith)
 
 -- the page of the word with its address some entries further on
 pub leaf_later : (level word phys : ℕ) (own : Rights) (k : ℕ) → 1 ≤ level → meaning level word ≡ entry.Leaf phys own

@@ -4,6 +4,7 @@ use Rattle.std.specs.Prelude.{slice_index}
 use Rattle.std.proofs.lemmas.Bool.{cases_eq}
 use Rattle.std.proofs.lemmas.Nat.{mod-pow-add}
 use Rattle.std.specs.FinMap as finite
+use Rattle.std.proofs.lemmas.Option.{same_Some}
 use Rattle.vs_types.specs.Depth.{entry_bytes, index_at}
 use Rattle.vs_types.specs.Entry.{meaning, size_at}
 use Rattle.vs_types.specs.Page.{intersection}
@@ -14,10 +15,10 @@ use Rattle.vs_walk.specs.Memory.{Memory}
 use Rattle.vs_walk.specs.Walk.{walk_from}
 use Rattle.vs_walk.specs.declared.walk.Walk.TheVariants.{Mapped}
 use Rattle.vs_space.specs.Path.{entry_in, found_at, table_in, table_at}
-use Rattle.vs_space.proofs.Paths.{table_first, table_below, none_past, reached_within, walk_found}
+use Rattle.vs_space.proofs.Paths.{table_first, table_below, none_past, reached_within}
 use Rattle.vs_space.proofs.Prunes.{entry_word, found_entry, word_in}
-use Rattle.vs_space.proofs.Trees.{one_some}
 use Rattle.vs_plan.specs.Shown.{IsLone}
+use Rattle.vs_plan.proofs.Ways.{walk_level}
 
 -- each entry of the table of this level in this frame is a page; they lead on from each other from this physical address on, and allow these rights
 abbrev pub IsRun : Memory → ℕ → ℕ → ℕ → Rights → Type 0
@@ -45,17 +46,13 @@ module _ (m : Memory) (level n phys : ℕ) (own : Rights) (some : 1 ≤ level) (
   run_walk rights b =
       let sum : phys + index_at level b * entry_bytes level + b % entry_bytes level ≡ phys + b % entry_bytes (suc level) =
       omega (arith, run_offset level b) in
-      by (level - 1) (omega arith) ∙ ap (λ p. Mapped p (size_at level) (intersection rights own)) sum where
-        by : (below : ℕ) → level ≡ suc below → walk_from m level n rights b
-            ≡ Mapped (phys + index_at level b * entry_bytes level + b % entry_bytes level) (size_at level) (intersection rights own)
-        by below one = subst (λ l. found_at l m n b ≡ Some (entry.Leaf (phys + index_at l b * entry_bytes l) own) → walk_from m l n rights b
-            ≡ Mapped (phys + index_at l b * entry_bytes l + b % entry_bytes l) (size_at l) (intersection rights own)) (sym one)
-            (λ found. walk_found m below n rights b (entry.Leaf (phys + index_at (suc below) b * entry_bytes (suc below)) own) found) (run_found b)
+      walk_level m level n rights b (entry.Leaf (phys + index_at level b * entry_bytes level) own) some (run_found b)
+      ∙ ap (λ p. Mapped p (size_at level) (intersection rights own)) sum
 
   -- no table is below it
   pub run_alone : (j b q : ℕ) → table_at level m n j b ≡ Some q → (j ≡ level) × (q ≡ n)
   run_alone j b q at = ⊎_elim
-      (λ (same : j ≡ level). (same, one_some q n (sym at ∙ ap (λ l. table_at level m n l b) same ∙ table_first level n m b)))
+      (λ (same : j ≡ level). (same, same_Some q n (sym at ∙ ap (λ l. table_at level m n l b) same ∙ table_first level n m b)))
       (λ (other : j ≢ level).
       let within = reached_within level n m j b q at in
       let none : table_at level m n (level - 1) b ≡ None =

@@ -15,14 +15,13 @@ use Rattle.vs_types.specs.declared.answer.Answer.TheVariants as answers
 use Rattle.vs_types.proofs.Pages.{covers_means, covered_canonical, canonical_fits, level_at_most, three_levels}
 use Rattle.vs_space.proofs.Searches.{offset_of}
 use Rattle.vs_walk.specs.Memory.{Memory}
-use Rattle.vs_walk.specs.Walk.{walk, walk_from, TranslatesAs}
+use Rattle.vs_walk.specs.Walk.{walk, TranslatesAs}
 use Rattle.vs_walk.specs.declared.walk.Walk.TheVariants.{NotMapped}
 use Rattle.vs_space.specs.Held.{word_at}
 use Rattle.vs_space.specs.Path.{found_at, entry_in, table_in, SamePath}
 use Rattle.vs_space.specs.Table.{IsTableOf}
 use Rattle.vs_space.proofs.Meets.{never_table}
 use Rattle.vs_space.proofs.Overlaps.{overlapped_least}
-use Rattle.vs_space.proofs.Paths.{walk_found}
 use Rattle.vs_space.proofs.Prunes.{word_in}
 use Rattle.vs_space.proofs.Regions.{nothing_at, path_covers}
 use Rattle.vs_plan.specs.declared.plan.Plan.{Plan}
@@ -38,9 +37,9 @@ use Rattle.vs_plan.specs.declared.planner.Phase.TheVariants as phases
 use Rattle.vs_plan.specs.inside.Ended.{IsAtEnd, HasEnded, IsFirstPresent, ChangesNothing}
 use Rattle.vs_plan.proofs.Pages.{table_from, found_word, reserved_never, page_here}
 use Rattle.vs_plan.proofs.Parts.{nothing_right, due_as}
-use Rattle.vs_plan.proofs.Steps.{map_overlaps}
-use Rattle.vs_plan.proofs.Stretches.{next_index, next_path, next_canonical, next_aligned, earlier}
-use Rattle.vs_plan.proofs.Ways.{way_shared, way_walk}
+use Rattle.vs_space.proofs.Maps.{map_overlaps}
+use Rattle.vs_space.proofs.Stretches.{next_index, next_path, next_canonical, next_aligned, earlier}
+use Rattle.vs_plan.proofs.Ways.{way_shared, way_walk, walk_level}
 
 -- a word that isn't present is absent
 absent_word : (level word : ℕ) → word % 2 ≡ 0 → meaning level word ≡ entry.Absent
@@ -50,7 +49,8 @@ absent_word level word even = grind arith
 present_word : (level word : ℕ) → word % 2 ≢ 0 → meaning level word ≡ entry.Absent → ⊥
 present_word level word odd says = odd (grind arith)
 
-entry_word : (level : ℕ) (m : Memory) (n i : ℕ) (words : List ℕ) → finite.get m n ≡ Some words → entry_in level m n i ≡ Some (meaning level (slice_index words i))
+entry_word : (level : ℕ) (m : Memory) (n i : ℕ) (words : List ℕ) → finite.get m n ≡ Some words
+    → entry_in level m n i ≡ Some (meaning level (slice_index words i))
 unfolding entry_in
 entry_word level m n i words there = ap (option_map (meaning level)) (word_in m n i words there)
 
@@ -78,12 +78,11 @@ module _ {memory : Memory} {p : Planner} {words : List ℕ} (request : IsRequest
   -- an address of the table whose entry is absent
   quiet : (b : ℕ) → SamePath (levels p.target.depth) (suc p.level) p.base b → slice_index words (index_at p.level b) % 2 ≡ 0
       → walk p.target.depth memory p.target.root b ≡ NotMapped
-  quiet b path even = way_walk p.level p.number searched.rights searched.way b path ∙ by (p.level - 1) (omega arith) where
-    by : (below : ℕ) → p.level ≡ suc below → walk_from memory p.level p.number searched.rights b ≡ NotMapped
-    by below one = subst (λ l. found_at l memory p.number b ≡ Some entry.Absent → walk_from memory l p.number searched.rights b ≡ NotMapped) (sym one)
-        (λ found. walk_found memory below p.number searched.rights b entry.Absent found)
-        (found_word p.level memory p.number b _ (word_in memory p.number (index_at p.level b) words there)
-        ∙ ap Some (absent_word p.level (slice_index words (index_at p.level b)) even))
+  quiet b path even =
+      way_walk p.level p.number searched.rights searched.way b path
+      ∙ walk_level memory p.level p.number searched.rights b entry.Absent some
+      (found_word p.level memory p.number b _ (word_in memory p.number (index_at p.level b) words there)
+      ∙ ap Some (absent_word p.level (slice_index words (index_at p.level b)) even))
 
   -- ---- no entry is present
 
@@ -170,7 +169,8 @@ module _ {memory : Memory} {p : Planner} {words : List ℕ} (request : IsRequest
 
     pub shown_on : {found : ℕ} {own : Rights} → meaning p.level word ≡ entry.Table found own → p.phase ≡ phases.Search
         → IsShown memory (record p { base = next; number = found; level = p.level - 1 })
-    shown_on {found} {own} says is = subst (λ phase. IsShownIn phase memory (record p { base = next; number = found; level = p.level - 1 })) (sym is) (search_on says)
+    shown_on {found} {own} says is =
+        subst (λ phase. IsShownIn phase memory (record p { base = next; number = found; level = p.level - 1 })) (sym is) (search_on says)
 
     module _ {space : Space} (premise : IsPremise p.target.depth memory p.target.root (address_of p.request) space) (plan : Plan) where
       -- it is a page
@@ -202,13 +202,6 @@ module _ {memory : Memory} {p : Planner} {words : List ℕ} (request : IsRequest
     pub search_present : meaning p.level word ≡ entry.Absent → ⊥
     search_present says = present_word p.level word first.present says
 
-  -- an entry that leads to a table isn't of the lowest level
-  pub search_deep : (word found : ℕ) (own : Rights) → meaning p.level word ≡ entry.Table found own → 1 < p.level
-  search_deep word found own says = ⊎_elim
-      (λ (deep : 1 < p.level). deep)
-      (λ (le : p.level ≤ 1). let one : p.level ≡ 1 = omega arith in absurd (never_table word found own (ap (λ l. meaning l word) (sym one) ∙ says)))
-      (cases_lt 1 p.level)
-
 -- ---- the search begins, at the entry of the page's own level
 
 module _ {p : Planner} {page : Page} {bits : ℕ} (word : ℕ) (end : IsAtEnd p) (is : p.request ≡ Map page bits) {found : ℕ} {own : Rights}
@@ -229,7 +222,8 @@ module _ {p : Planner} {page : Page} {bits : ℕ} (word : ℕ) (end : IsAtEnd p)
     request = is;
     below = omega (arith, own_level, own_deep);
     rights = intersection p.rights own;
-    way = subst (λ a. IsWay p.target.depth memory p.target.root a (p.level - 1) found (intersection p.rights own)) place (down (p.level - 1) (omega (arith, own_deep)));
+    way = subst (λ a. IsWay p.target.depth memory p.target.root a (p.level - 1) found (intersection p.rights own)) place
+        (down (p.level - 1) (omega (arith, own_deep)));
     canonical = subst (IsCanonical p.target.depth) place end.request.canonical;
     from = omega arith;
     same_path = λ i from to. refl;

@@ -11,7 +11,7 @@ use Rattle.vs_types.specs.declared.depth.Depth.{Depth}
 use Rattle.vs_types.specs.declared.page.Page.{Page}
 use Rattle.vs_types.specs.declared.page.Rights.{Rights}
 use Rattle.vs_types.specs.declared.page.Size.{Size}
-use Rattle.vs_types.specs.declared.page.Size.TheVariants.{K4, M2, G1}
+use Rattle.vs_types.specs.declared.page.Size.TheVariants.{K4}
 use Rattle.vs_types.specs.declared.entry.Meaning.TheVariants as entry
 use Rattle.vs_types.specs.declared.answer.Answer.TheVariants as answers
 use Rattle.vs_types.proofs.Lists.{Contains-cases, not_in_nil}
@@ -20,18 +20,19 @@ use Rattle.vs_walk.specs.Walk.{walk, walk_from, TranslatesAs}
 use Rattle.vs_walk.specs.declared.walk.Walk.TheVariants.{Mapped}
 use Rattle.vs_space.specs.Path.{table_at, SamePath}
 use Rattle.vs_space.specs.Table.{IsTableOf}
-use Rattle.vs_space.proofs.Regions.{IsLeafPage, page_path, path_covers, translates_changed}
+use Rattle.vs_space.proofs.Regions.{IsLeafPage, level_back}
 use Rattle.vs_space.proofs.Writes.{get_written_other}
+use Rattle.vs_space.proofs.LeafSteps.{begins_at, leaf_translates}
 use Rattle.vs_plan.specs.Bits.{AreBits, bits_in, page_word, placed}
 use Rattle.vs_plan.specs.Changes.{smaller, split}
 use Rattle.vs_plan.specs.Premise.{HasOwnWay}
 use Rattle.vs_plan.specs.Stores.{stepping}
 use Rattle.vs_plan.specs.Way.{IsWay}
-use Rattle.vs_plan.proofs.EntryStores.{IsOwnTable, after_store, walk_table_here}
+use Rattle.vs_plan.proofs.EntryStores.{IsOwnTable, after_store, walk_here}
 use Rattle.vs_plan.proofs.Filled.{entry_alike}
 use Rattle.vs_plan.proofs.Growing.{all_of}
 use Rattle.vs_plan.proofs.Linking.{old_or_new, own_linked}
-use Rattle.vs_plan.proofs.Pages.{table_from, level_back}
+use Rattle.vs_plan.proofs.Pages.{table_from}
 use Rattle.vs_plan.proofs.PartSpaces.{split_space, looks_split, split_there}
 use Rattle.vs_plan.proofs.Runs.{IsRun, run_lone, run_of_words, run_walk}
 use Rattle.vs_plan.proofs.Words.{page_reads}
@@ -53,20 +54,17 @@ stepping_long first step (suc count) = ap suc (stepping_long (first + step) step
 
 pub are_bits_in : (size : Size) (word : ℕ) → AreBits (bits_in size word)
 are_bits_in K4 word = record { above = omega arith; low = omega arith; high = omega arith }
-are_bits_in M2 word = record { above = omega arith; low = omega arith; high = omega arith }
-are_bits_in G1 word = record { above = omega arith; low = omega arith; high = omega arith }
+are_bits_in _ word = record { above = omega arith; low = omega arith; high = omega arith }
 
 -- a page's word with its physical address further on
 word_later : (size : Size) (phys bits k : ℕ) (own : Rights)
     → leaf_word size phys own + placed size bits + k ≡ leaf_word size (phys + k) own + placed size bits
 word_later K4 phys bits k own = omega arith
-word_later M2 phys bits k own = omega arith
-word_later G1 phys bits k own = omega arith
+word_later _ phys bits k own = omega arith
 
 aligned_later : (size : Size) (phys i : ℕ) → phys % bytes_of size ≡ 0 → (phys + i * bytes_of size) % bytes_of size ≡ 0
 aligned_later K4 phys i at = omega arith
-aligned_later M2 phys i at = omega arith
-aligned_later G1 phys i at = omega arith
+aligned_later _ phys i at = omega arith
 
 part_reads : (size : Size) (phys bits i : ℕ) (own : Rights) → phys % bytes_of size ≡ 0 → phys + i * bytes_of size < 2 ^ 52 → AreBits bits
     → meaning (level_of size) (leaf_word size phys own + placed size bits + i * bytes_of size) ≡ entry.Leaf (phys + i * bytes_of size) own
@@ -123,7 +121,7 @@ module _ {depth : Depth} {m : Memory} {root level a n : ℕ} (here : IsOwnTable 
       → walk depth (after_store here w) root b ≡ Mapped (phys + b % entry_bytes level) (size_at low) (intersection given own)
   walk_parts b same =
       let below : level - 1 ≡ low = omega (arith, one) in
-      walk_table_here here w frame all_rights given (omega (arith, one)) leads way b same
+      walk_here here w way (omega (arith, one)) (entry.Table frame all_rights) leads b same
       ∙ ap (λ l. walk_from (after_store here w) l frame (intersection given all_rights) b) below
       ∙ run_walk (after_store here w) low frame phys own some run_linked (intersection given all_rights) b
       ∙ ap (λ l. Mapped (phys + b % entry_bytes l) (size_at low) (intersection (intersection given all_rights) own)) (sym one)
@@ -141,7 +139,8 @@ module _ {depth : Depth} {m : Memory} {root level a n : ℕ} (here : IsOwnTable 
   parts_reached b j q at = ⊎_elim
       (λ old. inl old)
       (λ new. ⊎_elim (λ (same : frame ≡ q). inr same) (λ more. absurd (not_in_nil q more)) (Contains-cases frame [] q new.0))
-      (old_or_new here w frame low all_rights leads one (frame ∷ []) (run_lone (after_store here w) low frame phys own some run_linked a) unreached_parts b j q at)
+      (old_or_new here w frame low all_rights leads one (frame ∷ []) (run_lone (after_store here w) low frame phys own some run_linked a)
+      unreached_parts b j q at)
 
   pub own_parts : (c : ℕ) → HasOwnWay depth m root c → HasOwnWay depth (after_store here w) root c
   own_parts = own_linked here w frame low all_rights leads one (frame ∷ []) (run_lone (after_store here w) low frame phys own some run_linked a) unreached_parts
@@ -149,10 +148,9 @@ module _ {depth : Depth} {m : Memory} {root level a n : ℕ} (here : IsOwnTable 
 -- ---- the space
 
 pub smaller_at : (low : ℕ) → 1 ≤ low → suc low ≤ 3 → smaller (size_at (suc low)) ≡ size_at low
-smaller_at zero some few = absurd (omega arith)
 smaller_at (suc zero) some few = refl
 smaller_at (suc (suc zero)) some few = refl
-smaller_at (suc (suc (suc low))) some few = absurd (omega arith)
+smaller_at _ some few = absurd (omega arith)
 
 pub large_at : (low : ℕ) → 1 ≤ low → size_at (suc low) ≢ K4
 large_at zero some e = omega arith
@@ -163,8 +161,7 @@ module _ {depth : Depth} {m : Memory} {root : ℕ} {space : Space} (of : IsTable
     {q : Page} (leaf : IsLeafPage depth space base (suc low) phys given q) (some : 1 ≤ low) (few : suc low ≤ 3)
     (aligned : base % bytes_of (size_at (suc low)) ≡ 0) where
   begins : q.base ≡ base
-  begins = let offset : base % bytes_of q.size ≡ base % bytes_of (size_at (suc low)) = ap (λ n. base % n) (ap bytes_of leaf.size) in
-      omega (arith, leaf.base, offset, aligned)
+  begins = begins_at leaf aligned
 
   large : q.size ≢ K4
   large e = large_at low some (sym leaf.size ∙ e)
@@ -179,12 +176,10 @@ module _ {depth : Depth} {m : Memory} {root : ℕ} {space : Space} (of : IsTable
       → ((b : ℕ) → (SamePath (levels depth) (suc low) base b → ⊥) → walk depth m' root b ≡ walk depth m root b)
       → TranslatesAs depth m' root (split space base).space
   split_translates m' there elsewhere = subst (λ (s : Stepped). TranslatesAs depth m' root s.space) (sym split_is)
-      (translates_changed m' of leaf.good (looks_split of.is_space leaf.held large)
-      (λ b canonical same.
-      let at = (path_covers depth q leaf.good b canonical same).1 in
-      let offset : phys + b % entry_bytes (suc low) ≡ q.phys + (b - q.base) =
-      subst (λ l. phys + b % entry_bytes l ≡ q.phys + (b - q.base)) leaf.level_is (omega (arith, at, leaf.phys_is)) in
+      (leaf_translates of leaf begins m' (looks_split of.is_space leaf.held large)
+      (λ b canonical same at.
+      let offset : phys + b % entry_bytes (suc low) ≡ q.phys + (b - q.base) = omega (arith, at, leaf.phys_is) in
       let size : size_at low ≡ smaller q.size = sym (ap smaller leaf.size ∙ smaller_at low some few) in
-      there b ((page_path leaf begins b).0 same) ∙ ap (λ p. Mapped p (size_at low) given) offset
+      there b same ∙ ap (λ p. Mapped p (size_at low) given) offset
       ∙ ap (λ z. Mapped (q.phys + (b - q.base)) z given) size ∙ ap (Mapped (q.phys + (b - q.base)) (smaller q.size)) (sym leaf.rights))
-      (λ b canonical apart. elsewhere b (λ same. apart ((page_path leaf begins b).1 same))))
+      (λ b canonical apart. elsewhere b apart))

@@ -14,6 +14,7 @@ use Rattle.vs_walk.specs.declared.walk.Walk.TheVariants.{Mapped}
 use Rattle.vs_walk.proofs.Walks.{walk_nowhere, leaf_level}
 use Rattle.vs_space.specs.Path.{found_at, table_at}
 use Rattle.vs_space.proofs.Paths.{walk_found, walk_lost, words_found}
+use Rattle.vs_space.proofs.Regions.{level_back}
 use Rattle.vs_plan.specs.Processor.{page_number, region_number, Kept, Translation, PagingEntry, OfRoot, OfTable, OfPage}
 use Rattle.vs_plan.proofs.Kept.{IsClosed, Reads, all_reads, translation_walk, entry_path}
 
@@ -57,7 +58,8 @@ module _ (depth : Depth) (root : ℕ) (memory : Memory) (address phys : ℕ) (si
   Ends level = (number : ℕ) (above : Rights) → Reads depth root memory (PagingEntry level (region_number level address) number above)
       → walk_from memory level number above address ≡ Mapped phys size rights → ReadsPage depth root memory address phys size rights
 
-  ends_at : (below number : ℕ) (above : Rights) → Ends below → Reads depth root memory (PagingEntry (suc below) (region_number (suc below) address) number above)
+  ends_at : (below number : ℕ) (above : Rights) → Ends below
+      → Reads depth root memory (PagingEntry (suc below) (region_number (suc below) address) number above)
       → walk_from memory (suc below) number above address ≡ Mapped phys size rights → (o : Option Meaning) → found_at (suc below) memory number address ≡ o
       → ReadsPage depth root memory address phys size rights
   ends_at below number above go reads is None found = let lost = sym (walk_lost memory below number above address found) ∙ is in absurd (cc)
@@ -97,13 +99,6 @@ module _ (depth : Depth) (root : ℕ) (memory : Memory) (address phys : ℕ) (si
   mapped_reads is = ends_in (levels depth) root all_rights (OfRoot address canonical) is
 
 -- ---- a translation whose address is walked as before may be kept as before
-
-pub level_back : (level : ℕ) → 1 ≤ level → level ≤ 3 → level_of (size_at level) ≡ level
-level_back zero some few = absurd (omega arith)
-level_back (suc zero) some few = refl
-level_back (suc (suc zero)) some few = refl
-level_back (suc (suc (suc zero))) some few = refl
-level_back (suc (suc (suc (suc level)))) some few = absurd (omega arith)
 
 pub translation_stays : (depth : Depth) (root : ℕ) (old new : Memory) (level frame address : ℕ) (rights : Rights) → IsCanonical depth address
     → walk depth new root address ≡ walk depth old root address → Reads depth root old (Translation level (page_number level address) frame rights)

@@ -1,10 +1,10 @@
 -- Stores, one after another: what the last of them does, and what none of them changes.
-use Rattle.std.proofs.Common.{◌≡◌, ◌≢◌, ℕ, ◌<◌, ◌≤◌, List, [], ◌∷◌, ◌++◌, length, take, Option, None, Some, Contains, ◌⊎◌, inl, inr, ⊎_elim, refl, sym, ap, subst, ◌∙◌, arith}
+use Rattle.std.proofs.Common.{◌≡◌, ◌≢◌, ℕ, List, [], ◌∷◌, ◌++◌, length, Option, None, Some, Contains, ◌⊎◌, ⊎_elim, refl, sym, ap, subst, ◌∙◌}
 use Rattle.std.specs.Prelude.{option_map, IsSome, unwrap_or, slice_index, slice_set}
-use Rattle.std.proofs.lemmas.Bool.{cases_eq, cases_lt}
-use Rattle.std.proofs.lemmas.List.{length-append, take-append-le, length-set}
-use Rattle.std.proofs.Math.Seq.{take-length}
+use Rattle.std.proofs.lemmas.Bool.{cases_eq}
+use Rattle.std.proofs.lemmas.List.{length-set}
 use Rattle.std.specs.FinMap as finite
+use Rattle.std.proofs.lemmas.Option.{same_Some}
 use Rattle.vs_types.proofs.Lists.{Contains-head, Contains-tail}
 use Rattle.vs_walk.specs.Memory.{Memory, AreWhole}
 use Rattle.vs_space.specs.Held.{word_at, with_word}
@@ -22,27 +22,14 @@ pub found_push : (m : Memory) (stores : List Store) (s : Store) → FindTheirWor
 found_push m [] s found here = (here, tt)
 found_push m (t ∷ stores) s found here = (found.0, found_push (stored m t) stores s found.1 here)
 
--- what holds after any of the stores, and after one more
-pub through_push : (P : Memory → Type 0) (m : Memory) (stores : List Store) (s : Store)
-    → ((n : ℕ) → n ≤ length stores → P (stored_all m (take n stores))) → P (stored_all m (stores ++ s ∷ []))
-    → (n : ℕ) → n ≤ length (stores ++ s ∷ []) → P (stored_all m (take n (stores ++ s ∷ [])))
-through_push P m stores s before last n le = ⊎_elim
-    (λ (early : n ≤ length stores). subst (λ (xs : List Store). P (stored_all m xs)) (sym (take-append-le n stores (s ∷ []) early)) (before n early))
-    (λ (late : length stores < n).
-    let all : n ≡ length (stores ++ s ∷ []) = omega (arith, length-append stores (s ∷ []), le, late) in
-    subst (λ (xs : List Store). P (stored_all m xs)) (sym (ap (λ k. take k (stores ++ s ∷ [])) all ∙ take-length (stores ++ s ∷ []))) last)
-    (by n (length stores))
-  where
-    by : (n k : ℕ) → (n ≤ k) ⊎ (k < n)
-    by n k = ⊎_elim (λ (lt : k < n). inr lt) (λ (le : n ≤ k). inl le) (cases_lt k n)
-
 -- frames that no store names stay
 pub stored_elsewhere : (m : Memory) (stores : List Store) (q : ℕ) → (Contains (frames_of stores) q → ⊥)
     → finite.get (stored_all m stores) q ≡ finite.get m q
 stored_elsewhere m [] q apart = refl
 stored_elsewhere m (s ∷ stores) q apart =
     stored_elsewhere (stored m s) stores q (λ in_rest. apart (Contains-tail s.frame (frames_of stores) q in_rest))
-    ∙ get_written_other m s.frame s.index s.new q (λ same. apart (subst (Contains (s.frame ∷ frames_of stores)) (sym same) (Contains-head s.frame (frames_of stores))))
+    ∙ get_written_other m s.frame s.index s.new q
+    (λ same. apart (subst (Contains (s.frame ∷ frames_of stores)) (sym same) (Contains-head s.frame (frames_of stores))))
 
 -- each frame has 512 words still
 pub whole_stored : (m : Memory) (n i w : ℕ) → AreWhole m → IsSome (finite.get m n) → AreWhole (with_word m n i w)
@@ -50,12 +37,9 @@ whole_stored m n i w whole used q words got = ⊎_elim
     (λ (same : q ≡ n).
     let is : Some words ≡ Some (slice_set (unwrap_or (finite.get m n) []) i w) =
     sym got ∙ ap (finite.get (with_word m n i w)) same ∙ get_written m n i w in
-    ap length (one words _ is) ∙ length-set _ i w ∙ whole n _ (words_in m n used))
+    ap length (same_Some words _ is) ∙ length-set _ i w ∙ whole n _ (words_in m n used))
     (λ (other : q ≢ n). whole q words (sym (get_written_other m n i w q other) ∙ got))
     (cases_eq q n)
-  where
-    one : (x y : List ℕ) → Some x ≡ Some y → x ≡ y
-    one x y e = cc
 
 -- a frame of which a word is found is there
 pub used_word : (m : Memory) (n i w : ℕ) → word_at m n i ≡ Some w → IsSome (finite.get m n)

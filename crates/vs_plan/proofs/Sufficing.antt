@@ -45,9 +45,8 @@ module _ (depth : Depth) (root : ℕ) (memory : Memory) (stores : List Store) (u
   -- ---- stores that add
 
   add_take : (m : Memory) (n : ℕ) (some : List Store) → AllAdd m some → AllAdd m (take n some)
-  add_take m zero some all = tt
-  add_take m (suc n) [] all = tt
   add_take m (suc n) (store ∷ later) all = (all.0, add_take (stored m store) n later all.1)
+  add_take m _ _ all = tt
 
   pub adding_suffices : AllAdd memory stores → Suffices depth root memory stores Nothing unlinked
   adding_suffices all = record {
@@ -62,9 +61,8 @@ module _ (depth : Depth) (root : ℕ) (memory : Memory) (stores : List Store) (u
   -- ---- stores that take away
 
   take_take : (m : Memory) (n : ℕ) (some : List Store) → AllTake m some → AllTake m (take n some)
-  take_take m zero some all = tt
-  take_take m (suc n) [] all = tt
   take_take m (suc n) (store ∷ later) all = (all.0, take_take (stored m store) n later all.1)
+  take_take m _ _ all = tt
 
   pub taking_suffices : (flush : Flush) → AllTake memory stores → Passes flush → Suffices depth root memory stores flush unlinked
   taking_suffices flush all passes = record {

@@ -1,7 +1,8 @@
 -- The bits that a plan answers, once one of its stores found other flags, are those of the page's entry with them.
-use Rattle.std.proofs.Common.{◌≡◌, ◌≢◌, ℕ, zero, suc, List, [], ◌∷◌, Option, Some, None, true, false, cond, Bool, ◌⊎◌, inl, inr, ⊎_elim, refl, sym, ap, subst, ◌∙◌, nat_eq, arith}
+use Rattle.std.proofs.Common.{◌≡◌, ◌≢◌, ℕ, zero, suc, List, [], ◌∷◌, Some, None, true, cond, Bool, ◌⊎◌, ⊎_elim, refl, sym, ap, subst, ◌∙◌, arith}
 use Rattle.std.specs.FinMap as finite
 use Rattle.std.proofs.lemmas.Bool.{eq-eqb}
+use Rattle.std.proofs.lemmas.Option.{same_Some}
 use Rattle.vs_types.specs.Depth.{levels, index_at}
 use Rattle.vs_types.specs.Laws.{changes}
 use Rattle.vs_types.specs.Space.{Space, page_at}
@@ -9,14 +10,12 @@ use Rattle.vs_types.specs.Step.{Stepped, look_in_page}
 use Rattle.vs_types.specs.declared.answer.Answer.{Answer}
 use Rattle.vs_types.specs.declared.answer.Answer.TheVariants as answers
 use Rattle.vs_types.specs.declared.page.Page.{Page}
-use Rattle.vs_types.specs.declared.page.Rights.{Rights}
 use Rattle.vs_types.specs.declared.page.Size.{Size}
 use Rattle.vs_types.proofs.Steps.{unmap_cases, protect_cases}
 use Rattle.vs_walk.specs.Memory.{Memory}
 use Rattle.vs_space.specs.Flags.{AreSameButFlags}
 use Rattle.vs_space.specs.Held.{word_at}
 use Rattle.vs_space.specs.Path.{table_at}
-use Rattle.vs_plan.specs.declared.plan.Reply.{Reply}
 use Rattle.vs_plan.specs.declared.plan.Reply.TheVariants as replies
 use Rattle.vs_plan.specs.declared.request.Request.{Request}
 use Rattle.vs_plan.specs.declared.request.Request.TheVariants.{Map, Unmap, Protect, Ask, Remap, Split, Join}
@@ -34,18 +33,15 @@ use Rattle.vs_plan.proofs.PlansSuffice.{entry_lowest, entry_sizes}
 
 -- ---- a page has one entry
 
-one_some : (x y : ℕ) → Some x ≡ Some y → x ≡ y
-one_some x y e = cc
-
 entries_same : (target : Target) (m : Memory) (base : ℕ) (size other : Size) (word second : ℕ) → IsEntryOf target m base size word
     → IsEntryOf target m base other second → word ≡ second
 entries_same target m base size other word second a b =
     let up = entry_lowest target m base size word a b.number b.level b.reached in
     let down = entry_lowest target m base other second b a.number a.level a.reached in
     let level : a.level ≡ b.level = omega arith in
-    let number : a.number ≡ b.number = one_some a.number b.number (sym a.reached
+    let number : a.number ≡ b.number = same_Some a.number b.number (sym a.reached
     ∙ ap (λ l. table_at (levels target.depth) m target.root l base) level ∙ b.reached) in
-    one_some word second (sym a.word_is ∙ ap (λ n. word_at m n (index_at a.level base)) number
+    same_Some word second (sym a.word_is ∙ ap (λ n. word_at m n (index_at a.level base)) number
     ∙ ap (λ l. word_at m b.number (index_at l base)) level ∙ b.word_is)
 
 -- ---- where it changes
@@ -70,17 +66,11 @@ module _ (target : Target) {old new : Memory} (same : AreSameButFlags old new) (
       → ((z : Size) → bits ≡ bits_in z before → next ≡ bits_in z now)
       → IsTold target old base bits (replies.Answer answer) → IsTold target new base next (replies.Answer answer)
   told_moved answers.Done changed other was is moves told = absurd (other refl)
-  told_moved (answers.Overlap at) changed other was is moves told = absurd (cc)
-  told_moved (answers.Full need) changed other was is moves told = absurd (cc)
   told_moved (answers.Removed phys size rights) changed other was is moves told = told_entry told.1 was is told.2 moves
-  told_moved answers.NotMapped changed other was is moves told = absurd (cc)
-  told_moved (answers.Inside at) changed other was is moves told = absurd (cc)
   told_moved (answers.Changed rights) changed other was is moves told =
       let now = told_entry told.2 was is told.3 moves in
       (told.0, now.0, now.1, now.2)
-  told_moved (answers.Mapped phys size rights) changed other was is moves told = absurd (cc)
-  told_moved (answers.Allowed phys) changed other was is moves told = absurd (cc)
-  told_moved (answers.Fault code) changed other was is moves told = absurd (cc)
+  told_moved _ changed other was is moves told = absurd (cc)
 
 -- ---- the bits
 

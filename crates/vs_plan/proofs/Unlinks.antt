@@ -1,12 +1,13 @@
 -- Tables all of whose words are 0 are unlinked, from the lowest up.
-use Rattle.std.proofs.Common.{AllPairs, ◌≡◌, ◌≢◌, ℕ, zero, suc, ◌+◌, ◌-◌, ◌<◌, ◌≤◌, List, [], ◌∷◌, ◌++◌, take, length, All, Contains, Option, Some, IsSome, ⊎_elim, refl, sym, ap, subst, ◌∙◌, arith}
-use Rattle.std.specs.Prelude.{option_map, unwrap_or, slice_index, slice_set}
+use Rattle.std.proofs.Common.{AllPairs, ◌≡◌, ◌≢◌, ℕ, zero, suc, ◌+◌, ◌-◌, ◌<◌, ◌≤◌, List, [], ◌∷◌, ◌++◌, take, length, All, Contains, Some, IsSome, ⊎_elim, refl, sym, ap, subst, ◌∙◌, arith}
+use Rattle.std.specs.Prelude.{unwrap_or, slice_index, slice_set}
 use Rattle.std.proofs.Common.{length-set}
 use Rattle.std.proofs.lemmas.Bool.{cases_eq}
 use Rattle.std.proofs.lemmas.List.{ext_get_or, get_or-set_same, get_or-set_other, length-replicate}
 use Rattle.std.proofs.lemmas.List.Elements.{All-nil, All-cons, All-weaker}
 use Rattle.std.proofs.lemmas.List.Kept.{AllPairs-cons}
 use Rattle.std.specs.FinMap as finite
+use Rattle.std.proofs.lemmas.Option.{same_Some}
 use Rattle.vs_types.specs.Depth.{levels, index_at}
 use Rattle.vs_types.specs.Entry.{meaning}
 use Rattle.vs_types.specs.declared.depth.Depth.{Depth}
@@ -15,20 +16,22 @@ use Rattle.vs_types.specs.declared.entry.Meaning.TheVariants as entry
 use Rattle.vs_types.proofs.Lists.{Contains-head, Contains-tail}
 use Rattle.vs_arena.specs.Store.{zeros}
 use Rattle.vs_walk.specs.Memory.{Memory, AreWhole}
-use Rattle.vs_walk.specs.Walk.{walk, walk_from}
-use Rattle.vs_walk.specs.declared.walk.Walk.TheVariants.{NotMapped}
+use Rattle.vs_walk.specs.Walk.{walk}
 use Rattle.vs_space.specs.Held.{word_at, with_word}
 use Rattle.vs_space.specs.Path.{found_at, table_in, table_at}
-use Rattle.vs_space.proofs.Paths.{table_before, walk_found}
+use Rattle.vs_space.proofs.Paths.{table_before}
+use Rattle.vs_space.proofs.Footprints.{word_elsewhere}
 use Rattle.vs_space.proofs.Prunes.{word_in}
 use Rattle.vs_space.proofs.Writes.{get_written, get_written_other, words_in, same_or_not}
 use Rattle.vs_space.proofs.Links.{found_in_zeros, zeros_are}
+use Rattle.vs_space.proofs.Written.{word_alike}
+use Rattle.vs_plan.proofs.Ways.{way_table, way_walk, walk_level}
 use Rattle.vs_plan.specs.declared.plan.Store.{Store}
 use Rattle.vs_plan.specs.Premise.{HasOwnWay}
 use Rattle.vs_plan.specs.Shown.{HasOneWord}
 use Rattle.vs_plan.specs.Stores.{stored, stored_all, FindTheirWords}
 use Rattle.vs_plan.specs.Way.{IsWay}
-use Rattle.vs_plan.proofs.EntryStores.{way_reaches, way_walk, way_same, IsOwnTable, whole_store, walk_off, walk_absent_here, way_stays, fewer, none_here, own_after}
+use Rattle.vs_plan.proofs.EntryStores.{IsOwnTable, whole_store, walk_off, walk_here, way_stays, fewer, none_here, own_after}
 use Rattle.vs_plan.proofs.WordOrders.{found_word, told_used}
 
 -- ---- the stores
@@ -96,15 +99,8 @@ length-cut_off numbers (suc count) level = ap suc (length-cut_off numbers count 
 
 -- ---- words
 
-pub word_alike : (m m' : Memory) (q i : ℕ) → finite.get m' q ≡ finite.get m q → word_at m' q i ≡ word_at m q i
-unfolding word_at
-word_alike m m' q i same = ap (λ (o : Option (List ℕ)). option_map (λ words. slice_index words i) o) same
-
 word_is : (m : Memory) (q i w : ℕ) (words : List ℕ) → finite.get m q ≡ Some words → word_at m q i ≡ Some w → slice_index words i ≡ w
-unfolding word_at
-word_is m q i w words got told = one (slice_index words i) w (sym (ap (λ (o : Option (List ℕ)). option_map (λ words. slice_index words i) o) got) ∙ told) where
-  one : (x y : ℕ) → Some x ≡ Some y → x ≡ y
-  one x y e = cc
+word_is m q i w words got told = same_Some (slice_index words i) w (sym (word_in m q i words got) ∙ told)
 
 -- a frame with one word, which becomes 0
 pub cleared : (m : Memory) (q i : ℕ) → AreWhole m → IsSome (finite.get m q) → i < 512 → HasOneWord m q i
@@ -146,7 +142,7 @@ pub record IsUnlinkable (depth : Depth) (m : Memory) (root base : ℕ) (numbers 
 module _ {depth : Depth} {m : Memory} {root base : ℕ} {numbers words : ℕ → ℕ} {level stop : ℕ}
     (is : IsUnlinkable depth m root base numbers words level stop) (low : level < stop) where
   reached : (j : ℕ) → level ≤ j → j ≤ levels depth → table_at (levels depth) m root j base ≡ Some (numbers j)
-  reached j le high = let way = is.ways j le high in way_reaches depth m root base j (numbers j) way.0 way.1
+  reached j le high = let way = is.ways j le high in way_table j (numbers j) way.0 way.1
 
   fits : suc level ≤ levels depth
   fits = omega (arith, is.highest, low)
@@ -173,13 +169,10 @@ module _ {depth : Depth} {m : Memory} {root base : ℕ} {numbers words : ℕ →
   pub linked : table_in (Some (meaning (suc level) (words (suc level)))) ≡ Some (numbers level)
   linked =
       let before = table_before (levels depth) root m level base (numbers level) fits (reached level (omega arith) (omega (arith, fits))) in
-      let same : before.0 ≡ numbers (suc level) = one before.0 (numbers (suc level)) (sym before.2 ∙ reached (suc level) (omega arith) fits) in
+      let same : before.0 ≡ numbers (suc level) = same_Some before.0 (numbers (suc level)) (sym before.2 ∙ reached (suc level) (omega arith) fits) in
       let found : found_at (suc level) m (numbers (suc level)) base ≡ Some (entry.Table (numbers level) before.1) =
       subst (λ p. found_at (suc level) m p base ≡ Some (entry.Table (numbers level) before.1)) same before.3 in
       ap table_in (sym (found_word (suc level) m (numbers (suc level)) (index_at (suc level) base) (words (suc level)) base told_here refl) ∙ found)
-    where
-      one : (x y : ℕ) → Some x ≡ Some y → x ≡ y
-      one x y e = cc
 
   -- each address is walked as before
   pub cut_walk : (b : ℕ) → walk depth next root b ≡ walk depth m root b
@@ -187,15 +180,11 @@ module _ {depth : Depth} {m : Memory} {root base : ℕ} {numbers words : ℕ →
       (λ same.
       let way = is.ways (suc level) (omega arith) fits in
       let under = is.ways level (omega arith) (omega (arith, fits)) in
-      walk_absent_here here 0 way.0 (omega arith) refl way.1 b same
-      ∙ sym (way_walk depth m root b level (numbers level) under.0
-      (way_same depth m root base b level (numbers level) under.0 same under.1) ∙ empty level is.some (numbers level) under.0 b (is.clear low)))
+      walk_here here 0 way.1 (omega arith) entry.Absent refl b same
+      ∙ sym (way_walk level (numbers level) under.0 under.1 b same
+      ∙ walk_level m level (numbers level) under.0 b entry.Absent is.some (found_in_zeros level m (numbers level) b (is.clear low))))
       (λ off. walk_off here 0 b off)
       (same_or_not (levels depth) (suc level) base b)
-    where
-      empty : (l : ℕ) → 1 ≤ l → (n : ℕ) (rights : Rights) (b : ℕ) → finite.get m n ≡ Some zeros → walk_from m l n rights b ≡ NotMapped
-      empty zero some n rights b clear = absurd (omega arith)
-      empty (suc l) some n rights b clear = walk_found m l n rights b entry.Absent (found_in_zeros (suc l) m n b clear)
 
   -- no way leads to the table any more
   pub cut_unreached : (j b : ℕ) → table_at (levels depth) next root j b ≢ Some (numbers level)
@@ -267,18 +256,9 @@ frame_kept : (depth : Depth) (root base : ℕ) (numbers words : ℕ → ℕ) (st
     → finite.get (stored_all m (cuts numbers words base level count)) q ≡ finite.get m q
 frame_kept depth root base numbers words stop zero level q m ends is other = refl
 frame_kept depth root base numbers words stop (suc count) level q m ends is other =
-    frame_kept depth root base numbers words stop count (suc level) q (stored m (cut numbers words base (suc level))) (omega arith) (cut_on is (omega arith)) (λ j lt le. other j (omega arith) le)
+    frame_kept depth root base numbers words stop count (suc level) q (stored m (cut numbers words base (suc level))) (omega arith)
+    (cut_on is (omega arith)) (λ j lt le. other j (omega arith) le)
     ∙ get_written_other m (numbers (suc level)) (index_at (suc level) base) 0 q (other (suc level) (omega arith) (omega arith))
-
--- a word that isn't stored
-pub word_elsewhere : (m : Memory) (n k w q i : ℕ) → IsSome (finite.get m n) → (q ≡ n → i ≢ k) → word_at (with_word m n k w) q i ≡ word_at m q i
-word_elsewhere m n k w q i used apart = ⊎_elim
-    (λ (same : q ≡ n). subst (λ x. word_at (with_word m n k w) x i ≡ word_at m x i) (sym same)
-    (word_in (with_word m n k w) n i (slice_set (unwrap_or (finite.get m n) []) k w) (get_written m n k w)
-    ∙ ap Some (get_or-set_other (unwrap_or (finite.get m n) []) k i w 0 (apart same))
-    ∙ sym (word_in m n i (unwrap_or (finite.get m n) []) (words_in m n used))))
-    (λ (other : q ≢ n). word_alike m (with_word m n k w) q i (get_written_other m n k w q other))
-    (cases_eq q n)
 
 pub word_kept : (depth : Depth) (root base : ℕ) (numbers words : ℕ → ℕ) (stop count level q i : ℕ) (m : Memory) → level + count ≡ stop
     → IsUnlinkable depth m root base numbers words level stop → ((j : ℕ) → level < j → j ≤ stop → q ≡ numbers j → i ≢ index_at j base)
@@ -316,7 +296,9 @@ module _ {depth : Depth} {m : Memory} {root base : ℕ} {numbers words : ℕ →
   off = numbers level ∷ cut_off numbers (suc level) count
 
   clear_after : finite.get after (numbers level) ≡ Some zeros
-  clear_after = frame_kept depth root base numbers words stop count (suc level) (numbers level) (stored m (cut numbers words base (suc level))) ends (cut_on is low)
+  clear_after =
+      frame_kept depth root base numbers words stop count (suc level) (numbers level) (stored m (cut numbers words base (suc level))) ends
+      (cut_on is low)
       (λ j lt le. apart is low level j (omega arith) (omega (arith, is.highest)) (omega arith) (omega (arith, is.highest)) (λ e. omega arith))
       ∙ other_frame is low level (omega arith) (omega (arith, is.highest)) (λ e. omega arith) ∙ is.clear low
 

@@ -4,11 +4,11 @@ use Rattle.std.specs.Prelude.{slice_index, if◌then◌else◌}
 use Rattle.std.proofs.lemmas.List.Elements.{All-cons, All-weaker, All-contains}
 use Rattle.std.proofs.lemmas.Bool.{cases_eq, cases_lt}
 use Rattle.std.specs.FinMap as finite
+use Rattle.std.proofs.lemmas.Option.{same_Some}
 use Rattle.vs_types.specs.Depth.{levels, index_at, IsCanonical}
 use Rattle.vs_types.specs.Entry.{meaning, size_at}
-use Rattle.vs_types.specs.Laws.{LooksChanged}
 use Rattle.vs_types.specs.Page.{bytes_of, intersection}
-use Rattle.vs_types.specs.Space.{Space, page_at}
+use Rattle.vs_types.specs.Space.{Space}
 use Rattle.vs_types.specs.Step.{step}
 use Rattle.vs_types.specs.declared.op.Action.TheVariants as actions
 use Rattle.vs_types.specs.declared.page.Page.{Page}
@@ -16,16 +16,19 @@ use Rattle.vs_types.specs.declared.page.Rights.{Rights}
 use Rattle.vs_types.specs.declared.page.Size.{Size}
 use Rattle.vs_types.specs.declared.entry.Meaning.TheVariants as entry
 use Rattle.vs_types.specs.declared.answer.Answer.TheVariants as answers
-use Rattle.vs_types.proofs.Looks.{removed_looks}
-use Rattle.vs_types.proofs.Steps.{unmap_cases}
 use Rattle.vs_arena.specs.Store.{zeros}
 use Rattle.vs_walk.specs.Memory.{Memory}
 use Rattle.vs_walk.specs.Walk.{TranslatesAs}
 use Rattle.vs_space.specs.Held.{word_at}
 use Rattle.vs_space.specs.Path.{found_at, table_in, table_at}
-use Rattle.vs_space.proofs.Regions.{IsLeafPage, page_path, translates_changed}
+use Rattle.vs_space.proofs.Regions.{IsLeafPage}
 use Rattle.vs_space.proofs.Paths.{table_before}
 use Rattle.vs_space.proofs.Writes.{get_written_other}
+use Rattle.vs_space.proofs.Footprints.{word_elsewhere}
+use Rattle.vs_space.proofs.Written.{word_alike}
+use Rattle.vs_space.specs.Table.{IsTableOf}
+use Rattle.vs_space.proofs.LeafSteps.{begins_at, removed_answer, removed_translates}
+use Rattle.vs_plan.proofs.Ways.{way_table}
 use Rattle.vs_plan.specs.declared.plan.Flush.{Flush}
 use Rattle.vs_plan.specs.declared.plan.Flush.TheVariants as flushes
 use Rattle.vs_plan.specs.declared.plan.Reply.TheVariants as replies
@@ -43,10 +46,10 @@ use Rattle.vs_plan.specs.Right.{IsMeant, OfPage, OfLink, IsUnlinked, IsFlushed, 
 use Rattle.vs_plan.specs.Shown.{IsTableMet, HasOneWord, HasOtherWord}
 use Rattle.vs_plan.specs.Stores.{stored, stored_all}
 use Rattle.vs_plan.specs.Way.{IsWay}
-use Rattle.vs_plan.proofs.EntryStores.{IsOwnTable, within as own_within, way_reaches, whole_store, walk_off, walk_absent_here, way_stays, fewer, none_here, own_after}
+use Rattle.vs_plan.proofs.EntryStores.{IsOwnTable, whole_store, walk_off, walk_here, way_stays, fewer, none_here, own_after, within as own_within}
 use Rattle.vs_plan.proofs.Pages.{table_from, page_here}
 use Rattle.vs_plan.proofs.Parts.{words_apart, Parts, safe_first, right_as}
-use Rattle.vs_plan.proofs.Unlinks.{cuts, cut_off, cut_off_apart, word_elsewhere, word_kept, among_cut_off, word_alike, cleared, IsUnlinkable, IsCut, IsOff, AreUnlinked, unlinks}
+use Rattle.vs_plan.proofs.Unlinks.{cuts, cut_off, cut_off_apart, word_kept, among_cut_off, cleared, IsUnlinkable, IsCut, IsOff, AreUnlinked, unlinks}
 use Rattle.vs_plan.proofs.WordOrders.{told_used, found_word, even_absent}
 
 -- what is flushed, where this many tables are unlinked
@@ -65,9 +68,6 @@ highest_least target = elim target.pinned as (λ b. (if b then levels target.dep
   | false ↦ omega arith
 ]
 
-one_number : (x y : ℕ) → Some x ≡ Some y → x ≡ y
-one_number x y e = cc
-
 -- what was met on the way of a page that begins at the base
 pub record IsFoundPage (target : Target) (memory : Memory) (space : Space) (base level number word stop phys : ℕ) (rights own : Rights)
     (numbers words : ℕ → ℕ) : Type 0 where
@@ -82,15 +82,6 @@ pub record IsFoundPage (target : Target) (memory : Memory) (space : Space) (base
   pub tables : (j : ℕ) → level ≤ j → j ≤ levels target.depth → IsTableMet target.depth memory target.root base j (numbers j) (words j)
   pub alone : (j : ℕ) → level ≤ j → j < stop → HasOneWord memory (numbers j) (index_at j base)
   pub busy : stop < highest_link target → (level ≤ stop) × HasOtherWord memory (numbers stop) (index_at stop base)
-
--- the unmap of the page that begins there
-unmap_removes : (target : Target) (space : Space) (base : ℕ) (q : Page) → page_at space base ≡ Some q → q.base ≡ base
-    → (step target.depth 0 space (actions.Unmap base)).answer ≡ answers.Removed q.phys q.size q.rights
-unmap_removes target space base q here same =
-    unmap_cases (λ s. s.answer ≡ answers.Removed q.phys q.size q.rights) target.depth 0 space base
-    (λ e. absurd (cc))
-    (λ p e is. let one : p ≡ q = cc in ap (λ (z : Page). answers.Removed z.phys z.size z.rights) one)
-    (λ p e differs. let one : p ≡ q = cc in absurd (differs (ap (λ (z : Page). z.base) one ∙ same)))
 
 module _ {target : Target} {memory : Memory} {space : Space} {base level number word stop phys : ℕ} {rights own : Rights} {numbers words : ℕ → ℕ}
     (is : IsFoundPage target memory space base level number word stop phys rights own numbers words) where
@@ -107,7 +98,7 @@ module _ {target : Target} {memory : Memory} {space : Space} {base level number 
   after = stored_all between (cuts numbers words base level count)
 
   reached : table_at (levels target.depth) memory target.root level base ≡ Some number
-  reached = way_reaches target.depth memory target.root base level number rights is.way
+  reached = way_table level number rights is.way
 
   here : IsOwnTable target.depth memory target.root level base number
   here = record {
@@ -121,15 +112,13 @@ module _ {target : Target} {memory : Memory} {space : Space} {base level number 
   highest = le_trans is.highest (highest_least target)
 
   met : (j : ℕ) → level ≤ j → j ≤ levels target.depth → table_at (levels target.depth) memory target.root j base ≡ Some (numbers j)
-  met j le high = let table = is.tables j le high in way_reaches target.depth memory target.root base j (numbers j) table.rights table.way
+  met j le high = let table = is.tables j le high in way_table j (numbers j) table.rights table.way
 
   within : level ≤ levels target.depth
   within = own_within here
 
   same_number : numbers level ≡ number
-  same_number = one (numbers level) number (sym (met level (omega arith) within) ∙ reached) where
-    one : (x y : ℕ) → Some x ≡ Some y → x ≡ y
-    one x y e = cc
+  same_number = same_Some (numbers level) number (sym (met level (omega arith) within) ∙ reached)
 
   -- tables above are other frames
   above_frame : (j : ℕ) → level < j → j ≤ levels target.depth → finite.get between (numbers j) ≡ finite.get memory (numbers j)
@@ -199,7 +188,8 @@ module _ {target : Target} {memory : Memory} {space : Space} {base level number 
       leads below one nothing =
           let before = table_before (levels target.depth) target.root memory below base (numbers below) (omega arith)
           (met below (omega arith) (omega arith)) in
-          let same : before.0 ≡ numbers l = one_number before.0 (numbers l) (sym before.2 ∙ ap (λ k. table_at (levels target.depth) memory target.root k base) (sym one)
+          let same : before.0 ≡ numbers l = same_Some before.0 (numbers l)
+          (sym before.2 ∙ ap (λ k. table_at (levels target.depth) memory target.root k base) (sym one)
           ∙ met l (omega arith) to) in
           let found : found_at l memory (numbers l) base ≡ Some (entry.Table (numbers below) before.1) =
           subst (λ k. found_at k memory (numbers l) base ≡ Some (entry.Table (numbers below) before.1)) (sym one)
@@ -216,7 +206,7 @@ module _ {target : Target} {memory : Memory} {space : Space} {base level number 
       ⊎_elim
       (λ (under : l < level). let none = none_here here 0 refl base l under (λ i from to. refl) in absurd (cc))
       (λ (from : level ≤ l).
-      let same : n ≡ numbers l = one_number n (numbers l) (sym (fewer here 0 refl base l n first_left) ∙ met l from to) in
+      let same : n ≡ numbers l = same_Some n (numbers l) (sym (fewer here 0 refl base l n first_left) ∙ met l from to) in
       ⊎_elim
       (λ (gone : l < stop).
       let off = All-contains (IsOff target.depth between after target.root base) (cut_off numbers level count) (numbers l) cut.off
@@ -236,28 +226,16 @@ module _ {target : Target} {memory : Memory} {space : Space} {base level number 
   found : (q : Page) × IsLeafPage target.depth space base level phys (intersection rights own) q
   found = page_here is.way is.some is.word_is is.premise.is_space is.premise.translates is.canonical is.leaf
 
-  begins_here : found.0.base ≡ base
-  begins_here =
-      let bytes_are : bytes_of found.0.size ≡ bytes_of (size_at level) = ap bytes_of found.1.size in
-      let offset : base % bytes_of found.0.size ≡ base % bytes_of (size_at level) = ap (λ n. base % n) bytes_are in
-      omega (arith, found.1.base, offset, is.begins)
-
-  removes : (step target.depth 0 space (actions.Unmap base)).answer ≡ answers.Removed found.0.phys found.0.size found.0.rights
-  removes = unmap_removes target space base found.0 found.1.here begins_here
+  table : IsTableOf (table_from target.depth memory target.root) space
+  table = record { is_space = is.premise.is_space; translates = is.premise.translates }
 
   abbrev next : Space
   next = (step target.depth 0 space (actions.Unmap base)).space
 
-  looks : LooksChanged found.0 (λ address. answers.NotMapped) space next
-  looks = subst (λ a. LooksChanged found.0 (λ address. answers.NotMapped) space (step target.depth 0 space (actions.Unmap a)).space) begins_here
-      (removed_looks 0 is.premise.is_space found.0
-      (subst (λ a. (step target.depth 0 space (actions.Unmap a)).answer ≡ answers.Removed found.0.phys found.0.size found.0.rights) (sym begins_here) removes))
-
   translates : (n : ℕ) → TranslatesAs target.depth (stored_all between (take n (cuts numbers words base level count))) target.root next
-  translates n = translates_changed {t = table_from target.depth memory target.root} (stored_all between (take n (cuts numbers words base level count)))
-      (record { is_space = is.premise.is_space; translates = is.premise.translates }) found.1.good looks
-      (λ b canonical same. cut.walks n b ∙ walk_absent_here here 0 rights is.some refl is.way b ((page_path found.1 begins_here b).0 same))
-      (λ b canonical apart. cut.walks n b ∙ walk_off here 0 b (λ same. apart ((page_path found.1 begins_here b).1 same)))
+  translates n = removed_translates 0 table found.1 (begins_at found.1 is.begins) (stored_all between (take n (cuts numbers words base level count)))
+      (λ b canonical same. cut.walks n b ∙ walk_here here 0 is.way is.some entry.Absent refl b same)
+      (λ b canonical apart. cut.walks n b ∙ walk_off here 0 b apart)
 
   -- ---- the plan
 
@@ -272,7 +250,8 @@ module _ {target : Target} {memory : Memory} {space : Space} {base level number 
   first_meant = OfPage (record { level = level; reached = reached; index = refl }) (ap (λ e. table_in (Some e)) is.leaf)
 
   cuts_meant : All (IsMeant target memory base (cut_off numbers level count)) (cuts numbers words base level count)
-  cuts_meant = All-weaker (IsCut target.depth between after target.root base level (level + count) (cut_off numbers level count)) (IsMeant target memory base (cut_off numbers level count))
+  cuts_meant = All-weaker (IsCut target.depth between after target.root base level (level + count) (cut_off numbers level count))
+      (IsMeant target memory base (cut_off numbers level count))
       (λ s c. OfLink (record { level = c.level; reached = fewer here 0 refl base c.level s.frame c.at; index = c.index }) c.below c.leads c.named
       (omega (arith, c.over, c.upto, is.highest)) c.new)
       (cuts numbers words base level count) cut.cut
@@ -281,7 +260,7 @@ module _ {target : Target} {memory : Memory} {space : Space} {base level number 
       (bits_in (size_at level) word) None (first ∷ cuts numbers words base level count) (flush_of count base (size_at level)) (cut_off numbers level count)
   unfolding size_entry
   unmap_parts = record {
-    reply_is = sym (removes ∙ removed_same found.0 phys (size_at level) (intersection rights own) found.1.phys_is found.1.size found.1.rights);
+    reply = sym (removed_answer 0 table found.1 (begins_at found.1 is.begins));
     due = refl;
     put = (refl, record { size = size_at level; entry_is = size_entry; frame = refl; at = refl });
     fits = tt;
@@ -305,7 +284,7 @@ module _ {target : Target} {memory : Memory} {space : Space} {base level number 
         (λ t c. c.new) (cuts numbers words base level count) cut.cut);
     told = (word, size_entry, refl);
     flushed = flushed count;
-    gone = All-weaker (IsOff target.depth between after target.root base) (IsUnlinked target memory after base)
+    unlinked = All-weaker (IsOff target.depth between after target.root base) (IsUnlinked target memory after base)
         (λ n off. record {
           level = off.level;
           was = fewer here 0 refl base off.level n off.was;
@@ -319,10 +298,7 @@ module _ {target : Target} {memory : Memory} {space : Space} {base level number 
     whole = cut.whole;
     own = λ a has. cut.owns a (own_after here 0 refl a has);
     reaches = λ l b q at. inl (fewer here 0 refl b l q (cut.fewer b l q at));
-  } where
-    removed_same : (q : Page) (p : ℕ) (s : Size) (r : Rights) → q.phys ≡ p → q.size ≡ s → q.rights ≡ r
-        → answers.Removed q.phys q.size q.rights ≡ answers.Removed p s r
-    removed_same q p s r e f g = cc
+  }
 
 module _ {p : Planner} {word : ℕ} (end : IsAtEnd p) {phys base : ℕ} {own : Rights} (says : meaning p.level word ≡ entry.Leaf phys own)
     (is : p.request ≡ Unmap base) (aligned : base % bytes_of (size_at p.level) ≡ 0) where

@@ -1,7 +1,6 @@
 -- A join that changes something stores something: else its space would have a page of another size at the base than the memory.
-use Rattle.std.proofs.Common.{◌≡◌, ℕ, ◌+◌, ◌-◌, ◌<◌, Bool, true, false, not, cond, T, eqb, nat_cmp, List, [], ◌∷◌, map, Some, None, Contains, ⊎_elim, refl, sym, ap, ◌∙◌, subst, arith}
-use Rattle.std.proofs.lemmas.Bool.{eq-eqb, eqb-true, ne_eqb}
-use Rattle.std.specs.Ordering.{eq_by_cmp, is_lt}
+use Rattle.std.proofs.Common.{◌≡◌, ℕ, ◌+◌, ◌-◌, Bool, true, false, not, cond, nat_cmp, List, [], ◌∷◌, map, Some, None, Contains, ⊎_elim, refl, sym, ap, ◌∙◌, subst}
+use Rattle.std.specs.Ordering.{eq_by_cmp}
 use Rattle.std.specs.FinMap as finite
 use Rattle.std.specs.FinMap.Entries as entries
 use Rattle.vs_types.specs.Depth.{IsCanonical}
@@ -12,10 +11,10 @@ use Rattle.vs_types.specs.declared.depth.Depth.{Depth}
 use Rattle.vs_types.specs.declared.page.Page.{Page}
 use Rattle.vs_types.specs.declared.page.Rights.{Rights}
 use Rattle.vs_types.specs.declared.page.Size.{Size}
-use Rattle.vs_types.specs.declared.page.Size.TheVariants.{K4, M2, G1}
-use Rattle.vs_types.proofs.Lists.{Contains-head, Contains-tail, Contains-cases, not_in_nil, find_found, find_nothing}
+use Rattle.vs_types.specs.declared.page.Size.TheVariants.{G1}
+use Rattle.vs_types.proofs.Lists.{Contains-head, Contains-tail, find_found, find_nothing}
 use Rattle.vs_types.proofs.Pages.{covers_base}
-use Rattle.vs_types.proofs.Spaces.{same_key, is_true, both_true, below_key, insert_cases, get_inserted, page_at_means}
+use Rattle.vs_types.proofs.Spaces.{insert_cases, get_inserted, page_at_means, value_found}
 use Rattle.vs_walk.specs.Walk.{as_walk}
 use Rattle.vs_walk.specs.declared.walk.Walk.TheVariants.{Mapped}
 use Rattle.vs_plan.specs.declared.plan.Reply.TheVariants as replies
@@ -24,31 +23,6 @@ use Rattle.vs_plan.proofs.Changing.{change_here, why_here}
 use Rattle.vs_plan.proofs.Given.{BeginsThere, begins_canonical}
 
 -- ---- what a map of pages has at an address, whether its pages lie apart or not
-
--- a key that is found lies above what all keys lie above
-found_above : (low q : ℕ) (es : List (ℕ × Page)) (v : Page) → T (entries.below_all nat_cmp low es) → entries.find nat_cmp q es ≡ Some v → low < q
-found_above low q [] v h e = cc
-found_above low q (x ∷ es) v h e =
-    let parts = both_true (is_lt (nat_cmp low x.0)) (entries.below_all nat_cmp low es) h in
-    let first = below_key low x.0 (is_true _ parts.0) in
-    elim (eq_by_cmp nat_cmp q x.0) as (λ b. eq_by_cmp nat_cmp q x.0 ≡ b → cond b (Some x.1) (entries.find nat_cmp q es) ≡ Some v → low < q) [
-      | true ↦ λ t is. let same : eqb q x.0 ≡ true = sym (same_key q x.0) ∙ t in omega (arith, eqb-true q x.0 same, first)
-      | false ↦ λ t is. found_above low q es v parts.1 is
-    ] refl e
-
--- each value is found at some key
-value_found : (es : List (ℕ × Page)) (v : Page) → T (entries.is_sorted nat_cmp es) → Contains (map (λ e. e.1) es) v
-    → (q : ℕ) × (entries.find nat_cmp q es ≡ Some v)
-value_found [] v s h = absurd (not_in_nil v h)
-value_found (x ∷ es) v s h =
-    let parts = both_true (entries.below_all nat_cmp x.0 es) (entries.is_sorted nat_cmp es) s in
-    ⊎_elim
-    (λ same. (x.0, ap (λ b. cond b (Some x.1) (entries.find nat_cmp x.0 es)) (same_key x.0 x.0 ∙ eq-eqb x.0 x.0 refl) ∙ ap Some same))
-    (λ later.
-    let at = value_found es v parts.1 later in
-    let above = found_above x.0 at.0 es v parts.0 at.1 in
-    (at.0, ap (λ b. cond b (Some x.1) (entries.find nat_cmp at.0 es)) (same_key at.0 x.0 ∙ ne_eqb at.0 x.0 (λ e. omega (arith, e))) ∙ at.1))
-    (Contains-cases x.1 (map (λ e. e.1) es) v h)
 
 -- the value that is found at a key is among the values
 found_value : (q : ℕ) (es : List (ℕ × Page)) (v : Page) → entries.find nat_cmp q es ≡ Some v → Contains (map (λ e. e.1) es) v
@@ -86,9 +60,8 @@ off_there space page k p got = by (covers page k) refl (sym (finite.get-retain_k
     by false uncovered is = (uncovered, is)
 
 same_sizes : (size : Size) → size ≡ larger size → size ≡ G1
-same_sizes K4 e = cc
-same_sizes M2 e = cc
 same_sizes G1 e = refl
+same_sizes _ e = cc
 
 module _ {depth : Depth} {space : Space} (is : IsSpace depth space) (base : ℕ) (there : BeginsThere space base) where
   first : Page
@@ -126,7 +99,8 @@ module _ {depth : Depth} {space : Space} (is : IsSpace depth space) (base : ℕ)
       (change_here space base (λ page. finite.insert (without_parts space (whole_of page)) page.base (whole_of page)) first there.1 there.2) in
       let here : as_walk (look space base) ≡ Mapped (first.phys + (base - first.base)) first.size first.rights = rw there.1 refl in
       let then : as_walk (look after base) ≡ Mapped (first.phys + (base - first.base)) (larger first.size) first.rights = rw whole_there refl in
-      let both : Mapped (first.phys + (base - first.base)) (larger first.size) first.rights ≡ Mapped (first.phys + (base - first.base)) first.size first.rights =
+      let both : Mapped (first.phys + (base - first.base)) (larger first.size) first.rights
+      ≡ Mapped (first.phys + (base - first.base)) first.size first.rights =
       sym then ∙ ap (λ (s : Space). as_walk (look s base)) (sym joined) ∙ alike base (begins_canonical is base there) ∙ here in
       let largest : first.size ≡ G1 = same_sizes first.size (sym (sizes _ _ _ _ both)) in
       let refused : not_first first.base first.phys first.size ≡ None =

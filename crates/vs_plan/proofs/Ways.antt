@@ -1,14 +1,23 @@
 -- The way of an address to a table: which tables are on it, how addresses that take it are walked.
-use Rattle.std.proofs.Common.{◌≡◌, ℕ, suc, ◌<◌, ◌≤◌, Some, refl, sym, ap, ◌∙◌, arith}
+use Rattle.std.proofs.Common.{◌≡◌, ℕ, suc, ◌-◌, ◌<◌, ◌≤◌, Some, refl, sym, ap, subst, ◌∙◌, arith}
 use Rattle.vs_types.specs.Depth.{levels}
 use Rattle.vs_types.specs.declared.depth.Depth.{Depth}
 use Rattle.vs_types.specs.declared.page.Rights.{Rights}
+use Rattle.vs_types.specs.declared.entry.Meaning.{Meaning}
 use Rattle.vs_types.specs.declared.entry.Meaning.TheVariants as entry
 use Rattle.vs_walk.specs.Memory.{Memory}
-use Rattle.vs_walk.specs.Walk.{walk, walk_from}
+use Rattle.vs_walk.specs.Walk.{walk, walk_entry, walk_from}
 use Rattle.vs_space.specs.Path.{found_at, table_in, table_at, SamePath}
 use Rattle.vs_space.proofs.Paths.{table_first, table_next, reached_within, found_same, walk_found}
 use Rattle.vs_plan.specs.Way.{IsWay, Begins, Leads}
+
+-- an address is walked from a table on by what its entry there says
+pub walk_level : (m : Memory) (level n : ℕ) (rights : Rights) (b : ℕ) (e : Meaning) → 1 ≤ level → found_at level m n b ≡ Some e
+    → walk_from m level n rights b ≡ walk_entry level rights b (λ next own. walk_from m (level - 1) next own b) e
+walk_level m level n rights b e some found = by (level - 1) (omega arith) where
+  by : (below : ℕ) → level ≡ suc below → walk_from m level n rights b ≡ walk_entry level rights b (λ next own. walk_from m below next own b) e
+  by below one = subst (λ l. found_at l m n b ≡ Some e → walk_from m l n rights b ≡ walk_entry l rights b (λ next own. walk_from m below next own b) e)
+      (sym one) (walk_found m below n rights b e) found
 
 module _ {depth : Depth} {m : Memory} {root a : ℕ} where
   pub way_table : (level n : ℕ) (rights : Rights) → IsWay depth m root a level n rights → table_at (levels depth) m root level a ≡ Some n
@@ -27,6 +36,15 @@ module _ {depth : Depth} {m : Memory} {root a : ℕ} where
       way_walk (suc l) p above way b (λ i from to. same i (omega arith) to)
       ∙ walk_found m l p above b (entry.Table next own)
       (found_same (suc l) m p b a (sym (same (suc l) (omega arith) (way_within (suc l) p above way))) ∙ found)
+
+  -- and addresses that take the entry for it too, by what that says
+  pub walk_at : {level n : ℕ} {rights : Rights} → IsWay depth m root a level n rights → 1 ≤ level → (e : Meaning) → found_at level m n a ≡ Some e
+      → (b : ℕ) → SamePath (levels depth) level a b
+      → walk depth m root b ≡ walk_entry level rights b (λ next own. walk_from m (level - 1) next own b) e
+  walk_at {level} {n} {rights} way some e found b same =
+      way_walk level n rights way b (λ i from to. same i (omega arith) to)
+      ∙ walk_level m level n rights b e some
+      (found_same level m n b a (sym (same level (omega arith) (way_within level n rights way))) ∙ found)
 
   -- where the same is found on it, it is the same way
   pub way_kept : (m' : Memory) (level n : ℕ) (rights : Rights) → IsWay depth m root a level n rights

@@ -1,7 +1,6 @@
 -- The words of entries with their bits.
 use Rattle.std.proofs.Common.{◌≡◌, ℕ, zero, suc, ◌+◌, ◌-◌, ◌*◌, ◌/◌, ◌%◌, ◌^◌, ◌<◌, ◌≤◌, Bool, true, false, cond, refl, sym, ap, ◌∙◌, arith}
-use lib.Pow.{shr-shr}
-use Rattle.std.specs.Prelude.{not, if◌then◌else◌, ◌==◌, ◌||◌, ◌&&◌, nat_le}
+use Rattle.std.specs.Prelude.{not, ◌==◌}
 use Rattle.std.specs.Int.{bit_at}
 use Rattle.vs_types.specs.Depth.{entry_bytes}
 use Rattle.vs_types.specs.Page.{level_of, bytes_of}
@@ -9,8 +8,8 @@ use Rattle.vs_types.specs.Entry.{meaning, is_leaf, has_reserved, rights_of, leaf
 use Rattle.vs_types.specs.declared.page.Rights.{Rights}
 use Rattle.vs_types.specs.declared.page.Size.{Size}
 use Rattle.vs_types.specs.declared.page.Size.TheVariants.{K4, M2, G1}
-use Rattle.vs_types.specs.declared.entry.Meaning.{Meaning}
 use Rattle.vs_types.specs.declared.entry.Meaning.TheVariants as entry
+use Rattle.vs_space.proofs.FlaggedWords.{means_with, said}
 use Rattle.vs_plan.specs.Bits.{AreBits, placed, with_rights}
 
 -- ---- a page's word reads back as the page, whatever its bits are
@@ -144,65 +143,19 @@ parts_of old w u x new a b c is = record {
   between = omega (arith, is, a, b, c);
 }
 
-abbrev pub said : Bool → Bool → Bool → Rights → ℕ → ℕ → Meaning
-said present reserved leaf rights address number =
-    if not present then entry.Absent else if reserved then entry.Reserved else if leaf then entry.Leaf address rights else entry.Table number rights
-
-pub said_same : (p p' r r' l l' : Bool) (x x' : Rights) (a a' n n' : ℕ) → p ≡ p' → r ≡ r' → l ≡ l' → x ≡ x' → a ≡ a' → n ≡ n'
-    → said p r l x a n ≡ said p' r' l' x' a' n'
-said_same p p' r r' l l' x x' a a' n n' same_p same_r same_l same_x same_a same_n = rw (same_p, same_r, same_l, same_x, same_a, same_n) refl
-
 -- a leaf with other rights
 said_leaf : (p r l : Bool) (x y : Rights) (a n phys : ℕ) (own : Rights) → said p r l x a n ≡ entry.Leaf phys own → said p r l y a n ≡ entry.Leaf phys y
-said_leaf true true l x y a n phys own e = absurd (cc)
 said_leaf true false true x y a n phys own e = let same : a ≡ phys = cc in ap (λ z. entry.Leaf z y) same
-said_leaf true false false x y a n phys own e = absurd (cc)
-said_leaf false r l x y a n phys own e = absurd (cc)
-
--- above the levels of pages a set bit 7 is reserved
-reserved_deep : (level word : ℕ) → 3 < level → has_reserved level word ≡ (bit_at word 7 == 1)
-reserved_deep level word deep = grind arith
-
-pub reserved_from : (offset offset' : ℕ) → offset ≡ offset' → (b b' : ℕ) → b ≡ b'
-    → ◌≡◌ {A = Bool} (if b == 1 then not (offset == 0) else b == 1) (if b' == 1 then not (offset' == 0) else b' == 1)
-reserved_from offset offset' same b b' alike = rw (same, alike) refl
+said_leaf _ _ _ x y a n phys own e = absurd (cc)
 
 module _ {old new w u x : ℕ} (is : HasParts old new w u x) where
-  bit_0 : bit_at new 0 ≡ bit_at old 0
-  bit_0 = omega (arith, is.zeroth)
-
-  bit_7 : bit_at new 7 ≡ bit_at old 7
-  bit_7 = omega (arith, is.between)
-
-  same_number : new % 2 ^ 52 / 2 ^ 12 ≡ old % 2 ^ 52 / 2 ^ 12
-  same_number = omega (arith, is.between)
-
-  same_leaf : (level : ℕ) → is_leaf level new ≡ is_leaf level old
-  same_leaf level = ap (λ b. (level == 1) || (nat_le level 3 && (b == 1))) bit_7
-
-  same_address : (below : ℕ) → new % 2 ^ 52 / entry_bytes (suc below) * entry_bytes (suc below) ≡ old % 2 ^ 52 / entry_bytes (suc below) * entry_bytes (suc below)
-  same_address below =
-      let exponent : 3 + 9 * suc below ≡ 12 + 9 * below = omega arith in
-      let by : new % 2 ^ 52 / 2 ^ (12 + 9 * below) ≡ old % 2 ^ 52 / 2 ^ (12 + 9 * below) =
-      sym (shr-shr (new % 2 ^ 52) 12 (9 * below)) ∙ ap (λ n. n / 2 ^ (9 * below)) same_number ∙ shr-shr (old % 2 ^ 52) 12 (9 * below) in
-      ap (λ e. new % 2 ^ 52 / 2 ^ e * 2 ^ e) exponent ∙ ap (λ n. n * 2 ^ (12 + 9 * below)) by ∙ ap (λ e. old % 2 ^ 52 / 2 ^ e * 2 ^ e) (sym exponent)
-
-  same_reserved : (level : ℕ) → 1 ≤ level → has_reserved level new ≡ has_reserved level old
-  same_reserved zero some = absurd (omega (arith, some))
-  same_reserved (suc zero) some =
-      let none : new % 2 ^ 12 / 2 ^ 13 ≡ old % 2 ^ 12 / 2 ^ 13 = omega arith in ap (λ n. not (n == 0)) none
-  same_reserved (suc (suc zero)) some = reserved_from (new % 2 ^ 21 / 2 ^ 13) (old % 2 ^ 21 / 2 ^ 13) (omega (arith, is.between)) _ _ bit_7
-  same_reserved (suc (suc (suc zero))) some = reserved_from (new % 2 ^ 30 / 2 ^ 13) (old % 2 ^ 30 / 2 ^ 13) (omega (arith, is.between)) _ _ bit_7
-  same_reserved (suc (suc (suc (suc level)))) some =
-      reserved_deep (suc (suc (suc (suc level)))) new (omega arith) ∙ ap (λ b. b == 1) bit_7
-      ∙ sym (reserved_deep (suc (suc (suc (suc level)))) old (omega arith))
-
   reads_as : (rights : Rights) → rights_of new ≡ rights → (level phys : ℕ) (own : Rights) → 1 ≤ level → meaning level old ≡ entry.Leaf phys own
       → meaning level new ≡ entry.Leaf phys rights
   reads_as rights rights_are zero phys own some says = absurd (omega (arith, some))
   reads_as rights rights_are (suc below) phys own some says =
-      said_same _ _ _ _ _ _ _ _ _ _ _ _ (ap (λ b. b == 1) bit_0) (same_reserved (suc below) some) (same_leaf (suc below))
-      rights_are (same_address below) same_number
+      means_with (record { present = is.zeroth; between = omega (arith, is.between) }) below
+      ∙ ap (λ r. said (bit_at old 0 == 1) (has_reserved (suc below) old) (is_leaf (suc below) old) r
+      (old % 2 ^ 52 / entry_bytes (suc below) * entry_bytes (suc below)) (old % 2 ^ 52 / 2 ^ 12)) rights_are
       ∙ said_leaf (bit_at old 0 == 1) (has_reserved (suc below) old) (is_leaf (suc below) old) (rights_of old) rights
       (old % 2 ^ 52 / entry_bytes (suc below) * entry_bytes (suc below)) (old % 2 ^ 52 / 2 ^ 12) phys own says
 

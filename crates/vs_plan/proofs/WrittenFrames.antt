@@ -10,10 +10,9 @@ use Rattle.vs_plan.proofs.FlaggedEntries.{ArePaired}
 
 paired_frames : (xs ys : List Store) → AllZip ArePaired xs ys → frames_of xs ≡ frames_of ys
 paired_frames [] [] pairs = refl
-paired_frames [] (t ∷ ys) pairs = absurd pairs
-paired_frames (s ∷ xs) [] pairs = absurd pairs
 paired_frames (s ∷ xs) (t ∷ ys) pairs =
     ap (λ (ns : List ℕ). s.frame ∷ ns) (paired_frames xs ys pairs.1) ∙ ap (λ (n : ℕ). n ∷ frames_of ys) (sym pairs.0.frame)
+paired_frames _ _ pairs = absurd pairs
 
 -- the frame of the fill, and those of the stores
 both_frames : (fill : Option Fill) (stores : List Store) → written_frames fill stores ≡ written_frames fill [] ++ frames_of stores

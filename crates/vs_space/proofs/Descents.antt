@@ -1,8 +1,9 @@
 -- A descent through the tables, table by table.
-use Rattle.std.proofs.Common.{◌≡◌, ◌≢◌, ℕ, zero, suc, ◌-◌, ◌<◌, ◌≤◌, List, [], ◌∷◌, length, Some, None, ⊎_elim, refl, sym, ap, subst, ◌∙◌, arith}
+use Rattle.std.proofs.Common.{◌≡◌, ◌≢◌, ℕ, suc, ◌-◌, ◌<◌, ◌≤◌, List, [], ◌∷◌, length, Some, None, ⊎_elim, refl, sym, ap, subst, ◌∙◌, arith}
 use Rattle.std.specs.Prelude.{option_map, slice_index, slice_set}
 use Rattle.std.proofs.lemmas.Bool.{cases_eq}
 use Rattle.std.proofs.lemmas.List.{get_or-set_same, get_or-set_other, length-set}
+use Rattle.std.proofs.lemmas.Option.{same_Some}
 use Rattle.vs_types.specs.Depth.{levels, index_at}
 use Rattle.vs_types.specs.Entry.{meaning}
 use Rattle.vs_types.specs.declared.depth.Depth.{Depth}
@@ -16,7 +17,6 @@ use Rattle.vs_space.specs.Path.{found_at, table_at, table_in}
 use Rattle.vs_space.specs.Tree.{IsTree, IsReached, AreWritten}
 use Rattle.vs_space.specs.inside.Descent.{IsDescent}
 use Rattle.vs_space.proofs.Paths.{table_first, table_below}
-use Rattle.vs_space.proofs.Trees.{one_some}
 use Rattle.vs_space.proofs.Written.{written_at}
 
 pub entry_read : (level : ℕ) (m : Memory) (n a : ℕ) {index word : ℕ} {e : Meaning} → word_at m n index ≡ Some word → index ≡ index_at level a
@@ -48,10 +48,8 @@ at_root {depth} {m} {root} {a} {level = level} {path = path} top low long same =
 
 -- what is no table leads to none
 pub no_table : (e : Meaning) → ((n : ℕ) (own : Rights) → e ≢ entry.Table n own) → table_in (Some e) ≡ None
-no_table entry.Absent other = refl
-no_table entry.Reserved other = refl
-no_table (entry.Leaf phys own) other = refl
 no_table (entry.Table n own) other = absurd (other n own refl)
+no_table _ other = refl
 
 module _ {depth : Depth} {m : Memory} {root a lowest level number : ℕ} {path : List ℕ} (on : IsOnPath depth m root a lowest level number path) where
   at : table_at (levels depth) m root level a ≡ Some number
@@ -91,16 +89,11 @@ module _ {depth : Depth} {m : Memory} {root a lowest level number : ℕ} {path :
     reaches = table_below (levels depth) root m level (level - 1) a number (omega (arith, on.above)) at ∙ ap table_in found
 
 pub all_root : (root j : ℕ) → j < 6 → slice_index (root ∷ root ∷ root ∷ root ∷ root ∷ root ∷ []) j ≡ root
-all_root root zero lt = refl
-all_root root (suc zero) lt = refl
-all_root root (suc (suc zero)) lt = refl
-all_root root (suc (suc (suc zero))) lt = refl
-all_root root (suc (suc (suc (suc zero)))) lt = refl
-all_root root (suc (suc (suc (suc (suc zero))))) lt = refl
 all_root root (suc (suc (suc (suc (suc (suc j)))))) lt = absurd (omega arith)
+all_root root _ lt = refl
 
 -- the highest table on the path is the root
 pub path_root : {depth : Depth} {m : Memory} {root a lowest level : ℕ} {path : List ℕ} {e : Meaning} → IsDescent depth m root a lowest level path e
     → slice_index path (levels depth) ≡ root
 path_root {depth} {m} {root} {a} descent =
-    one_some _ _ (sym (descent.reached (levels depth) descent.below (omega arith)) ∙ table_first (levels depth) root m a)
+    same_Some _ _ (sym (descent.reached (levels depth) descent.below (omega arith)) ∙ table_first (levels depth) root m a)

@@ -8,7 +8,7 @@ use Rattle.std.specs.Cmp.{nat_cmp_is}
 use Rattle.std.specs.declared.cmp.Ordering.TheVariants.{Equal}
 use Rattle.std.proofs.lemmas.Bool.{cases_eq, cases_lt}
 use Rattle.std.proofs.lemmas.List.Elements.{length_all_zip}
-use Rattle.std.proofs.lemmas.Option.{none-some}
+use Rattle.std.proofs.lemmas.Option.{none-some, same_Some}
 use Rattle.vs_types.specs.Depth.{levels, index_at}
 use Rattle.vs_types.specs.Entry.{meaning}
 use Rattle.vs_types.specs.Space.{Space}
@@ -30,7 +30,6 @@ use Rattle.vs_space.specs.Flags.{IsSameButFlags, AreSameButFlags}
 use Rattle.vs_space.proofs.Numbered.{get_numbered, get_below_base, get-remove_same, get-remove_other, len-remove_used}
 use Rattle.vs_space.proofs.Paths.{words_found, table_before, agree_table, agree_walk}
 use Rattle.vs_space.proofs.Prunes.{word_in}
-use Rattle.vs_space.proofs.Trees.{one_some}
 use Rattle.vs_space.proofs.Writes.{words_in}
 use Rattle.vs_space.proofs.Written.{word_alike}
 use Rattle.vs_space.proofs.FlaggedWords.{flagged_meaning, flagged_written, flagged_at, flagged_count}
@@ -91,14 +90,14 @@ module _ {old new : Memory} (is : AreSameButFlags old new) where
   used_after n used = is.frames n ∙ used
 
   -- the words of a frame in use before and after
-  both : (n : ℕ) → IsSome (finite.get old n)
+  pub both : (n : ℕ) → IsSome (finite.get old n)
       → (before : List ℕ) × (after : List ℕ) × (finite.get old n ≡ Some before) × (finite.get new n ≡ Some after) × AllZip IsSameButFlags before after
   both n used =
       let first = words_in old n used in
       let second = words_in new n (used_after n used) in
       (_, _, first, second, is.words n _ _ first second)
 
-  flagged_found : (level n a : ℕ) → 1 ≤ level → found_at level new n a ≡ found_at level old n a
+  pub flagged_found : (level n a : ℕ) → 1 ≤ level → found_at level new n a ≡ found_at level old n a
   unfolding found_at
   flagged_found level n a some = by (finite.get old n) refl where
     by : (o : Option (List ℕ)) → finite.get old n ≡ o → found_at level new n a ≡ found_at level old n a
@@ -147,7 +146,7 @@ module _ {old new : Memory} (is : AreSameButFlags old new) where
             was.1,
             flagged_table was.0 was.1 ∙ was.2,
             λ index word got.
-                let is_word : slice_index here.1 index ≡ word = one_some _ _ (sym (word_in new n index here.1 here.3) ∙ got) in
+                let is_word : slice_index here.1 index ≡ word = same_Some _ _ (sym (word_in new n index here.1 here.3) ∙ got) in
                 let stays = flagged_written (flagged_at here.0 here.1 here.4 index) was.0 (some_level high was.0 was.1 n was.2)
                 (was.3 index _ (word_in old n index here.0 here.2)) in
                 subst (IsWritten was.0) is_word stays,

@@ -25,7 +25,7 @@ low_bits : (a b : ℕ) → bit_at a 0 ≡ bit_at b 0 → bit_at a 1 ≡ bit_at b
     → a % 32 ≡ b % 32
 low_bits a b zeroth first second third fourth = omega (arith, zeroth, first, second, third, fourth)
 
-bit_above : (n k i : ℕ) → bit_at (n / 2 ^ k) i ≡ bit_at n (k + i)
+pub bit_above : (n k i : ℕ) → bit_at (n / 2 ^ k) i ≡ bit_at n (k + i)
 bit_above n k i = ap (λ x. x % 2) (shr-shr n k i)
 
 record IsAlike (old new : ℕ) : Type 0 where
@@ -42,11 +42,11 @@ alike {old} {new} is = record {
 
 -- ---- what a word says
 
-abbrev said : Bool → Bool → Bool → Rights → ℕ → ℕ → Meaning
+abbrev pub said : Bool → Bool → Bool → Rights → ℕ → ℕ → Meaning
 said present reserved leaf rights address number =
     if not present then entry.Absent else if reserved then entry.Reserved else if leaf then entry.Leaf address rights else entry.Table number rights
 
-said_same : (p p' r r' l l' : Bool) (x x' : Rights) (a a' n n' : ℕ) → p ≡ p' → r ≡ r' → l ≡ l' → x ≡ x' → a ≡ a' → n ≡ n'
+pub said_same : (p p' r r' l l' : Bool) (x x' : Rights) (a a' n n' : ℕ) → p ≡ p' → r ≡ r' → l ≡ l' → x ≡ x' → a ≡ a' → n ≡ n'
     → said p r l x a n ≡ said p' r' l' x' a' n'
 said_same p p' r r' l l' x x' a a' n n' same_p same_r same_l same_x same_a same_n = rw (same_p, same_r, same_l, same_x, same_a, same_n) refl
 
@@ -54,31 +54,28 @@ said_same p p' r r' l l' x x' a a' n n' same_p same_r same_l same_x same_a same_
 reserved_deep : (level word : ℕ) → 3 < level → has_reserved level word ≡ (bit_at word 7 == 1)
 reserved_deep level word deep = grind arith
 
-rights_same : (w w' u u' x x' : ℕ) → w ≡ w' → u ≡ u' → x ≡ x'
+pub rights_same : (w w' u u' x x' : ℕ) → w ≡ w' → u ≡ u' → x ≡ x'
     → ◌≡◌ {A = Rights} (record { write = w == 1; user = u == 1; exec = not (x == 1) }) (record { write = w' == 1; user = u' == 1; exec = not (x' == 1) })
 rights_same w w' u u' x x' same_w same_u same_x = rw (same_w, same_u, same_x) refl
 
-module _ {old new : ℕ} (is : IsAlike old new) where
+pub reserved_from : (offset offset' : ℕ) → offset ≡ offset' → (b b' : ℕ) → b ≡ b'
+    → ◌≡◌ {A = Bool} (if b == 1 then not (offset == 0) else b == 1) (if b' == 1 then not (offset' == 0) else b' == 1)
+reserved_from offset offset' same b b' alike = rw (same, alike) refl
+
+-- words that have the same bit 0, and the same bits from 7 to 62
+pub record IsAsPlaced (old new : ℕ) : Type 0 where
+  pub present : new % 2 ≡ old % 2
+  pub between : new % 2 ^ 63 / 128 ≡ old % 2 ^ 63 / 128
+
+module _ {old new : ℕ} (is : IsAsPlaced old new) where
   bit_0 : bit_at new 0 ≡ bit_at old 0
-  bit_0 = omega (arith, is.low)
-
-  bit_1 : bit_at new 1 ≡ bit_at old 1
-  bit_1 = omega (arith, is.low)
-
-  bit_2 : bit_at new 2 ≡ bit_at old 2
-  bit_2 = omega (arith, is.low)
+  bit_0 = omega (arith, is.present)
 
   bit_7 : bit_at new 7 ≡ bit_at old 7
-  bit_7 = omega (arith, is.high)
-
-  bit_63 : bit_at new 63 ≡ bit_at old 63
-  bit_63 = omega (arith, is.high)
-
-  same_rights : rights_of new ≡ rights_of old
-  same_rights = rights_same _ _ _ _ _ _ bit_1 bit_2 bit_63
+  bit_7 = omega (arith, is.between)
 
   same_number : new % 2 ^ 52 / 2 ^ 12 ≡ old % 2 ^ 52 / 2 ^ 12
-  same_number = omega (arith, is.high)
+  same_number = omega (arith, is.between)
 
   same_leaf : (level : ℕ) → is_leaf level new ≡ is_leaf level old
   same_leaf level = ap (λ b. (level == 1) || (nat_le level 3 && (b == 1))) bit_7
@@ -91,24 +88,35 @@ module _ {old new : ℕ} (is : IsAlike old new) where
       sym (shr-shr (new % 2 ^ 52) 12 (9 * below)) ∙ ap (λ n. n / 2 ^ (9 * below)) same_number ∙ shr-shr (old % 2 ^ 52) 12 (9 * below) in
       ap (λ e. new % 2 ^ 52 / 2 ^ e * 2 ^ e) exponent ∙ ap (λ n. n * 2 ^ (12 + 9 * below)) by ∙ ap (λ e. old % 2 ^ 52 / 2 ^ e * 2 ^ e) (sym exponent)
 
-  reserved_from : (offset offset' : ℕ) → offset ≡ offset' → (b b' : ℕ) → b ≡ b'
-      → ◌≡◌ {A = Bool} (if b == 1 then not (offset == 0) else b == 1) (if b' == 1 then not (offset' == 0) else b' == 1)
-  reserved_from offset offset' same b b' alike = rw (same, alike) refl
-
   same_reserved : (level : ℕ) → 1 ≤ level → has_reserved level new ≡ has_reserved level old
   same_reserved zero some = absurd (omega (arith, some))
   same_reserved (suc zero) some =
       let none : new % 2 ^ 12 / 2 ^ 13 ≡ old % 2 ^ 12 / 2 ^ 13 = omega arith in ap (λ n. not (n == 0)) none
-  same_reserved (suc (suc zero)) some = reserved_from (new % 2 ^ 21 / 2 ^ 13) (old % 2 ^ 21 / 2 ^ 13) (omega (arith, is.high)) _ _ bit_7
-  same_reserved (suc (suc (suc zero))) some = reserved_from (new % 2 ^ 30 / 2 ^ 13) (old % 2 ^ 30 / 2 ^ 13) (omega (arith, is.high)) _ _ bit_7
+  same_reserved (suc (suc zero)) some = reserved_from (new % 2 ^ 21 / 2 ^ 13) (old % 2 ^ 21 / 2 ^ 13) (omega (arith, is.between)) _ _ bit_7
+  same_reserved (suc (suc (suc zero))) some = reserved_from (new % 2 ^ 30 / 2 ^ 13) (old % 2 ^ 30 / 2 ^ 13) (omega (arith, is.between)) _ _ bit_7
   same_reserved (suc (suc (suc (suc level)))) some =
       reserved_deep (suc (suc (suc (suc level)))) new (omega arith) ∙ ap (λ b. b == 1) bit_7
       ∙ sym (reserved_deep (suc (suc (suc (suc level)))) old (omega arith))
 
+  -- the one means what the other means, with its own rights
+  pub means_with : (below : ℕ) → meaning (suc below) new ≡ said (bit_at old 0 == 1) (has_reserved (suc below) old) (is_leaf (suc below) old) (rights_of new)
+      (old % 2 ^ 52 / entry_bytes (suc below) * entry_bytes (suc below)) (old % 2 ^ 52 / 2 ^ 12)
+  means_with below = said_same _ _ _ _ _ _ _ _ _ _ _ _ (ap (λ b. b == 1) bit_0) (same_reserved (suc below) (omega arith)) (same_leaf (suc below)) refl
+      (same_address below) same_number
+
+module _ {old new : ℕ} (is : IsAlike old new) where
+  as_placed : IsAsPlaced old new
+  as_placed = record { present = omega (arith, is.low); between = omega (arith, is.high) }
+
+  same_rights : rights_of new ≡ rights_of old
+  same_rights = rights_same (bit_at new 1) (bit_at old 1) (bit_at new 2) (bit_at old 2) (bit_at new 63) (bit_at old 63)
+      (omega (arith, is.low)) (omega (arith, is.low)) (omega (arith, is.high))
+
   same_meaning : (level : ℕ) → 1 ≤ level → meaning level new ≡ meaning level old
   same_meaning zero some = absurd (omega (arith, some))
-  same_meaning (suc below) some = said_same _ _ _ _ _ _ _ _ _ _ _ _ (ap (λ b. b == 1) bit_0) (same_reserved (suc below) some) (same_leaf (suc below))
-      same_rights (same_address below) same_number
+  same_meaning (suc below) some = means_with as_placed below
+      ∙ ap (λ rights. said (bit_at old 0 == 1) (has_reserved (suc below) old) (is_leaf (suc below) old) rights
+      (old % 2 ^ 52 / entry_bytes (suc below) * entry_bytes (suc below)) (old % 2 ^ 52 / 2 ^ 12)) same_rights
 
   moved : (word : ℕ) → old ≡ word + flags_in old → new ≡ word + flags_in new
   moved word was = omega (arith, is.low, is.high, was)
@@ -139,7 +147,7 @@ module _ {old new : ℕ} (is : IsSameButFlags old new) where
   flagged_one = ⊎_elim
       (λ (none : bit_at old 0 ≡ 0). ap one_for (is.absent none))
       (λ (some : bit_at old 0 ≢ 0).
-      one_for_some new (λ none. some (sym (bit_0 (alike is)) ∙ ap (λ n. bit_at n 0) none))
+      one_for_some new (λ none. some (sym (bit_0 (as_placed (alike is))) ∙ ap (λ n. bit_at n 0) none))
       ∙ sym (one_for_some old (λ none. some (ap (λ n. bit_at n 0) none))))
       (cases_eq (bit_at old 0) 0)
 
@@ -161,16 +169,14 @@ flagged_at before after are index = ⊎_elim
 
 pub flagged_count : (before after : List ℕ) → AllZip IsSameButFlags before after → nonzero_count after ≡ nonzero_count before
 flagged_count [] [] are = refl
-flagged_count [] (word ∷ after) are = absurd are
-flagged_count (word ∷ before) [] are = absurd are
 flagged_count (word ∷ before) (next ∷ after) are =
     let here = flagged_one are.0 in
     let rest = flagged_count before after are.1 in
     let e : one_for next + nonzero_count after ≡ one_for word + nonzero_count before = omega (arith, here, rest) in
     e
+flagged_count _ _ are = absurd are
 
 pub flagged_zeros : (n : ℕ) (after : List ℕ) → AllZip IsSameButFlags (replicate n 0) after → after ≡ replicate n 0
 flagged_zeros zero [] are = refl
-flagged_zeros zero (word ∷ after) are = absurd are
-flagged_zeros (suc n) [] are = absurd are
 flagged_zeros (suc n) (word ∷ after) are = ap (λ w. w ∷ after) (stays_zero are.0 refl) ∙ ap (λ ws. 0 ∷ ws) (flagged_zeros n after are.1)
+flagged_zeros _ _ are = absurd are

@@ -1,9 +1,10 @@
 -- What an operation leaves of a memory, write by write.
 use Rattle.std.proofs.Common.{◌≡◌, ◌≢◌, ℕ, zero, suc, ◌+◌, ◌-◌, ◌<◌, List, [], Some, None, inl, inr, ◌⊎◌, ⊎_elim, refl, sym, ap, subst, ◌∙◌, arith}
-use Rattle.std.specs.Prelude.{IsSome, is_some, unwrap_or, slice_index, slice_set}
+use Rattle.std.specs.Prelude.{IsSome, is_some, unwrap_or, slice_index}
 use Rattle.std.proofs.lemmas.Bool.{cases_eq}
 use Rattle.std.proofs.lemmas.List.{get_or-set_same, get_or-set_other}
 use Rattle.std.specs.FinMap as finite
+use Rattle.std.proofs.lemmas.Option.{same_Some}
 use Rattle.vs_types.specs.Depth.{levels, index_at}
 use Rattle.vs_types.specs.Entry.{meaning}
 use Rattle.vs_types.specs.declared.depth.Depth.{Depth}
@@ -22,7 +23,7 @@ use Rattle.vs_space.proofs.Numbered.{get-insert_same, get-insert_other, get-remo
 use Rattle.vs_space.proofs.Paths.{words_found, table_first, table_next, table_before, reached_within}
 use Rattle.vs_space.proofs.Writes.{IsTreeAt, used_at, after_write, words_in, get_written, get_written_other, written_in_use}
 use Rattle.vs_space.proofs.Links.{IsLink, linked, zeros_are}
-use Rattle.vs_space.proofs.Written.{word_of, word_alike, one_word}
+use Rattle.vs_space.proofs.Written.{word_of, word_alike}
 use Rattle.vs_space.proofs.Descents.{entry_read}
 
 -- ---- the words of a memory in which one was written
@@ -37,7 +38,7 @@ word_here : (m : Memory) (n i w : ℕ) → AreWhole m → IsSome (finite.get m n
 word_here m n i w whole used low = word_of (with_word m n i w) n i _ (get_written m n i w)
     ∙ ap Some (get_or-set_same (unwrap_or (finite.get m n) []) i w 0 (omega (arith, whole n _ (words_in m n used))))
 
-word_elsewhere : (m : Memory) (n i w q j : ℕ) → IsSome (finite.get m n) → (q ≡ n → j ≢ i) → word_at (with_word m n i w) q j ≡ word_at m q j
+pub word_elsewhere : (m : Memory) (n i w q j : ℕ) → IsSome (finite.get m n) → (q ≡ n → j ≢ i) → word_at (with_word m n i w) q j ≡ word_at m q j
 word_elsewhere m n i w q j used apart = ⊎_elim
     (λ (same : q ≡ n). subst (λ k. word_at (with_word m n i w) k j ≡ word_at m k j) (sym same)
     (word_of (with_word m n i w) n j _ (get_written m n i w)
@@ -130,7 +131,7 @@ module _ (depth : Depth) {m : Memory} {root level a n : ℕ} (here : IsTreeAt (l
   module _ (zero_here : word_at m n (index_at level a) ≡ Some 0) (w : ℕ) where
     entries_filled : Keeps m (after_write here w)
     entries_filled q j word has = ⊎_elim
-        (λ place. absurd (has.some (one_word word 0 (sym has.there ∙ word_moved m place ∙ zero_here))))
+        (λ place. absurd (has.some (same_Some word 0 (sym has.there ∙ word_moved m place ∙ zero_here))))
         (λ apart. moved (word_elsewhere m n (index_at level a) w q j (used_at here) apart) has)
         (place_or_not q j n (index_at level a))
 
@@ -154,7 +155,7 @@ module _ (depth : Depth) {m : Memory} {root level a n : ℕ} (here : IsTreeAt (l
   more_cleared = record {
     frames = λ q used. used_before m n (index_at level a) 0 q (used_at here) used;
     entries = λ q j word has. ⊎_elim
-        (λ place. absurd (has.some (one_word word 0 (sym has.there ∙ word_moved (after_write here 0) place
+        (λ place. absurd (has.some (same_Some word 0 (sym has.there ∙ word_moved (after_write here 0) place
         ∙ word_here m n (index_at level a) 0 here.whole (used_at here) (omega arith)))))
         (λ apart. moved (sym (word_elsewhere m n (index_at level a) 0 q j (used_at here) apart)) has)
         (place_or_not q j n (index_at level a));
@@ -189,7 +190,7 @@ module _ (depth : Depth) {m : Memory} {root level a n : ℕ} (here : IsTreeAt (l
           (cases_eq q f);
       on_path = λ q j word has. ⊎_elim
           (λ (same : q ≡ f).
-          absurd (has.some (one_word word 0 (sym has.there ∙ word_of m q j (Some zeros) (ap (finite.get m) same ∙ clear) ∙ ap Some (zeros_are j)))))
+          absurd (has.some (same_Some word 0 (sym has.there ∙ word_of m q j (Some zeros) (ap (finite.get m) same ∙ clear) ∙ ap Some (zeros_are j)))))
           (λ (other : q ≢ f). ⊎_elim (λ old. inl (moved (unlinked_as q j other) old)) (λ it. inr it) (more_cleared.on_path q j word has))
           (cases_eq q f);
     }
@@ -240,7 +241,7 @@ module _ (depth : Depth) (m : Memory) {root level a n w f below : ℕ} (free : f
         (cases_eq q f);
     on_path = λ q j word has. ⊎_elim
         (λ old. ⊎_elim
-        (λ (same : q ≡ f). absurd (old.some (one_word word 0 (sym old.there ∙ word_of _ q j (Some zeros) (ap (finite.get (finite.insert m f zeros)) same
+        (λ (same : q ≡ f). absurd (old.some (same_Some word 0 (sym old.there ∙ word_of _ q j (Some zeros) (ap (finite.get (finite.insert m f zeros)) same
         ∙ get-insert_same m f zeros) ∙ ap Some (zeros_are j)))))
         (λ (other : q ≢ f). inl (moved (sym (taken_as q j other)) old))
         (cases_eq q f))

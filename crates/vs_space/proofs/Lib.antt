@@ -9,12 +9,14 @@ pub mod Plain
 pub mod Counts
 pub mod Reached
 pub mod Regions
+pub mod LeafSteps
 pub mod Relent
 pub mod Descents
 pub mod Footprints
 pub mod Protects
 pub mod Meets
 pub mod Prunes
+pub mod Stretches
 pub mod Presents
 pub mod TableCounts
 pub mod Unmaps

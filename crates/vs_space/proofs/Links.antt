@@ -4,6 +4,7 @@ use Rattle.std.specs.Prelude.{IsSome, option_map, slice_index, replicate}
 use Rattle.std.proofs.lemmas.Bool.{cases_eq, cases_lt}
 use Rattle.std.proofs.lemmas.List.{get_or_past, get_or-replicate, length-replicate}
 use Rattle.std.specs.FinMap as finite
+use Rattle.std.proofs.lemmas.Option.{same_Some}
 use Rattle.vs_types.specs.Depth.{index_at}
 use Rattle.vs_types.specs.Entry.{meaning}
 use Rattle.vs_types.specs.declared.page.Rights.{Rights}
@@ -19,7 +20,7 @@ use Rattle.vs_space.proofs.Numbered.{get-insert_other, get-remove_other}
 use Rattle.vs_space.proofs.Paths.{table_below, none_past, walk_absent, found_same}
 use Rattle.vs_space.proofs.Writes.{IsTreeAt, within, at_same, off_path, above, table_off_path, table_above, walk_off_path, table_here, found_on_path}
 use Rattle.vs_space.proofs.Writes.{same_or_not, found_alike, written_in_use, used_some, get_written_other}
-use Rattle.vs_space.proofs.Trees.{one_some, one_meaning, unreached_table, unreached_walk, unreached_tree, none_here, fewer, tree_write, walk_to_absent}
+use Rattle.vs_space.proofs.Trees.{unreached_table, unreached_walk, unreached_tree, none_here, fewer, tree_write, walk_to_absent}
 
 -- the word 0 is absent at each level
 zero_absent : (level : ℕ) → meaning level 0 ≡ entry.Absent
@@ -68,7 +69,7 @@ module _ {top : ℕ} {m : Memory} {root level a n w f below : ℕ} (link : IsLin
   old_or_new j b q r = ⊎_elim
       (λ same. ⊎_elim
       (λ (past : j < level). ⊎_elim
-      (λ (at : j ≡ below). inr (at, same, one_some q f (sym r ∙ ap (λ i. table_at top new root i b) at ∙ linked b same)))
+      (λ (at : j ≡ below). inr (at, same, same_Some q f (sym r ∙ ap (λ i. table_at top new root i b) at ∙ linked b same)))
       (λ (other : j ≢ below). let nowhere = ends_below b j (omega (arith, other, link.one)) same in absurd (cc))
       (cases_eq j below))
       (λ (le : level ≤ j). inl (sym (table_above link.here w b j le) ∙ r))
@@ -96,11 +97,11 @@ module _ {top : ℕ} {m : Memory} {root level a n w f below : ℕ} (link : IsLin
   allows_old j b q next own r g old = ⊎_elim
       (λ same. ⊎_elim
       (λ (at : j ≡ level).
-      let q_is : q ≡ n = one_some q n (sym r ∙ ap (λ i. table_at top new root i b) at ∙ table_here link.here w b same) in
+      let q_is : q ≡ n = same_Some q n (sym r ∙ ap (λ i. table_at top new root i b) at ∙ table_here link.here w b same) in
       let found : found_at level new n b ≡ Some (entry.Table next own) =
       subst (λ i. found_at i new n b ≡ Some (entry.Table next own)) at (subst (λ x. found_at j new x b ≡ Some (entry.Table next own)) q_is g) in
       let same_entry : entry.Table next own ≡ entry.Table f all_rights =
-      one_meaning _ _ (sym found ∙ found_on_path link.here w b same ∙ ap Some link.leads) in
+      same_Some _ _ (sym found ∙ found_on_path link.here w b same ∙ ap Some link.leads) in
       cc)
       (λ (other : j ≢ level). link.here.tree.allows j b q next own old (sym (above link.here w b j q other old) ∙ g))
       (cases_eq j level))
@@ -118,7 +119,7 @@ module _ {top : ℕ} {m : Memory} {root level a n w f below : ℕ} (link : IsLin
         (λ old. allows_old j b q next own r g old)
         (λ fresh.
         let found : found_at j new f b ≡ Some (entry.Table next own) = subst (λ x. found_at j new x b ≡ Some (entry.Table next own)) fresh.2 g in
-        let wrong : entry.Table next own ≡ entry.Absent = one_meaning _ _ (sym found ∙ found_in_zeros j new f b still_clear) in
+        let wrong : entry.Table next own ≡ entry.Absent = same_Some _ _ (sym found ∙ found_in_zeros j new f b still_clear) in
         cc)
         (old_or_new j b q r);
   }

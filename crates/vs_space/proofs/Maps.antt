@@ -48,7 +48,7 @@ use Rattle.vs_space.proofs.Presents.{absent_word}
 use Rattle.vs_space.proofs.Overlaps.{overlapped_none, overlapped_least}
 use Rattle.vs_space.proofs.TableCounts.{count_added}
 
-map_overlaps : (depth : Depth) (limit : ℕ) (space : Space) (page : Page) (base : ℕ) → least_overlapped space page ≡ Some base
+pub map_overlaps : (depth : Depth) (limit : ℕ) (space : Space) (page : Page) (base : ℕ) → least_overlapped space page ≡ Some base
     → step depth limit space (Map page) ≡ record { space = space; answer = answers.Overlap base }
 map_overlaps depth limit space page base least = map_cases (λ s. s ≡ record { space = space; answer = answers.Overlap base }) depth limit space page
     (λ e t. absurd (cc))
@@ -64,7 +64,7 @@ map_is_full depth limit space page least above =
     (λ other e. absurd (cc))
     (λ e t. refl)
 
-map_is_done : (depth : Depth) (limit : ℕ) (space : Space) (page : Page) → least_overlapped space page ≡ None
+pub map_is_done : (depth : Depth) (limit : ℕ) (space : Space) (page : Page) → least_overlapped space page ≡ None
     → table_count depth (finite.insert space page.base page) ≤ limit
     → step depth limit space (Map page) ≡ record { space = finite.insert space page.base page; answer = answers.Done }
 map_is_done depth limit space page least few =

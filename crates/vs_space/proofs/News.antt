@@ -4,6 +4,7 @@ use Rattle.std.specs.Prelude.{IsSome}
 use Rattle.std.proofs.lemmas.Bool.{cases_eq}
 use Rattle.std.specs.FinMap as finite
 use Rattle.std.specs.Ordering.{nat_cmp}
+use Rattle.std.proofs.lemmas.Option.{same_Some}
 use Rattle.vs_types.specs.Depth.{levels}
 use Rattle.vs_types.specs.Space.{no_pages}
 use Rattle.vs_types.specs.declared.depth.Depth.{Depth}
@@ -19,7 +20,6 @@ use Rattle.vs_space.specs.Invariant.{IsPageTable}
 use Rattle.vs_space.proofs.Numbered.{get-insert_same, get-insert_other, len-insert_free, whole-empty, whole-zeros}
 use Rattle.vs_space.proofs.Paths.{reached_within, table_first, table_below, none_past, walk_absent}
 use Rattle.vs_space.proofs.Writes.{used_some}
-use Rattle.vs_space.proofs.Trees.{one_some}
 use Rattle.vs_space.proofs.Links.{found_in_zeros}
 use Rattle.vs_space.proofs.Written.{written_clear}
 use Rattle.vs_types.proofs.Pages.{three_levels}
@@ -45,7 +45,7 @@ module _ (depth : Depth) (root : ℕ) where
   only_root level a n r = ⊎_elim
       (λ (same : level ≡ levels depth). (
         same,
-        one_some n root
+        same_Some n root
             (sym r ∙ ap (λ l. table_at (levels depth) alone root l a) same ∙ table_first (levels depth) root alone a),
       ))
       (λ (other : level ≢ levels depth).

@@ -1,6 +1,7 @@
 -- The least base of a page that another page overlaps, by the addresses.
 use Rattle.std.proofs.Common.{◌≡◌, ℕ, ◌<◌, ◌≤◌, Some, None, IsTrue, ⊎_elim, sym, ap, ◌∙◌, arith}
 use Rattle.std.proofs.lemmas.Bool.{cases_lt}
+use Rattle.std.proofs.lemmas.Option.{same_Some}
 use Rattle.vs_types.specs.declared.depth.Depth.{Depth}
 use Rattle.vs_types.specs.declared.page.Page.{Page}
 use Rattle.vs_types.specs.Page.{covers}
@@ -37,7 +38,7 @@ module _ {depth : Depth} {space : Space} (is : IsSpace depth space) (page : Page
       none_some r wrong)
       (λ (le : q.base ≤ page.base).
       let same : page.base ≡ q.base = omega (arith, le, spans.0) in
-      let one : r ≡ q = some_page r q (sym here ∙ ap (page_at space) same ∙ e) in
+      let one : r ≡ q = same_Some r q (sym here ∙ ap (page_at space) same ∙ e) in
       omega (arith, lower, ap (λ (z : Page). z.base) one))
       (cases_lt page.base q.base))
       (λ (from : page.base ≤ r.base).
@@ -50,6 +51,3 @@ module _ {depth : Depth} {space : Space} (is : IsSpace depth space) (page : Page
     where
       none_some : (r : Page) → None ≡ Some r → ⊥
       none_some r e = cc
-
-      some_page : (r s : Page) → Some r ≡ Some s → r ≡ s
-      some_page r s e = cc

@@ -3,6 +3,7 @@ use Rattle.std.proofs.Common.{◌≡◌, ◌≢◌, ℕ, zero, suc, ◌+◌, ◌
 use Rattle.std.specs.Prelude.{if◌then◌else◌, option_and_then, option_map, slice_index}
 use Rattle.std.proofs.lemmas.Bool.{eq-eqb, ne_eqb, cases_eq, cases_lt}
 use Rattle.std.specs.FinMap as finite
+use Rattle.std.proofs.lemmas.Option.{same_Some}
 use Rattle.vs_types.specs.Depth.{entry_bytes, index_at}
 use Rattle.vs_types.specs.Entry.{meaning, size_at}
 use Rattle.vs_types.specs.Page.{intersection}
@@ -48,11 +49,8 @@ pub walk_lost : (m : Memory) (below n : ℕ) (rights : Rights) (a : ℕ) → fou
 walk_lost m below n rights a is = walk_missing m below n rights a (nothing_found (suc below) m n a is)
 
 table_in_some : (found : Option Meaning) (n : ℕ) → table_in found ≡ Some n → (own : Rights) × (found ≡ Some (entry.Table n own))
-table_in_some None n is = cc
-table_in_some (Some entry.Absent) n is = cc
-table_in_some (Some entry.Reserved) n is = cc
 table_in_some (Some (entry.Table number own)) n is = let same : number ≡ n = cc in (own, ap (λ x. Some (entry.Table x own)) same)
-table_in_some (Some (entry.Leaf phys own)) n is = cc
+table_in_some _ n is = cc
 
 pub found_same : (level : ℕ) (m : Memory) (n a b : ℕ) → index_at level a ≡ index_at level b → found_at level m n a ≡ found_at level m n b
 unfolding found_at
@@ -223,10 +221,8 @@ module _ (top : ℕ) (root : ℕ) where
         on : Goes m m' b level → (e : Meaning) → found_at (suc level) m n b ≡ Some e
             → walk_entry (suc level) rights b (λ next own. walk_from m' level next own b) e ≡ walk_entry (suc level) rights b
             (λ next own. walk_from m level next own b) e
-        on go entry.Absent is = refl
-        on go entry.Reserved is = refl
-        on go (entry.Leaf phys own) is = refl
         on go (entry.Table next own) is = go next (intersection rights own) (table_next m level b n at ∙ ap table_in is)
+        on go _ is = refl
 
         by : Goes m m' b level → (o : Option Meaning) → found_at (suc level) m n b ≡ o
             → walk_from m' (suc level) n rights b ≡ walk_from m (suc level) n rights b
@@ -242,16 +238,13 @@ module _ {top : ℕ} {m : Memory} {root : ℕ} (tree : IsTree top m root) (b : �
   walk_reaches : (level n : ℕ) → table_at top m root level b ≡ Some n → walk_from m top root all_rights b ≡ walk_from m level n all_rights b
   walk_reaches level n at =
       from_root top root (λ l. (n : ℕ) → table_at top m root l b ≡ Some n → walk_from m top root all_rights b ≡ walk_from m l n all_rights b)
-      (λ n at. ap (λ x. walk_from m top x all_rights b) (some_same root n (sym (table_first top root m b) ∙ at)))
+      (λ n at. ap (λ x. walk_from m top x all_rights b) (same_Some root n (sym (table_first top root m b) ∙ at)))
       (λ l low before n at.
       let above = table_before top root m l b n low at in
       let all : above.1 ≡ all_rights = tree.allows (suc l) b above.0 n above.1 above.2 above.3 in
       let found : found_at (suc l) m above.0 b ≡ Some (entry.Table n all_rights) = above.3 ∙ ap (λ own. Some (entry.Table n own)) all in
       before above.0 above.2 ∙ walk_found m l above.0 all_rights b (entry.Table n all_rights) found)
       level (reached_within top root m level b n at) n at
-    where
-      some_same : (x y : ℕ) → Some x ≡ Some y → x ≡ y
-      some_same x y e = cc
 
   -- the end of a walk, by the entry that leads no further
   pub walk_absent : (level n : ℕ) → 1 ≤ level → table_at top m root level b ≡ Some n → found_at level m n b ≡ Some entry.Absent

@@ -1,9 +1,10 @@
 -- No word is given an accessed flag or a dirty flag.
-use Rattle.std.proofs.Common.{◌≡◌, ◌≢◌, ℕ, ◌<◌, ◌≤◌, [], Some, None, ⊎_elim, refl, sym, ap, subst, ◌∙◌, arith}
+use Rattle.std.proofs.Common.{◌≡◌, ◌≢◌, ℕ, ◌<◌, ◌≤◌, [], Some, None, ⊎_elim, sym, ap, subst, ◌∙◌, arith}
 use Rattle.std.specs.Prelude.{IsSome, unwrap_or, slice_index, slice_set}
 use Rattle.std.proofs.lemmas.Bool.{cases_eq}
 use Rattle.std.proofs.lemmas.List.{get_or-set_same, get_or-set_other}
 use Rattle.std.specs.FinMap as finite
+use Rattle.std.proofs.lemmas.Option.{same_Some}
 use Rattle.vs_types.specs.Entry.{meaning, size_at, leaf_word}
 use Rattle.vs_types.specs.declared.page.Rights.{Rights}
 use Rattle.vs_types.specs.declared.entry.Meaning.TheVariants as entry
@@ -14,7 +15,7 @@ use Rattle.vs_space.specs.Held.{word_at, with_word}
 use Rattle.vs_space.proofs.Numbered.{get-insert_same, get-insert_other, get-remove_same, get-remove_other}
 use Rattle.vs_space.proofs.Links.{zeros_are}
 use Rattle.vs_space.proofs.Writes.{words_in, get_written, get_written_other}
-use Rattle.vs_space.proofs.Written.{no_flags_leaf, leaf_aligned, word_of, one_word, word_alike}
+use Rattle.vs_space.proofs.Written.{no_flags_leaf, leaf_aligned, word_of, word_alike}
 
 pub adds_none : (m : Memory) → AddsNoFlags m m
 adds_none m = record { stood = λ n i word got flagged. got }
@@ -40,7 +41,7 @@ adds_written m n i w whole used low plain = record {
   own : (j word : ℕ) → word_at (with_word m n i w) n j ≡ Some word → flags_in word ≢ 0 → word_at m n j ≡ Some word
   own j word got flagged = ⊎_elim
       (λ (same : j ≡ i).
-      let here : word ≡ w = one_word word w (sym got ∙ word_of (with_word m n i w) n j _ (get_written m n i w)
+      let here : word ≡ w = same_Some word w (sym got ∙ word_of (with_word m n i w) n j _ (get_written m n i w)
       ∙ ap (λ x. Some (slice_index (slice_set (unwrap_or (finite.get m n) []) i w) x)) same
       ∙ ap Some (get_or-set_same (unwrap_or (finite.get m n) []) i w 0 (omega (arith, whole n _ (words_in m n used))))) in
       absurd (flagged (ap flags_in here ∙ plain)))
@@ -55,7 +56,7 @@ adds_taken m f = record {
   stood = λ q j word got flagged. ⊎_elim
       (λ (same : q ≡ f).
       let clear = ap (finite.get (finite.insert m f zeros)) same ∙ get-insert_same m f zeros in
-      let none : word ≡ 0 = one_word word 0 (sym got ∙ word_of (finite.insert m f zeros) q j (Some zeros) clear ∙ ap Some (zeros_are j)) in
+      let none : word ≡ 0 = same_Some word 0 (sym got ∙ word_of (finite.insert m f zeros) q j (Some zeros) clear ∙ ap Some (zeros_are j)) in
       absurd (flagged (ap flags_in none)))
       (λ (other : q ≢ f). sym (word_alike m (finite.insert m f zeros) q j (get-insert_other m f zeros q other)) ∙ got)
       (cases_eq q f);

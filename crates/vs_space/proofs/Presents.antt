@@ -2,6 +2,7 @@
 use Rattle.std.proofs.Common.{◌≡◌, ◌≢◌, ℕ, List, Some, None, refl, sym, ap, subst, ◌∙◌}
 use Rattle.std.specs.Prelude.{IsSome, slice_index}
 use Rattle.std.specs.FinMap as finite
+use Rattle.std.proofs.lemmas.Option.{same_Some}
 use Rattle.vs_types.specs.Depth.{index_at}
 use Rattle.vs_types.specs.Entry.{meaning}
 use Rattle.vs_types.specs.declared.entry.Meaning.{Meaning}
@@ -14,7 +15,6 @@ use Rattle.vs_space.specs.Tree.{AreWritten}
 use Rattle.vs_space.proofs.Numbered.{get-insert_same, get-insert_other}
 use Rattle.vs_space.proofs.Paths.{words_found}
 use Rattle.vs_space.proofs.Writes.{get_written_other}
-use Rattle.vs_space.proofs.Trees.{one_meaning}
 use Rattle.vs_space.proofs.Links.{zeros_are}
 use Rattle.vs_space.proofs.Written.{word_alike, written_for}
 use Rattle.vs_space.proofs.Descents.{entry_read}
@@ -27,7 +27,7 @@ some_word level says other none = other (sym says ∙ ap (meaning level) none)
 -- nor is the word of an entry that isn't absent
 pub present_word : (level : ℕ) (m : Memory) (n a : ℕ) {index : ℕ} {e : Meaning} → found_at level m n a ≡ Some e → e ≢ entry.Absent → index ≡ index_at level a
     → word_at m n index ≢ Some 0
-present_word level m n a found other is none = other (one_meaning _ _ (sym found ∙ entry_read level m n a none is refl))
+present_word level m n a found other is none = other (same_Some _ _ (sym found ∙ entry_read level m n a none is refl))
 
 -- the word of an absent entry is
 pub absent_word : (level : ℕ) (m : Memory) (n a : ℕ) {index : ℕ} → AreWritten level m n → found_at level m n a ≡ Some entry.Absent → index ≡ index_at level a

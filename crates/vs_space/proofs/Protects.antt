@@ -1,12 +1,11 @@
 -- What a page table is after the rights of a page have changed.
-use Rattle.std.proofs.Common.{◌≡◌, ◌≢◌, ℕ, ◌+◌, ◌-◌, ◌%◌, ◌≤◌, Some, None, refl, sym, ap, subst, ◌∙◌, arith}
+use Rattle.std.proofs.Common.{◌≡◌, ◌≢◌, ℕ, ◌%◌, ◌≤◌, Some, None, refl, sym, ap, subst, ◌∙◌, arith}
 use Rattle.vs_types.specs.Depth.{levels, entry_bytes, index_at, IsCanonical}
 use Rattle.vs_types.specs.Entry.{meaning, size_at, leaf_word}
 use Rattle.vs_types.specs.Operation.{IsBase}
-use Rattle.vs_types.specs.Page.{level_of, bytes_of}
+use Rattle.vs_types.specs.Page.{bytes_of}
 use Rattle.vs_types.specs.Space.{Space, page_at, table_count}
 use Rattle.vs_types.specs.Step.{step, Stepped}
-use Rattle.vs_types.specs.Laws.{as_in, LooksChanged}
 use Rattle.vs_types.specs.declared.depth.Depth.{Depth}
 use Rattle.vs_types.specs.declared.op.Action.{Action}
 use Rattle.vs_types.specs.declared.op.Action.TheVariants.{Unmap, Protect}
@@ -17,13 +16,11 @@ use Rattle.vs_types.specs.declared.entry.Meaning.TheVariants as entry
 use Rattle.vs_types.specs.declared.answer.Answer.{Answer}
 use Rattle.vs_types.specs.declared.answer.Answer.TheVariants as answers
 use Rattle.vs_types.proofs.Steps.{protect_cases, unmap_cases, step_space}
-use Rattle.vs_types.proofs.Looks.{changed_looks}
 use Rattle.vs_types.proofs.Tables.{protect_tables}
-use Rattle.vs_walk.specs.Walk.{as_walk}
-use Rattle.vs_walk.specs.declared.walk.Walk.TheVariants.{Mapped, Reserved}
+use Rattle.vs_walk.specs.declared.walk.Walk.TheVariants.{Reserved}
 use Rattle.vs_walk.proofs.LawsOfTranslations.{one_space, not_reserved}
 use Rattle.vs_space.specs.Held.{with_word}
-use Rattle.vs_space.specs.Path.{found_at, table_at, table_in, SamePath}
+use Rattle.vs_space.specs.Path.{found_at, table_at, table_in}
 use Rattle.vs_space.specs.Table.{PageTable, IsTableOf, IsTableStep}
 use Rattle.vs_space.specs.Invariant.{IsSpaceOf, IsPageTable}
 use Rattle.vs_space.proofs.Paths.{walk_absent, walk_reserved}
@@ -33,7 +30,8 @@ use Rattle.vs_space.proofs.Reached.{reached_write, whole_write}
 use Rattle.vs_space.proofs.Written.{written_leaf}
 use Rattle.vs_space.proofs.Plain.{adds_none}
 use Rattle.vs_space.proofs.Footprints.{keeps_none}
-use Rattle.vs_space.proofs.Regions.{walk_in, IsLeafPage, page_path, leaf_page, nothing_at, translates_changed, path_covers}
+use Rattle.vs_space.proofs.Regions.{walk_in, IsLeafPage, leaf_page, nothing_at}
+use Rattle.vs_space.proofs.LeafSteps.{changed_answer, changed_translates}
 
 -- the space that a page table is of
 pub own_space : {t : PageTable} → IsPageTable t → (space : Space) × IsTableOf t space
@@ -101,13 +99,6 @@ protect_inside depth limit space base rights q here apart =
     (λ p e same. let one : p ≡ q = cc in absurd (apart (sym (ap (λ (z : Page). z.base) one) ∙ same)))
     (λ p e differs. let one : p ≡ q = cc in ap (λ (z : Page). let s : Stepped = record { space = space; answer = answers.Inside z.base } in s) one)
 
-protect_changes : (depth : Depth) (limit : ℕ) (space : Space) (base : ℕ) (rights : Rights) (q : Page) → page_at space base ≡ Some q → q.base ≡ base
-    → (step depth limit space (Protect base rights)).answer ≡ answers.Changed q.rights
-protect_changes depth limit space base rights q here same =
-    protect_cases (λ s. s.answer ≡ answers.Changed q.rights) depth limit space base rights (λ e. absurd (cc))
-    (λ p e is. let one : p ≡ q = cc in ap (λ (z : Page). answers.Changed z.rights) one)
-    (λ p e differs. let one : p ≡ q = cc in absurd (differs (ap (λ (z : Page). z.base) one ∙ same)))
-
 -- a table that doesn't change makes a step whose space stays
 pub stays : {t : PageTable} {action : Action} {answer : Answer} → IsPageTable t
     → ((space : Space) → IsTableOf t space → step t.depth t.limit space action ≡ record { space = space; answer = answer }) → IsTableStep t action answer t
@@ -149,28 +140,13 @@ module _ {t : PageTable} (table : IsPageTable t) {base : ℕ} (good : IsBase t.d
         omega (arith, leaf.1.base)
 
     pub answer_is : (step t.depth limit space (Protect base rights)).answer ≡ answers.Changed own
-    answer_is = protect_changes t.depth limit space base rights leaf.0 leaf.1.here begins ∙ ap answers.Changed leaf.1.rights
-
-    looks : LooksChanged leaf.0 (as_in (record leaf.0 { rights = rights })) space next
-    looks = subst (λ a. LooksChanged leaf.0 (as_in (record leaf.0 { rights = rights })) space (step t.depth limit space (Protect a rights)).space) begins
-        (changed_looks limit of.is_of.is_space leaf.0 rights own leaf.1.held
-        (subst (λ a. (step t.depth limit space (Protect a rights)).answer ≡ answers.Changed own) (sym begins) answer_is))
-
-    inside_is : (b : ℕ) → IsCanonical t.depth b → SamePath (levels t.depth) (level_of leaf.0.size) leaf.0.base b
-        → walk_in new b ≡ as_walk (as_in (record leaf.0 { rights = rights }) b)
-    inside_is b canonical same =
-        let at = (path_covers t.depth leaf.0 leaf.1.good b canonical same).1 in
-        let offset : phys + b % entry_bytes level ≡ leaf.0.phys + (b - leaf.0.base) =
-        subst (λ l. phys + b % entry_bytes l ≡ leaf.0.phys + (b - leaf.0.base)) leaf.1.level_is (omega (arith, at, leaf.1.phys_is)) in
-        walk_to_leaf here w leads met.some b ((page_path leaf.1 begins b).0 same) ∙ ap (λ p. Mapped p (size_at level) rights) offset
-        ∙ ap (λ z. Mapped (leaf.0.phys + (b - leaf.0.base)) z rights) (sym leaf.1.size)
+    answer_is = changed_answer limit of.is_of leaf.1 begins rights
 
     pub space_is : IsSpaceOf new next
     space_is = record {
       is_of = record {
         is_space = step_space limit of.is_of.is_space (Protect base rights) good;
-        translates = translates_changed new.memory of.is_of leaf.1.good looks inside_is
-            (λ b canonical apart. walk_off_path here w b (λ same. apart ((page_path leaf.1 begins b).1 same)));
+        translates = changed_translates limit of.is_of leaf.1 begins rights new.memory (walk_to_leaf here w leads met.some) (walk_off_path here w);
       };
       counted = len_write here w ∙ of.counted ∙ sym (protect_tables limit of.is_of.is_space base rights);
     }

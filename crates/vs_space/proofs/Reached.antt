@@ -4,6 +4,7 @@ use Rattle.std.specs.Prelude.{IsSome}
 use Rattle.std.proofs.lemmas.Bool.{cases_eq, cases_lt}
 use Rattle.std.proofs.lemmas.List.{length-set}
 use Rattle.std.specs.FinMap as finite
+use Rattle.std.proofs.lemmas.Option.{same_Some}
 use Rattle.vs_types.specs.Depth.{index_at}
 use Rattle.vs_arena.specs.Store.{zeros}
 use Rattle.vs_walk.specs.Memory.{Memory, AreWhole}
@@ -14,7 +15,7 @@ use Rattle.vs_space.specs.Written.{IsWritten}
 use Rattle.vs_space.proofs.Numbered.{get-insert_other, get-remove_same, get-remove_other, whole-insert}
 use Rattle.vs_space.proofs.Paths.{table_below, none_past, same_table, found_same}
 use Rattle.vs_space.proofs.Writes.{IsTreeAt, used_at, within, at_same, after_write, words_in, get_written_other, table_off_path, table_above, same_or_not}
-use Rattle.vs_space.proofs.Trees.{one_some, unreached_table}
+use Rattle.vs_space.proofs.Trees.{unreached_table}
 use Rattle.vs_space.proofs.Links.{IsLink, linked, still_clear, table_take, cut_alike}
 use Rattle.vs_space.proofs.Written.{written_zero, written_alike, written_clear, written_on}
 
@@ -114,7 +115,7 @@ reached_unlink {top} {m} {root} {level} {a} {n} {below} {f} here one down empty 
       let old = is.path q (used_before m n (index_at level a) 0 q (used_at here) (kept_before cut f q now)) in
       let off : SamePath top level a old.1 → old.0 < level → ⊥ = λ same past. ⊎_elim
       (λ (at : old.0 ≡ below).
-      other (one_some q f (sym old.2 ∙ ap (λ j. table_at top m root j old.1) at
+      other (same_Some q f (sym old.2 ∙ ap (λ j. table_at top m root j old.1) at
       ∙ sym (same_table top root m below a old.1 (λ i from to. same i (omega arith) to)) ∙ down)))
       (λ (apart : old.0 ≢ below). none_some (sym (empty old.1 old.0 same (omega (arith, past, apart))) ∙ old.2))
       (cases_eq old.0 below) in (

@@ -106,12 +106,10 @@ module _ (depth : Depth) (q : Page) (good : IsPage depth q) where
 
 -- ---- what a walk says of the space
 
-level_back : (level : ℕ) → 0 < level → level ≤ 3 → level_of (size_at level) ≡ level
+pub level_back : (level : ℕ) → 0 < level → level ≤ 3 → level_of (size_at level) ≡ level
 level_back zero some few = absurd (omega arith)
-level_back (suc zero) some few = refl
-level_back (suc (suc zero)) some few = refl
-level_back (suc (suc (suc zero))) some few = refl
 level_back (suc (suc (suc (suc level)))) some few = absurd (omega arith)
+level_back _ some few = refl
 
 -- how a page table walks an address
 abbrev pub walk_in : PageTable → ℕ → Walk
@@ -168,13 +166,11 @@ page_path {depth} {a = a} {q = q} leaf begins b =
     subst (λ l. SamePath (levels depth) (level_of q.size) q.base b ↔ SamePath (levels depth) l a b) leaf.level_is
     (subst (λ x. SamePath (levels depth) (level_of q.size) q.base b ↔ SamePath (levels depth) (level_of q.size) x b) begins (λ same. same, λ same. same))
 
-pub leaf_page : {t : PageTable} {space : Space} → IsTree (levels t.depth) t.memory t.root → IsTableOf t space → (a level n phys : ℕ) (own : Rights)
-    → IsCanonical t.depth a → 1 ≤ level → table_at (levels t.depth) t.memory t.root level a ≡ Some n
-    → found_at level t.memory n a ≡ Some (entry.Leaf phys own) → (q : Page) × IsLeafPage t.depth space a level phys own q
-leaf_page {t} {space} tree of a level n phys own canonical some at found =
-    let words = words_found level t.memory n a (entry.Leaf phys own) found in
-    let few = (leaf_level level (slice_index words.0 (index_at level a)) phys own words.2).0 in
-    let page = page_walked of a canonical (phys + a % entry_bytes level) (size_at level) own (walk_leaf tree a level n phys own some at found) in
+-- where an address is walked as a leaf of a level says, its page
+pub mapped_page : {t : PageTable} {space : Space} → IsTableOf t space → (a level phys : ℕ) (own : Rights) → IsCanonical t.depth a → 1 ≤ level → level ≤ 3
+    → walk_in t a ≡ Mapped (phys + a % entry_bytes level) (size_at level) own → (q : Page) × IsLeafPage t.depth space a level phys own q
+mapped_page {t} {space} of a level phys own canonical some few walked =
+    let page = page_walked of a canonical (phys + a % entry_bytes level) (size_at level) own walked in
     let q = page.0 in
     let there = (page_at_means of.is_space a q).0 page.1 in
     let good = of.is_space.well_formed q there.0 in
@@ -196,6 +192,14 @@ leaf_page {t} {space} tree of a level n phys own canonical some at found =
         rights = page.4;
       },
     )
+
+pub leaf_page : {t : PageTable} {space : Space} → IsTree (levels t.depth) t.memory t.root → IsTableOf t space → (a level n phys : ℕ) (own : Rights)
+    → IsCanonical t.depth a → 1 ≤ level → table_at (levels t.depth) t.memory t.root level a ≡ Some n
+    → found_at level t.memory n a ≡ Some (entry.Leaf phys own) → (q : Page) × IsLeafPage t.depth space a level phys own q
+leaf_page {t} {space} tree of a level n phys own canonical some at found =
+    let words = words_found level t.memory n a (entry.Leaf phys own) found in
+    mapped_page of a level phys own canonical some (leaf_level level (slice_index words.0 (index_at level a)) phys own words.2).0
+    (walk_leaf tree a level n phys own some at found)
 
 -- ---- a space with another look at the addresses of a page
 

@@ -4,7 +4,6 @@ use Rattle.vs_types.specs.Space.{Space}
 use Rattle.vs_types.specs.declared.op.Action.{Action}
 use Rattle.vs_types.specs.declared.answer.Answer.{Answer}
 use Rattle.vs_arena.specs.Store.{Lenders}
-use Rattle.vs_space.specs.Held.{Held, AreNumbered}
 use Rattle.vs_space.specs.Table.{PageTable, IsTableOf, IsTableStep}
 use Rattle.vs_space.specs.Invariant.{IsPageTable}
 
@@ -27,9 +26,6 @@ module _ (lenders : Lenders) where
     root_fits = is.root_fits;
     some_space = (is.some_space.0, record { is_of = relent_of is.some_space.1.is_of; counted = is.some_space.1.counted });
   }
-
-  pub renumbered : {held : Held} → AreNumbered held → AreNumbered (record held { lenders = lenders })
-  renumbered is = record { from_base = is.from_base; below = is.below }
 
   pub relent_step : {old new : PageTable} {action : Action} {answer : Answer} → IsTableStep old action answer new
       → IsTableStep (lent_by old) action answer (lent_by new)

@@ -12,6 +12,7 @@ use Rattle.vs_types.specs.Depth.{levels, entry_bytes, table_bytes, index_at}
 use Rattle.vs_types.specs.Page.{intersection}
 use Rattle.vs_types.specs.Entry.{meaning, has_reserved, is_leaf}
 use Rattle.std.specs.Int.{bit_at}
+use Rattle.std.proofs.lemmas.Option.{same_Some}
 use Rattle.vs_types.specs.declared.depth.Depth.{Depth}
 use Rattle.vs_types.specs.declared.page.Rights.{Rights}
 use Rattle.vs_types.specs.declared.entry.Meaning.{Meaning}
@@ -35,7 +36,6 @@ use Rattle.vs_space.specs.Invariant.{IsPageTable}
 use Rattle.vs_space.proofs.Paths.{words_found, reached_within, table_first, table_next, none_past, table_before, same_table}
 use Rattle.vs_space.proofs.Writes.{same_longer}
 use Rattle.vs_space.proofs.Regions.{stretch_same}
-use Rattle.vs_space.proofs.Trees.{one_some}
 
 -- ---- lists with no number twice
 
@@ -96,17 +96,14 @@ into_table : (depth : Depth) (level : ℕ) (table : ReachedTable) (index : ℕ) 
     → Contains (entry_visits depth (suc level) table index below means) (OfFrame n)
     → (number : ℕ) × (own : Rights) × (means ≡ entry.Table number own) × Contains (below (next_table level table index number own)) (OfFrame n)
 into_table depth level table index below entry.Absent n met = absurd (not_in_nil _ met)
-into_table depth level table index below entry.Reserved n met = ⊎_elim (λ same. cc) (λ later. absurd (not_in_nil _ later)) (Contains-cases _ [] _ met)
-into_table depth level table index below (entry.Leaf phys own) n met = ⊎_elim (λ same. cc) (λ later. absurd (not_in_nil _ later)) (Contains-cases _ [] _ met)
 into_table depth level table index below (entry.Table number own) n met = (number, own, refl, met)
+into_table depth level table index below _ n met = ⊎_elim (λ same. cc) (λ later. absurd (not_in_nil _ later)) (Contains-cases _ [] _ met)
 
 entry_once : (depth : Depth) (level : ℕ) (table : ReachedTable) (index : ℕ) (below : ReachedTable → List Visit) (means : Meaning)
     → ((number : ℕ) (own : Rights) → means ≡ entry.Table number own → Once (reached (below (next_table level table index number own))))
     → Once (reached (entry_visits depth (suc level) table index below means))
-entry_once depth level table index below entry.Absent lower = tt
-entry_once depth level table index below entry.Reserved lower = tt
-entry_once depth level table index below (entry.Leaf phys own) lower = tt
 entry_once depth level table index below (entry.Table number own) lower = lower number own refl
+entry_once depth level table index below _ lower = tt
 
 found_in : (level : ℕ) (m : Memory) (n a index : ℕ) (words : List ℕ) (means : Meaning) → finite.get m n ≡ Some words → index_at level a ≡ index
     → meaning level (get_or words index 0) ≡ means → found_at level m n a ≡ Some means
@@ -134,10 +131,8 @@ path_into top level times start rest is lt =
 leads_to : (present reserved leaf : Bool) (phys number n : ℕ) (rights own : Rights)
     → (if not present then entry.Absent else if reserved then entry.Reserved else if leaf then entry.Leaf phys rights else entry.Table number rights)
     ≡ entry.Table n own → number ≡ n
-leads_to false reserved leaf phys number n rights own is = cc
-leads_to true true leaf phys number n rights own is = cc
 leads_to true false true phys number n rights own is = cc
-leads_to true false false phys number n rights own is = cc
+leads_to _ _ _ phys number n rights own is = cc
 
 table_fits : (level word n : ℕ) (own : Rights) → meaning level word ≡ entry.Table n own → n < 2 ^ 40
 table_fits level word n own is =
@@ -321,7 +316,7 @@ module _ {t : PageTable} (pages : IsPageTable t) where
   path_reached d zero lower table deep some on a n same at = absurd (omega arith)
   path_reached zero (suc level) lower table deep some on a n same at =
       let number : table.number ≡ n =
-      one_some table.number n (sym on.at ∙ same_table top t.root t.memory (suc level) table.start a same
+      same_Some table.number n (sym on.at ∙ same_table top t.root t.memory (suc level) table.start a same
       ∙ subst (λ j. table_on j a ≡ Some n) (omega arith) at) in
       let first = first_met t.depth t.memory level table in
       subst (λ x. Contains (visits (suc level) table) (OfFrame x)) number
@@ -330,7 +325,7 @@ module _ {t : PageTable} (pages : IsPageTable t) where
       let high : suc level ≤ top = reached_within top t.root t.memory (suc level) table.start table.number on.at in
       let next = some_there lower level a n (omega arith) (omega (arith, high)) at in
       let before = table_before top t.root t.memory level a next.0 (omega (arith, high)) next.1 in
-      let parent : before.0 ≡ table.number = one_some before.0 table.number
+      let parent : before.0 ≡ table.number = same_Some before.0 table.number
       (sym before.2 ∙ sym (same_table top t.root t.memory (suc level) table.start a same) ∙ on.at) in
       let leads : found_at (suc level) t.memory table.number a ≡ Some (entry.Table next.0 before.1) =
       subst (λ p. found_at (suc level) t.memory p a ≡ Some (entry.Table next.0 before.1)) parent before.3 in
@@ -382,7 +377,7 @@ module _ {t : PageTable} (pages : IsPageTable t) where
       let path = pages.reached.path n used in
       ⊎_elim
       (λ (same : path.0 ≡ top).
-      let first : t.root ≡ n = one_some t.root n (sym (table_first top t.root t.memory path.1)
+      let first : t.root ≡ n = same_Some t.root n (sym (table_first top t.root t.memory path.1)
       ∙ subst (λ l. table_on l path.1 ≡ Some n) same path.2) in
       subst (λ number. number < 2 ^ 40) first pages.root_fits)
       (λ (other : path.0 ≢ top).

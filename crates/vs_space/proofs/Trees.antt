@@ -3,11 +3,11 @@ use Rattle.std.proofs.Common.{◌≡◌, ◌≢◌, ℕ, suc, ◌+◌, ◌-◌, 
 use Rattle.std.specs.Prelude.{IsSome}
 use Rattle.std.proofs.lemmas.Bool.{cases_eq, cases_lt}
 use Rattle.std.specs.FinMap as finite
+use Rattle.std.proofs.lemmas.Option.{same_Some}
 use Rattle.vs_types.specs.Depth.{levels, entry_bytes, index_at, IsCanonical}
 use Rattle.vs_types.specs.Entry.{meaning, size_at}
 use Rattle.vs_types.specs.declared.page.Rights.{Rights}
 use Rattle.vs_types.specs.declared.depth.Depth.{Depth}
-use Rattle.vs_types.specs.declared.entry.Meaning.{Meaning}
 use Rattle.vs_types.specs.declared.entry.Meaning.TheVariants as entry
 use Rattle.vs_walk.specs.Memory.{Memory}
 use Rattle.vs_walk.specs.Walk.{all_rights, walk, walk_from}
@@ -19,12 +19,6 @@ use Rattle.vs_space.specs.inside.Prune.{IsFilledBut}
 use Rattle.vs_space.proofs.Paths.{table_below, none_past, same_table, agree_table, agree_walk, walk_absent, walk_leaf}
 use Rattle.vs_space.proofs.Writes.{IsTreeAt, within, after_write, off_path, above, table_off_path, table_above, walk_off_path, table_here, found_on_path}
 use Rattle.vs_space.proofs.Writes.{same_or_not, found_alike, written_in_use}
-
-pub one_some : (x y : ℕ) → Some x ≡ Some y → x ≡ y
-one_some x y e = cc
-
-pub one_meaning : (x y : Meaning) → Some x ≡ Some y → x ≡ y
-one_meaning x y e = cc
 
 -- ---- frames that no path reaches
 
@@ -71,7 +65,7 @@ module _ {top : ℕ} {m : Memory} {root level a n : ℕ} (here : IsTreeAt top m 
     allows = λ j b q next own r f. ⊎_elim
         (λ same. ⊎_elim
         (λ (at : j ≡ level).
-        let q_is : q ≡ n = one_some q n (sym r ∙ ap (λ i. table_at top new root i b) at ∙ table_here here w b same) in
+        let q_is : q ≡ n = same_Some q n (sym r ∙ ap (λ i. table_at top new root i b) at ∙ table_here here w b same) in
         let found : found_at level new n b ≡ Some (entry.Table next own) =
         subst (λ i. found_at i new n b ≡ Some (entry.Table next own)) at (subst (λ x. found_at j new x b ≡ Some (entry.Table next own)) q_is f) in
         let is_table : table_in (Some (entry.Table next own)) ≡ None = ap table_in (sym found ∙ found_on_path here w b same) ∙ ends in

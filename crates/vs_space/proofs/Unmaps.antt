@@ -1,5 +1,5 @@
 -- What a page table is after a page was taken out.
-use Rattle.std.proofs.Common.{◌≡◌, ◌≢◌, ℕ, ◌+◌, ◌-◌, ◌%◌, List, Some, None, ⊎_elim, refl, sym, ap, subst, ◌∙◌, arith}
+use Rattle.std.proofs.Common.{◌≡◌, ◌≢◌, ℕ, ◌+◌, ◌-◌, ◌%◌, List, None, ⊎_elim, refl, sym, ap, subst, ◌∙◌, arith}
 use Rattle.std.specs.Prelude.{slice_index}
 use Rattle.std.specs.FinMap as finite
 use Rattle.vs_types.specs.Depth.{levels, index_at, IsCanonical}
@@ -7,16 +7,13 @@ use Rattle.vs_types.specs.Entry.{size_at}
 use Rattle.vs_types.specs.Page.{bytes_of}
 use Rattle.vs_types.specs.Space.{Space, Holds, IsSpace, page_at, table_count}
 use Rattle.vs_types.specs.Step.{step, Stepped}
-use Rattle.vs_types.specs.Laws.{LooksChanged}
-use Rattle.vs_types.specs.declared.depth.Depth.{Depth}
 use Rattle.vs_types.specs.declared.op.Action.TheVariants.{Unmap}
 use Rattle.vs_types.specs.declared.page.Page.{Page}
 use Rattle.vs_types.specs.declared.page.Rights.{Rights}
 use Rattle.vs_types.specs.declared.page.Size.{Size}
 use Rattle.vs_types.specs.declared.entry.Meaning.TheVariants as entry
 use Rattle.vs_types.specs.declared.answer.Answer.TheVariants as answers
-use Rattle.vs_types.proofs.Steps.{unmap_cases, step_space}
-use Rattle.vs_types.proofs.Looks.{removed_looks}
+use Rattle.vs_types.proofs.Steps.{step_space}
 use Rattle.vs_types.proofs.Spaces.{remove_cases, put_back}
 use Rattle.vs_walk.specs.Memory.{Memory}
 use Rattle.vs_walk.specs.Walk.{walk}
@@ -35,20 +32,11 @@ use Rattle.vs_space.proofs.Reached.{reached_write, whole_write}
 use Rattle.vs_space.proofs.Written.{written_zero}
 use Rattle.vs_space.proofs.Plain.{adds_then, adds_written}
 use Rattle.vs_space.proofs.Footprints.{more_then, more_cleared}
-use Rattle.vs_space.proofs.Regions.{walk_in, IsLeafPage, page_path, nothing_at, translates_changed}
+use Rattle.vs_space.proofs.Regions.{walk_in, IsLeafPage, nothing_at}
+use Rattle.vs_space.proofs.LeafSteps.{removed_answer, removed_translates, unmap_removes}
 use Rattle.vs_space.proofs.Protects.{faultless, own_space, space_of, tree_at}
 use Rattle.vs_space.proofs.TableCounts.{count_added}
 use Rattle.vs_space.proofs.Meets.{met, page_met}
-
--- the unmap of the page that begins there
-unmap_removes : (depth : Depth) (limit : ℕ) (space : Space) (base : ℕ) (q : Page) → page_at space base ≡ Some q → q.base ≡ base
-    → step depth limit space (Unmap base) ≡ record { space = finite.remove space base; answer = answers.Removed q.phys q.size q.rights }
-unmap_removes depth limit space base q here same =
-    unmap_cases (λ s. s ≡ record { space = finite.remove space base; answer = answers.Removed q.phys q.size q.rights }) depth limit space base
-    (λ e. absurd (cc))
-    (λ p e is. let one : p ≡ q = cc in ap (λ (z : Page). let s : Stepped =
-    record { space = finite.remove space base; answer = answers.Removed z.phys z.size z.rights } in s) one)
-    (λ p e differs. let one : p ≡ q = cc in absurd (differs (ap (λ (z : Page). z.base) one ∙ same)))
 
 module _ {t : PageTable} (table : IsPageTable t) {base level phys : ℕ} {path : List ℕ} {own : Rights} (canonical : IsCanonical t.depth base)
     (descent : IsDescent t.depth t.memory t.root base 1 level path (entry.Leaf phys own)) where
@@ -113,29 +101,19 @@ module _ {t : PageTable} (table : IsPageTable t) {base level phys : ℕ} {path :
           let offset : base % bytes_of leaf.0.size ≡ base % bytes = ap (λ n. base % n) bytes_are in
           omega (arith, leaf.1.base)
 
-      removes : step t.depth limit space (Unmap base)
-          ≡ record { space = finite.remove space base; answer = answers.Removed leaf.0.phys leaf.0.size leaf.0.rights }
-      removes = unmap_removes t.depth limit space base leaf.0 leaf.1.here begins_here
-
       answer_is : (step t.depth limit space (Unmap base)).answer ≡ answers.Removed phys size own
-      answer_is = ap (λ (s : Stepped). s.answer) removes ∙ cc (leaf.1.phys_is, leaf.1.size, size_is, leaf.1.rights)
-
-      looks : LooksChanged leaf.0 (λ address. answers.NotMapped) space next
-      looks = subst (λ a. LooksChanged leaf.0 (λ address. answers.NotMapped) space (step t.depth limit space (Unmap a)).space) begins_here
-          (removed_looks limit of.is_of.is_space leaf.0
-          (subst (λ a. (step t.depth limit space (Unmap a)).answer ≡ answers.Removed leaf.0.phys leaf.0.size leaf.0.rights) (sym begins_here)
-          (ap (λ (s : Stepped). s.answer) removes)))
+      answer_is = removed_answer limit of.is_of leaf.1 begins_here ∙ ap (λ s. answers.Removed phys s own) (sym size_is)
 
       after : IsTableOf new next
       after = record {
         is_space = step_space limit of.is_of.is_space (Unmap base) (record { canonical = canonical; aligned = aligned });
-        translates = translates_changed new.memory of.is_of leaf.1.good looks
-            (λ b is_b same. pruned.walks b is_b ∙ walk_on b ((page_path leaf.1 begins_here b).0 same))
-            (λ b is_b apart. pruned.walks b is_b ∙ walk_off_path here 0 b (λ same. apart ((page_path leaf.1 begins_here b).1 same)));
+        translates = removed_translates limit of.is_of leaf.1 begins_here new.memory
+            (λ b is_b same. pruned.walks b is_b ∙ walk_on b same) (λ b is_b apart. pruned.walks b is_b ∙ walk_off_path here 0 b apart);
       }
 
       removed_is : next ≡ finite.remove space leaf.0.base
-      removed_is = ap (λ (s : Stepped). s.space) removes ∙ ap (finite.remove space) (sym begins_here)
+      removed_is = ap (λ (s : Stepped). s.space) (unmap_removes t.depth limit space base leaf.0 leaf.1.here begins_here)
+          ∙ ap (finite.remove space) (sym begins_here)
 
       again : finite.insert next leaf.0.base leaf.0 ≡ space
       again = ap (λ (s : Space). finite.insert s leaf.0.base leaf.0) removed_is ∙ put_back space leaf.0 leaf.1.held

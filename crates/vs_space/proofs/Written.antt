@@ -4,12 +4,13 @@ use Rattle.std.specs.Prelude.{IsSome, option_map, unwrap_or, slice_index, slice_
 use Rattle.std.proofs.lemmas.Bool.{cases_eq}
 use Rattle.std.proofs.lemmas.List.{get_or-set_same, get_or-set_other}
 use Rattle.std.specs.FinMap as finite
+use Rattle.std.proofs.lemmas.Option.{same_Some}
 use Rattle.vs_types.specs.Depth.{index_at}
 use Rattle.vs_types.specs.Entry.{meaning, size_at, table_word, leaf_word}
 use Rattle.vs_types.specs.Page.{level_of}
 use Rattle.vs_types.specs.declared.page.Rights.{Rights}
 use Rattle.vs_types.specs.declared.page.Size.{Size}
-use Rattle.vs_types.specs.declared.page.Size.TheVariants.{K4, M2, G1}
+use Rattle.vs_types.specs.declared.page.Size.TheVariants.{K4}
 use Rattle.vs_types.specs.declared.entry.Meaning.{Meaning}
 use Rattle.vs_types.specs.declared.entry.Meaning.TheVariants as entry
 use Rattle.vs_arena.specs.Store.{zeros}
@@ -21,7 +22,6 @@ use Rattle.vs_space.specs.Tree.{IsTree, IsReached, AreWritten}
 use Rattle.vs_space.specs.Flags.{flags_in}
 use Rattle.vs_space.specs.Written.{word_for, IsWritten}
 use Rattle.vs_space.proofs.Writes.{IsTreeAt, used_at, after_write, words_in, get_written, get_written_other}
-use Rattle.vs_space.proofs.Trees.{one_meaning}
 use Rattle.vs_space.proofs.Links.{zeros_are}
 
 -- ---- words that are written
@@ -42,16 +42,13 @@ no_flags_table word number is = omega (arith, is)
 
 pub no_flags_leaf : (size : Size) (phys : ℕ) (w u x : Bool) → phys % 4096 ≡ 0 → flags_in (leaf_word size phys (record { write = w; user = u; exec = x })) ≡ 0
 no_flags_leaf K4 phys w u x aligned = grind arith
-no_flags_leaf M2 phys w u x aligned = grind arith
-no_flags_leaf G1 phys w u x aligned = grind arith
+no_flags_leaf _ phys w u x aligned = grind arith
 
 -- a page is aligned at least to frames
 pub leaf_aligned : (level word phys : ℕ) (own : Rights) → 1 ≤ level → meaning level word ≡ entry.Leaf phys own → phys % 4096 ≡ 0
 leaf_aligned zero word phys own some says = absurd (omega (arith, some))
-leaf_aligned (suc zero) word phys own some says = grind arith
-leaf_aligned (suc (suc zero)) word phys own some says = grind arith
 leaf_aligned (suc (suc (suc zero))) word phys own some says = grind arith
-leaf_aligned (suc (suc (suc (suc level)))) word phys own some says = grind arith
+leaf_aligned _ word phys own some says = grind arith
 
 pub written_table : (level word number : ℕ) → meaning level word ≡ entry.Table number all_rights → word ≡ table_word number → IsWritten level word
 written_table level word number says is = written_as level word (entry.Table number all_rights) says (omega (arith, is, no_flags_table word number is))
@@ -65,8 +62,7 @@ written_leaf level word phys rights some says is =
 
 pub size_same : (size : Size) → size_at (level_of size) ≡ size
 size_same K4 = refl
-size_same M2 = refl
-size_same G1 = refl
+size_same _ = refl
 
 pub leaf_at_level : (size : Size) (word phys : ℕ) (rights : Rights) → word ≡ leaf_word size phys rights → word ≡ leaf_word (size_at (level_of size)) phys rights
 leaf_at_level size word phys rights is = is ∙ ap (λ z. leaf_word z phys rights) (sym (size_same size))
@@ -80,16 +76,13 @@ word_of m n i o got = ap (option_map (λ (words : List ℕ). slice_index words i
 pub word_alike : (m m' : Memory) (n i : ℕ) → finite.get m' n ≡ finite.get m n → word_at m' n i ≡ word_at m n i
 word_alike m m' n i e = word_of m' n i (finite.get m n) e ∙ sym (word_of m n i (finite.get m n) refl)
 
-pub one_word : (x y : ℕ) → Some x ≡ Some y → x ≡ y
-one_word x y e = cc
-
 -- frames that are the same have the same words
 pub written_alike : (level : ℕ) (m m' : Memory) (n : ℕ) → finite.get m' n ≡ finite.get m n → AreWritten level m n → AreWritten level m' n
 written_alike level m m' n e are = λ i word got. are i word (sym (word_alike m m' n i e) ∙ got)
 
 pub written_clear : (level : ℕ) (m : Memory) (n : ℕ) → finite.get m n ≡ Some zeros → AreWritten level m n
 written_clear level m n clear = λ i word got.
-    let zero_here : word ≡ 0 = one_word word 0 (sym got ∙ word_of m n i (Some zeros) clear ∙ ap Some (zeros_are i)) in
+    let zero_here : word ≡ 0 = same_Some word 0 (sym got ∙ word_of m n i (Some zeros) clear ∙ ap Some (zeros_are i)) in
     subst (IsWritten level) (sym zero_here) (written_zero level)
 
 -- a frame stays written when a word that is written is put in
@@ -97,7 +90,7 @@ pub written_set : (level : ℕ) (m : Memory) (n i w : ℕ) → AreWhole m → Is
     → AreWritten level (with_word m n i w) n
 written_set level m n i w whole used low is are = λ j word got. ⊎_elim
     (λ (same : j ≡ i).
-    let here : word ≡ w = one_word word w (sym got ∙ word_of (with_word m n i w) n j _ (get_written m n i w)
+    let here : word ≡ w = same_Some word w (sym got ∙ word_of (with_word m n i w) n j _ (get_written m n i w)
     ∙ ap (λ x. Some (slice_index (slice_set (unwrap_or (finite.get m n) []) i w) x)) same
     ∙ ap Some (get_or-set_same (unwrap_or (finite.get m n) []) i w 0 (omega (arith, whole n _ (words_in m n used))))) in
     subst (IsWritten level) (sym here) is)
@@ -126,12 +119,6 @@ written_at {m = m} tree is level a n at =
     let own = is.path n (tree.in_use level a n at) in
     subst (λ l. AreWritten l m n) (tree.once own.0 level own.1 a n own.2 at).0 own.3
 
--- an entry is absent where its word is 0, and nowhere else
-pub entry_zero : (level : ℕ) (m : Memory) (n i : ℕ) (words : List ℕ) → finite.get m n ≡ Some words → slice_index words i ≡ 0
-    → entry_in level m n i ≡ Some entry.Absent
-unfolding entry_in
-entry_zero level m n i words got none = ap (option_map (meaning level)) (word_of m n i (Some words) got) ∙ ap (λ w. Some (meaning level w)) none
-
 pub entry_other : (level : ℕ) (m : Memory) (n i : ℕ) (words : List ℕ) → finite.get m n ≡ Some words → AreWritten level m n → i < 512 → slice_index words i ≢ 0
     → HasPresent level m n
 unfolding entry_in
@@ -141,13 +128,6 @@ entry_other level m n i words got are low other =
       index = i;
       within = low;
       present = λ absent.
-          let says : meaning level (slice_index words i) ≡ entry.Absent = one_meaning _ _ (ap (option_map (meaning level)) (sym here) ∙ absent) in
+          let says : meaning level (slice_index words i) ≡ entry.Absent = same_Some _ _ (ap (option_map (meaning level)) (sym here) ∙ absent) in
           other (written_for (are i (slice_index words i) here) says);
     }
-
--- no word that is written has a reserved bit
-pub never_reserved : (level word : ℕ) → IsWritten level word → meaning level word ≡ entry.Reserved → ⊥
-never_reserved level word written reserved =
-    let none : word ≡ 0 = written_for written reserved in
-    let wrong : entry.Reserved ≡ entry.Absent = sym reserved ∙ ap (meaning level) none in
-    cc

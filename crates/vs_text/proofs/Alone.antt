@@ -9,6 +9,7 @@ use Rattle.vs_types.specs.declared.page.Page.{Page}
 use Rattle.vs_types.specs.declared.page.Rights.{Rights}
 use Rattle.vs_types.specs.declared.page.Size.{Size}
 use Rattle.vs_types.specs.declared.page.Size.TheVariants.{K4, M2, G1}
+use Rattle.vs_types.proofs.Pages.{same_page}
 use Rattle.vs_text.specs.Words.{access_text, mode_text, rights_text, size_text, SpellsAddress}
 use Rattle.vs_text.specs.Requests.{SpellsAccess, SpellsOne, SpellsPage, SpellsRights}
 
@@ -29,10 +30,9 @@ size_in text = if at text 0 == 52 then K4 else if at text 0 == 50 then M2 else G
 size_back : (size : Size) → size_in (size_text size) ≡ size
 unfolding size_in at
 size_back K4 = refl
-size_back M2 = refl
-size_back G1 = refl
+size_back _ = refl
 
-one_size : (a b : Size) → size_text a ≡ size_text b → a ≡ b
+pub one_size : (a b : Size) → size_text a ≡ size_text b → a ≡ b
 one_size a b same = sym (size_back a) ∙ ap size_in same ∙ size_back b
 
 mode_in : List ℕ → Mode
@@ -52,8 +52,7 @@ access_in text = if at text 0 == 114 then Read else if at text 0 == 119 then Wri
 access_back : (access : Access) → access_in (access_text access) ≡ access
 unfolding access_in at
 access_back Read = refl
-access_back Write = refl
-access_back Fetch = refl
+access_back _ = refl
 
 one_access : (a b : Access) → access_text a ≡ access_text b → a ≡ b
 one_access a b same = sym (access_back a) ∙ ap access_in same ∙ access_back b
@@ -79,19 +78,8 @@ rights_back : (rights : Rights) → rights_in (rights_text rights) ≡ rights
 unfolding rights_of
 rights_back rights = marks_back rights.write rights.user rights.exec
 
-one_rights : (a b : Rights) → rights_text a ≡ rights_text b → a ≡ b
+pub one_rights : (a b : Rights) → rights_text a ≡ rights_text b → a ≡ b
 one_rights a b same = sym (rights_back a) ∙ ap rights_in same ∙ rights_back b
-
-page_of : ℕ → Size → ℕ → Rights → Page
-page_of base size phys rights = record { base = base; size = size; phys = phys; rights = rights }
-
-joined_page : (a b : Page) → a.base ≡ b.base → a.size ≡ b.size → a.phys ≡ b.phys → a.rights ≡ b.rights
-    → page_of a.base a.size a.phys a.rights ≡ page_of b.base b.size b.phys b.rights
-joined_page a b base size phys rights = cc
-
-same_page : (a b : Page) → a.base ≡ b.base → a.size ≡ b.size → a.phys ≡ b.phys → a.rights ≡ b.rights → a ≡ b
-unfolding page_of
-same_page a b base size phys rights = joined_page a b base size phys rights
 
 pub one_alone : (words : List (List ℕ)) (a b : ℕ) → SpellsOne words a → SpellsOne words b → a ≡ b
 one_alone words a b first second =

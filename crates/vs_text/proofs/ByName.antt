@@ -75,11 +75,8 @@ protect_kind words = record {
 
   made : (query : Query) → name_of query ≡ names.Protect → AreArguments words query
       → (it : ℕ × Rights) × (query ≡ queries.Update (Protect it.0 it.1)) × SpellsRights words it.0 it.1
-  made (queries.Update (Map page)) is spelled = cc
-  made (queries.Update (Unmap base)) is spelled = cc
   made (queries.Update (Protect base rights)) is spelled = ((base, rights), refl, spelled)
-  made (queries.Resolve address) is spelled = cc
-  made (queries.Access address mode access) is spelled = cc
+  made _ is spelled = cc
 
 pub resolve_kind : (words : List (List ℕ)) → Kind names.Resolve words (ℕ) (λ address. queries.Resolve address) (SpellsOne words)
 resolve_kind words = record {
@@ -109,10 +106,8 @@ access_kind words = record {
   made : (query : Query) → name_of query ≡ names.Access → AreArguments words query
       → (it : ℕ × Mode × Access) × (query ≡ queries.Access it.0 it.1 it.2) × SpellsAccess words it.0 it.1 it.2
   made (queries.Update (Map page)) is spelled = cc
-  made (queries.Update (Unmap base)) is spelled = cc
-  made (queries.Update (Protect base rights)) is spelled = cc
-  made (queries.Resolve address) is spelled = cc
   made (queries.Access address mode access) is spelled = ((address, mode, access), refl, spelled)
+  made _ is spelled = cc
 
 -- words that spell no arguments of this name
 pub unread : {A : Type 0} {make : A → Query} {Spelled : A → Type 0} (depth : Depth) (name : Name) (words : List (List ℕ)) → Kind name words A make Spelled

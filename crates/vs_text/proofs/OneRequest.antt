@@ -25,10 +25,7 @@ name_at word =
 
 found_name : (name : Name) → name_at (word_number (name_text name)) ≡ name
 found_name names.Map = refl
-found_name names.Unmap = refl
-found_name names.Protect = refl
-found_name names.Resolve = refl
-found_name names.Access = refl
+found_name _ = refl
 
 same_name : (a b : Name) → name_text a ≡ name_text b → a ≡ b
 same_name a b same = sym (found_name a) ∙ ap (λ (word : List ℕ). name_at (word_number word)) same ∙ found_name b
@@ -58,10 +55,7 @@ one_request depth words a b p q =
 -- a request has at most five words
 few_arguments : (query : Query) (arguments : List (List ℕ)) → AreArguments arguments query → length arguments < 5
 few_arguments (queries.Update (Map page)) arguments are = omega (arith, ap length are.words_are)
-few_arguments (queries.Update (Unmap base)) arguments are = omega (arith, ap length are.words_are)
-few_arguments (queries.Update (Protect base rights)) arguments are = omega (arith, ap length are.words_are)
-few_arguments (queries.Resolve address) arguments are = omega (arith, ap length are.words_are)
-few_arguments (queries.Access address mode access) arguments are = omega (arith, ap length are.words_are)
+few_arguments _ arguments are = omega (arith, ap length are.words_are)
 
 pub few_words_of_request : (depth : Depth) (words : List (List ℕ)) (query : Query) → SpellsQuery depth words query → length words < 6
 few_words_of_request depth words query is = omega (arith, few_arguments query is.arguments is.arguments_are, ap length is.words_are)

@@ -9,7 +9,7 @@ use Rattle.std.proofs.lemmas.Fmt.{digits_is_IsNumeral}
 use Rattle.std.proofs.Math.Nat.{pow-suc, pow-zero}
 use Rattle.vs_types.specs.Query.{IsQuery}
 use Rattle.vs_types.specs.declared.access.Access.{Access}
-use Rattle.vs_types.specs.declared.access.Access.TheVariants.{Read, Write, Fetch}
+use Rattle.vs_types.specs.declared.access.Access.TheVariants.{Read}
 use Rattle.vs_types.specs.declared.access.Mode.{Mode}
 use Rattle.vs_types.specs.declared.access.Mode.TheVariants.{Supervisor, User}
 use Rattle.vs_types.specs.declared.depth.Depth.{Depth}
@@ -17,7 +17,7 @@ use Rattle.vs_types.specs.declared.op.Action.TheVariants.{Map, Unmap, Protect}
 use Rattle.vs_types.specs.declared.page.Page.{Page}
 use Rattle.vs_types.specs.declared.page.Rights.{Rights}
 use Rattle.vs_types.specs.declared.page.Size.{Size}
-use Rattle.vs_types.specs.declared.page.Size.TheVariants.{K4, M2, G1}
+use Rattle.vs_types.specs.declared.page.Size.TheVariants.{K4}
 use Rattle.vs_types.specs.declared.request.Query.{Query}
 use Rattle.vs_types.specs.declared.request.Query.TheVariants as queries
 use Rattle.vs_types.proofs.Pages.{canonical_fits}
@@ -82,8 +82,7 @@ address_alone address below =
 
 size_alone : (size : Size) → HasNoSpace (size_text size)
 size_alone K4 = (refl, (refl, tt))
-size_alone M2 = (refl, (refl, tt))
-size_alone G1 = (refl, (refl, tt))
+size_alone _ = (refl, (refl, tt))
 
 mark_alone : (given : Bool) (letter : ℕ) (rest : List ℕ) → (letter == 32) ≡ false → HasNoSpace rest → HasNoSpace (mark given (letter ∷ []) ++ rest)
 mark_alone true letter rest is none = (is, none)
@@ -102,8 +101,7 @@ mode_alone User = (refl, tt)
 
 access_alone : (access : Access) → HasNoSpace (access_text access)
 access_alone Read = (refl, tt)
-access_alone Write = (refl, tt)
-access_alone Fetch = (refl, tt)
+access_alone _ = (refl, tt)
 
 -- words with one space between them
 abbrev joined : List ℕ → List (List ℕ) → List ℕ

@@ -16,9 +16,8 @@ pub text_at : (words : List (Bor (List ℕ))) (k : ℕ) (d : Bor (List ℕ)) (th
 text_at words k d them same within = text_of words k d within ∙ ap (λ (ts : List (List ℕ)). get_or ts k []) same
 
 only_text : (words : List (Bor (List ℕ))) (d : Bor (List ℕ)) → length words ≡ 1 → texts words ≡ (get_or words 0 d).now ∷ []
-only_text [] d one = absurd (omega arith)
 only_text (word ∷ []) d one = refl
-only_text (word ∷ next ∷ words) d one = absurd (omega arith)
+only_text _ d one = absurd (omega arith)
 
 -- an address that is alone
 pub found_alone : (words : List (Bor (List ℕ))) (d : Bor (List ℕ)) (found : Option ℕ) → length words ≡ 1

@@ -11,9 +11,8 @@ use Rattle.vs_types.specs.declared.access.Mode.TheVariants.{Supervisor, User}
 -- the two parts of the first and of the second, in another order
 pairs : (p q r s : Bool) → IsTrue ((p && q) && (r && s)) ↔ (IsTrue (p && r) × IsTrue (q && s))
 pairs true true true s = (λ t. (refl, t), λ t. t.1)
-pairs true true false s = (λ t. cc, λ t. t.0)
 pairs true false r s = (λ t. cc, λ t. t.1)
-pairs false q r s = (λ t. cc, λ t. t.0)
+pairs _ _ _ s = (λ t. cc, λ t. t.0)
 
 pub both_allow : (a b : Rights) (mode : Mode) (access : Access)
     → IsTrue (allows (intersection a b) mode access) ↔ (IsTrue (allows a mode access) × IsTrue (allows b mode access))

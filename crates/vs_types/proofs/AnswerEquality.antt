@@ -18,8 +18,7 @@ same_size s t e = absurd (false≢true e)
 
 pub size_itself : (s : Size) → sizes.ghosts.eq s s ≡ true
 size_itself K4 = refl
-size_itself M2 = refl
-size_itself G1 = refl
+size_itself _ = refl
 
 abbrev rights_of : Bool → Bool → Bool → Rights
 rights_of write user exec = record { write = write; user = user; exec = exec }
@@ -77,16 +76,15 @@ same (Fault x) (Fault y) e = ap (λ n. Fault n) (eqb-true x y e)
 same a b e = absurd (false≢true e)
 
 itself : (a : Answer) → answers.ghosts.eq a a ≡ true
-itself Done = refl
 itself (Overlap x) = eq-eqb x x refl
 itself (Full x) = eq-eqb x x refl
 itself (Removed x s p) = all_parts x s p
-itself NotMapped = refl
 itself (Inside x) = eq-eqb x x refl
 itself (Changed p) = rights_itself p
 itself (Mapped x s p) = all_parts x s p
 itself (Allowed x) = eq-eqb x x refl
 itself (Fault x) = eq-eqb x x refl
+itself _ = refl
 
 pub same_answers : (a b : Answer) (told : Bool) → told ≡ answers.ghosts.eq a b → (told ≡ true) ↔ (a ≡ b)
 same_answers a b told e = (λ t. same a b (sym e ∙ t), λ s. e ∙ subst (λ c. answers.ghosts.eq a c ≡ true) s (itself a))

@@ -5,13 +5,13 @@ use Rattle.vs_types.specs.Operation.{IsAction, IsBase, IsSomeAction}
 use Rattle.vs_types.specs.Fields.{request_fields, HasFields}
 use Rattle.vs_types.specs.LogEntry.{SpellsEntry}
 use Rattle.vs_types.specs.declared.fields.RequestFields.{RequestFields}
-use Rattle.vs_types.specs.declared.request.Query.TheVariants.{Update, Resolve, Access}
+use Rattle.vs_types.specs.declared.request.Query.TheVariants.{Update}
 use Rattle.vs_types.specs.declared.request.Query.{Query}
 use Rattle.vs_types.specs.declared.limits.TheConstants.{CALLS}
 use Rattle.vs_types.specs.declared.depth.Depth.{Depth}
 use Rattle.vs_types.specs.declared.page.Rights.{Rights}
 use Rattle.vs_types.specs.declared.page.Size.{Size}
-use Rattle.vs_types.specs.declared.page.Size.TheVariants.{K4, M2, G1}
+use Rattle.vs_types.specs.declared.page.Size.TheVariants.{K4}
 use Rattle.vs_types.specs.declared.op.Action.{Action}
 use Rattle.vs_types.specs.declared.op.Action.TheVariants.{Map, Unmap, Protect}
 use Rattle.vs_types.proofs.Pages.{canonical_fits}
@@ -19,8 +19,7 @@ use Rattle.vs_types.specs.declared.log_entry.LogEntry.{LogEntry}
 
 pub size_code_low : (size : Size) → size_code size < 3
 size_code_low K4 = omega arith
-size_code_low M2 = omega arith
-size_code_low G1 = omega arith
+size_code_low _ = omega arith
 
 rights_bits_low : (w u x : Bool) → rights_code (record { write = w; user = u; exec = x }) < 8
 rights_bits_low true true true = omega arith
@@ -47,13 +46,11 @@ record InRange (fields : RequestFields) : Type 0 where
 
 page_part : (size : Size) (n : ℕ) → n % Rattle.vs_types.specs.Page.bytes_of size ≡ 0 → n % 4096 ≡ 0
 page_part K4 n e = omega arith
-page_part M2 n e = omega arith
-page_part G1 n e = omega arith
+page_part _ n e = omega arith
 
 page_below : (size : Size) (n : ℕ) → n + Rattle.vs_types.specs.Page.bytes_of size ≤ 2 ^ 51 → n < 2 ^ 51
 page_below K4 n e = omega arith
-page_below M2 n e = omega arith
-page_below G1 n e = omega arith
+page_below _ n e = omega arith
 
 -- the fields of an operation at the base of a page that is there
 aligned_base : {depth : Depth} {kind size rights base : ℕ} → kind < 3 → size < 3 → rights < 8 → IsBase depth base
@@ -150,5 +147,4 @@ spells_update {fields} query action first second = by_kind query (ap (λ (f : Re
 
   by_kind : (q : Query) → (request_fields q).kind ≡ (request_fields (Update action)).kind → (a : Action) × (q ≡ Update a)
   by_kind (Update a) e = (a, refl)
-  by_kind (Resolve address) e = elim (apart _ _ (omega arith) (in_kind action) e) [ ]
-  by_kind (Access address mode access) e = elim (apart _ _ (omega arith) (in_kind action) e) [ ]
+  by_kind _ e = elim (apart _ _ (omega arith) (in_kind action) e) [ ]

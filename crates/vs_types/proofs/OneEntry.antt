@@ -11,15 +11,14 @@ use Rattle.vs_types.specs.declared.op.Action.{Action}
 use Rattle.vs_types.specs.declared.op.Action.TheVariants.{Map, Unmap, Protect}
 use Rattle.vs_types.specs.declared.page.Rights.{Rights}
 use Rattle.vs_types.specs.declared.page.Size.{Size}
-use Rattle.vs_types.specs.declared.page.Size.TheVariants.{K4, M2, G1}
+use Rattle.vs_types.specs.declared.page.Size.TheVariants.{K4}
 use Rattle.vs_types.specs.declared.request.Query.TheVariants.{Update}
 use Rattle.vs_types.proofs.LogWords.{fields_at, finds_again}
 
-size_back : (size : Size) → size_in (size_code size) ≡ size
+pub size_back : (size : Size) → size_in (size_code size) ≡ size
 unfolding size_in
 size_back K4 = refl
-size_back M2 = refl
-size_back G1 = refl
+size_back _ = refl
 
 bits_back : (w u x : Bool) → rights_in (rights_code (record { write = w; user = u; exec = x })) ≡ record { write = w; user = u; exec = x }
 unfolding rights_in is_one
@@ -32,7 +31,7 @@ bits_back false true false = refl
 bits_back false false true = refl
 bits_back false false false = refl
 
-rights_back : (rights : Rights) → rights_in (rights_code rights) ≡ rights
+pub rights_back : (rights : Rights) → rights_in (rights_code rights) ≡ rights
 rights_back rights = bits_back rights.write rights.user rights.exec
 
 abbrev pub action_of : RequestFields → Action

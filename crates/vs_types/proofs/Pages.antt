@@ -8,13 +8,12 @@ use Rattle.vs_types.specs.declared.depth.Depth.{Depth}
 use Rattle.vs_types.specs.declared.depth.Depth.TheVariants.{Four, Five}
 use Rattle.vs_types.specs.declared.page.Page.{Page}
 use Rattle.vs_types.specs.declared.page.Size.{Size}
-use Rattle.vs_types.specs.declared.page.Size.TheVariants.{K4, M2, G1}
+use Rattle.vs_types.specs.declared.page.Size.TheVariants.{K4}
 use Rattle.vs_types.specs.Page.{level_of, bytes_of, end_of, covers, overlaps, IsPageBelow}
 
 pub bytes_positive : (size : Size) → 0 < bytes_of size
 bytes_positive K4 = omega arith
-bytes_positive M2 = omega arith
-bytes_positive G1 = omega arith
+bytes_positive _ = omega arith
 
 -- a page has the addresses from its base up to its end
 pub covers_means : (p : Page) (a : ℕ) → IsTrue (covers p a) ↔ ((p.base ≤ a) × (a < end_of p))
@@ -63,13 +62,11 @@ pow_multiple e k le =
 
 pub level_some : (size : Size) → 0 < level_of size
 level_some K4 = omega arith
-level_some M2 = omega arith
-level_some G1 = omega arith
+level_some _ = omega arith
 
 pub level_at_most : (size : Size) → level_of size ≤ 3
 level_at_most K4 = omega arith
-level_at_most M2 = omega arith
-level_at_most G1 = omega arith
+level_at_most _ = omega arith
 
 -- pages fit into each half exactly
 pub half_multiple : (depth : Depth) (size : Size) → half_bytes depth % bytes_of size ≡ 0
@@ -81,14 +78,12 @@ all_multiple size = pow_multiple 64 (3 + 9 * level_of size) (omega (arith, level
 -- a page that begins before a multiple of its size ends there or before
 pub ends_before : (size : Size) (base end : ℕ) → base % bytes_of size ≡ 0 → end % bytes_of size ≡ 0 → base < end → base + bytes_of size ≤ end
 ends_before K4 base end b e lt = omega arith
-ends_before M2 base end b e lt = omega arith
-ends_before G1 base end b e lt = omega arith
+ends_before _ base end b e lt = omega arith
 
 -- two aligned addresses, of which one is less than a page above the other
 pub same_aligned : (size : Size) (a b : ℕ) → a % bytes_of size ≡ 0 → b % bytes_of size ≡ 0 → b ≤ a → a < b + bytes_of size → b ≡ a
 same_aligned K4 a b p q le lt = omega arith
-same_aligned M2 a b p q le lt = omega arith
-same_aligned G1 a b p q le lt = omega arith
+same_aligned _ a b p q le lt = omega arith
 
 canonical_test : (half all a : ℕ) → IsTrue (nat_lt a half || (nat_le (all - half) a && nat_lt a all)) ↔ ((a < half) ⊎ ((all - half ≤ a) × (a < all)))
 canonical_test half all a = (λ h. grind (arith, nat_tests), λ h. grind (arith, nat_tests))

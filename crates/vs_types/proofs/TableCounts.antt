@@ -4,7 +4,7 @@ use Rattle.std.proofs.Common.{inl, inr, ⊎_elim, refl, sym, ap, ◌∙◌, subs
 use lib.Pow.{pow-lt, pow_mono}
 use Rattle.std.specs.FinMap as finite
 use Rattle.std.specs.Set.{is_member}
-use Rattle.std.proofs.lemmas.Bool.{cases_lt, eq-eqb, eqb-true, or_left, or_right, or_cases}
+use Rattle.std.proofs.lemmas.Bool.{eq-eqb, eqb-true, or_left, or_right, or_cases}
 use Rattle.std.proofs.lemmas.Bool.Decides.{nat_tests}
 use Rattle.vs_types.specs.declared.depth.Depth.{Depth}
 use Rattle.vs_types.specs.declared.page.Page.{Page}
@@ -36,9 +36,6 @@ has_table page level l = let less : bytes_of page.size < table_bytes level = pow
 
 pub has_no_table : (page : Page) (level : ℕ) → level < level_of page.size → nat_lt (bytes_of page.size) (table_bytes level) ≡ false
 has_no_table page level l = let less : table_bytes level ≤ bytes_of page.size = pow_mono (omega arith) in grind (arith, nat_tests)
-
-has_table_from : (page : Page) (level : ℕ) → nat_lt (bytes_of page.size) (table_bytes level) ≡ true → level_of page.size ≤ level
-has_table_from page level t = ⊎_elim (λ l. let no = has_no_table page level l in cc) (λ l. l) (cases_lt level (level_of page.size))
 
 -- the stretches of this level in which pages with a table of it begin
 abbrev pub stretches : ℕ → Space → List ℕ

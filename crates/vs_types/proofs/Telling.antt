@@ -7,9 +7,8 @@ use Rattle.vs_types.specs.declared.page.Size.TheVariants.{G1}
 
 pub size_above : (n : ℕ) → 2 ≤ n → G1 ≡ size_in n
 unfolding size_in
-size_above zero le = absurd (omega (arith, le))
-size_above (suc zero) le = absurd (omega (arith, le))
 size_above (suc (suc n)) le = refl
+size_above _ le = absurd (omega (arith, le))
 
 pub not_zero : (n : ℕ) → not (nat_eq n 0) ≡ is_one n
 unfolding is_one
@@ -18,6 +17,5 @@ not_zero (suc n) = ap not (eqb-suc-zero n)
 
 pub protect_above : (n size rights address physical : ℕ) → 2 ≤ n → Protect address (rights_in rights) ≡ action_in n size rights address physical
 unfolding action_in
-protect_above zero size rights address physical le = absurd (omega (arith, le))
-protect_above (suc zero) size rights address physical le = absurd (omega (arith, le))
 protect_above (suc (suc n)) size rights address physical le = refl
+protect_above _ size rights address physical le = absurd (omega (arith, le))

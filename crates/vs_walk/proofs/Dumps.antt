@@ -106,16 +106,12 @@ below_at x (e ∷ es) (suc k) d h lt = below_at x es k d (second _ _ h) (omega a
 
 pub numbers_rise : (es : List (ℕ × List ℕ)) (i j : ℕ) (d : ℕ × List ℕ) → IsTrue (is_sorted nat_cmp es) → i < j → j < length es
     → (get_or es i d).0 < (get_or es j d).0
-numbers_rise [] i j d s lt within = absurd (omega arith)
-numbers_rise (e ∷ es) i zero d s lt within = absurd (omega arith)
 numbers_rise (e ∷ es) zero (suc j) d s lt within = below_at e.0 es j d (first _ _ s) (omega arith)
 numbers_rise (e ∷ es) (suc i) (suc j) d s lt within = numbers_rise es i j d (second _ _ s) (omega arith) (omega arith)
+numbers_rise _ i _ d s lt within = absurd (omega arith)
 
 tied : (q k : ℕ) → q ≡ k → eq_by_cmp nat_cmp q k ≡ true
 tied q k e = ap is_eq (sym (nat_cmp_is q k Equal e))
-
-apart_less : (q k : ℕ) → q < k → eq_by_cmp nat_cmp q k ≡ false
-apart_less q k e = ap is_eq (sym (nat_cmp_is q k Less e))
 
 apart_greater : (q k : ℕ) → k < q → eq_by_cmp nat_cmp q k ≡ false
 apart_greater q k e = ap is_eq (sym (nat_cmp_is q k Greater e))
@@ -152,17 +148,15 @@ length_pairs (n ∷ ns) (w ∷ ws) paired = ap suc (length_pairs ns ws (omega ar
 
 pair_at : (ns : List ℕ) (ws : List (List ℕ)) (k : ℕ) (e : ℕ × List ℕ) → length ns ≡ length ws → k < length ns
     → get_or (zip ns ws) k e ≡ (get_or ns k e.0, get_or ws k e.1)
-pair_at [] ws k e paired lt = absurd (omega arith)
-pair_at (n ∷ ns) [] k e paired lt = absurd (omega arith)
 pair_at (n ∷ ns) (w ∷ ws) zero e paired lt = refl
 pair_at (n ∷ ns) (w ∷ ws) (suc k) e paired lt = pair_at ns ws k e (omega arith) (omega arith)
+pair_at _ _ k e paired lt = absurd (omega arith)
 
 pub pairs_push : (ns : List ℕ) (ws : List (List ℕ)) (n : ℕ) (w : List ℕ) → length ns ≡ length ws
     → zip (ns ++ n ∷ []) (ws ++ w ∷ []) ≡ zip ns ws ++ (n, w) ∷ []
 pairs_push [] [] n w paired = refl
-pairs_push [] (v ∷ ws) n w paired = absurd (omega arith)
-pairs_push (m ∷ ns) [] n w paired = absurd (omega arith)
 pairs_push (m ∷ ns) (v ∷ ws) n w paired = ap (λ l. (m, v) ∷ l) (pairs_push ns ws n w (omega arith))
+pairs_push _ _ n w paired = absurd (omega arith)
 
 climbs : (ns : List ℕ) (ws : List (List ℕ)) (q : ℕ) → length ns ≡ length ws → IsTrue (is_sorted nat_cmp (zip ns ws))
     → IsNonDecreasingBy (λ n. ordering_index (nat_cmp n q)) ns

@@ -23,9 +23,8 @@ unfolding one_word
 word_there index word lt = get_or-set_same (replicate 512 0) index word 0 (omega (arith, length-replicate {A = ℕ} 512 0))
 
 zero_in : (n k : ℕ) → get_or {A = ℕ} (replicate n 0) k 0 ≡ 0
-zero_in zero k = refl
-zero_in (suc n) zero = refl
 zero_in (suc n) (suc k) = zero_in n k
+zero_in _ _ = refl
 
 zero_elsewhere : (index word k : ℕ) → k ≢ index → slice_index (one_word index word) k ≡ 0
 unfolding one_word

@@ -72,9 +72,8 @@ TableLies depth level table = OfFound (LiesIn depth table.start (table.start + t
 
 pub wider : (depth : Depth) (low high lower higher : ℕ) → lower ≤ low → high ≤ higher → (visit : Visit) → OfFound (LiesIn depth low high) visit
     → OfFound (LiesIn depth lower higher) visit
-wider depth low high lower higher down up (OfFrame number) lies = tt
 wider depth low high lower higher down up (OfLeaf page) lies = lies_wider low high lower higher down up lies
-wider depth low high lower higher down up (OfReservedBit number index) lies = tt
+wider depth low high lower higher down up _ lies = tt
 
 -- a leaf's page begins at a multiple of its bytes
 pub leaf_aligned : (level : ℕ) (table : ReachedTable) (index word phys : ℕ) (own : Rights) → IsPlaced (suc level) table

@@ -85,10 +85,9 @@ module _ (depth : Depth) (memory : Memory) (whole : AreWhole memory) (level : �
 entry_rises : (depth : Depth) (memory : Memory) (level : ℕ) (table : ReachedTable) (index word : ℕ) (means : Meaning) → IsPlaced (suc level) table
     → ((next : ReachedTable) → IsPlaced level next → AllPairs Before (found (table_visits depth memory level next)))
     → AllPairs Before (found (entry_visits depth (suc level) table index (λ next. table_visits depth memory level next) means))
-entry_rises depth memory level table index word entry.Absent placed lower = all_pairs_nil Before
-entry_rises depth memory level table index word entry.Reserved placed lower = all_pairs_nil Before
 entry_rises depth memory level table index word (entry.Leaf phys own) placed lower = all_pairs_one Before _
 entry_rises depth memory level table index word (entry.Table number own) placed lower = lower _ (place_below level table index number own placed)
+entry_rises depth memory level table index word _ placed lower = all_pairs_nil Before
 
 -- the pages that are found in a table rise
 pub table_rises : (depth : Depth) (memory : Memory) → AreWhole memory → (level : ℕ) (table : ReachedTable) → IsPlaced level table

@@ -28,9 +28,8 @@ look_in space address = look_found space address (page_at space address) refl
 same_in_page : (address : ℕ) (p q : Option Page) → as_walk (in_page address p) ≡ as_walk (in_page address q) → in_page address p ≡ in_page address q
 unfolding in_page
 same_in_page address None None is = refl
-same_in_page address None (Some q) is = cc
-same_in_page address (Some p) None is = cc
 same_in_page address (Some p) (Some q) is = cc
+same_in_page address _ _ is = cc
 
 faultless : (address : ℕ) (p : Option Page) → (as_walk (in_page address p) ≢ Reserved) × (as_walk (in_page address p) ≢ Missing)
 unfolding in_page

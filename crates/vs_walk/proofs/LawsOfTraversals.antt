@@ -22,7 +22,7 @@ use Rattle.vs_walk.specs.Traversal.{walk_fault}
 use Rattle.vs_types.specs.Space.{page_covering}
 use Rattle.vs_walk.specs.Laws.{as_found, LeadsTo, IsTableAt, IsRoot, IsBelow, IsReservedWord}
 use Rattle.vs_walk.specs.declared.walk.Walk.{Walk}
-use Rattle.vs_walk.specs.declared.walk.Walk.TheVariants.{NotMapped, Reserved, Missing, Mapped}
+use Rattle.vs_walk.specs.declared.walk.Walk.TheVariants.{NotMapped, Reserved, Missing}
 use Rattle.vs_walk.specs.declared.walk.WalkFault.TheVariants as faults
 use Rattle.vs_walk.proofs.LawsOfLists.{contained_at_some_word}
 use Rattle.vs_walk.proofs.LawsOfVisits.{at_word_met, table_met, missing_met, nothing_met, first_met, word_is_met, met_is_reached}
@@ -33,10 +33,9 @@ use Rattle.vs_walk.proofs.LawsOfMetFaults.{GoesWell, walk_well, level_below, som
 -- ---- walks
 
 same_unfaulted : (end : Walk) → end ≢ Reserved → end ≢ Missing → end ≡ unfaulted end
-same_unfaulted NotMapped fine there = refl
 same_unfaulted Reserved fine there = absurd (fine refl)
 same_unfaulted Missing fine there = absurd (there refl)
-same_unfaulted (Mapped phys size rights) fine there = refl
+same_unfaulted _ fine there = refl
 
 nothing_found : (address : ℕ) (page : Option Page) → NotMapped ≡ as_found address page → page ≡ None
 nothing_found address None is = refl

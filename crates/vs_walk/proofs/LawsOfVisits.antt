@@ -69,9 +69,8 @@ all_at_one_word P depth memory level table words k is lt all = λ j d within.
 -- ---- what holds of pages that are found, and of frames that are reached
 
 abbrev pub OfFound : (Page → Type 0) → Visit → Type 0
-OfFound P (OfFrame number) = ⊤
 OfFound P (OfLeaf page) = P page
-OfFound P (OfReservedBit number index) = ⊤
+OfFound P _ = ⊤
 
 pub all_found : (P : Page → Type 0) (ms : List Visit) → All (OfFound P) ms → All P (found ms)
 all_found P [] all = All-nil P
@@ -79,15 +78,6 @@ all_found P (OfFrame number ∷ ms) all = all_found P ms (All-tail (OfFound P) (
 all_found P (OfLeaf page ∷ ms) all = All-cons P page (found ms) (All-head (OfFound P) (OfLeaf page) ms all)
     (all_found P ms (All-tail (OfFound P) (OfLeaf page) ms all))
 all_found P (OfReservedBit number index ∷ ms) all = all_found P ms (All-tail (OfFound P) (OfReservedBit number index) ms all)
-
-pub found_is_met : (ms : List Visit) (page : Page) → Contains (found ms) page → Contains ms (OfLeaf page)
-found_is_met [] page h = absurd (not_in_nil page h)
-found_is_met (OfFrame number ∷ ms) page h = Contains-tail (OfFrame number) ms (OfLeaf page) (found_is_met ms page h)
-found_is_met (OfLeaf first ∷ ms) page h = ⊎_elim
-    (λ same. subst (λ p. Contains (OfLeaf first ∷ ms) (OfLeaf p)) same (Contains-head (OfLeaf first) ms))
-    (λ later. Contains-tail (OfLeaf first) ms (OfLeaf page) (found_is_met ms page later))
-    (Contains-cases first (found ms) page h)
-found_is_met (OfReservedBit number index ∷ ms) page h = Contains-tail (OfReservedBit number index) ms (OfLeaf page) (found_is_met ms page h)
 
 pub reached_is_met : (ms : List Visit) (number : ℕ) → Contains (reached ms) number → Contains ms (OfFrame number)
 reached_is_met [] number h = absurd (not_in_nil number h)
@@ -100,8 +90,7 @@ reached_is_met (OfReservedBit frame index ∷ ms) number h = Contains-tail (OfRe
 
 abbrev reached_or_none : List Visit → Visit → Type 0
 reached_or_none ms (OfFrame number) = Contains (reached ms) number
-reached_or_none ms (OfLeaf page) = ⊤
-reached_or_none ms (OfReservedBit number index) = ⊤
+reached_or_none ms _ = ⊤
 
 met_is_reached_or_none : (ms : List Visit) (visit : Visit) → Contains ms visit → reached_or_none ms visit
 met_is_reached_or_none [] visit h = absurd (not_in_nil visit h)
@@ -114,10 +103,9 @@ met_is_reached_or_none (first ∷ ms) visit h = ⊎_elim (λ same. subst (reache
 
       tail : (first visit : Visit) → reached_or_none ms visit → reached_or_none (first ∷ ms) visit
       tail (OfFrame other) (OfFrame number) is = Contains-tail other (reached ms) number is
-      tail (OfLeaf page) (OfFrame number) is = is
-      tail (OfReservedBit frame index) (OfFrame number) is = is
       tail first (OfLeaf page) is = tt
       tail first (OfReservedBit number index) is = tt
+      tail _ (OfFrame number) is = is
 
 pub met_is_reached : (ms : List Visit) (number : ℕ) → Contains ms (OfFrame number) → Contains (reached ms) number
 met_is_reached ms number h = met_is_reached_or_none ms (OfFrame number) h

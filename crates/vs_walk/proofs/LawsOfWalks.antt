@@ -21,7 +21,7 @@ use Rattle.vs_walk.specs.Traversal.{ReachedTable, canonical_from, entry_visits, 
 use Rattle.vs_types.specs.Space.{page_covering}
 use Rattle.vs_walk.specs.Laws.{as_found}
 use Rattle.vs_walk.specs.declared.walk.Walk.{Walk}
-use Rattle.vs_walk.specs.declared.walk.Walk.TheVariants.{NotMapped, Reserved, Missing, Mapped}
+use Rattle.vs_walk.specs.declared.walk.Walk.TheVariants.{NotMapped, Mapped}
 use Rattle.vs_walk.proofs.Walks.{walk_nowhere, walk_missing, walk_at}
 use Rattle.vs_walk.proofs.LawsOfLists.{find_none, find_at_word}
 use Rattle.vs_walk.proofs.TranslatedBits.{addresses_climb, address_within, entry_is_table, table_is_entries, entry_some, stands, leaf_bytes, bits_of}
@@ -90,10 +90,8 @@ other_entry depth memory whole level table index rest k word placed small other 
 
 -- a walk, where one that meets a fault counts as not mapped
 abbrev pub unfaulted : Walk → Walk
-unfaulted NotMapped = NotMapped
-unfaulted Reserved = NotMapped
-unfaulted Missing = NotMapped
 unfaulted (Mapped phys size rights) = Mapped phys size rights
+unfaulted _ = NotMapped
 
 -- the leaf's page covers the address, with the offset of the walk
 leaf_walk : (depth : Depth) (level : ℕ) (table : ReachedTable) (index rest word phys address : ℕ) (own : Rights) → IsPlaced (suc level) table
@@ -141,8 +139,6 @@ entry_walk : (depth : Depth) (memory : Memory) (level : ℕ) (table : ReachedTab
     → address ≡ above * entry_bytes (suc level) + rest → unfaulted
     (walk_entry (suc level) table.rights address (λ next own. walk_from memory level next own address) means) ≡ as_found address
     (page_covering address (found (entry_visits depth (suc level) table index (λ next. table_visits depth memory level next) means)))
-entry_walk depth memory level table index rest word address above entry.Absent lower placed is small at over split = refl
-entry_walk depth memory level table index rest word address above entry.Reserved lower placed is small at over split = refl
 entry_walk depth memory level table index rest word address above (entry.Leaf phys own) lower placed is small at over split =
     leaf_walk depth level table index rest word phys address own placed is small at over
 entry_walk depth memory level table index rest word address above (entry.Table number own) lower placed is small at over split =
@@ -151,6 +147,7 @@ entry_walk depth memory level table index rest word address above (entry.Table n
     (subst (λ n. rest < n) (entry_is_table level) small)
     (subst (λ n. address ≡ above * n + rest) (entry_is_table level) split)
     at
+entry_walk depth memory level table index rest word address above _ lower placed is small at over split = refl
 
 words_walk : (depth : Depth) (memory : Memory) → AreWhole memory → (level : ℕ) (table : ReachedTable) (address index rest above : ℕ) (words : List ℕ)
     → WalkIsFound depth memory level → IsPlaced (suc level) table → finite.get memory table.number ≡ Some words → index_at (suc level) address ≡ index

@@ -23,3 +23,4 @@ pub mod LawsOfVisits
 pub mod LawsOfWalks
 pub mod ExamplesOfOneWord
 pub mod ExamplesOfTables
+pub mod SameFrames

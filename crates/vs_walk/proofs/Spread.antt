@@ -1,5 +1,5 @@
 -- Words with zeros before them and behind.
-use Rattle.std.proofs.Common.{◌≡◌, ℕ, zero, suc, ◌+◌, ◌-◌, ◌^◌, ◌<◌, ◌≤◌, List, [], ◌∷◌, ◌++◌, length, take, drop, map, get_or, refl, sym, ap, ◌∙◌}
+use Rattle.std.proofs.Common.{◌≡◌, ℕ, suc, ◌+◌, ◌-◌, ◌^◌, ◌<◌, ◌≤◌, List, [], ◌∷◌, ◌++◌, length, take, drop, map, get_or, refl, sym, ap, ◌∙◌}
 use Rattle.std.proofs.Common.{arith, append_assoc}
 use Rattle.std.specs.Prelude.{All, replicate}
 use Rattle.std.proofs.Math.Seq.{drop-append_seam}
@@ -23,9 +23,8 @@ pub length_spread : (before : ℕ) (words : List ℕ) → before + length words 
 length_spread before words few = omega (arith, few, length_among before words (FRAME_WORDS - (before + length words)))
 
 zero_at : (n i : ℕ) → ◌≡◌ {A = ℕ} (get_or (replicate n 0) i 0) 0
-zero_at zero i = refl
-zero_at (suc n) zero = refl
 zero_at (suc n) (suc i) = zero_at n i
+zero_at _ _ = refl
 
 -- the zeros before
 pub zero_before : (before : ℕ) (words : List ℕ) (behind i : ℕ) → i < before → get_or (among before words behind) i 0 ≡ 0

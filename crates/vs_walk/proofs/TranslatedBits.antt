@@ -10,7 +10,7 @@ use Rattle.vs_types.specs.Entry.{meaning, size_at}
 use Rattle.vs_types.specs.declared.depth.Depth.{Depth}
 use Rattle.vs_types.specs.declared.page.Rights.{Rights}
 use Rattle.vs_types.specs.declared.page.Size.{Size}
-use Rattle.vs_types.specs.declared.page.Size.TheVariants.{K4, M2, G1}
+use Rattle.vs_types.specs.declared.page.Size.TheVariants.{K4}
 use Rattle.vs_types.specs.declared.entry.Meaning.TheVariants as entry
 use Rattle.vs_types.proofs.Pages.{half_multiple, canonical_means, ends_before}
 use Rattle.vs_walk.specs.Traversal.{canonical_from}
@@ -158,8 +158,7 @@ from_bits_aligned depth size bits aligned =
 
     shifted : (size : Size) (bits half : ℕ) → bits % bytes_of size ≡ 0 → half % bytes_of size ≡ 0 → (bits + (2 ^ 64 - 2 * half)) % bytes_of size ≡ 0
     shifted K4 bits half a b = omega arith
-    shifted M2 bits half a b = omega arith
-    shifted G1 bits half a b = omega arith
+    shifted _ bits half a b = omega arith
 
 -- ---- levels
 

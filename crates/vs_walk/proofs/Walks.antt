@@ -71,11 +71,8 @@ leaf_level level word phys own is = grind arith
 
 -- no entry of a level where a leaf can be is above 2^30 bytes
 small_entries : (level : ℕ) → level ≤ 3 → (0 < entry_bytes level) × (entry_bytes level ≤ 2 ^ 30)
-small_entries zero few = (omega arith, omega arith)
-small_entries (suc zero) few = (omega arith, omega arith)
-small_entries (suc (suc zero)) few = (omega arith, omega arith)
-small_entries (suc (suc (suc zero))) few = (omega arith, omega arith)
 small_entries (suc (suc (suc (suc level)))) few = absurd (omega arith)
+small_entries _ few = (omega arith, omega arith)
 
 -- the offset as it is computed
 pub offset_is : (level word phys address : ℕ) (own : Rights) → meaning level word ≡ entry.Leaf phys own

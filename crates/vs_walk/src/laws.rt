@@ -17,6 +17,8 @@ ghost use Rattle.vs_walk.specs.Laws.{as_found, IsReservedWord};
 ghost use Rattle.vs_walk.specs.declared.walk.Walk.TheVariants as ends;
 ghost use Rattle.vs_walk.specs.declared.walk.WalkFault.TheVariants as faults;
 
+use crate::dump::Dump;
+
 /// A memory translates as at most one space.
 pub fn translates_as_one_space()
     ensures { (depth : Depth) (memory : Memory) (root : ℕ) (s t : Space) → IsSpace depth s
@@ -151,6 +153,13 @@ pub fn found_pages_are_the_space()
         × (pages space ≡ found (traversal depth memory root))
         × TranslatesAs depth memory root space }
 {}
+
+/// What a value of this type shows is a dump.
+pub fn frames_are_a_dump(dump: &Dump)
+    ensures { IsDump dump.now }
+{
+    let _count = dump.count();
+}
 
 /// Each frame of a dump has 512 words.
 pub fn dumps_are_whole()

@@ -25,8 +25,10 @@ returns-then-number-frames_end-clause-next c = λ memory shown spare.
     planned_next p refused.new.self refused.result (ap (λ (q : Planner). q.target) refused.ensures.same)
     (ap (λ (q : Planner). q.request) refused.ensures.same) refused.ensures.planned
     (λ plan none space premise.
-    nothing_right premise (give_due p c.requires shown space premise) plan none tt
-    (subst (λ (o : Option ℕ). Contains (c.args.frame ∷ []) o) c.in-Some.is (Contains-head c.args.frame []), omega (arith, c.if-number-frames_end.true, c.frames_end.ensures.is))
+    nothing_right premise (give_due p c.requires shown space premise) plan none tt (
+      subst (λ (o : Option ℕ). Contains (c.args.frame ∷ []) o) c.in-Some.is (Contains-head c.args.frame []),
+      omega (arith, c.if-number-frames_end.true, c.frames_end.ensures.is),
+    )
     premise.translates refl)
 
 pub grow_on-requires-clause-awaits : goal.grow_on-requires-clause-awaits

@@ -21,7 +21,8 @@ returns-clause-awaits c = record {
 
 pub returns-clause-shown : goal.returns-clause-shown
 returns-clause-shown c = λ memory. record {
-  way = subst (λ l. IsWay c.args.target.depth memory c.args.target.root (address_of c.args.request) l c.args.target.root all_rights) (sym c.levels.ensures) Begins;
+  way = subst (λ l. IsWay c.args.target.depth memory c.args.target.root (address_of c.args.request) l c.args.target.root all_rights)
+      (sym c.levels.ensures) Begins;
   met = record {
     tables = λ level from to. absurd (omega (arith, c.levels.ensures, from, to));
     alone = λ level from low. absurd (omega (arith, c.levels.ensures, from, low, c.highest_link.ensures.most));

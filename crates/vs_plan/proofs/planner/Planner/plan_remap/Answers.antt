@@ -48,7 +48,8 @@ returns-then-new-word c =
     ap (meaning level) (sym c.new.ensures) ∙ sym c.read.ensures ∙ c.in-Leaf.is in
     let bytes : c.bytes.result ≡ bytes_of (size_at level) = c.bytes.ensures ∙ ap bytes_of c.at_level-size.ensures in
     let written : c.with_rights-new.result ≡ with_rights (with_address (size_at level) c.args.word c.args.phys) c.args.rights =
-    c.with_rights-new.ensures ∙ ap (λ w. with_rights w c.args.rights) (c.with_address.ensures ∙ ap (λ z. with_address z c.args.word c.args.phys) c.at_level-size.ensures) in
+    c.with_rights-new.ensures ∙ ap (λ w. with_rights w c.args.rights)
+    (c.with_address.ensures ∙ ap (λ z. with_address z c.args.word c.args.phys) c.at_level-size.ensures) in
     written_right c.requires.end says c.requires.request (subst (λ n. c.args.base % n ≡ 0) bytes c.if-offset-ne0.false)
     (ap (phys_refusal c.args.phys c.args.self.now.target.phys_bits) (sym c.at_level-size.ensures) ∙ sym c.phys_refusal.ensures ∙ c.in_default-phys_refusal.is)
     (c.permits.ensures.all c.if-not-permits.false) c.intersection.ensures (c.bits_in.ensures.is ∙ ap (λ z. bits_in z c.args.word) c.at_level-size.ensures)
@@ -65,7 +66,8 @@ returns-else-new-word c =
     ap (meaning level) (sym c.new.ensures) ∙ sym c.read.ensures ∙ c.in-Leaf.is in
     let bytes : c.bytes.result ≡ bytes_of (size_at level) = c.bytes.ensures ∙ ap bytes_of c.at_level-size.ensures in
     let written : c.with_rights-new.result ≡ with_rights (with_address (size_at level) c.args.word c.args.phys) c.args.rights =
-    c.with_rights-new.ensures ∙ ap (λ w. with_rights w c.args.rights) (c.with_address.ensures ∙ ap (λ z. with_address z c.args.word c.args.phys) c.at_level-size.ensures) in
+    c.with_rights-new.ensures ∙ ap (λ w. with_rights w c.args.rights)
+    (c.with_address.ensures ∙ ap (λ z. with_address z c.args.word c.args.phys) c.at_level-size.ensures) in
     same_right c.requires.end says c.requires.request (subst (λ n. c.args.base % n ≡ 0) bytes c.if-offset-ne0.false)
     (ap (phys_refusal c.args.phys c.args.self.now.target.phys_bits) (sym c.at_level-size.ensures) ∙ sym c.phys_refusal.ensures ∙ c.in_default-phys_refusal.is)
     (c.permits.ensures.all c.if-not-permits.false) c.intersection.ensures (c.bits_in.ensures.is ∙ ap (λ z. bits_in z c.args.word) c.at_level-size.ensures)

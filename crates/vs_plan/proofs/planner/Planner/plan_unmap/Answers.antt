@@ -47,7 +47,8 @@ loop-level-preserved c =
       c.push-in-loop-level-2.ensures.items
           ∙ cuts_more (slice_index self.numbers) (slice_index self.words) c.args.base self.level c.loop-level.level _ _ c.loop-level.plan.stores.items before.0
           before.2 c.index_at-in-loop-level.ensures.is,
-      c.push-in-loop-level.ensures.items ∙ cut_off_more (slice_index self.numbers) self.level c.loop-level.level c.loop-level.plan.unlinked.items before.0 before.3,
+      c.push-in-loop-level.ensures.items ∙ cut_off_more (slice_index self.numbers) self.level c.loop-level.level
+          c.loop-level.plan.unlinked.items before.0 before.3,
       flush_more self.level c.loop-level.level c.args.base _ before.0,
       before.5,
       before.6,

@@ -1,4 +1,4 @@
--- The first page below a table, entry by entry: the addresses.
+-- Where the entries of a table begin, and the parts of an aligned stretch of addresses.
 use Rattle.std.proofs.Common.{◌≡◌, ℕ, suc, ◌+◌, ◌*◌, ◌/◌, ◌%◌, ◌^◌, ◌<◌, ◌≤◌, ⊎_elim, sym, ap, subst, ◌∙◌, mod-lt, arith}
 use lib.Pow.{pow_pos, pow-add, split, shr-shr, shl-shr}
 use Rattle.std.proofs.lemmas.Nat.{div-mul-add, mod-mul-add}
@@ -11,7 +11,7 @@ use Rattle.vs_space.proofs.Regions.{stretch_same, in_block}
 use Rattle.vs_space.proofs.Prunes.{canonical_stretch}
 
 -- an address of an aligned stretch of 512 parts, by its part
-part : (e base b : ℕ) → base % 2 ^ (e + 9) ≡ 0 → base ≤ b → b < base + 2 ^ (e + 9)
+pub part : (e base b : ℕ) → base % 2 ^ (e + 9) ≡ 0 → base ≤ b → b < base + 2 ^ (e + 9)
     → (base + b / 2 ^ e % 512 * 2 ^ e ≤ b) × (b < base + (b / 2 ^ e % 512 + 1) * 2 ^ e)
 part e base b at low high =
     let same = in_block (e + 9) base b at low high in
@@ -40,7 +40,8 @@ part e base b at low high =
         (omega arith, omega arith)
 
 -- the entry at an index of the table of a level that begins at the base: where it begins
-module _ (depth : Depth) (level base index next : ℕ) (canonical : IsCanonical depth base) (below : level < levels depth) (aligned : base % table_bytes level ≡ 0)
+module _ (depth : Depth) (level base index next : ℕ) (canonical : IsCanonical depth base) (below : level < levels depth)
+    (aligned : base % table_bytes level ≡ 0)
     (within : index < 512) (next_is : next ≡ base + index * 2 ^ (3 + 9 * level)) where
   wide : 12 + 9 * level ≡ 3 + 9 * level + 9
   wide = omega arith
