@@ -4,7 +4,6 @@ use crate::party::{OfLog, Party};
 use nr_ring::LogName;
 use std::alloc::Global;
 use std::process::Abort;
-use std::test::Fail;
 
 /// A thread's parties: one that owns the replica of the thread's number, and one that owns none.
 #[derive(Drop)]
@@ -19,18 +18,19 @@ pub fn pairs<'a, N: LogName, K: OfLog>(
     rt: &impl Abort,
     alloc: Global,
     parties: Vec<Party<'a, N, K>>,
-) -> Result<Vec<Pair<'a, N, K>>, Fail> {
+) -> Vec<Pair<'a, N, K>> {
     let mut all = parties;
     let mut pairs = Vec::new(alloc);
     for number in 0..4 {
         assert!(rt; all.len() > 1);
         let owner = all.remove(0);
         let other = all.remove(all.len() - 1);
-        pairs.push(Pair {
+        let pair = Pair {
             number,
             owner,
             other,
-        })?;
+        };
+        pairs.push(pair).expect(rt, "memory");
     }
-    Ok(pairs)
+    pairs
 }

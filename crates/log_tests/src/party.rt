@@ -137,6 +137,38 @@ impl<'a, N: LogName, K: OfLog> Party<'a, N, K> {
         self.log.append(rt, &mut self.pass, &batch[..count])
     }
 
+    /// Appends an entry of this call, and its replica takes all, in one exchange: the place, and what it takes before that entry. It only
+    /// appends where it owns none.
+    pub fn append_and_take<R: Wait + Abort>(
+        &mut self,
+        rt: &R,
+        call: u32,
+    ) -> Result<(u32, ArrayVec<LogEntry, 16>), AppendFault> {
+        let batch = [entry(rt, self.depth, call)];
+        let mut before = ArrayVec::new();
+        let place = match self.pass.replica() {
+            Some(_) => self
+                .log
+                .append_and_take(rt, &mut self.pass, &batch, &mut before)?,
+            None => self.log.append(rt, &mut self.pass, &batch)?,
+        };
+        Ok((place, before))
+    }
+
+    /// Whether it appends an entry of this call, which gets this place, and takes entries of these calls before it.
+    pub fn appends_and_takes<R: Wait + Abort>(
+        &mut self,
+        rt: &R,
+        call: u32,
+        place: u32,
+        calls: &[u32],
+    ) -> bool {
+        match self.append_and_take(rt, call) {
+            Ok((at, before)) => at == place && self.are_of(rt, &before, calls),
+            Err(_) => false,
+        }
+    }
+
     /// What its replica has still to take; nothing where it owns none.
     pub fn fetch<R: Wait>(&mut self, rt: &R) -> ArrayVec<LogEntry, 16> {
         let mut entries = ArrayVec::new();

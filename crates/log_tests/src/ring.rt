@@ -2,7 +2,6 @@
 
 use crate::scene::{Layout, Test, run};
 use crate::steps::{Does, Step};
-use std::test::Fail;
 use vs_types::Depth;
 
 static FILLS_AND_FREES: [Step; 13] = [
@@ -76,81 +75,101 @@ static LOOKS_SEE_WHAT_REFUSED: [Step; 9] = [
     Step(0, Does::Looks(4, 0, [0, 0, 0, 0])),
 ];
 
+/// Replicas append as they take: with entries of others before theirs, with their own, and with none.
+static APPENDS_AND_TAKES: [Step; 10] = [
+    Step(2, Does::Appends(7, 0)),
+    Step(0, Does::AppendsAndTakes(8, 1, &[7])),
+    Step(2, Does::Looks(2, 2, [2, 0, 0, 0])),
+    Step(1, Does::AppendsAndTakes(9, 2, &[7, 8])),
+    Step(2, Does::Looks(3, 3, [2, 3, 0, 0])),
+    Step(0, Does::AppendsAndTakes(10, 3, &[9])),
+    Step(0, Does::AppendsAndTakes(11, 4, &[])),
+    Step(0, Does::Looks(5, 5, [5, 3, 0, 0])),
+    Step(1, Does::Takes(&[10, 11])),
+    Step(0, Does::Takes(&[])),
+];
+
 #[test]
-fn ring_fills_and_frees(rt: HostRuntime) -> Result<(), Fail> {
+fn ring_fills_and_frees(rt: HostRuntime) {
     let layout = Layout::new(Depth::Four, 2, 1);
-    run(&rt, rt.alloc(), layout, Test::Steps(&FILLS_AND_FREES))
+    run(&rt, rt.alloc(), layout, Test::Steps(&FILLS_AND_FREES));
 }
 
 #[test]
-fn replicas_take_all(rt: HostRuntime) -> Result<(), Fail> {
+fn replicas_take_all(rt: HostRuntime) {
     let layout = Layout::new(Depth::Four, 2, 1);
-    run(&rt, rt.alloc(), layout, Test::Steps(&TAKES_ALL))
+    run(&rt, rt.alloc(), layout, Test::Steps(&TAKES_ALL));
 }
 
 #[test]
-fn advance_meets_another_event(rt: HostRuntime) -> Result<(), Fail> {
+fn replicas_append_and_take(rt: HostRuntime) {
+    let layout = Layout::new(Depth::Four, 2, 1);
+    run(&rt, rt.alloc(), layout, Test::Steps(&APPENDS_AND_TAKES));
+}
+
+#[test]
+fn advance_meets_another_event(rt: HostRuntime) {
     let layout = Layout::new(Depth::Four, 2, 1);
     run(
         &rt,
         rt.alloc(),
         layout,
         Test::Steps(&ADVANCE_MEETS_ANOTHER_EVENT),
-    )
+    );
 }
 
 /// No clause says that a look shows what other passes have done before it. Each look here follows an event.
 #[test]
-fn looks_see_other_passes(rt: HostRuntime) -> Result<(), Fail> {
+fn looks_see_other_passes(rt: HostRuntime) {
     let layout = Layout::new(Depth::Four, 2, 1);
     run(
         &rt,
         rt.alloc(),
         layout,
         Test::Steps(&LOOKS_SEE_OTHER_PASSES),
-    )
+    );
 }
 
 #[test]
-fn looks_see_what_refused(rt: HostRuntime) -> Result<(), Fail> {
+fn looks_see_what_refused(rt: HostRuntime) {
     let layout = Layout::new(Depth::Four, 2, 1);
     run(
         &rt,
         rt.alloc(),
         layout,
         Test::Steps(&LOOKS_SEE_WHAT_REFUSED),
-    )
+    );
 }
 
 #[test]
-fn log_ends(rt: HostRuntime) -> Result<(), Fail> {
-    run(&rt, rt.alloc(), Layout::new(Depth::Four, 1, 0), Test::Fill)
+fn log_ends(rt: HostRuntime) {
+    run(&rt, rt.alloc(), Layout::new(Depth::Four, 1, 0), Test::Fill);
 }
 
 #[test]
-fn batches_of_each_size(rt: HostRuntime) -> Result<(), Fail> {
+fn batches_of_each_size(rt: HostRuntime) {
     let layout = Layout::new(Depth::Four, 1, 0);
-    run(&rt, rt.alloc(), layout, Test::Batches)
+    run(&rt, rt.alloc(), layout, Test::Batches);
 }
 
 /// The last party of a log of three replicas, with five passes that own none, appends; the first sees it.
 #[test]
-fn log_of_three_replicas(rt: HostRuntime) -> Result<(), Fail> {
+fn log_of_three_replicas(rt: HostRuntime) {
     let steps = [
         Step(7, Does::Appends(1, 0)),
         Step(0, Does::Looks(1, 0, [0, 0, 0, 0])),
     ];
     let layout = Layout::new(Depth::Four, 3, 5);
-    run(&rt, rt.alloc(), layout, Test::Steps(&steps))
+    run(&rt, rt.alloc(), layout, Test::Steps(&steps));
 }
 
 /// The same of a log with all the replicas and passes that it can have.
 #[test]
-fn log_of_most_passes(rt: HostRuntime) -> Result<(), Fail> {
+fn log_of_most_passes(rt: HostRuntime) {
     let steps = [
         Step(67, Does::Appends(1, 0)),
         Step(0, Does::Looks(1, 0, [0, 0, 0, 0])),
     ];
     let layout = Layout::new(Depth::Four, 4, 64);
-    run(&rt, rt.alloc(), layout, Test::Steps(&steps))
+    run(&rt, rt.alloc(), layout, Test::Steps(&steps));
 }

@@ -3,10 +3,10 @@
 
 use crate::party::{OfLog, Party};
 use crate::scene::{OF_FOUR, Test, run};
+use arrayvec::ArrayVec;
 use nr_ring::{AppendFault, LogName, Moved, Tails};
 use std::process::Abort;
 use std::sync::Wait;
-use std::test::Fail;
 
 /// An event that one party makes.
 #[derive(Clone, Copy)]
@@ -28,9 +28,10 @@ enum Call {
     BeTold,
     Take,
     AppendSome,
+    AppendAndTake,
 }
 
-static CALLS: [Call; 10] = [
+static CALLS: [Call; 11] = [
     Call::Look,
     Call::Fetch,
     Call::Append,
@@ -41,6 +42,7 @@ static CALLS: [Call; 10] = [
     Call::BeTold,
     Call::Take,
     Call::AppendSome,
+    Call::AppendAndTake,
 ];
 
 /// Looks, and is to see these tails.
@@ -96,6 +98,35 @@ fn append_some<N: LogName, K: OfLog, R: Wait + Abort>(
     tails.tail = place.saturating_add(count);
 }
 
+/// The calls of the entries that its replica has still to take, which are their places; none where it owns none.
+fn to_take<N: LogName, K: OfLog, R: Wait + Abort>(
+    rt: &R,
+    party: &Party<N, K>,
+    tails: &Tails,
+) -> ArrayVec<u32, 16> {
+    let mut calls = ArrayVec::new();
+    if let Some(replica) = party.replica() {
+        assert!(rt; replica < 4);
+        for call in tails.local[usize::from(replica)]..tails.tail {
+            assert!(rt; calls.try_push(call).is_ok());
+        }
+    }
+    calls
+}
+
+/// Appends an entry, of which the call is its place, and is to get all entries that its replica has still to take before it.
+fn append_and_take<N: LogName, K: OfLog, R: Wait + Abort>(
+    rt: &R,
+    party: &mut Party<N, K>,
+    tails: &mut Tails,
+) {
+    let place = tails.tail;
+    let calls = to_take(rt, party, tails);
+    assert!(rt; party.appends_and_takes(rt, place, place, calls.as_slice()));
+    tails.tail = place.saturating_add(1);
+    has_taken(rt, party, tails);
+}
+
 /// Fetches, or takes in one exchange, and is to get all entries that its replica has still to take.
 fn get<N: LogName, K: OfLog, R: Wait + Abort>(
     rt: &R,
@@ -103,18 +134,8 @@ fn get<N: LogName, K: OfLog, R: Wait + Abort>(
     tails: &Tails,
     takes: bool,
 ) {
-    let Some(replica) = party.replica() else {
-        return;
-    };
-    assert!(rt; replica < 4);
-    let local = tails.local[usize::from(replica)];
-    let count = tails.tail.saturating_sub(local);
-    assert!(rt; count <= 16);
-    let mut calls = [0; 16];
-    for at in 0..16 {
-        calls[at] = local.saturating_add(at as u32);
-    }
-    let calls = &calls[..count as usize];
+    let waiting = to_take(rt, party, tails);
+    let calls = waiting.as_slice();
     assert!(rt;
         if takes {
             party.takes(rt, calls)
@@ -172,6 +193,7 @@ fn make_call<'a, N: LogName, K: OfLog, R: Wait + Abort>(
             has_taken(rt, other, tails);
         }
         Call::AppendSome => append_some(rt, other, tails),
+        Call::AppendAndTake => append_and_take(rt, other, tails),
     }
     look(rt, other, tails);
     look(rt, first, tails);
@@ -252,7 +274,7 @@ pub fn each_call<'a, N: LogName, K: OfLog, R: Wait + Abort>(
     rt: &R,
     parties: Vec<Party<'a, N, K>>,
     batches: u32,
-) -> Result<(), Fail> {
+) {
     let mut all = parties;
     let mut tails = Tails {
         tail: 0,
@@ -266,16 +288,14 @@ pub fn each_call<'a, N: LogName, K: OfLog, R: Wait + Abort>(
         for at in 0..all.len() {
             all_calls(rt, &mut first, all.as_mut_slice(), at, &mut tails);
         }
-        all.push(first)?;
+        all.push(first).expect(rt, "memory");
     }
-    Ok(())
 }
 
 /// At the log's beginning, past its place 20,000, and towards its end.
 #[test]
-fn each_call_after_each_event(rt: HostRuntime) -> Result<(), Fail> {
+fn each_call_after_each_event(rt: HostRuntime) {
     for batches in [0, 1_250, 3_750] {
-        run(&rt, rt.alloc(), OF_FOUR, Test::EachCall(batches))?;
+        run(&rt, rt.alloc(), OF_FOUR, Test::EachCall(batches));
     }
-    Ok(())
 }

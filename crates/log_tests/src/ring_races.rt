@@ -11,7 +11,6 @@ use nr_ring::{LogName, Moved, Tails};
 use std::alloc::Global;
 use std::process::Abort;
 use std::sync::Wait;
-use std::test::Fail;
 use std::thread;
 use std::thread::Threads;
 
@@ -104,17 +103,16 @@ pub fn run_races<
     N: LogName + Send + Sync,
     K: OfLog + Send + Sync,
     R: Wait + Abort + Threads + Sync,
->(rt: &R, alloc: Global, parties: Vec<Party<N, K>>) -> Result<(), Fail> {
-    let all = pairs(rt, alloc, parties)?;
+>(rt: &R, alloc: Global, parties: Vec<Party<N, K>>) {
+    let all = pairs(rt, alloc, parties);
     let start = Start::new();
-    thread::map_vec(rt, all, &|pair: Pair<N, K>| all_rounds(rt, pair, &start))?;
-    Ok(())
+    let ended = thread::map_vec(rt, all, &|pair: Pair<N, K>| all_rounds(rt, pair, &start));
+    let _all = ended.expect(rt, "memory");
 }
 
 #[test]
-fn looks_after_races(rt: HostRuntime) -> Result<(), Fail> {
+fn looks_after_races(rt: HostRuntime) {
     for _ in 0..LOGS {
-        run(&rt, rt.alloc(), OF_FOUR, Test::Races)?;
+        run(&rt, rt.alloc(), OF_FOUR, Test::Races);
     }
-    Ok(())
 }

@@ -9,7 +9,6 @@ use std::alloc::Global;
 use std::process::Abort;
 use std::sync::Wait;
 use std::sync::atomic::{AtomicU64, Ordering};
-use std::test::Fail;
 use std::thread;
 use std::thread::Threads;
 use vs_types::{Depth, LogEntry};
@@ -70,6 +69,25 @@ fn take<N: LogName, K: OfLog, R: Wait + Abort>(
     }
 }
 
+/// Appends one entry: replica 0 alone, the others as they take all, in one exchange. It adds the calls of what it took.
+fn try_append<N: LogName, K: OfLog, R: Wait + Abort>(
+    rt: &R,
+    party: &mut Party<N, K>,
+    replica: u8,
+    call: u32,
+    taken: &mut Vec<u32>,
+) -> Result<u32, AppendFault> {
+    if replica == 0 {
+        return party.append(rt, call);
+    }
+    let (place, before) = party.append_and_take(rt, call)?;
+    for entry in before.as_slice() {
+        taken.push(entry.call).expect(rt, "memory");
+    }
+    taken.push(call).expect(rt, "memory");
+    Ok(place)
+}
+
 /// Appends one entry. While the log is full it takes entries, so that the other thread gets on.
 fn append<N: LogName, K: OfLog, R: Wait + Abort>(
     rt: &R,
@@ -82,7 +100,7 @@ fn append<N: LogName, K: OfLog, R: Wait + Abort>(
     let backoff = Backoff::new();
     for _ in rt.forever() {
         let seen = look_now(rt, party, known);
-        match party.append(rt, call) {
+        match try_append(rt, party, replica, call, taken) {
             Ok(place) => {
                 known.fetch_max(u64::from(place) + 1, Ordering::SeqCst);
                 return;
@@ -131,33 +149,40 @@ fn work<N: LogName, K: OfLog, R: Wait + Abort>(
     unreachable!()
 }
 
+/// Whether each thread's entries are there in the order in which it appended them, and all of them.
+fn are_in_order(calls: &[u32]) -> bool {
+    let mut next = [0, 0];
+    for call in calls {
+        let thread = (call % 2) as usize;
+        if call / 2 != next[thread] {
+            return false;
+        }
+        next[thread] = call / 2 + 1;
+    }
+    next == [ROUNDS, ROUNDS]
+}
+
 /// The parties of a log of two replicas, each in a thread of its own. Both replicas take the same entries in the same order, and each
 /// thread's in the order in which it appended them.
 pub fn share<N: LogName + Send + Sync, K: OfLog + Send + Sync, R: Wait + Abort + Threads + Sync>(
     rt: &R,
     alloc: Global,
     parties: Vec<Party<N, K>>,
-) -> Result<(), Fail> {
+) {
     let known = AtomicU64::new(0);
     let taken = thread::map_vec(
         rt,
         parties,
         &|party: Party<N, K>| work(rt, alloc, party, &known),
-    )?;
-    let here = taken.first().ok_or("the first thread's")?;
-    let there = taken.get(1).ok_or("the second thread's")?;
+    );
+    let taken = taken.expect(rt, "memory");
+    let here = taken.first().expect(rt, "the first thread's");
+    let there = taken.get(1).expect(rt, "the second thread's");
     assert!(rt; here == there);
-    let mut next = [0, 0];
-    for call in here.as_slice() {
-        let thread = (call % 2) as usize;
-        assert!(rt; call / 2 == next[thread]);
-        next[thread] = call / 2 + 1;
-    }
-    assert!(rt; next == [ROUNDS, ROUNDS]);
-    Ok(())
+    assert!(rt; are_in_order(here.as_slice()));
 }
 
 #[test]
-fn two_threads_share_a_log(rt: HostRuntime) -> Result<(), Fail> {
-    run(&rt, rt.alloc(), Layout::new(Depth::Four, 2, 1), Test::Share)
+fn two_threads_share_a_log(rt: HostRuntime) {
+    run(&rt, rt.alloc(), Layout::new(Depth::Four, 2, 1), Test::Share);
 }

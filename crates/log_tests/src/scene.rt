@@ -15,9 +15,8 @@ use std::alloc::Global;
 use std::marker::Brand;
 use std::process::Abort;
 use std::sync::Wait;
-use std::test::Fail;
 use std::thread::Threads;
-use vs_types::{Depth, Memory, REPLICAS};
+use vs_types::{Depth, REPLICAS};
 
 /// What the parties of a new log do.
 #[derive(Clone, Copy)]
@@ -67,15 +66,10 @@ impl Layout {
 }
 
 /// Makes a new log, and has its parties do what a test does.
-pub fn run<R: Wait + Abort + Threads + Sync>(
-    rt: &R,
-    alloc: Global,
-    layout: Layout,
-    test: Test,
-) -> Result<(), Fail> {
+pub fn run<R: Wait + Abort + Threads + Sync>(rt: &R, alloc: Global, layout: Layout, test: Test) {
     assert!(rt; 1 <= layout.replicas && layout.replicas <= REPLICAS);
     assert!(rt; layout.others <= OTHERS);
-    run_on_log::<Brand, R>(rt, alloc, layout, test)
+    run_on_log::<Brand, R>(rt, alloc, layout, test);
 }
 
 /// The same, where the log has a name.
@@ -84,15 +78,20 @@ fn run_on_log<N: LogName + Send + Sync, R: Wait + Abort + Threads + Sync>(
     alloc: Global,
     layout: Layout,
     test: Test,
-) -> Result<(), Fail>
+)
     requires depth { layout.depth ≡ N.depth }
     requires replicas { (layout.replicas ≡ N.replicas) × (1 ≤ layout.replicas)
         × (layout.replicas ≤ REPLICAS) }
     requires passes { (layout.others ≤ OTHERS) × (N.passes ≡ layout.replicas + layout.others) }
 {
-    let (log, passes) = RingLog::<N>::new(alloc, layout.depth, layout.replicas, layout.others)?;
+    let (log, passes) = RingLog::<N>::new(
+        alloc,
+        layout.depth,
+        layout.replicas,
+        layout.others,
+    ).expect(rt, "memory");
     assert_eq!(rt; log.depth(), layout.depth);
-    run_named::<N, Brand, R>(rt, alloc, layout, &log, passes, test)
+    run_named::<N, Brand, R>(rt, alloc, layout, &log, passes, test);
 }
 
 /// The same, where it is known which log it is.
@@ -103,15 +102,15 @@ fn run_named<N: LogName + Send + Sync, K: OfLog + Send + Sync, R: Wait + Abort +
     log: &RingLog<N>,
     passes: Vec<LogPass<N>>,
     test: Test,
-) -> Result<(), Fail>
+)
     requires depth { layout.depth ≡ N.depth }
     requires log { log.now ≡ K.log }
     requires passes { passes.items ≡ new_passes K.log layout.replicas layout.others }
 {
-    let parties = parties_of::<N, K>(alloc, log, layout, passes)?;
+    let parties = parties_of::<N, K>(rt, alloc, log, layout, passes);
     let count = usize::from(layout.replicas) + usize::from(layout.others);
     assert_eq!(rt; parties.len(), count);
-    make_calls(rt, alloc, parties, test)
+    make_calls(rt, alloc, parties, test);
 }
 
 /// Has the parties of a new log do what a test does.
@@ -120,7 +119,7 @@ fn make_calls<N: LogName + Send + Sync, K: OfLog + Send + Sync, R: Wait + Abort 
     alloc: Global,
     parties: Vec<Party<N, K>>,
     test: Test,
-) -> Result<(), Fail> {
+) {
     match test {
         Test::Steps(steps) => take_all(rt, parties, steps),
         Test::Fill => fill(rt, parties),
@@ -134,18 +133,21 @@ fn make_calls<N: LogName + Send + Sync, K: OfLog + Send + Sync, R: Wait + Abort 
 
 /// A party for each pass of a new log.
 fn parties_of<'a, N: LogName, K: OfLog>(
+    rt: &impl Abort,
     alloc: Global,
     log: &'a RingLog<N>,
     layout: Layout,
     passes: Vec<LogPass<N>>,
-) -> Result<Vec<Party<'a, N, K>>, Memory>
+) -> Vec<Party<'a, N, K>>
     requires depth { layout.depth ≡ N.depth }
     requires log { log.now ≡ K.log }
     requires passes { passes.items ≡ new_passes K.log layout.replicas layout.others }
 {
     let mut parties = Vec::new(alloc);
     for pass in passes {
-        parties.push(Party::new(log, pass, layout.depth))?;
+        parties
+            .push(Party::new(log, pass, layout.depth))
+            .expect(rt, "memory");
     }
-    Ok(parties)
+    parties
 }

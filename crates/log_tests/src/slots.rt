@@ -5,7 +5,6 @@ use arrayvec::ArrayVec;
 use nr_slots::{Answered, NotTaken, Slots};
 use std::alloc::Global;
 use std::process::Abort;
-use std::test::Fail;
 use vs_types::{Answer, CALLS, Depth, Op, Rights, Size};
 
 /// What a thread does with its slot, and what that answers.
@@ -247,30 +246,29 @@ fn make_step(rt: &impl Abort, slots: &Slots, count: u16, step: Step)
 }
 
 /// Takes steps on so many new slots.
-fn run(rt: &impl Abort, alloc: Global, count: u16, steps: &[Step]) -> Result<(), Fail> {
-    let slots: Slots = Slots::new(alloc, count)?;
+fn run(rt: &impl Abort, alloc: Global, count: u16, steps: &[Step]) {
+    let slots: Slots = Slots::new(alloc, count).expect(rt, "memory");
     for next in steps {
         make_step(rt, &slots, count, *next);
     }
-    Ok(())
 }
 
 #[test]
-fn slots_in_each_state(rt: HostRuntime) -> Result<(), Fail> {
-    run(&rt, rt.alloc(), 64, &EACH_STATE)
+fn slots_in_each_state(rt: HostRuntime) {
+    run(&rt, rt.alloc(), 64, &EACH_STATE);
 }
 
 #[test]
-fn slot_round_trip(rt: HostRuntime) -> Result<(), Fail> {
-    run(&rt, rt.alloc(), 2, &ROUND_TRIP)
+fn slot_round_trip(rt: HostRuntime) {
+    run(&rt, rt.alloc(), 2, &ROUND_TRIP);
 }
 
 #[test]
-fn slots_of_all_threads(rt: HostRuntime) -> Result<(), Fail> {
-    run(&rt, rt.alloc(), 65_535, &LAST_THREAD)
+fn slots_of_all_threads(rt: HostRuntime) {
+    run(&rt, rt.alloc(), 65_535, &LAST_THREAD);
 }
 
 #[test]
-fn slots_of_no_thread(rt: HostRuntime) -> Result<(), Fail> {
-    run(&rt, rt.alloc(), 0, &NO_THREAD)
+fn slots_of_no_thread(rt: HostRuntime) {
+    run(&rt, rt.alloc(), 0, &NO_THREAD);
 }

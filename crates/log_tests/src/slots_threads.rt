@@ -7,7 +7,6 @@ use crossbeam_utils::Backoff;
 use nr_slots::{Answered, Slots};
 use std::process::Abort;
 use std::sync::Wait;
-use std::test::Fail;
 use std::thread;
 use vs_types::{Answer, CALLS, Depth, Op};
 
@@ -104,14 +103,15 @@ impl Shared {
 
 /// No update is lost, answered twice or refused: a slot that is empty takes one, whatever the thread that collects does.
 #[test]
-fn many_threads_post(rt: HostRuntime) -> Result<(), Fail> {
+fn many_threads_post(rt: HostRuntime) {
     let shared = Shared {
-        slots: Slots::new(rt.alloc(), POSTERS)?,
+        slots: Slots::new(rt.alloc(), POSTERS).expect(&rt, "memory"),
     };
     let threads = vec![in rt.alloc();
         0u16, 1, 2, 3, 4, 5, 6, 7, 8, 9, 10, 11, 12, 13, 14, 15, 16, 17, 18, 19, POSTERS,
-    ]?;
-    thread::map_vec(
+    ]
+    .expect(&rt, "memory");
+    let ended = thread::map_vec(
         &rt,
         threads,
         &|thread: u16| {
@@ -121,6 +121,6 @@ fn many_threads_post(rt: HostRuntime) -> Result<(), Fail> {
                 shared.answer_all(&rt);
             }
         },
-    )?;
-    Ok(())
+    );
+    let _all = ended.expect(&rt, "memory");
 }

@@ -4,7 +4,6 @@ use crate::party::{OfLog, Party};
 use nr_ring::{AppendFault, LogName, Moved, Tails};
 use std::process::Abort;
 use std::sync::Wait;
-use std::test::Fail;
 
 /// What a party does, and what that answers.
 #[derive(Clone, Copy)]
@@ -23,6 +22,8 @@ pub enum Does {
     Fetches(&'static [u32]),
     /// It takes entries of these calls.
     Takes(&'static [u32]),
+    /// It appends an entry of this call, which gets this place, and takes entries of these calls before it.
+    AppendsAndTakes(u32, u32, &'static [u32]),
     /// It advances its replica to this place.
     Advances(u32),
     /// It looks, and then one of the parties after it, counted from 0, appends an entry of this call. An advance to the tail that it
@@ -49,7 +50,7 @@ pub fn take_all<N: LogName, K: OfLog, R: Wait + Abort>(
     rt: &R,
     parties: Vec<Party<N, K>>,
     steps: &[Step],
-) -> Result<(), Fail> {
+) {
     let mut parties = parties;
     for (place, Step(number, does)) in steps.iter().enumerate() {
         let (first, later) = parties
@@ -58,7 +59,6 @@ pub fn take_all<N: LogName, K: OfLog, R: Wait + Abort>(
         let party = first.last_mut().expect(rt, "a party");
         assert!(rt; take(rt, party, later, *does), "step {place}");
     }
-    Ok(())
 }
 
 /// One step of a party, with those after it: whether it answers so.
@@ -82,6 +82,9 @@ fn take<'a, N: LogName, K: OfLog, R: Wait + Abort>(
         Does::Looks(tail, completed, local) => party.look() == tails(tail, completed, local),
         Does::Fetches(calls) => party.fetches(rt, calls),
         Does::Takes(calls) => party.takes(rt, calls),
+        Does::AppendsAndTakes(call, place, calls) => {
+            party.appends_and_takes(rt, call, place, calls)
+        }
         Does::Advances(to) => party.advance_to(rt, to).is_ok(),
         Does::AdvancesLate(other, call) => {
             let other = later.get_mut(other).expect(rt, "a later party");
@@ -96,10 +99,7 @@ fn take<'a, N: LogName, K: OfLog, R: Wait + Abort>(
 }
 
 /// The only party fills its log to the end.
-pub fn fill<N: LogName, K: OfLog, R: Wait + Abort>(
-    rt: &R,
-    parties: Vec<Party<N, K>>,
-) -> Result<(), Fail> {
+pub fn fill<N: LogName, K: OfLog, R: Wait + Abort>(rt: &R, parties: Vec<Party<N, K>>) {
     let mut parties = parties;
     let party = parties.first_mut().expect(rt, "a party");
     for round in 0..4096 {
@@ -107,14 +107,10 @@ pub fn fill<N: LogName, K: OfLog, R: Wait + Abort>(
         assert!(rt; party.advance_to(rt, 16 * round + 16).is_ok());
     }
     assert!(rt; party.append(rt, 1) == Err(AppendFault::LogEnded));
-    Ok(())
 }
 
 /// The only party appends a batch of each size, and its replica takes each before the next.
-pub fn append_each_size<N: LogName, K: OfLog, R: Wait + Abort>(
-    rt: &R,
-    parties: Vec<Party<N, K>>,
-) -> Result<(), Fail> {
+pub fn append_each_size<N: LogName, K: OfLog, R: Wait + Abort>(rt: &R, parties: Vec<Party<N, K>>) {
     let mut parties = parties;
     let party = parties.first_mut().expect(rt, "a party");
     let mut place = 0u32;
@@ -124,5 +120,4 @@ pub fn append_each_size<N: LogName, K: OfLog, R: Wait + Abort>(
         place = place.saturating_add(count as u32);
         assert!(rt; party.advance_to(rt, place).is_ok());
     }
-    Ok(())
 }

@@ -100,6 +100,17 @@ in_ring depth replicas head words r from v is same from_is =
       ends_at = sym end;
     }
 
+pub ring_from : (depth : Depth) (replicas : ℕ) (head words : List ℕ) (own : Option ℕ) (r from : ℕ) (v : View) → Remembers depth replicas words own v
+    → Begins head words → r < replicas → from ≡ local_of (log_after replicas v.seen) r → InRing (log_after replicas v.seen) from (slice_index head 0)
+ring_from depth replicas head words own r from v is same there local =
+    let fits = history_fits depth replicas v.seen is.is_history in
+    let end = same 0 (omega arith) ∙ is.words_are.tail_is in
+    record {
+      low = omega (arith, local, end, fits.written r);
+      near = omega (arith, local, end, fits.kept_up r (omega (arith, as_many_locals depth replicas v.seen is.is_history, there)));
+      ends_at = sym end;
+    }
+
 -- words that were loaded at the places of these entries have them
 pub have_loaded : (log : Log) (from to : ℕ) (places loaded words : List ℕ) → InRing log from to → ArePlaces from (to - from) places
     → All (λ place. slice_index loaded place ≡ slice_index words place) places → IsWordsOf log words → HaveEntries log from loaded

@@ -12,8 +12,7 @@ use Rattle.version_cell.specs.Changes.{changed}
 use Rattle.version_cell.proofs.Changing.{changed_last}
 use Rattle.vs_types.specs.LogEntry.{log_words}
 use Rattle.vs_types.specs.declared.log_entry.LogEntry.{LogEntry}
-use Rattle.nr_ring.specs.LogHistory.{Log, tail}
-use Rattle.nr_ring.specs.Words.{word_of, IsAppended, IsWordsOf}
+use Rattle.nr_ring.specs.Words.{word_of}
 use Rattle.nr_ring.specs.inside.Batch.{IsWritten}
 use Rattle.nr_ring.proofs.CellWords.{apart}
 
@@ -82,32 +81,13 @@ two_changes words changes at two =
 pub two_more : (changes : List (ℕ × ℕ)) (first second : ℕ × ℕ) → length ((changes ++ first ∷ []) ++ second ∷ []) ≡ length changes + 2
 two_more changes first second = omega (arith, length-append (changes ++ first ∷ []) (second ∷ []), length-append changes (first ∷ []))
 
--- the places of changes lie within the words
+-- the places of changes are of the ring
 abbrev pub Within : List (ℕ × ℕ) → Type 0
-Within changes = All (λ change. change.0 < 39) changes
+Within changes = All (λ change. (7 ≤ change.0) × (change.0 < 39)) changes
 
-pub one_more_within : (changes : List (ℕ × ℕ)) (place word : ℕ) → Within changes → place < 39 → Within (changes ++ (place, word) ∷ [])
-one_more_within changes place word all lt = All-append (λ (change : ℕ × ℕ). change.0 < 39) changes ((place, word) ∷ []) all only where
-  only : Within ((place, word) ∷ [])
-  only zero d le = lt
-  only (suc k) d le = absurd (omega arith)
-
--- with the tail raised, all of a batch is appended
-pub all_written : (log : Log) (batch : List LogEntry) (before words : List ℕ) (place end : ℕ) → place ≡ tail log → end ≡ tail log + length batch
-    → IsWordsOf log before → IsWritten place (length batch) batch before words → IsAppended log batch before (set words 0 end)
-all_written log batch before words place end start now are is =
-    let high : (word : ℕ) → 0 < word → slice_index (set words 0 end) word ≡ slice_index words word =
-    λ word lt. get_or-set_other words 0 word end 0 (λ e. absurd (omega arith)) in
-    record {
-      long = length-set words 0 end ∙ is.long;
-      tail_is = get_or-set_same words 0 end 0 (omega (arith, is.long)) ∙ now;
-      head_stays = λ word lt le. high word lt ∙ is.head_stays word le;
-      entries_are = λ i entry k there le.
-          let at : tail log + i ≡ place + i = omega (arith, start) in
-          high (word_of (tail log + i) + k) (omega arith) ∙ ap (λ p. slice_index words (word_of p + k)) at
-          ∙ is.entries_are i entry k (slice_get_within batch i entry there) there le;
-      others_stay = λ word low clear.
-          high word (omega arith)
-          ∙ is.others_stay word low (λ i lt. let at : tail log + i ≡ place + i = omega (arith, start) in
-          let P : ℕ → Type 0 = λ p. (word < word_of p) ⊎ (word_of p + 2 ≤ word) in Rattle.std.proofs.Common.subst P at (clear i lt));
-    }
+pub one_more_within : (changes : List (ℕ × ℕ)) (place word : ℕ) → Within changes → 7 ≤ place → place < 39 → Within (changes ++ (place, word) ∷ [])
+one_more_within changes place word all low lt =
+    All-append (λ (change : ℕ × ℕ). (7 ≤ change.0) × (change.0 < 39)) changes ((place, word) ∷ []) all only where
+      only : Within ((place, word) ∷ [])
+      only zero d le = (low, lt)
+      only (suc k) d le = absurd (omega arith)

@@ -8,8 +8,9 @@ use native.Mathlib.Decide.{ℕ_discrete}
 use Rattle.vs_types.specs.declared.depth.Depth.{Depth}
 use Rattle.vs_types.specs.declared.log_entry.LogEntry.{LogEntry}
 use Rattle.version_cell.specs.Heads.{IsCoded}
+use Rattle.version_cell.specs.inside.Heads.{IsHead}
 use Rattle.nr_ring.specs.Laws.{FitsTheRing}
-use Rattle.nr_ring.specs.LogHistory.{Log, MayAdvance, MayFollow, greatest, local_of, log_after_event, tail}
+use Rattle.nr_ring.specs.LogHistory.{Log, MayAdvance, MayFollow, completed, greatest, local_of, log_after_event, tail}
 use Rattle.nr_ring.specs.Words.{IsWordsOf}
 use Rattle.nr_ring.specs.declared.log_event.LogEvent.{LogEvent}
 use Rattle.nr_ring.specs.declared.log_event.LogEvent.TheVariants.{Append, Advance}
@@ -111,15 +112,36 @@ module _ (log : Log) (fits : FitsTheRing log) (few : length log.locals ≤ 4) wh
   pub small_code : code < 2 ^ 62
   small_code = omega (arith, code_packed, few, fits.ends, small 0, small 1, small 2, small 3)
 
+  completed_told : word_in code 1 ≡ completed log
+  completed_told =
+      let all : word_in code 1 ≡ max (local_of log 0) (max (local_of log 1) (max (local_of log 2) (local_of log 3))) =
+      λ i. max (tells_local 0 (2 ^ 18) tells_room_0 i)
+      (max (tells_local 1 (2 ^ 13) tells_room_1 i) (max (tells_local 2 (2 ^ 8) tells_room_2 i) (tells_local 3 (2 ^ 3) tells_room_3 i))) in
+      all ∙ sym (greatest_of_four log.locals few)
+
+  local_told : (r : ℕ) → r < 4 → word_in code (2 + r) ≡ local_of log r
+  local_told zero lt = tells_local 0 (2 ^ 18) tells_room_0
+  local_told (suc zero) lt = tells_local 1 (2 ^ 13) tells_room_1
+  local_told (suc (suc zero)) lt = tells_local 2 (2 ^ 8) tells_room_2
+  local_told (suc (suc (suc zero))) lt = tells_local 3 (2 ^ 3) tells_room_3
+  local_told (suc (suc (suc (suc r)))) lt = absurd (omega arith)
+
+  -- first words as the code of a log determines them are that log's
+  pub first_words : (words : List ℕ) → IsHead word_in code 7 words → IsHeadOf log words
+  first_words words is = record {
+    tail_is = is 0 (omega arith) ∙ tells_tail;
+    completed_is = is 1 (omega arith) ∙ completed_told;
+    locals_are = λ r lt. is (2 + r) (omega arith) ∙ local_told r lt;
+    replicas_are = is 6 (omega arith) ∙ tells_count;
+  }
+
   told : (words : List ℕ) → IsWordsOf log words → (place : ℕ) → place < 7 → slice_index words place ≡ word_in code place
   told words is zero lt = is.tail_is ∙ sym tells_tail
-  told words is (suc zero) lt = is.completed_is ∙ (greatest_of_four log.locals few
-      ∙ sym (λ i. max (tells_local 0 (2 ^ 18) tells_room_0 i)
-      (max (tells_local 1 (2 ^ 13) tells_room_1 i) (max (tells_local 2 (2 ^ 8) tells_room_2 i) (tells_local 3 (2 ^ 3) tells_room_3 i)))))
-  told words is (suc (suc zero)) lt = is.locals_are 0 (omega arith) ∙ sym (tells_local 0 (2 ^ 18) tells_room_0)
-  told words is (suc (suc (suc zero))) lt = is.locals_are 1 (omega arith) ∙ sym (tells_local 1 (2 ^ 13) tells_room_1)
-  told words is (suc (suc (suc (suc zero)))) lt = is.locals_are 2 (omega arith) ∙ sym (tells_local 2 (2 ^ 8) tells_room_2)
-  told words is (suc (suc (suc (suc (suc zero))))) lt = is.locals_are 3 (omega arith) ∙ sym (tells_local 3 (2 ^ 3) tells_room_3)
+  told words is (suc zero) lt = is.completed_is ∙ sym completed_told
+  told words is (suc (suc zero)) lt = is.locals_are 0 (omega arith) ∙ sym (local_told 0 (omega arith))
+  told words is (suc (suc (suc zero))) lt = is.locals_are 1 (omega arith) ∙ sym (local_told 1 (omega arith))
+  told words is (suc (suc (suc (suc zero)))) lt = is.locals_are 2 (omega arith) ∙ sym (local_told 2 (omega arith))
+  told words is (suc (suc (suc (suc (suc zero))))) lt = is.locals_are 3 (omega arith) ∙ sym (local_told 3 (omega arith))
   told words is (suc (suc (suc (suc (suc (suc zero)))))) lt = is.replicas_are ∙ sym tells_count
   told words is (suc (suc (suc (suc (suc (suc (suc place))))))) lt = absurd (omega arith)
 
@@ -220,20 +242,35 @@ advanced_locals log replica to there few = by_replica replica there where
       λ i. other 3 0 (λ e. omega arith) i ∷ other 3 1 (λ e. omega arith) i ∷ other 3 2 (λ e. omega arith) i ∷ here 3 there i ∷ []
   by_replica (suc (suc (suc (suc r)))) there = absurd (omega (arith, there, few))
 
-pub append_code : (log : Log) (words : List ℕ) (batch : List LogEntry) (t n : ℕ) (locals : List ℕ) → IsHeadOf log words
-    → t ≡ slice_index words 0 + length batch → locals ≡ locals_in words → n ≡ slice_index words 6
-    → code_of t locals n ≡ code_of_log (log_after_event log (Append batch))
-append_code log words batch t n locals is tail_is same count =
+pub append_code : (log : Log) (words : List ℕ) (batch : List LogEntry) (t : ℕ) → IsHeadOf log words → t ≡ slice_index words 0 + length batch
+    → code_of t (locals_in words) (slice_index words 6) ≡ code_of_log (log_after_event log (Append batch))
+append_code log words batch t is tail_is =
     let longer : t ≡ length (log.entries ++ batch) = omega (arith, tail_is, is.tail_is, length-append log.entries batch) in
-    λ i. code_of (longer i) ((same ∙ locals_are log words is) i) ((count ∙ is.replicas_are) i)
+    λ i. code_of (longer i) (locals_are log words is i) (is.replicas_are i)
 
-pub advance_code : (log : Log) (words : List ℕ) (replica to t n : ℕ) (locals : List ℕ) → IsHeadOf log words → replica < length log.locals
+-- the code after an advance of a log with these local tails
+raised_code : (log : Log) (replica to t n : ℕ) (locals : List ℕ) → replica < length log.locals → length log.locals ≤ 4 → t ≡ tail log
+    → locals ≡ locals_of log → n ≡ length log.locals
+    → code_of t (set locals replica to) n ≡ code_of_log (log_after_event log (Advance replica to))
+raised_code log replica to t n locals there few tail_is same count =
+    let moved = ap (λ (l : List ℕ). set l replica to) same ∙ advanced_locals log replica to there few in
+    λ i. code_of (tail_is i) (moved i) ((count ∙ sym (length-set log.locals replica to)) i)
+
+pub advance_code : (log : Log) (words : List ℕ) (replica to t : ℕ) → IsHeadOf log words → replica < length log.locals → length log.locals ≤ 4
+    → t ≡ tail log
+    → code_of t (set (locals_in words) replica to) (slice_index words 6) ≡ code_of_log (log_after_event log (Advance replica to))
+advance_code log words replica to t is there few tail_is =
+    raised_code log replica to t (slice_index words 6) (locals_in words) there few tail_is (locals_are log words is) is.replicas_are
+
+-- and after an append and then an advance
+pub both_code : (log : Log) (words : List ℕ) (batch : List LogEntry) (replica to t : ℕ) → IsHeadOf log words → replica < length log.locals
     → length log.locals ≤ 4
-    → t ≡ slice_index words 0 → locals ≡ set (locals_in words) replica to → n ≡ slice_index words 6
-    → code_of t locals n ≡ code_of_log (log_after_event log (Advance replica to))
-advance_code log words replica to t n locals is there few tail_is same count =
-    let moved = same ∙ (ap (λ (l : List ℕ). set l replica to) (locals_are log words is) ∙ advanced_locals log replica to there few) in
-    λ i. code_of ((tail_is ∙ is.tail_is) i) (moved i) ((count ∙ (is.replicas_are ∙ sym (length-set log.locals replica to))) i)
+    → t ≡ tail log + length batch
+    → code_of t (set (locals_in words) replica to) (slice_index words 6)
+    ≡ code_of_log (log_after_event (log_after_event log (Append batch)) (Advance replica to))
+both_code log words batch replica to t is there few tail_is =
+    raised_code (log_after_event log (Append batch)) replica to t (slice_index words 6) (locals_in words) there few
+    (tail_is ∙ sym (length-append log.entries batch)) (locals_are log words is) is.replicas_are
 
 -- the local tails that words have are small, and stay so where one is raised to a small one
 pub small_locals : (words locals : List ℕ) → AreSmall words → locals ≡ locals_in words → All (λ local. local ≤ 65536) locals

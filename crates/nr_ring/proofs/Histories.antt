@@ -68,7 +68,7 @@ fits_new replicas = record { written = zeros replicas; kept_up = λ r lt. omega 
   zeros (suc n) zero = le_refl 0
   zeros (suc n) (suc r) = zeros n r
 
-fits_after : (depth : Depth) (log : Log) (event : LogEvent) → MayFollow depth log event → FitsTheRing log → FitsTheRing (log_after_event log event)
+pub fits_after : (depth : Depth) (log : Log) (event : LogEvent) → MayFollow depth log event → FitsTheRing log → FitsTheRing (log_after_event log event)
 fits_after depth log (Append batch) may is = record {
   written = λ r. omega (arith, is.written r, length-append log.entries batch);
   kept_up = λ r lt. omega (arith, may.kept_up r lt, length-append log.entries batch);

@@ -19,6 +19,9 @@ pub mod Appends
 pub mod OwnTails
 pub mod Makers
 mod Codes
+mod NextWords
+mod Leads
+mod BothDone
 pub mod FirstWords
 pub mod Further
 pub mod Gathers

@@ -40,6 +40,11 @@ with_event view event = record {
   told = view.told;
 }
 
+-- and of one that made these, one after another
+abbrev pub with_events : View → List LogEvent → View
+with_events view [] = view
+with_events view (event ∷ events) = with_events (with_event view event) events
+
 -- what a pass owns is cut in two, of which it keeps the first
 pub record IsCut (owned kept given : List ℕ) : Type 0 where
   pub kept_of : (replica : ℕ) → Contains kept replica → Contains owned replica

@@ -1,5 +1,5 @@
 -- Appending entries to a log, and taking them.
-use Rattle.std.specs.Prelude.{◌≡◌, ℕ, List, [], ◌∷◌, drop}
+use Rattle.std.specs.Prelude.{◌≡◌, ℕ, List, [], ◌∷◌, ◌++◌, drop}
 use Rattle.vs_types.specs.declared.depth.Depth.{Depth}
 use Rattle.vs_types.specs.declared.log_entry.LogEntry.{LogEntry}
 use Rattle.nr_ring.specs.LogHistory.{Log, AllKeepUp, HasRoom, IsEnded, IsFull, IsLogHistory, local_of, log_after, tail}
@@ -28,6 +28,13 @@ pub record HasAppended (depth : Depth) (replicas : ℕ) (before : View) (batch :
   pub looked : HasLooked depth replicas before seen_before
   pub appended : after ≡ with_event seen_before (Append batch)
   pub place_is : place ≡ tail (log_after replicas seen_before.seen)
+
+-- the pass appended the batch, as one that appends, and then took for its replica all entries that there were, these and the batch
+pub record HasAppendedAndTaken (depth : Depth) (replicas : ℕ) (before : View) (batch : List LogEntry) (place : ℕ) (entries : List LogEntry)
+    (after : View) : Type 0 where
+  pub between : View
+  pub appended : HasAppended depth replicas before batch place between
+  pub taken : HasTakenAll depth replicas between (entries ++ batch) after
 
 -- why a batch of so many entries was not appended to the log that the pass has then seen: the log would go past its end; it is full; or
 -- it is neither, but another pass's event came. The tails in the answer are the log's

@@ -3,19 +3,14 @@ ghost use Rattle.std.specs.Prelude.{◌≡◌, ◌<◌, ◌≤◌, ◌+◌, ◌-
 ghost use Rattle.version_cell.specs.Changes.{changed};
 ghost use Rattle.vs_types.specs.LogEntry.{IsLogEntry};
 ghost use Rattle.vs_types.specs.declared.depth.Depth.{Depth};
-ghost use Rattle.vs_types.specs.declared.limits.TheConstants.{CALLS, LOG_PLACES, REPLICAS};
-ghost use Rattle.nr_ring.specs.LogHistory.{AllKeepUp, HasRoom, Log, MayAdvance, log_after_event, tail as tail_of};
-ghost use Rattle.nr_ring.specs.Words.{IsAppended, IsWordsOf, word_of};
-ghost use Rattle.nr_ring.specs.inside.Batch.{ArePlaces, AreSmall, Bars, CanBeRead, Explains, HaveEntries};
-ghost use Rattle.nr_ring.specs.declared.log_event.LogEvent.TheVariants.{Advance};
-ghost use Rattle.nr_ring.specs.inside.Codes.{code_of_log};
+ghost use Rattle.vs_types.specs.declared.limits.TheConstants.{CALLS, LOG_PLACES};
+ghost use Rattle.nr_ring.specs.LogHistory.{AllKeepUp, HasRoom, Log, tail as tail_of};
+ghost use Rattle.nr_ring.specs.Words.{word_of};
+ghost use Rattle.nr_ring.specs.inside.Batch.{ArePlaces, AreSmall, Bars, CanBeRead, Explains, HaveEntries, IsWritten};
 ghost use Rattle.nr_ring.specs.inside.Held.{IsHeadOf};
 
-use crate::code::{code_of, locals_in};
 use crate::tails::{AppendFault, tails_in};
-use crate::words::{
-    CELL_WORDS, CHANGES, COMPLETED_WORD, COUNT_WORD, LOADS, LOCAL_WORDS, RING_WORDS, TAIL_WORD,
-};
+use crate::words::{CELL_WORDS, CHANGES, COUNT_WORD, LOADS, LOCAL_WORDS, RING_WORDS, TAIL_WORD};
 use arrayvec::ArrayVec;
 use vs_types::{LOG_PLACES, LogEntry, RING, entry_of, pack};
 
@@ -55,8 +50,7 @@ fn first_word(place: u64) -> usize
     RING_WORDS + 2 * (place % RING as u64) as usize
 }
 
-/// Adds the changes of the words that an append makes to a log with this tail: each entry is at its place in the ring, and the
-/// tail rises.
+/// Adds the changes of the ring that an append makes to a log with this tail: each entry is put at its place.
 pub(crate) fn list_changes(
     tail: u64,
     batch: &[LogEntry],
@@ -65,9 +59,10 @@ pub(crate) fn list_changes(
     requires small { (tail ≤ LOG_PLACES) × (length batch.now ≤ RING) }
     requires calls { All (λ entry. entry.call < CALLS) batch.now }
     requires empty { changes.old.items ≡ [] }
-    ensures places { All (λ change. change.0 < CELL_WORDS) changes.new.items }
-    ensures appended { (log : Log) (words : List ℕ) → IsWordsOf log words → tail_of log ≡ tail
-        → IsAppended log batch.now words (changed words changes.new.items) }
+    ensures places { All (λ change. (RING_WORDS ≤ change.0) × (change.0 < CELL_WORDS))
+        changes.new.items }
+    ensures written { (words : List ℕ) → length words ≡ CELL_WORDS
+        → IsWritten tail (length batch.now) batch.now words (changed words changes.new.items) }
 {
     let mut place = tail;
     for entry in batch {
@@ -77,26 +72,6 @@ pub(crate) fn list_changes(
         changes.push((at + 1, rest));
         place += 1;
     }
-    changes.push((TAIL_WORD, place));
-}
-
-/// The code of the words after an advance of a replica to a place, and the words that it changes.
-pub(crate) fn advanced(head: &[u64; RING_WORDS], replica: u8, to: u64) -> (u64, [(usize, u64); 2])
-    requires replica { replica < REPLICAS }
-    requires small { AreSmall head.now × (to ≤ LOG_PLACES) }
-    ensures code { (log : Log) → IsHeadOf log head.now → MayAdvance log replica to
-        → result.0 ≡ code_of_log (log_after_event log (Advance replica to)) }
-    ensures places { All (λ change. change.0 < CELL_WORDS) result.1 }
-    ensures next { (log : Log) (words : List ℕ) → IsHeadOf log head.now → IsWordsOf log words
-        → MayAdvance log replica to
-        → IsWordsOf (log_after_event log (Advance replica to)) (changed words result.1) }
-{
-    let completed = head[COMPLETED_WORD].max(to);
-    let mut locals = locals_in(head);
-    locals[usize::from(replica)] = to;
-    let code = code_of(head[TAIL_WORD], locals, head[COUNT_WORD]);
-    let local = LOCAL_WORDS + usize::from(replica);
-    (code, [(COMPLETED_WORD, completed), (local, to)])
 }
 
 /// Adds the places of the words of the entries from one place of the log to another.

@@ -1,6 +1,7 @@
 //! The code of the words of the cell, which determines the tails: one number, which each event raises.
-ghost use Rattle.std.specs.Prelude.{◌≡◌, ◌≤◌, All};
+ghost use Rattle.std.specs.Prelude.{◌≡◌, ◌≤◌, ◌<◌, All, slice_index, slice_set};
 ghost use Rattle.vs_types.specs.declared.limits.TheConstants.{LOG_PLACES, REPLICAS};
+ghost use Rattle.nr_ring.specs.inside.Batch.{AreSmall};
 ghost use Rattle.nr_ring.specs.inside.Codes.{code_of, local_in, locals_in, room_of, word_in};
 
 use crate::words::{COMPLETED_WORD, COUNT_WORD, LOCAL_WORDS, RING_WORDS, TAIL_WORD};
@@ -81,4 +82,26 @@ pub(crate) fn locals_in(head: &[u64; RING_WORDS]) -> [u64; 4]
         head[LOCAL_WORDS + 2],
         head[LOCAL_WORDS + 3],
     ]
+}
+
+/// The code of first words with this tail in place of theirs.
+#[inline(always)]
+pub(crate) fn appended_code(head: &[u64; RING_WORDS], tail: u64) -> u64
+    requires small { AreSmall head.now × (tail ≤ LOG_PLACES) }
+    ensures { result ≡ code_of tail (locals_in head.now) (slice_index head.now COUNT_WORD) }
+{
+    code_of(tail, locals_in(head), head[COUNT_WORD])
+}
+
+/// The code of first words with this tail in place of theirs, and a replica's local tail at a place.
+#[inline(always)]
+pub(crate) fn advanced_code(head: &[u64; RING_WORDS], tail: u64, replica: u8, to: u64) -> u64
+    requires replica { replica < REPLICAS }
+    requires small { AreSmall head.now × (tail ≤ LOG_PLACES) × (to ≤ LOG_PLACES) }
+    ensures { result ≡ code_of tail (slice_set (locals_in head.now) replica to)
+        (slice_index head.now COUNT_WORD) }
+{
+    let mut locals = locals_in(head);
+    locals[usize::from(replica)] = to;
+    code_of(tail, locals, head[COUNT_WORD])
 }

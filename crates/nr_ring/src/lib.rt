@@ -16,6 +16,7 @@ mod ring_log;
 mod rule;
 mod steps;
 mod tails;
+mod taking;
 mod view;
 mod words;
 

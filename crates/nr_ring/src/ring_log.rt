@@ -1,20 +1,20 @@
 //! The log: one cell that its threads share.
 ghost use Rattle.std.specs.Prelude.{◌≡◌, ◌≤◌, ◌+◌, ◌-◌, ◌<◌, ℕ, All, Contains, IfErr, IfOk, IsFalse, IsTrue, OnErr, OnOk, Option, [], ◌∷◌, ◌++◌, length, map, slice_index};
 ghost use Rattle.std.specs.List.{range_with_len};
-ghost use Rattle.version_cell.specs.Changes.{changed};
+ghost use Rattle.version_cell.specs.Changes.{exchanged};
 ghost use Rattle.vs_types.specs.LogEntry.{IsLogEntry};
-ghost use Rattle.nr_ring.specs.Calls.{HasLooked, HasMoved, HasTaken, LiesAhead, MayMake, MayTake, copy_of, joint_view, with_event};
-ghost use Rattle.nr_ring.specs.LogHistory.{IsLogHistory, MayAdvance, MayAppend, MayFollow, local_of, log_after_event, log_after, tail};
+ghost use Rattle.nr_ring.specs.Calls.{HasLooked, HasMoved, HasTaken, LiesAhead, MayTake, copy_of, joint_view};
+ghost use Rattle.nr_ring.specs.LogHistory.{IsLogHistory, MayAdvance, MayAppend, local_of, log_after, tail};
 ghost use Rattle.nr_ring.specs.declared.log_event.LogEvent.TheVariants.{Append, Advance};
-ghost use Rattle.nr_ring.specs.Entries.{HasAppended, HasTakenAll, IsReason, to_take};
+ghost use Rattle.nr_ring.specs.Entries.{HasAppended, HasAppendedAndTaken, HasTakenAll, IsReason, to_take};
 ghost use Rattle.nr_ring.specs.Pass.{AreApart, new_pass, new_passes, tails_of};
 ghost use Rattle.nr_ring.specs.View.{HasSeenAdvances, StartsWith};
-ghost use Rattle.nr_ring.specs.Words.{IsWordsOf, new_words};
-ghost use Rattle.nr_ring.specs.inside.Codes.{code_of_log};
-ghost use Rattle.nr_ring.specs.inside.Held.{IsBelow, MadeOrMoved, Remembers, left_from, new_view, owned, rest_of};
+ghost use Rattle.nr_ring.specs.Words.{new_words};
+ghost use Rattle.nr_ring.specs.inside.Codes.{code_in, word_in};
+ghost use Rattle.nr_ring.specs.inside.Held.{IsBelow, LeadTo, MadeOrMoved, Remembers, left_from, new_view, owned, rest_of};
 
-use crate::batch::{advanced, list_changes, list_places, read_entries, test_room, why_not};
-use crate::code::{code_of, locals_in};
+use crate::batch::{list_changes, list_places, read_entries, test_room, why_not};
+use crate::code::{advanced_code, appended_code, code_of};
 use crate::name::LogName;
 use crate::pass::LogPass;
 use crate::rule::{Copies, Existing, FirstOwned, Gathers, Happening, LogRule, Looking, Making};
@@ -132,7 +132,7 @@ impl<J: LogName> RingLog<J> {
     }
 
     /// Has the words of the pass be those of the cell.
-    fn refresh(&self, pass: &mut LogPass<J>)
+    pub(crate) fn refresh(&self, pass: &mut LogPass<J>)
         requires { pass.old.log ≡ self.now }
         ensures log { pass.new.log ≡ pass.old.log }
         ensures looked { HasLooked J.depth J.replicas pass.old.view pass.new.view }
@@ -181,16 +181,17 @@ impl<J: LogName> RingLog<J> {
         to: u32,
     ) -> bool
         requires log { pass.old.log ≡ self.now }
-        requires event { E.event ≡ Advance replica to }
+        requires event { E.events ≡ Advance replica to ∷ [] }
         requires may { (replica < REPLICAS)
             × MayAdvance (log_after J.replicas pass.old.view.seen) replica to
             × Contains pass.old.view.owns replica }
         ensures log { pass.new.log ≡ pass.old.log }
-        ensures view { MadeOrMoved J.depth J.replicas E.event pass.old.view pass.new.view result }
+        ensures view { MadeOrMoved J.depth J.replicas E.events pass.old.view pass.new.view result }
         ensures history { IsLogHistory J.depth J.replicas pass.new.view.seen }
     {
-        let (code, changes) = advanced(pass.inner.head(), replica, u64::from(to));
-        self.exchange::<E, R>(rt, &mut pass.inner, &[], &mut pass.loaded, code, &changes)
+        let head = pass.inner.head();
+        let code = advanced_code(head, head[TAIL_WORD], replica, u64::from(to));
+        self.exchange::<E, R>(rt, &mut pass.inner, &[], &mut pass.loaded, code, &[])
     }
 
     /// Looks, and then appends 1 to 16 entries at the log's depth: the place of the first.
@@ -238,15 +239,15 @@ impl<J: LogName> RingLog<J> {
         batch: &[LogEntry],
     ) -> bool
         requires log { pass.old.log ≡ self.now }
-        requires event { E.event ≡ Append batch.now }
+        requires event { E.events ≡ Append batch.now ∷ [] }
         requires may { MayAppend J.depth (log_after J.replicas pass.old.view.seen) batch.now }
         ensures log { pass.new.log ≡ pass.old.log }
-        ensures view { MadeOrMoved J.depth J.replicas E.event pass.old.view pass.new.view result }
+        ensures view { MadeOrMoved J.depth J.replicas E.events pass.old.view pass.new.view result }
         ensures history { IsLogHistory J.depth J.replicas pass.new.view.seen }
     {
         let head = pass.inner.head();
         let tail = head[TAIL_WORD];
-        let code = code_of(tail + batch.len() as u64, locals_in(head), head[COUNT_WORD]);
+        let code = appended_code(head, tail + batch.len() as u64);
         pass.changes.clear();
         list_changes(tail, batch, &mut pass.changes);
         self.exchange::<E, R>(
@@ -319,97 +320,9 @@ impl<J: LogName> RingLog<J> {
         true
     }
 
-    /// Looks, and takes all entries from the local tail of the replica that the pass owns to the tail: gives them, in order, and raises
-    /// the local tail and the completed tail to the tail. This is a fetch and an advance in one exchange. The vector is empty.
-    ///
-    /// Waits for another pass's append that is under way.
-    ///
-    /// # Errors
-    ///
-    /// `Moved` where there were entries to take, but another pass's event has come since this pass last saw the log. It gives no
-    /// entry then, and the pass has made no event.
-    pub fn take<R: Wait>(
-        &self,
-        rt: &R,
-        pass: &mut LogPass<J>,
-        entries: &mut ArrayVec<LogEntry, RING>,
-    ) -> Result<(), Moved>
-        requires log { pass.old.log ≡ self.now }
-        requires owner { (replica : ℕ) × (pass.old.view.owns ≡ replica ∷ []) }
-        requires empty { entries.old.items ≡ [] }
-        ensures log { pass.new.log ≡ pass.old.log }
-        ensures taken { OnOk result (HasTakenAll J.depth J.replicas
-            pass.old.view entries.new.items pass.new.view) }
-        ensures moved { OnErr result (HasLooked J.depth J.replicas pass.old.view pass.new.view
-            × HasMoved pass.old.view pass.new.view
-            × LiesAhead J.replicas pass.new.view (tail (log_after J.replicas pass.new.view.seen))) }
-        ensures none { OnErr result (entries.new.items ≡ []) }
-        ensures history { IsLogHistory J.depth J.replicas pass.new.view.seen }
-    {
-        self.refresh(pass);
-        let Some(replica) = pass.replica else {
-            unreachable!()
-        };
-        let head = pass.inner.head();
-        let local = LOCAL_WORDS + usize::from(replica);
-        let (from, to) = (head[local], head[TAIL_WORD]);
-        if from == to {
-            return Ok(());
-        }
-        if self.try_take::<Brand, R>(rt, pass, replica, from, to, entries) {
-            Ok(())
-        } else {
-            Err(Moved)
-        }
-    }
-
-    /// Raises the local tail of a replica from one place to the tail, and gives the entries between them.
-    fn try_take<E: Happening, R: Wait>(
-        &self,
-        rt: &R,
-        pass: &mut LogPass<J>,
-        replica: u8,
-        from: u64,
-        to: u64,
-        entries: &mut ArrayVec<LogEntry, RING>,
-    ) -> bool
-        requires log { pass.old.log ≡ self.now }
-        requires from { from ≡ local_of (log_after J.replicas pass.old.view.seen) replica }
-        requires to { to ≡ tail (log_after J.replicas pass.old.view.seen) }
-        requires few { (from ≤ to) × (to ≤ from + RING) }
-        requires may { (replica < REPLICAS)
-            × MayAdvance (log_after J.replicas pass.old.view.seen) replica to
-            × Contains pass.old.view.owns replica }
-        requires event { E.event ≡ Advance replica to }
-        requires empty { entries.old.items ≡ [] }
-        ensures log { pass.new.log ≡ pass.old.log }
-        ensures view { MadeOrMoved J.depth J.replicas E.event pass.old.view pass.new.view result }
-        ensures history { IsLogHistory J.depth J.replicas pass.new.view.seen }
-        ensures taken { IsTrue result
-            → entries.new.items ≡ to_take (log_after J.replicas pass.old.view.seen) replica }
-        ensures none { IsFalse result → entries.new.items ≡ [] }
-    {
-        let (code, changes) = advanced(pass.inner.head(), replica, to);
-        pass.places.clear();
-        list_places(from, to, &mut pass.places);
-        let places = pass.places.as_slice();
-        if !self.exchange::<E, R>(
-            rt,
-            &mut pass.inner,
-            places,
-            &mut pass.loaded,
-            code,
-            &changes,
-        ) {
-            return false;
-        }
-        read_entries(&pass.loaded, from, to, entries);
-        true
-    }
-
-    /// Loads the words at these places, and changes the words that a pass saw last to those after an event, which have this code, where
-    /// the cell still has them; else it looks.
-    fn exchange<E: Happening, R: Wait>(
+    /// Loads the words at these places, and exchanges the words that a pass saw last for those after events, which have this code and
+    /// these changes of the ring, where the cell still has them; else it looks.
+    pub(crate) fn exchange<E: Happening, R: Wait>(
         &self,
         rt: &R,
         pass: &mut Pass<View, RING_WORDS, CELL_WORDS>,
@@ -421,16 +334,16 @@ impl<J: LogName> RingLog<J> {
         requires log { pass.old.cell ≡ self.now }
         requires known { (replica : Option ℕ)
             × Remembers J.depth J.replicas pass.old.words replica pass.old.view }
-        requires event { MayFollow J.depth (log_after J.replicas pass.old.view.seen) E.event
-            × MayMake pass.old.view E.event }
+        requires some { 1 ≤ length E.events }
         requires loads { All (λ place. (RING_WORDS ≤ place) × (place < CELL_WORDS)) places.now }
-        requires places { All (λ change. change.0 < CELL_WORDS) changes.now }
+        requires places { All (λ change. (RING_WORDS ≤ change.0) × (change.0 < CELL_WORDS))
+            changes.now }
         requires code { code
-            ≡ code_of_log (log_after_event (log_after J.replicas pass.old.view.seen) E.event) }
-        requires next { IsWordsOf (log_after_event (log_after J.replicas pass.old.view.seen) E.event)
-            (changed pass.old.words changes.now) }
+            ≡ code_in (exchanged word_in RING_WORDS code pass.old.words changes.now) }
+        requires events { LeadTo J.depth J.replicas pass.old.view E.events
+            (exchanged word_in RING_WORDS code pass.old.words changes.now) }
         ensures log { pass.new.cell ≡ pass.old.cell }
-        ensures view { MadeOrMoved J.depth J.replicas E.event pass.old.view pass.new.view result }
+        ensures view { MadeOrMoved J.depth J.replicas E.events pass.old.view pass.new.view result }
         ensures known { (replica : Option ℕ)
             → Remembers J.depth J.replicas pass.old.words replica pass.old.view
             → Remembers J.depth J.replicas pass.new.words replica pass.new.view }

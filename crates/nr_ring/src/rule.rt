@@ -42,29 +42,30 @@ impl<J: LogName> CellOutcome<View> for Looking<J> {
     ghost then = { λ before words words' after. Looks J.depth J.replicas words' before after };
 }
 
-/// Names the event that an exchange makes.
+/// Names the events that an exchange makes, one after another.
 pub trait Happening {
+    ghost use Rattle.std.specs.Prelude.{List};
     ghost use Rattle.nr_ring.specs.declared.log_event.LogEvent.{LogEvent};
 
-    ghost event: { LogEvent };
+    ghost events: { List LogEvent };
 }
 
 impl Happening for Brand {
-    ghost use Rattle.nr_ring.specs.declared.log_event.LogEvent.TheVariants.{Advance};
+    ghost use Rattle.std.specs.Prelude.{[]};
 
-    ghost event = { Advance 0 0 };
+    ghost events = { [] };
 }
 
-/// An exchange of the words of the cell for those after an event.
+/// An exchange of the words of the cell for those after events.
 pub struct Making<E: Happening> {
     of: PhantomData<E>,
 }
 
 impl<E: Happening> CellOutcome<View> for Making<E> {
     ghost use Rattle.std.specs.Prelude.{◌≡◌};
-    ghost use Rattle.nr_ring.specs.Calls.{with_event};
+    ghost use Rattle.nr_ring.specs.Calls.{with_events};
 
-    ghost then = { λ before words words' after. after ≡ with_event before E.event };
+    ghost then = { λ before words words' after. after ≡ with_events before E.events };
 }
 
 /// The new pass takes the first replica that the other owns, and one right.

@@ -7,8 +7,8 @@ pub const OTHERS: u8 = 64;
 /// The words of the cell.
 pub const CELL_WORDS: usize = RING_WORDS + 2 * RING;
 
-/// The most words that an event changes: two for each entry of a batch, and the tail.
-pub const CHANGES: usize = 2 * RING + 1;
+/// The most words that the version doesn't determine and an event changes: two for each entry of a batch.
+pub const CHANGES: usize = 2 * RING;
 
 /// The most words that a fetch loads: two for each entry of the ring.
 pub const LOADS: usize = 2 * RING;

@@ -3,13 +3,16 @@ use Rattle.std.proofs.Common.{◌≡◌, ℕ, ◌+◌, ◌-◌, ◌*◌, ◌/◌
 use mathlib.Core.Logic.{dite}
 use Rattle.version_cell.specs.Heads.{IsCoded}
 use native.Mathlib.Decide.{ℕ_discrete}
-use Rattle.version_cell.specs.inside.Heads.{AgreeAt, AgreeTo, IsHead}
+use Rattle.version_cell.specs.Changes.{changed, exchanged}
+use Rattle.version_cell.specs.inside.Heads.{AgreeAt, IsHead}
 use Rattle.version_cell.specs.inside.Versions.{HasSeen, words_of}
 use Rattle.version_cell.specs.declared.stage.Stage.{Stage}
 use Rattle.version_cell.specs.declared.stage.Stage.TheVariants.{Idle, Seen, Writing}
 use Rattle.version_cell.specs.Meetings.{HaveComeFurther}
 use Rattle.version_cell.specs.inside.Steps.{GrewTo, HasWaited, IsAt, IsLook, Loaded, Peeked, later, resting}
 use Rattle.std.proofs.lemmas.Bool.Decides.{leb_tells}
+use Rattle.version_cell.proofs.Changing.{changed_long}
+use Rattle.version_cell.proofs.Heads.{has_head}
 
 pub loads_none : (places words : List ℕ) (st : Stage) → Loaded places 0 words st st
 loads_none places words Idle = refl
@@ -123,12 +126,17 @@ new_seen code head h n c words first stage is long coded c_is first_is = let sam
   begin_so = λ i lt. first_is i lt ∙ (ap (λ (z : ℕ). head z i) c_is ∙ (sym (coded i lt) ∙ ap (λ (ws : List ℕ). get_or ws i 0) (sym same)));
 }
 
--- a seat that made an exchange has seen the words after it
-pub exchanged_seen : (h n at : ℕ) (words first : List ℕ) (stage : Stage) → stage ≡ Seen at at words → length words ≡ n
-    → AgreeTo h first words → HasSeen h n at first stage
-exchanged_seen h n at words first stage is long alike = let same : words_of stage ≡ words = ap words_of is in record {
-  last = at;
-  seen = is ∙ ap (λ (ws : List ℕ). Seen at at ws) (sym same);
-  long = ap (λ (ws : List ℕ). length ws) same ∙ long;
-  begin_so = λ i lt. alike i lt ∙ ap (λ (ws : List ℕ). get_or ws i 0) (sym same);
-}
+-- a seat that made an exchange has seen the words after it, of which the code determines the first
+pub exchanged_seen : (head : ℕ → ℕ → ℕ) (c h n : ℕ) (words first : List ℕ) (changes : List (ℕ × ℕ)) (stage : Stage)
+    → stage ≡ Seen (2 * c) (2 * c) (exchanged head h c words changes) → length words ≡ n → h ≤ n
+    → IsHead head c h first → HasSeen h n (2 * c) first stage
+exchanged_seen head c h n words first changes stage is long within first_is =
+    let same : words_of stage ≡ exchanged head h c words changes = ap words_of is in
+    let as_long = changed_long words changes in
+    let has = has_head head c h (changed words changes) (omega (arith, as_long, long, within)) in
+    record {
+      last = 2 * c;
+      seen = is ∙ ap (λ (ws : List ℕ). Seen (2 * c) (2 * c) ws) (sym same);
+      long = ap (λ (ws : List ℕ). length ws) same ∙ (has.0.0 ∙ (as_long ∙ long));
+      begin_so = λ i lt. first_is i lt ∙ (sym (has.1 i lt) ∙ ap (λ (ws : List ℕ). get_or ws i 0) (sym same));
+    }

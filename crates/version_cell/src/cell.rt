@@ -1,7 +1,7 @@
 //! The cell.
 ghost use Rattle.std.specs.Prelude.{◌≡◌, ◌<◌, ◌≤◌, ◌^◌, ℕ, List, [], ◌∷◌, All, IfOk, IsTrue, MatchBool, slice_index};
 ghost use Rattle.crossbeam_utils.specs.Register.{Forks, Merges, Turns, TurnsAt};
-ghost use Rattle.version_cell.specs.Changes.{changed};
+ghost use Rattle.version_cell.specs.Changes.{exchanged};
 ghost use Rattle.version_cell.specs.Heads.{IsCoded};
 ghost use Rattle.version_cell.specs.Meetings.{HaveComeFurther, Recalls};
 
@@ -9,9 +9,7 @@ use crate::layout::{STILL, VERSION, WORDS};
 use crate::pass::Pass;
 use crate::plays::{Cut, Glue, Look, Recall, Versions};
 use crate::rule::{CellOutcome, CellRule};
-use crate::seats::{
-    change_head, load_and_exchange, load_each, put_head, tally, turn_to, wait_for_change,
-};
+use crate::seats::{load_and_exchange, load_each, put_head, tally, turn_to, wait_for_change};
 use crate::stage::Doing;
 use atomic_table::{Join, Split, Table};
 use std::alloc::{AllocError, Global};
@@ -154,14 +152,15 @@ impl<V, P: CellRule<V>, const H: usize, const N: usize> VersionCell<V, P, H, N> 
         turn_to::<V, P, H>(found, &mut pass.version, &mut pass.head);
     }
 
-    /// Changes the words, each change putting a word at a place, where those of the pass are still those of the cell. Else it
-    /// looks, and the words that it finds have come further. The code is that of the words after the changes.
+    /// Changes the words where those of the pass are still those of the cell: each change puts a word at a place that the version doesn't
+    /// determine, and the first words become those that the code determines, which is that of all words then. Else it looks, and the
+    /// words that it finds have come further.
     ///
     /// Before that it loads the words at these places, which the version doesn't determine. Where the exchange is made, they are those
     /// that were there before it; else they count for nothing.
     ///
-    /// An exchange that is made waits for nobody, and is one step where the code determines all that is new. One that isn't may wait for a
-    /// pass that is changing the cell.
+    /// An exchange that is made waits for nobody, and is one step where there are no changes. One that isn't may wait for a pass that
+    /// is changing the cell.
     pub fn exchange_as<E: CellOutcome<V>, M: CellOutcome<V>, R: Wait>(
         &self,
         rt: &R,
@@ -173,34 +172,35 @@ impl<V, P: CellRule<V>, const H: usize, const N: usize> VersionCell<V, P, H, N> 
     ) -> bool
         requires cell { pass.old.cell ≡ self.now }
         requires loads { All (λ place. (H ≤ place) × (place < N)) places.now }
-        requires places { All (λ change. change.0 < N) changes.now }
-        requires code { (code ≡ P.code (changed pass.old.words changes.now)) × (code < 2 ^ 63) }
-        requires coded { IsCoded P.code P.head H (changed pass.old.words changes.now) }
+        requires places { All (λ change. (H ≤ change.0) × (change.0 < N)) changes.now }
+        requires code { (code ≡ P.code (exchanged P.head H code pass.old.words changes.now))
+            × (code < 2 ^ 63) }
         requires rule { TurnsAt P.holds pass.old.number pass.old.view
-            pass.old.words (changed pass.old.words changes.now) E.then }
+            pass.old.words (exchanged P.head H code pass.old.words changes.now) E.then }
         requires rises { P.code pass.old.words < code }
         requires look { Turns P.holds pass.old.number pass.old.view (λ x. x) M.then }
         ensures same { (pass.new.cell ≡ pass.old.cell) × (pass.new.number ≡ pass.old.number) }
         ensures rule { MatchBool result
-            ((pass.new.words ≡ changed pass.old.words changes.now)
+            ((pass.new.words ≡ exchanged P.head H code pass.old.words changes.now)
             × E.then pass.old.view pass.old.words pass.new.words pass.new.view)
             ((P.code pass.old.words < P.code pass.new.words)
             × M.then pass.old.view pass.new.words pass.new.words pass.new.view) }
         ensures loaded { IsTrue result → All
             (λ place. slice_index words.new place ≡ slice_index pass.old.words place) places.now }
     {
-        let (version, next) = (pass.version, 2 * code);
+        let version = pass.version;
+        let table = &self.table.shared;
         if load_and_exchange::<E, V, P, H, N>(
-            &self.table.shared,
+            table,
             &mut pass.seat,
             places,
             words,
             version,
-            next,
+            code,
             changes,
         ) {
-            pass.version = next;
-            change_head::<H>(&mut pass.head, changes);
+            pass.version = 2 * code;
+            put_head::<V, P, H>(code, &mut pass.head);
             return true;
         }
         self.look_later::<M, R>(rt, pass);

@@ -1,10 +1,9 @@
 //! The steps of a seat at the table of a cell, which reads the words and writes them.
-ghost use Rattle.std.specs.Prelude.{◌/◌, ◌≡◌, ◌≤◌, ◌+◌, ◌*◌, ◌^◌, ◌<◌, ◌↔◌, ℕ, List, All, IsTrue, MatchBool, length, slice_set};
+ghost use Rattle.std.specs.Prelude.{◌/◌, ◌≡◌, ◌≤◌, ◌+◌, ◌*◌, ◌^◌, ◌<◌, All, IsTrue, MatchBool, length};
 ghost use Rattle.crossbeam_utils.specs.Register.{TurnsAt};
-ghost use Rattle.version_cell.specs.Changes.{changed};
-ghost use Rattle.version_cell.specs.Heads.{IsCoded};
-ghost use Rattle.version_cell.specs.inside.Heads.{AgreeAt, AgreeTo, IsHead};
-ghost use Rattle.version_cell.specs.inside.Steps.{Fits, HasStayed, HasWaited, HasWritten, IsAt, IsFresh, IsSameSeat, IsWriting, Loaded, Stays};
+ghost use Rattle.version_cell.specs.Changes.{changed, exchanged, with_head};
+ghost use Rattle.version_cell.specs.inside.Heads.{AgreeAt, IsHead};
+ghost use Rattle.version_cell.specs.inside.Steps.{Fits, HasStayed, HasWaited, IsAt, IsFresh, IsSameSeat, Loaded, Stays};
 ghost use Rattle.version_cell.specs.inside.Versions.{words_of};
 ghost use Rattle.version_cell.specs.declared.stage.Stage.TheVariants.{Seen, Writing};
 
@@ -36,26 +35,6 @@ pub(crate) fn turn_to<V, P: CellRule<V>, const H: usize>(
 {
     *version = 2 * (found / 2);
     put_head::<V, P, H>(found / 2, head);
-}
-
-/// Puts a word at a place, if it is one of the first.
-fn change_word<const H: usize>(head: &mut [u64; H], place: usize, word: u64)
-    ensures { (words : List ℕ) → H ≤ length words → AgreeTo H head.old words
-        → AgreeTo H head.new (slice_set words place word) }
-{
-    if place < H {
-        head[place] = word;
-    }
-}
-
-/// Makes the changes that are of the first words.
-pub(crate) fn change_head<const H: usize>(head: &mut [u64; H], changes: &[(usize, u64)])
-    ensures { (words : List ℕ) → H ≤ length words → AgreeTo H head.old words
-        → AgreeTo H head.new (changed words changes.now) }
-{
-    for change in changes {
-        change_word::<H>(head, change.0, change.1);
-    }
 }
 
 /// Waits for a version of later words than those that the seat has seen.
@@ -115,8 +94,9 @@ pub(crate) fn load_each<V, P: CellRule<V>, const H: usize, const N: usize>(
     }
 }
 
-/// Loads the words at these places, which the version doesn't determine, and makes the changes. Where they are made, nothing was changed
-/// since the seat saw the words, and those that were loaded are among them.
+/// Loads the words at these places, which the version doesn't determine, and makes the changes, which are of such words; the first words
+/// become those that the code determines. Where they are made, nothing was changed since the seat saw the words, and those that were
+/// loaded are among them.
 pub(crate) fn load_and_exchange<
     M: CellOutcome<V>,
     V,
@@ -129,7 +109,7 @@ pub(crate) fn load_and_exchange<
     places: &[usize],
     words: &mut [u64; N],
     version: u64,
-    next: u64,
+    code: u64,
     changes: &[(usize, u64)],
 ) -> bool
     requires table { Fits N seat.old table.now.table_id table.now.key.items }
@@ -138,40 +118,33 @@ pub(crate) fn load_and_exchange<
     requires long { length (words_of seat.old.me.0.stage) ≡ N }
     requires small { version + 1 < 2 ^ 64 }
     requires loads { All (λ place. (H ≤ place) × (place < N)) places.now }
-    requires places { All (λ change. change.0 < N) changes.now }
-    requires next { next ≡ 2 * P.code (changed (words_of seat.old.me.0.stage) changes.now) }
-    requires coded { IsCoded P.code P.head H (changed (words_of seat.old.me.0.stage) changes.now) }
+    requires places { All (λ change. (H ≤ change.0) × (change.0 < N)) changes.now }
+    requires code { (code
+        ≡ P.code (exchanged P.head H code (words_of seat.old.me.0.stage) changes.now))
+        × (code < 2 ^ 63) }
     requires rule { TurnsAt P.holds seat.old.id seat.old.me.0.client (words_of seat.old.me.0.stage)
-        (changed (words_of seat.old.me.0.stage) changes.now) M.then }
-    requires rises { P.code (words_of seat.old.me.0.stage)
-        < P.code (changed (words_of seat.old.me.0.stage) changes.now) }
+        (exchanged P.head H code (words_of seat.old.me.0.stage) changes.now) M.then }
+    requires rises { P.code (words_of seat.old.me.0.stage) < code }
     ensures seat { IsSameSeat seat.old seat.new }
     ensures exchanged { MatchBool result
-        ((seat.new.me.0.stage
-        ≡ Seen next next (changed (words_of seat.old.me.0.stage) changes.now))
+        ((seat.new.me.0.stage ≡ Seen (2 * code) (2 * code)
+        (exchanged P.head H code (words_of seat.old.me.0.stage) changes.now))
         × M.then seat.old.me.0.client (words_of seat.old.me.0.stage)
-        (changed (words_of seat.old.me.0.stage) changes.now) seat.new.me.0.client)
+        (exchanged P.head H code (words_of seat.old.me.0.stage) changes.now) seat.new.me.0.client)
         (HasStayed version seat.old.me.0.stage seat.new.me.0.stage
         × (seat.new.me.0.client ≡ seat.old.me.0.client)) }
     ensures loaded { IsTrue result
         → AgreeAt places.now (length places.now) words.new (words_of seat.old.me.0.stage) }
 {
     load_each::<V, P, H, N>(table, seat, places, words);
-    if lie_below(H, changes) {
-        return swap::<M, V, P, H, N>(table, seat, version, next, changes);
+    if changes.is_empty() {
+        return swap::<M, V, P, H, N>(table, seat, version, code);
     }
     if !take::<V, P, H, N>(table, seat, version) {
         return false;
     }
-    publish::<M, V, P, H, N>(table, seat, version + 1, next, changes);
+    publish::<M, V, P, H, N>(table, seat, version + 1, code, changes);
     true
-}
-
-/// Whether all changes are of words below a place.
-fn lie_below(end: usize, changes: &[(usize, u64)]) -> bool
-    ensures { IsTrue result ↔ All (λ change. change.0 < end) changes.now }
-{
-    changes.iter().all(|change| change.0 < end)
 }
 
 /// Takes the cell, whose version goes from the one of the words that the seat has seen to the odd one after it.
@@ -193,39 +166,35 @@ fn take<V, P: CellRule<V>, const H: usize, const N: usize>(
     table.compare_exchange::<Take>(seat, VERSION, version, version + 1) == version
 }
 
-/// Has the version go from that of the words that the seat has seen to the next, which determines all words that the changes make new.
+/// Has the version go from that of the words that the seat has seen to that of the words with the first ones as a code determines them.
 fn swap<M: CellOutcome<V>, V, P: CellRule<V>, const H: usize, const N: usize>(
     table: &Shared<(), Doing<V>, Vec<u64>, Versions<P, H>>,
     seat: &mut Seat<(), Doing<V>>,
     version: u64,
-    next: u64,
-    changes: &[(usize, u64)],
+    code: u64,
 ) -> bool
     requires table { Fits N seat.old table.now.table_id table.now.key.items }
-    requires head { H ≤ N }
+    requires head { H ≤ length (words_of seat.old.me.0.stage) }
     requires seen { IsAt version seat.old.me.0.stage }
-    requires places { All (λ change. change.0 < H) changes.now }
-    requires next { next ≡ 2 * P.code (changed (words_of seat.old.me.0.stage) changes.now) }
-    requires coded { IsCoded P.code P.head H (changed (words_of seat.old.me.0.stage) changes.now) }
+    requires code { (code ≡ P.code (with_head P.head code H (words_of seat.old.me.0.stage)))
+        × (code < 2 ^ 63) }
     requires rule { TurnsAt P.holds seat.old.id seat.old.me.0.client (words_of seat.old.me.0.stage)
-        (changed (words_of seat.old.me.0.stage) changes.now) M.then }
-    requires rises { P.code (words_of seat.old.me.0.stage)
-        < P.code (changed (words_of seat.old.me.0.stage) changes.now) }
+        (with_head P.head code H (words_of seat.old.me.0.stage)) M.then }
+    requires rises { P.code (words_of seat.old.me.0.stage) < code }
     ensures seat { IsSameSeat seat.old seat.new }
     ensures swapped { MatchBool result
-        ((seat.new.me.0.stage
-        ≡ Seen next next (changed (words_of seat.old.me.0.stage) changes.now))
+        ((seat.new.me.0.stage ≡ Seen (2 * code) (2 * code)
+        (with_head P.head code H (words_of seat.old.me.0.stage)))
         × M.then seat.old.me.0.client (words_of seat.old.me.0.stage)
-        (changed (words_of seat.old.me.0.stage) changes.now) seat.new.me.0.client)
+        (with_head P.head code H (words_of seat.old.me.0.stage)) seat.new.me.0.client)
         ((seat.new.me.0.stage ≡ seat.old.me.0.stage)
         × (seat.new.me.0.client ≡ seat.old.me.0.client)) }
     ensures fresh { IsTrue result → IsFresh version seat.old.me.0.stage }
 {
-    let _changes = changes;
-    table.compare_exchange::<Swap<P, M, H>>(seat, VERSION, version, next) == version
+    table.compare_exchange::<Swap<P, M, H>>(seat, VERSION, version, 2 * code) == version
 }
 
-/// Stores, in turn, the words of the changes that the version doesn't determine.
+/// Stores the words of the changes, in turn, in a cell that the seat has taken.
 fn write<V, P: CellRule<V>, const H: usize, const N: usize>(
     table: &Shared<(), Doing<V>, Vec<u64>, Versions<P, H>>,
     seat: &mut Seat<(), Doing<V>>,
@@ -233,66 +202,45 @@ fn write<V, P: CellRule<V>, const H: usize, const N: usize>(
     changes: &[(usize, u64)],
 )
     requires table { Fits N seat.old table.now.table_id table.now.key.items }
-    requires long { length (words_of seat.old.me.0.stage) ≡ N }
     requires taken { seat.old.me.0.stage
         ≡ Writing version (words_of seat.old.me.0.stage) (words_of seat.old.me.0.stage) }
-    requires places { All (λ change. change.0 < N) changes.now }
+    requires places { All (λ change. (H ≤ change.0) × (change.0 < N)) changes.now }
     ensures seat { Stays seat.old seat.new }
-    ensures written { HasWritten H version (words_of seat.old.me.0.stage)
-        (changed (words_of seat.old.me.0.stage) changes.now) seat.new.me.0.stage }
+    ensures written { seat.new.me.0.stage ≡ Writing version (words_of seat.old.me.0.stage)
+        (changed (words_of seat.old.me.0.stage) changes.now) }
 {
     for change in changes {
-        store_word::<V, P, H, N>(table, seat, change.0, change.1);
+        table.store::<Put>(seat, change.0 + WORDS, change.1);
     }
 }
 
-/// Stores a word in a cell that the seat has taken, where the version doesn't determine the word at that place.
-fn store_word<V, P: CellRule<V>, const H: usize, const N: usize>(
-    table: &Shared<(), Doing<V>, Vec<u64>, Versions<P, H>>,
-    seat: &mut Seat<(), Doing<V>>,
-    place: usize,
-    word: u64,
-)
-    requires table { Fits N seat.old table.now.table_id table.now.key.items }
-    requires taken { IsWriting seat.old.me.0.stage }
-    requires place { place < N }
-    ensures seat { Stays seat.old seat.new }
-    ensures stored { (version : ℕ) (old words : List ℕ) → length words ≡ N
-        → HasWritten H version old words seat.old.me.0.stage
-        → HasWritten H version old (slice_set words place word) seat.new.me.0.stage }
-{
-    if place < H {
-        return;
-    }
-    table.store::<Put>(seat, place + WORDS, word);
-}
-
-/// Makes the changes in a cell that the seat has taken, and gives it the version of the words after them.
+/// Makes the changes in a cell that the seat has taken, and gives it the version of the words that then are, with the first ones as a
+/// code determines them.
 fn publish<M: CellOutcome<V>, V, P: CellRule<V>, const H: usize, const N: usize>(
     table: &Shared<(), Doing<V>, Vec<u64>, Versions<P, H>>,
     seat: &mut Seat<(), Doing<V>>,
     version: u64,
-    next: u64,
+    code: u64,
     changes: &[(usize, u64)],
 )
     requires table { Fits N seat.old table.now.table_id table.now.key.items }
-    requires head { H ≤ N }
-    requires long { length (words_of seat.old.me.0.stage) ≡ N }
+    requires head { H ≤ length (words_of seat.old.me.0.stage) }
     requires taken { seat.old.me.0.stage
         ≡ Writing version (words_of seat.old.me.0.stage) (words_of seat.old.me.0.stage) }
-    requires places { All (λ change. change.0 < N) changes.now }
-    requires next { next ≡ 2 * P.code (changed (words_of seat.old.me.0.stage) changes.now) }
-    requires coded { IsCoded P.code P.head H (changed (words_of seat.old.me.0.stage) changes.now) }
+    requires places { All (λ change. (H ≤ change.0) × (change.0 < N)) changes.now }
+    requires code { (code
+        ≡ P.code (exchanged P.head H code (words_of seat.old.me.0.stage) changes.now))
+        × (code < 2 ^ 63) }
     requires rule { TurnsAt P.holds seat.old.id seat.old.me.0.client (words_of seat.old.me.0.stage)
-        (changed (words_of seat.old.me.0.stage) changes.now) M.then }
-    requires rises { P.code (words_of seat.old.me.0.stage)
-        < P.code (changed (words_of seat.old.me.0.stage) changes.now) }
+        (exchanged P.head H code (words_of seat.old.me.0.stage) changes.now) M.then }
+    requires rises { P.code (words_of seat.old.me.0.stage) < code }
     ensures seat { IsSameSeat seat.old seat.new }
-    ensures seen { seat.new.me.0.stage
-        ≡ Seen next next (changed (words_of seat.old.me.0.stage) changes.now) }
+    ensures seen { seat.new.me.0.stage ≡ Seen (2 * code) (2 * code)
+        (exchanged P.head H code (words_of seat.old.me.0.stage) changes.now) }
     ensures rule { M.then seat.old.me.0.client (words_of seat.old.me.0.stage)
-        (changed (words_of seat.old.me.0.stage) changes.now) seat.new.me.0.client }
+        (exchanged P.head H code (words_of seat.old.me.0.stage) changes.now)
+        seat.new.me.0.client }
 {
     write::<V, P, H, N>(table, seat, version, changes);
-    table.store::<Publish<P, M, H>>(seat, VERSION, next);
+    table.store::<Publish<P, M, H>>(seat, VERSION, 2 * code);
 }

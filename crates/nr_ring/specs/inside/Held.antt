@@ -3,10 +3,10 @@ use Rattle.std.specs.List.{range_with_len}
 use Rattle.std.specs.Prelude.{◌≡◌, ℕ, ◌+◌, ◌-◌, ◌<◌, ◌≤◌, Bool, MatchBool, List, [], ◌∷◌, All, Option, None, Some, length, slice_index}
 use Rattle.vs_types.specs.declared.depth.Depth.{Depth}
 use Rattle.vs_types.specs.declared.limits.TheConstants.{REPLICAS}
-use Rattle.nr_ring.specs.LogHistory.{IsLogHistory, Log, completed, local_of, log_after, tail}
+use Rattle.nr_ring.specs.LogHistory.{IsLogHistory, Log, MayFollow, completed, local_of, log_after, log_after_event, tail}
 use Rattle.nr_ring.specs.Words.{IsWordsOf}
 use Rattle.nr_ring.specs.View.{StartsWith}
-use Rattle.nr_ring.specs.Calls.{HasLooked, HasMoved, with_event}
+use Rattle.nr_ring.specs.Calls.{HasLooked, HasMoved, MayMake, with_event, with_events}
 use Rattle.nr_ring.specs.declared.log_event.LogEvent.{LogEvent}
 use Rattle.nr_ring.specs.declared.view.View.{View}
 use Rattle.nr_ring.specs.declared.tails.Tails.{Tails}
@@ -61,7 +61,15 @@ abbrev pub rest_of : ℕ → Option ℕ → List ℕ
 rest_of replicas None = []
 rest_of replicas (Some replica) = range_with_len (replica + 1) (replicas - (replica + 1))
 
--- what a try to make an event shows: the pass made it, or it looked and another pass's event has come
-abbrev pub MadeOrMoved : Depth → ℕ → LogEvent → View → View → Bool → Type 0
-MadeOrMoved depth replicas event before after made =
-    MatchBool made (after ≡ with_event before event) (HasLooked depth replicas before after × HasMoved before after)
+-- a pass may make these events, one after another, and the words are those of the log after them; after each there are such words
+abbrev pub LeadTo : Depth → ℕ → View → List LogEvent → List ℕ → Type 0
+LeadTo depth replicas view [] words = IsWordsOf (log_after replicas view.seen) words
+LeadTo depth replicas view (event ∷ events) words =
+    MayFollow depth (log_after replicas view.seen) event × MayMake view event
+    × ((between : List ℕ) × IsWordsOf (log_after_event (log_after replicas view.seen) event) between)
+    × LeadTo depth replicas (with_event view event) events words
+
+-- what a try to make events shows: the pass made them, or it looked and another pass's event has come
+abbrev pub MadeOrMoved : Depth → ℕ → List LogEvent → View → View → Bool → Type 0
+MadeOrMoved depth replicas events before after made =
+    MatchBool made (after ≡ with_events before events) (HasLooked depth replicas before after × HasMoved before after)

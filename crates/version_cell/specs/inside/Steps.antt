@@ -94,13 +94,6 @@ Published head h tells version v w (Writing at old now) after =
     (y : List ℕ) × HasHead head (version / 2) h now y × (after ≡ Seen version version y) × tells v old y w
 Published head h tells version v w before after = Unit {0}
 
-abbrev pub IsWriting : Stage → Type 0
-IsWriting stage = (version : ℕ) × (old now : List ℕ) × (stage ≡ Writing version old now)
-
--- a seat writes, and has written the words from a place on
-abbrev pub HasWritten : ℕ → ℕ → List ℕ → List ℕ → Stage → Type 0
-HasWritten h version old words stage = (now : List ℕ) × (stage ≡ Writing version old now) × AgreeFrom h words now
-
 -- of two stages that have seen words, the one with the later words
 abbrev pub later : Stage → Stage → Stage
 later (Seen at last x) (Seen at' last' x') = if nat_le at' at then Seen at last x else Seen at' last' x'

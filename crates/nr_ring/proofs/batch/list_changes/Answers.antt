@@ -2,10 +2,9 @@ use Rattle.std.proofs.Common.{◌≡◌, ℕ, ◌+◌, List, ◌++◌, [], ◌�
 use Rattle.std.specs.Prelude.{slice_index}
 use Rattle.std.proofs.lemmas.Option.{slice_get-get_or}
 use Rattle.version_cell.specs.Changes.{changed}
-use Rattle.version_cell.proofs.Changing.{changed_last}
-use Rattle.nr_ring.specs.Words.{IsAppended, word_of}
+use Rattle.nr_ring.specs.Words.{word_of}
 use Rattle.nr_ring.specs.inside.Batch.{IsWritten}
-use Rattle.nr_ring.proofs.Batches.{Within, all_written, one_more_within, one_more_written, two_changes, two_more, with_two}
+use Rattle.nr_ring.proofs.Batches.{Within, one_more_within, one_more_written, two_changes, two_more, with_two}
 use Rattle.nr_ring.proofs.batch.list_changes.Goals as goal
 
 pub loop-entry-preserved : goal.loop-entry-preserved
@@ -36,21 +35,15 @@ loop-entry-preserved c =
       omega (arith, ap (λ (l : List (ℕ × ℕ)). length l) listed, two_more items (at, slice_index two 0) (at + 1, slice_index two 1), is.2),
       subst Within (sym listed)
           (one_more_within (items ++ (at, slice_index two 0) ∷ []) (at + 1) (slice_index two 1)
-          (one_more_within items at (slice_index two 0) is.3 (omega (arith, at_is))) (omega (arith, at_is))),
+          (one_more_within items at (slice_index two 0) is.3 (omega (arith, at_is)) (omega (arith, at_is))) (omega (arith, at_is)) (omega (arith, at_is))),
     )
 
-pub returns-clause-appended : goal.returns-clause-appended
-returns-clause-appended c =
+pub returns-clause-written : goal.returns-clause-written
+returns-clause-written c =
     let batch = c.args.batch.now in
     let is = c.loop-entry.invariant in
     let items = c.loop-entry.changes.items in
-    let end = c.loop-entry.place in
     let whole : c.loop-entry.entry-index ≡ length batch = omega (arith, c.loop-entry-test.false, c.loop-entry.auto.entry-index-end) in
-    λ log words are tail_is.
+    λ words long.
     let Up : ℕ → Type 0 = λ n. IsWritten c.args.tail n batch words (changed words items) in
-    let written : changed words c.push-2.new.self.items ≡ set (changed words items) 0 end = ap (changed words) c.push-2.ensures.items
-    ∙ changed_last words items (0, end) in
-    let Is : List ℕ → Type 0 = λ ws. IsAppended log batch words ws in
-    subst Is (sym written)
-    (all_written log batch words (changed words items) c.args.tail end (sym tail_is)
-    (is.0 ∙ ap (λ n. c.args.tail + n) whole ∙ ap (λ t. t + length batch) (sym tail_is)) are (subst Up whole (is.1 words are.long)))
+    subst Up whole (is.1 words long)

@@ -1,24 +1,22 @@
-use Rattle.std.proofs.Common.{rules, ℕ, refl, subst, sym, ◌∙◌, slice_index_or, take}
+use Rattle.std.proofs.Common.{rules, ◌≡◌, ◌+◌, ◌-◌, ℕ, List, refl, ap, subst, sym, ◌∙◌, slice_index_or, take, set, arith}
 use Rattle.version_cell.specs.Changes.{changed}
-use Rattle.version_cell.specs.inside.Steps.{HasWritten}
+use Rattle.version_cell.specs.inside.Steps.{Written}
 use Rattle.version_cell.specs.inside.Versions.{words_of}
-use Rattle.version_cell.proofs.Changing.{changed_long, one_more}
+use Rattle.version_cell.specs.declared.stage.Stage.{Stage}
+use Rattle.version_cell.specs.declared.stage.Stage.TheVariants.{Writing}
+use Rattle.version_cell.proofs.Changing.{one_more}
+use Rattle.version_cell.proofs.Keeps.{puts}
 use Rattle.version_cell.proofs.seats.write.Goals as goal
 
 pub loop-change-init : goal.loop-change-init
-loop-change-init g c = ((search rules, search rules), (words_of c.args.seat.now.me.0.stage, c.requires.taken, (refl, λ i high. refl)))
+loop-change-init g c = ((search rules, search rules), c.requires.taken)
 
-pub store_word-requires : goal.store_word-requires
-store_word-requires g c =
-    let written = c.loop-change.invariant.1 in (
+pub store-requires : goal.store-requires
+store-requires g c =
+    let place = c.requires.places c.loop-change.change-index (0, 0) c.loop-change-test.true in (
       search rules,
-      (
-        search rules,
-        (
-          (c.args.version, words_of c.args.seat.now.me.0.stage, written.0, written.1),
-          c.requires.places c.loop-change.change-index (0, 0) c.loop-change-test.true,
-        ),
-      ),
+      omega (arith, place.1, c.requires.table.1),
+      puts _ _ _ _ _ _ _ _ _ _ _ _ _ c.loop-change.invariant.1 (omega (arith, place.1, c.requires.table.2)),
     )
 
 pub loop-change-preserved : goal.loop-change-preserved
@@ -29,9 +27,10 @@ loop-change-preserved g c =
     let change : ℕ × ℕ = slice_index_or changes n (0, 0) in
     let words = words_of c.args.seat.now.me.0.stage in
     let before = changed words (take n changes) in
-    let seat = c.store_word.ensures.seat in (
-      ((seat.0.0 ∙ is.0.0.0, seat.0.1 ∙ is.0.0.1), seat.1 ∙ is.0.1),
-      subst (λ ws. HasWritten g.row.H c.args.version words ws c.store_word.new.seat.me.0.stage)
-          (sym (one_more words changes n change c.loop-change-test.true refl))
-          (c.store_word.ensures.stored c.args.version words before (changed_long words (take n changes) ∙ c.requires.long) is.1),
+    let seat = c.store.ensures.2 in
+    let wrote = subst (λ (z : Stage). Written ((change.0 + 32) - 32) change.1 z c.store.new.seat.me.0.stage) is.1 seat.1 in
+    let back : (change.0 + 32) - 32 ≡ change.0 = omega arith in (
+      ((c.store.ensures.0 ∙ is.0.0.0, c.store.ensures.1 ∙ is.0.0.1), seat.0 ∙ is.0.1),
+      wrote ∙ ap (λ (i : ℕ). Writing c.args.version words (set before i change.1)) back
+          ∙ ap (λ (ws : List ℕ). Writing c.args.version words ws) (sym (one_more words changes n change c.loop-change-test.true refl)),
     )

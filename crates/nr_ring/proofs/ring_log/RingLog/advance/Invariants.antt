@@ -1,5 +1,6 @@
+use Rattle.std.proofs.Common.{[], ◌∷◌}
 use Rattle.nr_ring.specs.declared.log_event.LogEvent.TheVariants.{Advance}
 use Rattle.nr_ring.proofs.ring_log.RingLog.advance.Given as goal
 
 abbrev pub ghosts-try_advance : goal.ghosts-try_advance
-ghosts-try_advance g a = record { event = Advance a.replica a.to }
+ghosts-try_advance g a = record { events = Advance a.replica a.to ∷ [] }

@@ -1,5 +1,6 @@
+use Rattle.std.proofs.Common.{[], ◌∷◌}
 use Rattle.nr_ring.specs.declared.log_event.LogEvent.TheVariants.{Advance}
 use Rattle.nr_ring.proofs.ring_log.RingLog.take.Given as goal
 
 abbrev pub ghosts-try_take : goal.ghosts-try_take
-ghosts-try_take g a = record { event = Advance a.replica a.to }
+ghosts-try_take g a = record { events = Advance a.replica a.to ∷ [] }

@@ -1,35 +1,58 @@
-use Rattle.std.proofs.Common.{◌≡◌, ℕ, true, List, All, drop, ap, sym, subst, ◌∙◌, arith}
+use Rattle.std.proofs.Common.{◌≡◌, ◌≤◌, ℕ, true, List, [], All, Contains, drop, length, ap, sym, subst, ◌∙◌, arith}
 use Rattle.std.specs.Prelude.{slice_index}
-use Rattle.version_cell.specs.Changes.{changed}
+use Rattle.version_cell.specs.Changes.{exchanged}
 use Rattle.nr_ring.specs.Entries.{to_take}
-use Rattle.nr_ring.specs.LogHistory.{MayAdvance, local_of, log_after_event, log_after, tail}
+use Rattle.nr_ring.specs.LogHistory.{MayAdvance, local_of, log_after, tail}
 use Rattle.nr_ring.specs.Pass.{Known}
-use Rattle.nr_ring.specs.Words.{IsWordsOf}
 use Rattle.nr_ring.specs.declared.log_event.LogEvent.{LogEvent}
 use Rattle.nr_ring.specs.declared.view.View.{View}
-use Rattle.nr_ring.specs.inside.Held.{MadeOrMoved}
+use Rattle.nr_ring.specs.inside.Codes.{word_in}
+use Rattle.nr_ring.specs.inside.Held.{LeadTo, MadeOrMoved}
 use Rattle.nr_ring.proofs.Appends.{InRing, are_small, have_loaded}
 use Rattle.nr_ring.proofs.Fetches.{history_entries}
 use Rattle.nr_ring.proofs.FirstWords.{head_of, small_head}
+use Rattle.nr_ring.proofs.Leads.{advance_leads}
 use Rattle.nr_ring.proofs.ring_log.RingLog.try_take.Goals as goal
 
-pub advanced-code-requires-clause-small : goal.advanced-code-requires-clause-small
-advanced-code-requires-clause-small g c =
+pub advanced_code-code-requires-clause-small : goal.advanced_code-code-requires-clause-small
+advanced_code-code-requires-clause-small g c =
     let To : View → Type 0 = λ v. c.args.to ≡ tail (log_after g.J.LogName.replicas v.seen) in
     let to = subst To (sym (ap (λ (k : Known). k.view) c.pass.view_is)) c.requires.to in
     let small = small_head _ _ c.head.ensures (are_small _ _ _ _ _ c.pass.invariant) in
     let are = head_of _ c.head.result.now _ c.head.ensures c.pass.invariant.words_are in
-    (small, omega (arith, to, are.tail_is, small.tails 0 (omega arith)))
+    let low : c.args.to ≤ 65536 = omega (arith, to, are.tail_is, small.tails 0 (omega arith)) in
+    (small, low, low)
 
-pub exchange-requires-clause-next : goal.exchange-requires-clause-next
-exchange-requires-clause-next g c =
-    let log = log_after g.J.LogName.replicas c.pass.inside.inner.view.seen in
+pub exchange-requires-clause-code : goal.exchange-requires-clause-code
+exchange-requires-clause-code g c =
+    let replicas = g.J.LogName.replicas in
+    let view = c.pass.inside.inner.view in
+    let head = c.head.result.now in
     let words = c.pass.inside.inner.words in
-    let May : View → Type 0 = λ v. MayAdvance (log_after g.J.LogName.replicas v.seen) c.args.replica c.args.to in
-    let may = subst May (sym (ap (λ (k : Known). k.view) c.pass.view_is)) c.requires.may.1 in
-    let are = head_of log c.head.result.now _ c.head.ensures c.pass.invariant.words_are in
-    let After : LogEvent → Type 0 = λ event. IsWordsOf (log_after_event log event) (changed words c.advanced-code.result.1) in
-    subst After (sym c.requires.event) (c.advanced-code.ensures.next log words are c.pass.invariant.words_are may)
+    let shown = sym (ap (λ (k : Known). k.view) c.pass.view_is) in
+    let May : View → Type 0 = λ v. MayAdvance (log_after replicas v.seen) c.args.replica c.args.to in
+    let Owns : View → Type 0 = λ v. Contains v.owns c.args.replica in
+    let To : View → Type 0 = λ v. c.args.to ≡ tail (log_after replicas v.seen) in
+    let leads = advance_leads g.J.LogName.depth replicas head words _ view c.pass.invariant c.head.ensures c.args.replica c.args.to
+    c.args.to c.advanced_code-code.result (subst May shown c.requires.may.1) (subst Owns shown c.requires.may.2) (subst To shown c.requires.to)
+    c.advanced_code-code.ensures in
+    leads.has_code
+
+pub exchange-requires-clause-events : goal.exchange-requires-clause-events
+exchange-requires-clause-events g c =
+    let replicas = g.J.LogName.replicas in
+    let view = c.pass.inside.inner.view in
+    let head = c.head.result.now in
+    let words = c.pass.inside.inner.words in
+    let shown = sym (ap (λ (k : Known). k.view) c.pass.view_is) in
+    let May : View → Type 0 = λ v. MayAdvance (log_after replicas v.seen) c.args.replica c.args.to in
+    let Owns : View → Type 0 = λ v. Contains v.owns c.args.replica in
+    let To : View → Type 0 = λ v. c.args.to ≡ tail (log_after replicas v.seen) in
+    let leads = advance_leads g.J.LogName.depth replicas head words _ view c.pass.invariant c.head.ensures c.args.replica c.args.to
+    c.args.to c.advanced_code-code.result (subst May shown c.requires.may.1) (subst Owns shown c.requires.may.2) (subst To shown c.requires.to)
+    c.advanced_code-code.ensures in
+    let Leads : List LogEvent → Type 0 = λ events. LeadTo g.J.LogName.depth replicas view events (exchanged word_in 7 c.advanced_code-code.result words []) in
+    subst Leads (sym c.requires.event) leads.lead
 
 pub read_entries-requires-clause-words : goal.read_entries-requires-clause-words
 read_entries-requires-clause-words g c =
@@ -51,11 +74,6 @@ read_entries-requires-clause-words g c =
         near = ring.near;
       },
     )
-
-pub returns-clause-view : goal.returns-clause-view
-returns-clause-view g c =
-    let Tells : View → Type 0 = λ v. MadeOrMoved g.J.LogName.depth g.J.LogName.replicas g.E.Happening.event v c.exchange.new.pass.view true in
-    subst Tells (ap (λ (k : Known). k.view) c.pass.view_is) c.if-not-exchange.ensures.view
 
 pub returns-clause-taken : goal.returns-clause-taken
 returns-clause-taken g c = λ _.
