@@ -7,12 +7,11 @@ use arrayvec::ArrayVec;
 use nr_dump::check;
 use nr_node::{Held, Node};
 use nr_ring::{AppendFault, LogName, RingLog, Tails};
-use nr_slots::{Answered, Waiting};
+use nr_slots::{Answered, Slots, Waiting};
 use std::alloc::Global;
 use std::marker::Model;
 use std::process::Abort;
 use std::sync::Wait;
-use std::test::Fail;
 use vs_arena::FrameStore;
 use vs_plain::PlainSpace;
 use vs_types::{Access, Answer, CALLS, Depth, LogEntry, Mode, Op, Rights, Size};
@@ -66,6 +65,8 @@ pub enum Does {
     IsFull(u32, u32, [u32; 4]),
     /// It catches up by so many entries, and gives these answers.
     CatchesUp(u32, &'static [Given]),
+    /// It puts the batch that it holds and catches up at once: the first update is the one that is wanted.
+    PutsAndCatchesUp([Given; 2]),
     /// The entry at a place is a call's, of this update, which was answered so.
     Told(u32, u32, Update, Answer),
     /// It has not applied the entry of this place.
@@ -94,6 +95,7 @@ fn pair(first: Waiting, second: Waiting, depth: Depth) -> ArrayVec<Waiting, 16>
 pub struct Bench<'a, S: FrameStore, J: LogName> {
     log: &'a RingLog<J>,
     node: Node<S, J>,
+    slots: Slots,
     depth: Depth,
 }
 
@@ -105,15 +107,21 @@ impl<'a, S: FrameStore, J: LogName> Model for Bench<'a, S, J> {
 
     ghost view = { λ b. b.node.known };
 
-    ghost invariant = { λ b. (b.node.known.log ≡ b.log.now) × (b.depth ≡ J.depth) };
+    ghost invariant = { λ b. (b.node.known.log ≡ b.log.now) × (b.slots ≡ 8) × (b.depth ≡ J.depth) };
 }
 
 impl<'a, S: FrameStore, J: LogName> Bench<'a, S, J> {
-    pub fn new(log: &'a RingLog<J>, node: Node<S, J>, depth: Depth) -> Bench<'a, S, J>
+    pub fn new(log: &'a RingLog<J>, node: Node<S, J>, slots: Slots, depth: Depth) -> Bench<'a, S, J>
         requires log { node.known.log ≡ log.now }
+        requires slots { slots ≡ 8 }
         requires depth { depth ≡ J.depth }
     {
-        Bench { log, node, depth }
+        Bench {
+            log,
+            node,
+            slots,
+            depth,
+        }
     }
 
     /// Takes steps one after another.
@@ -142,6 +150,10 @@ impl<'a, S: FrameStore, J: LogName> Bench<'a, S, J> {
                 self.put(rt) == Err(AppendFault::Full(tails))
             }
             Does::CatchesUp(count, answers) => self.catches_up(rt, count, answers),
+            Does::PutsAndCatchesUp(answers) => {
+                self.collect(rt, answers);
+                self.puts_and_catches_up(rt, answers)
+            }
             Does::Told(place, call, update, answer) => {
                 let entry = update.entry(rt, self.depth, call);
                 self.node.told(place) == Some((entry, answer))
@@ -197,6 +209,46 @@ impl<'a, S: FrameStore, J: LogName> Bench<'a, S, J> {
         true
     }
 
+    /// Has the slots of the threads be taken with their updates, as where a combiner has collected them.
+    fn collect(&self, rt: &impl Abort, updates: [Given; 2]) {
+        for Given(thread, call, update, _, _) in updates {
+            let op = update.op(rt, self.depth);
+            assert!(rt; thread < 8 && call < CALLS);
+            assert!(rt; self.slots.post(thread, call, op).is_ok());
+        }
+        let mut batch = ArrayVec::new();
+        self.slots.collect(&mut batch);
+        assert!(rt; batch.len() == 2);
+    }
+
+    /// Whether it puts its batch and catches up at once, gives the answer of the first update, and leaves the other one in its slot.
+    fn puts_and_catches_up<R: Wait + Abort>(&mut self, rt: &R, answers: [Given; 2]) -> bool {
+        let [first, second] = answers;
+        let entry = first.2.entry(rt, self.depth, first.1);
+        let mut own = None;
+        let put = match self.node.held() {
+            Held::Unplaced(_) => {
+                let (log, slots) = (self.log, &self.slots);
+                self.node
+                    .put_and_catch_up(rt, log, slots, first.0, &entry, &mut own)
+            }
+            _ => panic!(rt; "no batch without a place"),
+        };
+        let left = Answered {
+            thread: second.0,
+            call: second.1,
+            op: second.2.op(rt, self.depth),
+            place: second.3,
+            answer: second.4,
+        };
+        assert!(rt; first.0 < 8 && second.0 < 8);
+        put.is_ok()
+            && own == Some((first.3, first.4))
+            && self.slots.poll(second.0) == Some(left)
+            && self.slots.poll(first.0).is_none()
+            && self.slots.close(first.0, first.1).is_ok()
+    }
+
     /// A read, or an access in user mode.
     fn reads(&self, rt: &impl Abort, address: u64, access: Option<Access>) -> (u32, Answer) {
         assert!(rt; self.depth.is_canonical(address));
@@ -207,18 +259,14 @@ impl<'a, S: FrameStore, J: LogName> Bench<'a, S, J> {
     }
 
     /// The node has applied so many entries, and its dump has so many tables and is that of a plain space with the page.
-    pub fn assert_dump(
-        &self,
-        rt: &impl Abort,
-        alloc: Global,
-        applied: u32,
-        tables: usize,
-    ) -> Result<(), Fail> {
-        let dump = self.node.dump()?;
+    pub fn assert_dump(&self, rt: &impl Abort, alloc: Global, applied: u32, tables: usize) {
+        let dump = self.node.dump().expect(rt, "memory");
         assert!(rt; dump.applied() == applied && dump.count() == tables);
         let mut space = PlainSpace::new(alloc, 4096, self.depth);
-        assert!(rt; space.apply(Update::Map.op(rt, self.depth))? == Answer::Done);
-        check(alloc, &dump, &space)?;
-        Ok(())
+        let answer = space
+            .apply(Update::Map.op(rt, self.depth))
+            .expect(rt, "memory");
+        assert!(rt; answer == Answer::Done);
+        check(alloc, &dump, &space).expect(rt, "memory");
     }
 }

@@ -4,17 +4,18 @@ ghost use Rattle.std.specs.FinMap as finite;
 use crate::bench::{Bench, Does, Given, Update};
 use nr_node::{Held, Node};
 use nr_ring::{LogName, LogPass, RingLog};
+use nr_slots::Slots;
 use std::alloc::Global;
 use std::marker::Brand;
 use std::process::Abort;
 use std::sync::Wait;
-use std::test::Fail;
 use vs_arena::{FrameStore, RawArena, VecArena};
 use vs_space::NoRoot;
-use vs_types::{Access, Answer, Depth, Memory, Rights, Size};
+use vs_types::{Access, Answer, Depth, Rights, Size};
 
-/// A node alone on its log holds one map as calls 0 and 1. The second finds the page of the first.
-static ALONE: [Does; 17] = [
+/// A node alone on its log holds one map as calls 0 and 1. The second finds the page of the first. Then the page goes and is mapped
+/// again, by a batch that it puts while it catches up.
+static ALONE: [Does; 22] = [
     Does::Has(Held::Nothing),
     Does::HasApplied(0),
     Does::NotTold(0),
@@ -38,6 +39,20 @@ static ALONE: [Does; 17] = [
     Does::Reads(0x401000, 2, Answer::NotMapped),
     Does::Accesses(0x400123, Access::Write, 2, Answer::Allowed(0x1123)),
     Does::Accesses(0x401000, Access::Fetch, 2, Answer::Fault(20)),
+    Does::Holds([(5, 2, Update::Unmap), (3, 3, Update::Map)]),
+    Does::PutsAndCatchesUp([
+        Given(
+            5,
+            2,
+            Update::Unmap,
+            2,
+            Answer::Removed(0x1000, Size::K4, Rights::ALL),
+        ),
+        Given(3, 3, Update::Map, 3, Answer::Done),
+    ]),
+    Does::Has(Held::Nothing),
+    Does::HasApplied(4),
+    Does::Told(3, 3, Update::Map, Answer::Done),
 ];
 
 /// Other passes have appended 16 entries: the node holds its batch, for which there is no room, also once it has taken them.
@@ -79,7 +94,7 @@ fn node_alone<S: FrameStore + Drop, R: Wait + Abort>(
     store: S,
     depth: Depth,
     tables: usize,
-) -> Result<bool, Fail>
+) -> bool
     requires store { S.frames store ≡ finite.empty }
 {
     node_on_log::<S, Brand, R>(rt, alloc, store, depth, tables)
@@ -92,51 +107,48 @@ fn node_on_log<S: FrameStore + Drop, J: LogName, R: Wait + Abort>(
     store: S,
     depth: Depth,
     tables: usize,
-) -> Result<bool, Fail>
+) -> bool
     requires store { S.frames store ≡ finite.empty }
     requires depth { depth ≡ J.depth }
     requires one { (J.replicas ≡ 1) × (J.passes ≡ 1) }
 {
-    let (log, mut passes) = RingLog::<J>::new(alloc, depth, 1, 0)?;
+    let (log, mut passes) = RingLog::<J>::new(alloc, depth, 1, 0).expect(rt, "memory");
     let node = match Node::new(alloc, store, passes.remove(0), depth) {
         Ok(node) => node,
-        Err(vs_types::Fail::Refused(NoRoot)) => return Ok(false),
-        Err(vs_types::Fail::Memory) => return Err(Memory.into()),
+        Err(vs_types::Fail::Refused(NoRoot)) => return false,
+        Err(vs_types::Fail::Memory) => panic!(rt; "memory: Memory"),
     };
-    let mut bench = Bench::new(&log, node, depth);
+    let slots = Slots::new(alloc, 8).expect(rt, "memory");
+    let mut bench = Bench::new(&log, node, slots, depth);
     bench.take_all(rt, &ALONE);
-    bench.assert_dump(rt, alloc, 2, tables)?;
-    Ok(true)
+    bench.assert_dump(rt, alloc, 4, tables);
+    true
 }
 
 #[test]
-fn node_alone_over_a_vector(rt: HostRuntime) -> Result<(), Fail> {
-    let store = VecArena::new(rt.alloc(), 1 << 39, 8)?;
-    assert!(rt; node_alone(&rt, rt.alloc(), store, Depth::Four, 4)?);
-    Ok(())
+fn node_alone_over_a_vector(rt: HostRuntime) {
+    let store = VecArena::new(rt.alloc(), 1 << 39, 8).expect(&rt, "memory");
+    assert!(rt; node_alone(&rt, rt.alloc(), store, Depth::Four, 4));
 }
 
 #[test]
-fn node_alone_over_one_region(rt: HostRuntime) -> Result<(), Fail> {
-    let store = RawArena::new(rt.alloc(), 1 << 39, 4096)?;
-    assert!(rt; node_alone(&rt, rt.alloc(), store, Depth::Four, 4)?);
-    Ok(())
+fn node_alone_over_one_region(rt: HostRuntime) {
+    let store = RawArena::new(rt.alloc(), 1 << 39, 4096).expect(&rt, "memory");
+    assert!(rt; node_alone(&rt, rt.alloc(), store, Depth::Four, 4));
 }
 
 #[test]
-fn node_alone_at_five_levels(rt: HostRuntime) -> Result<(), Fail> {
-    let store = RawArena::new(rt.alloc(), 1, 5)?;
-    assert!(rt; node_alone(&rt, rt.alloc(), store, Depth::Five, 5)?);
-    let store = VecArena::new(rt.alloc(), 1, 6)?;
-    assert!(rt; node_alone(&rt, rt.alloc(), store, Depth::Five, 5)?);
-    Ok(())
+fn node_alone_at_five_levels(rt: HostRuntime) {
+    let store = RawArena::new(rt.alloc(), 1, 5).expect(&rt, "memory");
+    assert!(rt; node_alone(&rt, rt.alloc(), store, Depth::Five, 5));
+    let store = VecArena::new(rt.alloc(), 1, 6).expect(&rt, "memory");
+    assert!(rt; node_alone(&rt, rt.alloc(), store, Depth::Five, 5));
 }
 
 #[test]
-fn no_frame_for_the_root(rt: HostRuntime) -> Result<(), Fail> {
-    let store = VecArena::new(rt.alloc(), 1, 0)?;
-    assert!(rt; !node_alone(&rt, rt.alloc(), store, Depth::Four, 4)?);
-    Ok(())
+fn no_frame_for_the_root(rt: HostRuntime) {
+    let store = VecArena::new(rt.alloc(), 1, 0).expect(&rt, "memory");
+    assert!(rt; !node_alone(&rt, rt.alloc(), store, Depth::Four, 4));
 }
 
 /// Names a log of two replicas.
@@ -172,17 +184,19 @@ fn take_others<R: Wait + Abort>(rt: &R, log: &RingLog<Two>, pass: &mut LogPass<T
 
 /// A node whose log is full holds its batch as before, and puts it once both replicas have taken what was there.
 #[test]
-fn full_log_leaves_the_batch(rt: HostRuntime) -> Result<(), Fail> {
-    let (log, mut passes) = RingLog::<Two>::new(rt.alloc(), Depth::Four, 2, 1)?;
+fn full_log_leaves_the_batch(rt: HostRuntime) {
+    let (log, mut passes) = RingLog::<Two>::new(rt.alloc(), Depth::Four, 2, 1).expect(
+        &rt, "memory",
+    );
     let pass = passes.remove(0);
     let mut second = passes.remove(0);
     let mut third = passes.remove(0);
-    let store = VecArena::new(rt.alloc(), 1 << 39, 4)?;
-    let node = Node::new(rt.alloc(), store, pass, Depth::Four)?;
-    let mut bench = Bench::new(&log, node, Depth::Four);
+    let store = VecArena::new(rt.alloc(), 1 << 39, 4).expect(&rt, "memory");
+    let node = Node::new(rt.alloc(), store, pass, Depth::Four).expect(&rt, "a node");
+    let slots = Slots::new(rt.alloc(), 8).expect(&rt, "memory");
+    let mut bench = Bench::new(&log, node, slots, Depth::Four);
     append_others(&rt, &log, &mut third);
     bench.take_all(&rt, &HAS_NO_ROOM);
     take_others(&rt, &log, &mut second);
     bench.take_all(&rt, &HAS_ROOM);
-    Ok(())
 }

@@ -1,7 +1,8 @@
 pub mod Lists
 pub mod Spaces
+pub mod EntryEquality
 pub mod Replicas
-pub mod Dumps
 pub mod Looks
 pub mod Nodes
+pub mod Answering
 pub mod LaterLogs

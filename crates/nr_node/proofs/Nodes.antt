@@ -1,6 +1,6 @@
 -- What each call leaves of a node.
 use Rattle.std.proofs.Common.{◌≡◌, ℕ, zero, suc, ◌+◌, ◌<◌, ◌≤◌, List, [], ◌∷◌, ◌++◌, All, Option, Some, None, length, take, get_or, option_map, ap, sym, subst}
-use Rattle.std.proofs.Common.{◌∙◌, arith}
+use Rattle.std.proofs.Common.{◌∙◌, arith, refl}
 use Rattle.std.specs.Prelude.{slice_get}
 use Rattle.std.proofs.Math.ListN.{length-append, get_or-append}
 use Rattle.std.proofs.Math.Seq.{take-length}
@@ -12,7 +12,7 @@ use Rattle.vs_types.specs.declared.depth.Depth.{Depth}
 use Rattle.vs_types.specs.declared.limits.TheConstants.{CALLS, LOG_PLACES}
 use Rattle.vs_types.specs.declared.log_entry.LogEntry.{LogEntry}
 use Rattle.nr_ring.specs.Calls.{HasLooked, with_event}
-use Rattle.nr_ring.specs.Entries.{HasAppended, HasTakenAll}
+use Rattle.nr_ring.specs.Entries.{HasAppended, HasAppendedAndTaken, HasTakenAll}
 use Rattle.nr_ring.specs.LogHistory.{Log, local_of, log_after, log_after_event, new_log, tail}
 use Rattle.nr_ring.specs.Pass.{Known}
 use Rattle.nr_ring.specs.declared.log_event.LogEvent.TheVariants.{Append}
@@ -20,12 +20,12 @@ use Rattle.nr_ring.specs.declared.view.View.{View}
 use Rattle.vs_types.specs.declared.limits.TheConstants.{RING}
 use Rattle.nr_ring.proofs.Views.{after_one_more}
 use Rattle.nr_slots.specs.declared.waiting.Waiting.{Waiting}
-use Rattle.nr_node.specs.Calls.{HasCaughtUp, answers_of, entries_of, entry_of, left_of}
+use Rattle.nr_node.specs.Calls.{HasCaughtUp, HasPutAndCaughtUp, answers_of, entries_of, entry_of, left_of}
 use Rattle.nr_node.specs.Node.{IsNode, NodeState, StandFrom, applied_of, log_of, replica_of, taken_by}
 use Rattle.nr_node.specs.inside.Node.{Follows, node_state}
 use Rattle.nr_node.specs.inside.Replica.{ReplicaState}
 use Rattle.nr_node.proofs.Lists.{same_some}
-use Rattle.nr_node.proofs.Looks.{TookAll, looked_fits, looked_on, looked_owner, looked_taken}
+use Rattle.nr_node.proofs.Looks.{TookAll, looked_fits, looked_on, looked_owner, looked_taken, took_all}
 
 -- ---- lists that go on
 
@@ -35,7 +35,7 @@ slice_more xs ys i x e =
     let within : i < length (xs ++ ys) = omega (arith, length-append xs ys) in
     slice_get-get_or (xs ++ ys) i x within ∙ ap Some (get_or-append xs ys x i lt ∙ get_or_from_slice_get xs i x x e)
 
-slice_after : {X : Type 0} (xs ys : List X) (i : ℕ) → slice_get (xs ++ ys) (length xs + i) ≡ slice_get ys i
+pub slice_after : {X : Type 0} (xs ys : List X) (i : ℕ) → slice_get (xs ++ ys) (length xs + i) ≡ slice_get ys i
 slice_after [] ys i = let n : 0 + i ≡ i = omega arith in ap (slice_get ys) n
 slice_after {X} (x ∷ xs) ys i =
     let n : length (x ∷ xs) + i ≡ suc (length xs + i) = omega arith in
@@ -313,3 +313,84 @@ appended_node depth replicas known after replica batch first place h some is fol
 
       longer : tail later ≡ tail log + length (entries_of batch)
       longer = ap (λ (l : List LogEntry). length l) entries ∙ length-append log.entries (entries_of batch)
+
+-- ---- a batch put and all entries taken
+
+-- what a pass knows of its log after these events
+abbrev pub middle : Known → View → Known
+middle known view = record { log = known.log; view = view }
+
+all_front : {X : Type 0} (P : X → Type 0) (xs ys : List X) → All P (xs ++ ys) → All P xs
+all_front P xs ys all k d lt = subst P (get_or-append xs ys d k lt) (all k d (omega (arith, length-append xs ys)))
+
+all_back : {X : Type 0} (P : X → Type 0) (xs ys : List X) → All P (xs ++ ys) → All P ys
+all_back P [] ys all = all
+all_back P (x ∷ xs) ys all = all_back P xs ys (λ k d lt. all (suc k) d (omega arith))
+
+-- what a node is whose pass has appended its batch from a place on, and has then taken all entries
+pub record PutAndTook (depth : Depth) (replicas : ℕ) (known after : Known) (replica : ReplicaState) (batch : List Waiting) (place : ℕ)
+    (entries : List LogEntry) : Type 0 where
+  pub between : View
+  pub appended : HasAppended depth replicas known.view (entries_of batch) place between
+  pub taken : HasTakenAll depth replicas between (entries ++ entries_of batch) after.view
+  pub is : IsNode depth replicas (node_state (middle known between) replica batch (Some place))
+  pub follows : Follows depth replicas (node_state (middle known between) replica batch (Some place)) replica
+  pub all : TookAll depth replicas between (entries ++ entries_of batch) after.view
+
+pub put_and_took : (depth : Depth) (replicas : ℕ) (known after : Known) (replica : ReplicaState) (batch : List Waiting) (first : Option ℕ) (place : ℕ)
+    (entries asked : List LogEntry) → asked ≡ entries_of batch
+    → HasAppendedAndTaken depth replicas known.view asked place entries after.view → 1 ≤ length batch
+    → IsNode depth replicas (node_state known replica batch first) → Follows depth replicas (node_state known replica batch first) replica
+    → PutAndTook depth replicas known after replica batch place entries
+put_and_took depth replicas known after replica batch first place entries asked same done some is follows =
+    let Appends : List LogEntry → Type 0 = λ l. HasAppended depth replicas known.view l place done.between in
+    let Takes : List LogEntry → Type 0 = λ l. HasTakenAll depth replicas done.between (entries ++ l) after.view in
+    let appended = subst Appends same done.appended in
+    let taken = subst Takes same done.taken in
+    let put = appended_node depth replicas known (middle known done.between) replica batch first place appended some is follows in
+    record {
+      between = done.between;
+      appended = appended;
+      taken = taken;
+      is = put.0;
+      follows = put.1;
+      all = took_all depth replicas done.between after.view (entries ++ entries_of batch) taken put.0.owner;
+    }
+
+module _ (depth : Depth) (replicas : ℕ) (known after : Known) (replica : ReplicaState) (batch : List Waiting) (place : ℕ) (entries : List LogEntry)
+    (did : PutAndTook depth replicas known after replica batch place entries) where
+  abbrev mid : Known
+  mid = middle known did.between
+
+  -- the entries before the batch fit, there is room for them, and then for the batch
+  pub put_fit : (d : Depth) → d ≡ depth → All (IsLogEntry d) entries × All (IsLogEntry d) (entries_of batch)
+  put_fit d same =
+      let all = took_fit depth replicas did.between after.view (entries ++ entries_of batch) d did.all same in
+      (all_front (IsLogEntry d) entries (entries_of batch) all, all_back (IsLogEntry d) entries (entries_of batch) all)
+
+  pub put_room : length replica.entries + length entries + length (entries_of batch) ≤ LOG_PLACES
+  put_room =
+      let room = took_room depth replicas mid after replica batch (Some place) (entries ++ entries_of batch) did.all did.is did.follows in
+      omega (arith, room, length-append entries (entries_of batch))
+
+  module _ (next : ReplicaState) (same : next ≡ record replica { entries = replica.entries ++ (entries ++ entries_of batch) }) where
+    -- its entries are all that there are, and it is a node that has caught up
+    pub put_entries : next.entries ≡ (log_after replicas after.view.seen).entries
+    put_entries = next_entries depth replicas mid after replica next batch (Some place) (entries ++ entries_of batch) did.all did.is did.follows same
+
+    pub put_node : IsNode depth replicas (node_state after next [] None) × Follows depth replicas (node_state after next [] None) next
+    put_node = (
+      took_node depth replicas mid after replica next batch (Some place) (entries ++ entries_of batch) did.all did.is,
+      took_follows depth replicas mid after replica next batch [] (Some place) None (entries ++ entries_of batch) did.all did.is did.follows same,
+    )
+
+    pub put_caught_up : (first : Option ℕ)
+        → HasPutAndCaughtUp depth replicas (node_state known replica batch first) (node_state after next [] None)
+    put_caught_up first = record {
+      between = node_state mid replica batch (Some place);
+      first = place;
+      count = length (entries ++ entries_of batch);
+      appended = did.appended;
+      placed = refl;
+      caught_up = caught_up depth replicas mid after replica next batch (Some place) (entries ++ entries_of batch) did.taken did.all did.is same;
+    }

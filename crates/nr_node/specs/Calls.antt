@@ -1,9 +1,11 @@
 -- What the calls of a node answer.
-use Rattle.std.specs.Prelude.{◌≡◌, ℕ, ◌+◌, ◌≤◌, List, [], ◌∷◌, Option, Some, None, length, map}
+use Rattle.std.specs.Prelude.{◌≡◌, ℕ, ◌+◌, ◌≤◌, List, [], ◌∷◌, Option, Some, None, length, map, slice_get}
+use Rattle.vs_types.specs.declared.answer.Answer.{Answer}
 use Rattle.vs_types.specs.declared.depth.Depth.{Depth}
 use Rattle.vs_types.specs.declared.log_entry.LogEntry.{LogEntry}
 use Rattle.nr_ring.specs.LogHistory.{Log, tail, log_after}
 use Rattle.nr_ring.specs.Calls.{HasLooked, HasTaken}
+use Rattle.nr_ring.specs.Entries.{HasAppended}
 use Rattle.nr_ring.specs.declared.view.View.{View}
 use Rattle.nr_slots.specs.declared.answered.Answered.{Answered}
 use Rattle.nr_slots.specs.declared.waiting.Waiting.{Waiting}
@@ -66,3 +68,17 @@ pub record HasStayed (depth : Depth) (replicas : ℕ) (before after : NodeState)
   pub looked : HasLooked depth replicas before.known.view after.known.view
   pub applied : applied_of replicas after ≡ applied_of replicas before
   pub same : after ≡ record before { known = after.known }
+
+-- the node put its batch into the log, from a place on, and then caught up
+pub record HasPutAndCaughtUp (depth : Depth) (replicas : ℕ) (before after : NodeState) : Type 0 where
+  pub between : NodeState
+  pub first : ℕ
+  pub count : ℕ
+  pub appended : HasAppended depth replicas before.known.view (entries_of before.batch) first between.known.view
+  pub placed : between ≡ record before { known = between.known; first = Some first }
+  pub caught_up : HasCaughtUp depth replicas between count after
+
+-- an entry is at a place, and the answer is its operation's there
+pub record IsAnsweredIn (depth : Depth) (tables : ℕ) (entries : List LogEntry) (entry : LogEntry) (place : ℕ) (answer : Answer) : Type 0 where
+  pub stands : slice_get entries place ≡ Some entry
+  pub answered : answer ≡ answer_at depth tables entries place entry.op

@@ -1,5 +1,5 @@
 //! Batches: the updates that a node holds.
-ghost use Rattle.std.specs.Prelude.{◌≡◌, ◌<◌, All};
+ghost use Rattle.std.specs.Prelude.{◌≡◌, ◌<◌, All, length, take};
 ghost use Rattle.vs_types.specs.declared.limits.TheConstants.{CALLS};
 ghost use Rattle.nr_node.specs.Calls.{entries_of, left_of};
 
@@ -7,14 +7,13 @@ use arrayvec::ArrayVec;
 use nr_slots::Waiting;
 use vs_types::{LogEntry, RING};
 
-/// Has a vector be the entries of a log that a batch asks for.
-pub(crate) fn ask_for(batch: &ArrayVec<Waiting, RING>, entries: &mut ArrayVec<LogEntry, RING>)
-    ensures entries { entries.new.items ≡ entries_of batch.now.items }
-    ensures in_range { All (λ entry. entry.call < CALLS) entries.new.items }
+/// Has the first places of an array be the entries of a log that a batch asks for.
+pub(crate) fn ask_for(batch: &ArrayVec<Waiting, RING>, asked: &mut [LogEntry; RING])
+    ensures entries { take (length batch.now.items) asked.new ≡ entries_of batch.now.items }
+    ensures in_range { All (λ entry. entry.call < CALLS) (take (length batch.now.items) asked.new) }
 {
-    entries.clear();
-    for waiting in batch.as_slice() {
-        entries.push(waiting.entry());
+    for (place, waiting) in batch.as_slice().iter().enumerate() {
+        asked[place] = waiting.entry();
     }
 }
 

@@ -13,8 +13,9 @@ ghost use Rattle.nr_ring.specs.Entries.{HasAppended, IsReason};
 ghost use Rattle.nr_ring.specs.LogHistory.{log_after, tail};
 ghost use Rattle.nr_ring.specs.View.{HasSeenAdvances, StartsWith};
 ghost use Rattle.nr_slots.specs.Batch.{Rises};
+ghost use Rattle.nr_slots.specs.declared.answered.Answered.{Answered};
 ghost use Rattle.nr_slots.specs.declared.waiting.Waiting.{Waiting};
-ghost use Rattle.nr_node.specs.Calls.{HasCaughtUp, HasStayed, answers_of, entries_of};
+ghost use Rattle.nr_node.specs.Calls.{HasCaughtUp, HasPutAndCaughtUp, HasStayed, IsAnsweredIn, answers_of, entries_of};
 ghost use Rattle.nr_node.specs.Node.{IsNode, applied_of, held_of, log_of, new_node, node_space, replica_of, taken_by};
 ghost use Rattle.nr_node.specs.Spaces.{answer_at};
 
@@ -43,6 +44,7 @@ pub struct Node<S: FrameStore, J: LogName> {
     replica: Replica<S>,
     batch: ArrayVec<Waiting, RING>,
     first: Option<u32>,
+    asked: [LogEntry; RING],
     entries: ArrayVec<LogEntry, RING>,
 }
 
@@ -88,6 +90,7 @@ impl<S: FrameStore + Drop, J: LogName> Node<S, J> {
             replica,
             batch: ArrayVec::new(),
             first: None,
+            asked: [LogEntry::default(); RING],
             entries: ArrayVec::new(),
         })
     }
@@ -184,10 +187,57 @@ impl<S: FrameStore, J: LogName> Node<S, J> {
             (IsReason (log_of J.replicas self.new)
             (length self.old.batch) self.old.known.view self.new.known.view) }
     {
-        ask_for(&self.batch, &mut self.entries);
-        let first = log.append(rt, &mut self.pass, self.entries.as_slice())?;
+        ask_for(&self.batch, &mut self.asked);
+        let asked = &self.asked[..self.batch.len()];
+        let first = log.append(rt, &mut self.pass, asked)?;
         self.first = Some(first);
         Ok(first)
+    }
+
+    /// Appends the batch, which has no place yet, to the log, takes all entries that the log then has, and applies them: in one
+    /// exchange of the log's cell, as by `put_batch` and then `catch_up`. The answers are left in the slots of their threads, but for
+    /// that of this entry of this thread: its place and its answer, where it is in the batch.
+    ///
+    /// Waits for the log's cell.
+    ///
+    /// # Errors
+    ///
+    /// Those of `RingLog::append`. The batch then has no place still, no answer is given, and the node has only looked.
+    #[inline(always)]
+    pub fn put_and_catch_up<P: SlotRule, R: Wait>(
+        &mut self,
+        rt: &R,
+        log: &RingLog<J>,
+        slots: &Slots<P>,
+        thread: u16,
+        wanted: &LogEntry,
+        own: &mut Option<(u32, Answer)>,
+    ) -> Result<(), AppendFault>
+        requires log { self.old.known.log ≡ log.now }
+        requires some { 1 ≤ length self.old.batch }
+        requires unplaced { self.old.first ≡ None }
+        requires rule { (answered : Answered) → ∥ P.answered answered ∥₁ }
+        requires none { own.old ≡ None }
+        ensures log { self.new.known.log ≡ self.old.known.log }
+        ensures caught_up { OnOk result (HasPutAndCaughtUp J.depth J.replicas self.old self.new) }
+        ensures own { IfSome own.new (λ update.
+            IsAnsweredIn J.depth self.old.tables (log_of J.replicas self.new).entries
+            wanted.now update.0 update.1) }
+        ensures none { OnErr result (own.new ≡ None) }
+        ensures stayed { OnErr result (HasStayed J.depth J.replicas self.old self.new) }
+        ensures refused { IfErr result
+            (IsReason (log_of J.replicas self.new)
+            (length self.old.batch) self.old.known.view self.new.known.view) }
+    {
+        ask_for(&self.batch, &mut self.asked);
+        let asked = &self.asked[..self.batch.len()];
+        self.entries.clear();
+        log.append_and_take(rt, &mut self.pass, asked, &mut self.entries)?;
+        self.replica.apply_all(self.entries.as_slice());
+        self.replica
+            .apply_batch(&self.batch, slots, thread, wanted, own);
+        self.batch.clear();
+        Ok(())
     }
 
     /// Takes all entries that the log then has and applies them: how many they are. The answers of the held updates among them
@@ -221,7 +271,7 @@ impl<S: FrameStore, J: LogName> Node<S, J> {
     {
         self.entries.clear();
         log.take(rt, &mut self.pass, &mut self.entries)?;
-        self.replica.apply_all(&self.entries);
+        self.replica.apply_all(self.entries.as_slice());
         self.replica.answer(self.first, &self.batch, answers);
         keep_unplaced(&mut self.batch, self.first);
         self.first = None;

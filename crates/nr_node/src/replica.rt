@@ -1,4 +1,4 @@
-ghost use Rattle.std.specs.Prelude.{◌≡◌, ◌≢◌, ℕ, ◌+◌, ◌<◌, ◌≤◌, All, [], ◌∷◌, ◌++◌, IfErr, IfOk, IfSome, MatchOption, Some, length, slice_get};
+ghost use Rattle.std.specs.Prelude.{◌≡◌, ◌≢◌, ℕ, ◌+◌, ◌<◌, ◌≤◌, All, [], ◌∷◌, ◌++◌, IfErr, IfOk, IfSome, MatchOption, None, Some, length, slice_get};
 ghost use Rattle.std.specs.FinMap as finite;
 ghost use Rattle.vs_types.specs.Depth.{IsCanonical};
 ghost use Rattle.vs_types.specs.LogEntry.{IsLogEntry};
@@ -8,13 +8,14 @@ ghost use Rattle.vs_types.specs.Step.{allow, look};
 ghost use Rattle.vs_types.specs.declared.limits.TheConstants.{LOG_PLACES, TABLES};
 ghost use Rattle.vs_types.specs.declared.log_entry.LogEntry.{LogEntry};
 ghost use Rattle.vs_walk.specs.Walk.{TranslatesAs};
-ghost use Rattle.nr_node.specs.Calls.{answered_from, answers_of};
+ghost use Rattle.nr_slots.specs.declared.answered.Answered.{Answered};
+ghost use Rattle.nr_node.specs.Calls.{IsAnsweredIn, answered_from, answers_of, entries_of};
 ghost use Rattle.nr_node.specs.Node.{StandFrom};
 ghost use Rattle.nr_node.specs.Spaces.{answer_at, space_of};
 
 use crate::told::Told;
 use arrayvec::ArrayVec;
-use nr_slots::{Answered, Waiting};
+use nr_slots::{Answered, SlotRule, Slots, Waiting};
 use std::alloc::Global;
 use std::marker::Model;
 use vs_arena::FrameStore;
@@ -72,24 +73,66 @@ impl<S: FrameStore> Replica<S> {
         self.told.len() as u32
     }
 
-    /// Applies the next entry of the log.
-    pub(crate) fn apply(&mut self, entry: &LogEntry)
+    /// Applies the next entry of the log: its answer.
+    pub(crate) fn apply(&mut self, entry: &LogEntry) -> Answer
         requires fits { IsLogEntry self.old.depth entry.now }
         requires room { length self.old.entries < LOG_PLACES }
-        ensures { self.new ≡ record self.old { entries = self.old.entries ++ entry.now ∷ [] } }
+        ensures applied { self.new
+            ≡ record self.old { entries = self.old.entries ++ entry.now ∷ [] } }
+        ensures answer { result ≡ answer_at self.old.depth self.old.tables self.old.entries
+            (length self.old.entries) entry.now.op }
     {
         let answer = self.space.apply(entry.op);
         self.told.push_reserved(Told::new(*entry, answer));
+        answer
     }
 
     /// Applies entries of the log, in order.
-    pub(crate) fn apply_all(&mut self, entries: &ArrayVec<LogEntry, RING>)
-        requires fit { All (IsLogEntry self.old.depth) entries.now.items }
-        requires room { length self.old.entries + length entries.now.items ≤ LOG_PLACES }
-        ensures { self.new ≡ record self.old { entries = self.old.entries ++ entries.now.items } }
+    pub(crate) fn apply_all(&mut self, entries: &[LogEntry])
+        requires fit { All (IsLogEntry self.old.depth) entries.now }
+        requires room { length self.old.entries + length entries.now ≤ LOG_PLACES }
+        ensures { self.new ≡ record self.old { entries = self.old.entries ++ entries.now } }
     {
-        for entry in entries.as_slice() {
-            self.apply(entry);
+        for entry in entries {
+            let _answer = self.apply(entry);
+        }
+    }
+
+    /// Applies the entries of a batch, in order, and leaves the answers in the slots of their threads, but for that of this entry of
+    /// this thread: its place and its answer, where it is in the batch.
+    #[inline(always)]
+    pub(crate) fn apply_batch<P: SlotRule>(
+        &mut self,
+        batch: &ArrayVec<Waiting, RING>,
+        slots: &Slots<P>,
+        thread: u16,
+        wanted: &LogEntry,
+        own: &mut Option<(u32, Answer)>,
+    )
+        requires fit { All (IsLogEntry self.old.depth) (entries_of batch.now.items) }
+        requires room { length self.old.entries + length batch.now.items ≤ LOG_PLACES }
+        requires rule { (answered : Answered) → ∥ P.answered answered ∥₁ }
+        requires none { own.old ≡ None }
+        ensures applied { self.new
+            ≡ record self.old { entries = self.old.entries ++ entries_of batch.now.items } }
+        ensures own { IfSome own.new (λ update. IsAnsweredIn self.old.depth self.old.tables
+            self.new.entries wanted.now update.0 update.1) }
+    {
+        for waiting in batch.as_slice() {
+            let place = self.applied();
+            let entry = waiting.entry();
+            let answer = self.apply(&entry);
+            if waiting.thread == thread && entry == *wanted {
+                *own = Some((place, answer));
+            } else {
+                let _taken = slots.answer(Answered {
+                    thread: waiting.thread,
+                    call: waiting.call,
+                    op: waiting.op,
+                    place,
+                    answer,
+                });
+            }
         }
     }
 

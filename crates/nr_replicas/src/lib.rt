@@ -9,6 +9,7 @@ mod gate;
 mod local;
 mod name;
 mod opened;
+mod patience;
 mod question;
 mod replicas;
 mod settling;

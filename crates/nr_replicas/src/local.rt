@@ -1,10 +1,12 @@
 //! What lies under the lock of a replica.
-ghost use Rattle.std.specs.Prelude.{◌≡◌, ◌-◌, ◌≤◌, ◌<◌, IfErr, IfNone, IfOk, IfSome, []};
+ghost use Rattle.std.specs.Option.{ForSome};
+ghost use Rattle.std.specs.Prelude.{◌≡◌, ◌-◌, ◌≤◌, ◌<◌, IfErr, IfNone, IfSome, None, OnErr, []};
 ghost use Rattle.vs_types.specs.declared.limits.TheConstants.{LOG_PLACES};
 ghost use Rattle.vs_types.specs.Depth.{IsCanonical};
 ghost use Rattle.vs_types.specs.LogEntry.{IsLogEntry};
 ghost use Rattle.nr_ring.specs.LogHistory.{log_after, tail};
 ghost use Rattle.nr_ring.specs.declared.tails.AppendFault.TheVariants.{LogEnded};
+ghost use Rattle.nr_node.specs.Calls.{IsAnsweredIn};
 ghost use Rattle.nr_node.specs.Node.{applied_of, log_of, node_space};
 ghost use Rattle.nr_replicas.specs.Replicas.{HasHeard, IsAnsweredAt, IsReadAt};
 ghost use Rattle.nr_replicas.specs.inside.Replicas.{answer_in};
@@ -21,9 +23,10 @@ use std::sync::{Arc, Wait};
 use vs_arena::RawArena;
 use vs_types::{Answer, LogEntry, RING};
 
-/// An update that a thread waits for: its slot, its entry, and a place that is not above its own.
+/// An update that a thread waits for: the thread, its slot, the update's entry, and a place that is not above its own.
 #[derive(Clone, Copy)]
 pub(crate) struct Wanted {
+    pub(crate) thread: u16,
     pub(crate) slot: u16,
     pub(crate) entry: LogEntry,
     pub(crate) from: u32,
@@ -72,9 +75,9 @@ impl<J: LogName, K: ReplicasName> Local<J, K> {
         self.node
     }
 
-    /// A combiner's turn: takes a batch from the slots where the node holds none, appends it where it has no place yet, and
-    /// catches up once. Whether it appended one; and the combiner's own update, where this turn answered it: that is confirmed here,
-    /// and its slot stays taken.
+    /// A combiner's turn: takes a batch from the slots where the node holds none, appends it where it has no place yet, and takes all
+    /// entries that the log has. Whether it appended one; and the place and the answer of the combiner's own update, where this turn
+    /// answered it: that is confirmed here, and its slot stays taken.
     #[inline(always)]
     pub(crate) fn combine<R: Wait>(
         &mut self,
@@ -82,24 +85,26 @@ impl<J: LogName, K: ReplicasName> Local<J, K> {
         log: &RingLog<J>,
         pass: &mut LogPass<J>,
         wanted: &Wanted,
-    ) -> Result<(bool, Option<(u32, Answer)>), AppendFault>
+        own: &mut Option<(u32, Answer)>,
+    ) -> Result<bool, AppendFault>
         requires log { (log.now ≡ K.log) × (pass.old.log ≡ K.log) }
-        requires fits { IsLogEntry J.depth wanted.now.entry }
+        requires none { own.old ≡ None }
         ensures log { pass.new.log ≡ pass.old.log }
         ensures heard { HasHeard J.depth J.replicas pass.old.view pass.new.view }
-        ensures own { IfOk result (λ turn. IfSome turn.1 (λ update.
+        ensures own { IfSome own.new (λ update.
             IsAnsweredAt J.depth K.tables wanted.now.from
-            (log_after J.replicas pass.new.view.seen) wanted.now.entry update.0 update.1)) }
+            (log_after J.replicas pass.new.view.seen) wanted.now.entry update.0 update.1) }
+        ensures none { OnErr result (own.new ≡ None) }
         ensures ended { IfErr result (λ fault. fault ≡ LogEnded
             → LOG_PLACES - RING < tail (log_of J.replicas self.new)) }
     {
         if self.node.held() == Held::Nothing {
             self.collect();
         }
-        match self.put_batch(rt, log) {
+        match self.put_and_catch_up(rt, log, wanted, own) {
             Ok(appended) => {
-                let own = self.answer_others(rt, log, wanted.slot);
-                Ok((appended, self.confirm_own(log, pass, wanted, own)))
+                self.confirm_own(log, pass, wanted, own);
+                Ok(appended)
             }
             Err(fault) => {
                 pass.has_seen_a_history();
@@ -108,19 +113,42 @@ impl<J: LogName, K: ReplicasName> Local<J, K> {
         }
     }
 
-    /// Appends the batch, where it has no place yet. Whether it did.
-    fn put_batch<R: Wait>(&mut self, rt: &R, log: &RingLog<J>) -> Result<bool, AppendFault>
+    /// Appends the batch, where it has no place yet, takes all entries that the log has, and leaves the answers of the held updates in
+    /// their slots. Whether it appended one; and of the update that is wanted its place and answer, in place of an answer in its slot.
+    #[inline(always)]
+    fn put_and_catch_up<R: Wait>(
+        &mut self,
+        rt: &R,
+        log: &RingLog<J>,
+        wanted: &Wanted,
+        own: &mut Option<(u32, Answer)>,
+    ) -> Result<bool, AppendFault>
         requires log { log.now ≡ K.log }
+        requires none { own.old ≡ None }
+        ensures own { IfSome own.new (λ update.
+            IsAnsweredIn J.depth K.tables (log_of J.replicas self.new).entries
+            wanted.now.entry update.0 update.1) }
+        ensures none { OnErr result (own.new ≡ None) }
         ensures ended { IfErr result (λ fault. fault ≡ LogEnded
             → LOG_PLACES - RING < tail (log_of J.replicas self.new)) }
     {
         let _applied = self.node.applied();
+        let slots = &self.slots;
         match self.node.held() {
-            Held::Unplaced(_) => match self.node.put_batch(rt, log) {
-                Ok(_) => Ok(true),
-                Err(fault) => Err(fault),
-            },
-            _ => Ok(false),
+            Held::Unplaced(_) => {
+                let Wanted { slot, entry, .. } = wanted;
+                match self
+                    .node
+                    .put_and_catch_up(rt, log, slots, *slot, entry, own)
+                {
+                    Ok(()) => Ok(true),
+                    Err(fault) => Err(fault),
+                }
+            }
+            _ => {
+                self.catch_up(rt, log);
+                Ok(false)
+            }
         }
     }
 
@@ -145,47 +173,37 @@ impl<J: LogName, K: ReplicasName> Local<J, K> {
         }
     }
 
-    /// Takes all entries that the log has, and leaves the answers of the held updates in their slots, but for this slot: the place of its
-    /// update, where it was answered.
-    #[inline(always)]
-    fn answer_others<R: Wait>(&mut self, rt: &R, log: &RingLog<J>, slot: u16) -> Option<u32>
-        requires log { log.now ≡ K.log }
-    {
-        self.answers.clear();
-        if self.node.catch_up(rt, log, &mut self.answers).is_err() {
-            return None;
-        }
-        let mut own = None;
-        for answered in self.answers.as_slice() {
-            if answered.thread == slot {
-                own = Some(answered.place);
-            } else {
-                let _taken = self.slots.answer(*answered);
-            }
-        }
-        own
-    }
-
-    /// Confirms the combiner's own update, where it was answered at some place.
+    /// Confirms the combiner's own update, where it was answered: it is, where its place is not below the one that it may have at the
+    /// least. The pass then gets what the node has seen.
     #[inline(always)]
     fn confirm_own(
         &mut self,
         log: &RingLog<J>,
         pass: &mut LogPass<J>,
         wanted: &Wanted,
-        own: Option<u32>,
-    ) -> Option<(u32, Answer)>
+        own: &mut Option<(u32, Answer)>,
+    )
         requires log { (log.now ≡ K.log) × (pass.old.log ≡ K.log) }
-        requires fits { IsLogEntry J.depth wanted.now.entry }
+        requires own { ForSome own.old (λ update.
+            IsAnsweredIn J.depth K.tables (log_of J.replicas self.old).entries
+            wanted.now.entry update.0 update.1) }
+        ensures same { self.new ≡ self.old }
         ensures log { pass.new.log ≡ pass.old.log }
         ensures heard { HasHeard J.depth J.replicas pass.old.view pass.new.view }
-        ensures own { IfSome result (λ update.
+        ensures own { IfSome own.new (λ update.
             IsAnsweredAt J.depth K.tables wanted.now.from
             (log_after J.replicas pass.new.view.seen) wanted.now.entry update.0 update.1) }
     {
         pass.has_seen_a_history();
-        let place = own?;
-        self.confirm(log, pass, wanted, place)
+        let Some((place, _)) = *own else {
+            return;
+        };
+        let early = place < wanted.from;
+        if early {
+            *own = None;
+            return;
+        }
+        self.node.tell(log, pass);
     }
 
     /// The answer of an update, where the log has it at this place, which is not below the one that it may have at the least.

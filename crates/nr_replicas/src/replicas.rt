@@ -1,6 +1,6 @@
 //! The replicas of an address space, which threads share.
 ghost use Rattle.std.specs.Arc.{arc_value};
-ghost use Rattle.std.specs.Prelude.{◌≡◌, ◌-◌, ◌/◌, ◌<◌, IfErr, IfOk, IfSome};
+ghost use Rattle.std.specs.Prelude.{◌≡◌, ◌-◌, ◌/◌, ◌<◌, IfErr, IfOk, IfSome, None};
 ghost use Rattle.vs_types.specs.declared.limits.TheConstants.{LOG_PLACES, RING};
 ghost use Rattle.vs_types.specs.Depth.{IsCanonical};
 ghost use Rattle.vs_types.specs.LogEntry.{IsLogEntry};
@@ -15,14 +15,14 @@ ghost use Rattle.nr_replicas.specs.inside.Replicas.{answer_in, slots_each};
 use crate::gate::{Gate, Point, Signal};
 use crate::local::{Local, Wanted};
 use crate::name::ReplicasName;
+use crate::patience::Patience;
 use crate::question::Question;
 use crate::shared::Shared;
 use crate::update_fault::{Stopped, UpdateFault};
-use crossbeam_utils::Backoff;
 use nr_ring::{AppendFault, LogName, LogPass, RingLog};
 use std::alloc::Global;
 use std::marker::Model;
-use std::sync::{Mutex, MutexGuard, Wait};
+use std::sync::Wait;
 use vs_types::{Access, Answer, Config, LogEntry, Mode, Op};
 
 /// An address space with one copy for each memory node (Node Replication, ASPLOS 2017): a shared log of updates, and for each
@@ -140,22 +140,27 @@ impl<J: LogName, K: ReplicasName> Replicas<J, K> {
             return Err(UpdateFault::Occupied);
         }
         let wanted = Wanted {
+            thread,
             slot,
             entry: LogEntry { call, op },
             from,
         };
-        let (place, answer) = self.wait(rt, pass, home, &wanted, thread, turns, gate)?;
-        if let Some(answer) = answer {
-            return Ok((place, answer));
+        let mut own = None;
+        let place = self.wait(rt, pass, home, &wanted, turns, gate, &mut own)?;
+        if let Some(update) = own {
+            return Ok(update);
         }
-        match hold(rt, &home.local).confirm(&self.log, pass, &wanted, place) {
+        match Patience::new()
+            .hold(rt, &home.local)
+            .confirm(&self.log, pass, &wanted, place)
+        {
             Some(update) => Ok(update),
             None => Err(UpdateFault::Stopped(call)),
         }
     }
 
-    /// Takes turns until the thread's slot has an answer, or the thread has answered its update itself: the place that it has, and the
-    /// answer where it is confirmed.
+    /// Takes turns until the thread's slot has an answer, or the thread has answered its update itself: its place. Where it has answered
+    /// it itself it is confirmed, and has its answer.
     #[inline(always)]
     fn wait<G: Gate, R: Wait>(
         &self,
@@ -163,49 +168,51 @@ impl<J: LogName, K: ReplicasName> Replicas<J, K> {
         pass: &mut LogPass<J>,
         home: &Shared<J, K>,
         wanted: &Wanted,
-        thread: u16,
         turns: u32,
         gate: &G,
-    ) -> Result<(u32, Option<Answer>), UpdateFault>
+        own: &mut Option<(u32, Answer)>,
+    ) -> Result<u32, UpdateFault>
         requires log { pass.old.log ≡ K.log }
         requires slot { wanted.now.slot < arc_value home.now.slots }
-        requires fits { IsLogEntry J.depth wanted.now.entry }
+        requires none { own.old ≡ None }
         ensures log { pass.new.log ≡ pass.old.log }
         ensures heard { HasHeard J.depth J.replicas pass.old.view pass.new.view }
-        ensures confirmed { IfOk result (λ update. IfSome update.1 (λ answer.
+        ensures own { IfSome own.new (λ update.
             IsAnsweredAt J.depth K.tables wanted.now.from
-            (log_after J.replicas pass.new.view.seen) wanted.now.entry update.0 answer)) }
+            (log_after J.replicas pass.new.view.seen) wanted.now.entry update.0 update.1) }
         ensures refused { IfErr result
             (IsFaultOf wanted.now.entry.call (log_after J.replicas pass.new.view.seen)) }
     {
         pass.has_seen_a_history();
         let call = wanted.entry.call;
-        let backoff = Backoff::new();
+        let mut patience = Patience::new();
         let mut turn = Turn::Combine;
         for taken in 0..turns {
             turn = match turn {
                 Turn::Poll => match home.slots.poll(wanted.slot) {
-                    Some(answered) => return Ok((answered.place, None)),
+                    Some(answered) => return Ok(answered.place),
                     None => Turn::Combine,
                 },
-                Turn::Combine => match self.take_turn(
-                    rt, pass, home, wanted, thread, gate, &backoff,
-                ) {
-                    (Combined::Stopped, _) => return Err(UpdateFault::Stopped(call)),
-                    (_, Some((place, answer))) if taken + 1 < turns => {
-                        let _closed = home.slots.close(wanted.slot, call);
-                        return Ok((place, Some(answer)));
+                Turn::Combine => {
+                    let combined = self.take_turn(rt, pass, home, wanted, gate, &mut patience, own);
+                    match (*own, combined) {
+                        (_, Combined::Stopped) => return Err(UpdateFault::Stopped(call)),
+                        (Some((place, _)), _) if taken + 1 < turns => {
+                            let _closed = home.slots.close(wanted.slot, call);
+                            return Ok(place);
+                        }
+                        (Some(_), _) => return Err(UpdateFault::Stopped(call)),
+                        (None, Combined::Appended | Combined::Went) => Turn::Poll,
+                        (None, Combined::Full) => Turn::CatchUp(0),
+                        (None, Combined::Ended) => {
+                            return match home.slots.poll(wanted.slot) {
+                                Some(answered) => Ok(answered.place),
+                                None => Err(UpdateFault::Ended(call)),
+                            };
+                        }
                     }
-                    (Combined::Appended | Combined::Went, _) => Turn::Poll,
-                    (Combined::Full, _) => Turn::CatchUp(0),
-                    (Combined::Ended, _) => {
-                        return match home.slots.poll(wanted.slot) {
-                            Some(answered) => Ok((answered.place, None)),
-                            None => Err(UpdateFault::Ended(call)),
-                        };
-                    }
-                },
-                Turn::CatchUp(replica) => self.catch_up(rt, replica, &backoff),
+                }
+                Turn::CatchUp(replica) => self.catch_up(rt, replica, &mut patience),
             };
         }
         Err(UpdateFault::Stopped(call))
@@ -219,26 +226,26 @@ impl<J: LogName, K: ReplicasName> Replicas<J, K> {
         pass: &mut LogPass<J>,
         home: &Shared<J, K>,
         wanted: &Wanted,
-        thread: u16,
         gate: &G,
-        backoff: &Backoff,
-    ) -> (Combined, Option<(u32, Answer)>)
+        patience: &mut Patience,
+        own: &mut Option<(u32, Answer)>,
+    ) -> Combined
         requires log { pass.old.log ≡ K.log }
-        requires fits { IsLogEntry J.depth wanted.now.entry }
+        requires none { own.old ≡ None }
         ensures log { pass.new.log ≡ pass.old.log }
         ensures heard { HasHeard J.depth J.replicas pass.old.view pass.new.view }
-        ensures own { IfSome result.1 (λ update.
+        ensures own { IfSome own.new (λ update.
             IsAnsweredAt J.depth K.tables wanted.now.from
             (log_after J.replicas pass.new.view.seen) wanted.now.entry update.0 update.1) }
-        ensures ended { result.0 ≡ Ended
+        ensures ended { result ≡ Ended
             → LOG_PLACES - RING < tail (log_after J.replicas pass.new.view.seen) }
     {
-        let (combined, own) = self.combine(rt, pass, home, wanted, backoff);
+        let combined = self.combine(rt, pass, home, wanted, patience, own);
         match combined {
-            Combined::Appended if gate.at(thread, Point::Appended) == Signal::Stop => {
-                (Combined::Stopped, None)
+            Combined::Appended if gate.at(wanted.thread, Point::Appended) == Signal::Stop => {
+                Combined::Stopped
             }
-            _ => (combined, own),
+            _ => combined,
         }
     }
 
@@ -251,41 +258,42 @@ impl<J: LogName, K: ReplicasName> Replicas<J, K> {
         pass: &mut LogPass<J>,
         home: &Shared<J, K>,
         wanted: &Wanted,
-        backoff: &Backoff,
-    ) -> (Combined, Option<(u32, Answer)>)
+        patience: &mut Patience,
+        own: &mut Option<(u32, Answer)>,
+    ) -> Combined
         requires log { pass.old.log ≡ K.log }
-        requires fits { IsLogEntry J.depth wanted.now.entry }
+        requires none { own.old ≡ None }
         ensures log { pass.new.log ≡ pass.old.log }
         ensures heard { HasHeard J.depth J.replicas pass.old.view pass.new.view }
-        ensures own { IfSome result.1 (λ update.
+        ensures own { IfSome own.new (λ update.
             IsAnsweredAt J.depth K.tables wanted.now.from
             (log_after J.replicas pass.new.view.seen) wanted.now.entry update.0 update.1) }
-        ensures ended { result.0 ≡ Ended
+        ensures ended { result ≡ Ended
             → LOG_PLACES - RING < tail (log_after J.replicas pass.new.view.seen) }
     {
-        let Some(mut local) = attempt(rt, &home.local, backoff) else {
+        let Some(mut local) = patience.attempt(rt, &home.local) else {
             pass.has_seen_a_history();
-            return (Combined::Went, None);
+            return Combined::Went;
         };
-        match local.combine(rt, &self.log, pass, wanted) {
-            Ok((true, own)) => (Combined::Appended, own),
-            Ok((false, own)) => (Combined::Went, own),
-            Err(AppendFault::Moved(_)) => (Combined::Went, None),
-            Err(AppendFault::Full(_)) => (Combined::Full, None),
+        match local.combine(rt, &self.log, pass, wanted, own) {
+            Ok(true) => Combined::Appended,
+            Ok(false) => Combined::Went,
+            Err(AppendFault::Moved(_)) => Combined::Went,
+            Err(AppendFault::Full(_)) => Combined::Full,
             Err(AppendFault::LogEnded) => {
                 local.tell(&self.log, pass);
-                (Combined::Ended, None)
+                Combined::Ended
             }
         }
     }
 
     /// One attempt at the lock of a replica, to have it catch up; and what comes next: the same for the next replica, if there is
     /// one.
-    fn catch_up<R: Wait>(&self, rt: &R, replica: usize, backoff: &Backoff) -> Turn {
+    fn catch_up<R: Wait>(&self, rt: &R, replica: usize, patience: &mut Patience) -> Turn {
         let Some(shared) = self.shared.get(replica) else {
             return Turn::Poll;
         };
-        if let Some(mut local) = attempt(rt, &shared.local, backoff) {
+        if let Some(mut local) = patience.attempt(rt, &shared.local) {
             local.catch_up(rt, &self.log);
         }
         if replica + 1 < self.shared.len() {
@@ -385,9 +393,9 @@ impl<J: LogName, K: ReplicasName> Replicas<J, K> {
     {
         let completed = self.log.look(pass).completed;
         let home = self.home(thread);
-        let backoff = Backoff::new();
+        let mut patience = Patience::new();
         for _ in 0..turns {
-            if let Some(mut local) = attempt(rt, &home.local, &backoff) {
+            if let Some(mut local) = patience.attempt(rt, &home.local) {
                 let read = local.read(rt, &self.log, pass, completed, address, question);
                 if let Some(read) = read {
                     return Ok(read);
@@ -396,29 +404,4 @@ impl<J: LogName, K: ReplicasName> Replicas<J, K> {
         }
         Err(Stopped)
     }
-}
-
-/// A lock. Where it is free it is taken with no call.
-#[inline(always)]
-fn hold<'a, T, R: Wait>(rt: &R, lock: &'a Mutex<T>) -> MutexGuard<'a, T> {
-    match lock.try_lock() {
-        Some(guard) => guard,
-        None => lock.lock(rt),
-    }
-}
-
-/// A lock, where it is free. Where it was not for some time it is waited for, so that a thread that has it may run.
-fn attempt<'a, T, R: Wait>(
-    rt: &R,
-    lock: &'a Mutex<T>,
-    backoff: &Backoff,
-) -> Option<MutexGuard<'a, T>> {
-    if backoff.is_completed() {
-        return Some(lock.lock(rt));
-    }
-    let guard = lock.try_lock();
-    if guard.is_none() {
-        backoff.snooze();
-    }
-    guard
 }

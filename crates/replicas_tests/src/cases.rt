@@ -8,9 +8,8 @@ use nr_replicas::Point;
 use std::alloc::Global;
 use std::process::Abort;
 use std::sync::Wait;
-use std::test::Fail;
 use std::thread::Threads;
-use vs_types::{BadConfig, Config, Depth, Op, Query};
+use vs_types::{Config, Depth, Op, Query};
 
 /// Steps one after another, and the calls that are to be in the log.
 #[derive(Drop)]
@@ -82,34 +81,31 @@ impl<'s> Case<'s> {
         }
     }
 
-    fn config(&self) -> Result<Config, BadConfig> {
-        Config::new(self.depth, self.replicas, self.threads, self.tables)
+    fn config(&self, rt: &impl Abort) -> Config {
+        let config = Config::new(self.depth, self.replicas, self.threads, self.tables);
+        config.expect(rt, "a configuration")
     }
 
     /// Takes the steps on new replicas, whose log, local tails and batches are then as they are to be.
-    pub fn settle<R: Wait + Abort + Threads + Sync>(
-        &self,
-        rt: &R,
-        alloc: Global,
-    ) -> Result<Settled, Fail> {
+    pub fn settle<R: Wait + Abort + Threads + Sync>(&self, rt: &R, alloc: Global) -> Settled {
         let gate = CountingGate::new(self.stops);
         let test = Test::Steps(self.steps, &gate, self.hands_passes);
-        let settled = run(rt, alloc, self.config()?, test)?;
+        let settled = run(rt, alloc, self.config(rt), test);
         settled.assert(rt, self.calls, &self.applied);
         assert_eq!(rt; gate.asked(), [0, self.batches, 0]);
-        Ok(settled)
+        settled
     }
 
     /// The same, and the dumps are those of plain spaces.
-    pub fn assert<R: Wait + Abort + Threads + Sync>(
-        &self,
-        rt: &R,
-        alloc: Global,
-    ) -> Result<(), Fail> {
-        let settled = self.settle(rt, alloc)?;
-        let config = self.config().expect(rt, "a configuration");
-        assert_dumps(rt, alloc, config, &settled, &self.updates(rt, alloc));
-        Ok(())
+    pub fn assert<R: Wait + Abort + Threads + Sync>(&self, rt: &R, alloc: Global) {
+        let settled = self.settle(rt, alloc);
+        assert_dumps(
+            rt,
+            alloc,
+            self.config(rt),
+            &settled,
+            &self.updates(rt, alloc),
+        );
     }
 
     /// The updates of the log.

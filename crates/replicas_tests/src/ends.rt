@@ -6,7 +6,6 @@ use nr_replicas::UpdateFault;
 use std::alloc::Global;
 use std::process::Abort;
 use std::sync::Wait;
-use std::test::Fail;
 use std::thread::Threads;
 use vs_types::{Access, Answer, Depth};
 
@@ -30,16 +29,11 @@ fn unmap_often(rt: &impl Abort, alloc: Global, count: u32, then: &[Step]) -> Pla
 }
 
 /// Takes the steps of a case in whose replicas nothing is mapped in the end.
-fn settle_empty<R: Wait + Abort + Threads + Sync>(
-    rt: &R,
-    alloc: Global,
-    case: Case,
-) -> Result<(), Fail> {
-    let settled = case.settle(rt, alloc)?;
+fn settle_empty<R: Wait + Abort + Threads + Sync>(rt: &R, alloc: Global, case: Case) {
+    let settled = case.settle(rt, alloc);
     for dump in settled.dumps.as_slice() {
         assert_eq!(rt; dump.count(), 1);
     }
-    Ok(())
 }
 
 /// A thread makes as many updates as a log takes, and then calls at the end of the log: the next update is answered that it has ended, and
@@ -49,7 +43,7 @@ fn go_to_the_end<R: Wait + Abort + Threads + Sync>(
     alloc: Global,
     others: &[Step],
     case: Case,
-) -> Result<(), Fail> {
+) {
     let ended = UpdateFault::Ended(ENTRIES);
     let occupied = UpdateFault::Occupied;
     let at_the_end = [
@@ -70,18 +64,18 @@ fn go_to_the_end<R: Wait + Abort + Threads + Sync>(
         batches: ENTRIES,
         ..case
     };
-    settle_empty(rt, alloc, case)
+    settle_empty(rt, alloc, case);
 }
 
 #[test]
-fn log_ends(rt: HostRuntime) -> Result<(), Fail> {
+fn log_ends(rt: HostRuntime) {
     let case = Case::new(Depth::Four, 1, 1, 4, &[]);
-    go_to_the_end(&rt, rt.alloc(), &[], case)
+    go_to_the_end(&rt, rt.alloc(), &[], case);
 }
 
 /// The same on two replicas, where the other one's thread calls at the end; the settling is handed no pass.
 #[test]
-fn log_ends_for_other_threads(rt: HostRuntime) -> Result<(), Fail> {
+fn log_ends_for_other_threads(rt: HostRuntime) {
     let others = [
         Step::read(1, 0x400000, ENTRIES, Answer::NotMapped),
         Step::fault(1, 131_071, Asks::Unmap, TURNS, UpdateFault::Ended(131_071)),
@@ -91,13 +85,13 @@ fn log_ends_for_other_threads(rt: HostRuntime) -> Result<(), Fail> {
         hands_passes: false,
         ..Case::new(Depth::Five, 2, 2, 1, &[])
     };
-    go_to_the_end(&rt, rt.alloc(), &others, case)
+    go_to_the_end(&rt, rt.alloc(), &others, case);
 }
 
 /// Two places are left, and three updates are collected. Their batch stays, so that the update of another thread is not placed before
 /// them.
 #[test]
-fn batch_stays_at_the_end(rt: HostRuntime) -> Result<(), Fail> {
+fn batch_stays_at_the_end(rt: HostRuntime) {
     let last = ALL_BUT_TWO;
     let at_the_end = [
         Step::fault(1, last, Asks::Unmap, 0, UpdateFault::Stopped(last)),
@@ -125,12 +119,12 @@ fn batch_stays_at_the_end(rt: HostRuntime) -> Result<(), Fail> {
         batches: last,
         ..Case::new(Depth::Four, 1, 4, 4, &plan.steps)
     };
-    settle_empty(&rt, rt.alloc(), case)
+    settle_empty(&rt, rt.alloc(), case);
 }
 
 /// A settling that is handed no pass finds what the replicas have applied, and what they have not.
 #[test]
-fn settling_without_passes(rt: HostRuntime) -> Result<(), Fail> {
+fn settling_without_passes(rt: HostRuntime) {
     let steps = [
         Step::update(1, 7, Asks::Unmap, 0, Answer::NotMapped),
         Step::update(1, 3, Asks::Unmap, 1, Answer::NotMapped),
@@ -142,5 +136,5 @@ fn settling_without_passes(rt: HostRuntime) -> Result<(), Fail> {
         batches: 2,
         ..Case::new(Depth::Four, 2, 2, 4, &steps)
     }
-    .assert(&rt, rt.alloc())
+    .assert(&rt, rt.alloc());
 }

@@ -10,7 +10,6 @@ use nr_ring::LogName;
 use std::alloc::Global;
 use std::process::Abort;
 use std::sync::Wait;
-use std::test::Fail;
 use std::thread;
 use std::thread::Threads;
 use vs_types::{Config, Depth};
@@ -122,10 +121,10 @@ fn is_answered(rt: &impl Abort, settled: &Settled, made: Made) -> bool {
 /// An update that was placed is answered, also where its thread finds the log ended before it looks for the answer: the log has no
 /// entries but those that were answered.
 #[test]
-fn placed_updates_are_answered(rt: HostRuntime) -> Result<(), Fail> {
+fn placed_updates_are_answered(rt: HostRuntime) {
     for replicas in [1, 4] {
-        let config = Config::new(Depth::Four, replicas, 64, 4)?;
-        let settled = run(&rt, rt.alloc(), config, Test::ToTheEnd)?;
+        let config = Config::new(Depth::Four, replicas, 64, 4).expect(&rt, "a configuration");
+        let settled = run(&rt, rt.alloc(), config, Test::ToTheEnd);
         let mut answered = ALONE as usize;
         for made in settled.made.as_slice() {
             if is_answered(&rt, &settled, *made) {
@@ -134,5 +133,4 @@ fn placed_updates_are_answered(rt: HostRuntime) -> Result<(), Fail> {
         }
         assert_eq!(rt; settled.calls.len(), answered);
     }
-    Ok(())
 }

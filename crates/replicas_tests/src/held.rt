@@ -10,7 +10,6 @@ use nr_ring::LogName;
 use std::process::Abort;
 use std::sync::Wait;
 use std::sync::atomic::{AtomicU32, Ordering};
-use std::test::Fail;
 use std::thread;
 use std::thread::Threads;
 use vs_types::{Answer, Config, Depth, Rights, Size};
@@ -107,7 +106,7 @@ pub fn hold<
 
 /// Both threads have one replica, or each its own.
 #[test]
-fn no_lock_is_held_at_the_gate(rt: HostRuntime) -> Result<(), Fail> {
+fn no_lock_is_held_at_the_gate(rt: HostRuntime) {
     let removed = Answer::Removed(0x1000, Size::K4, Rights::ALL);
     let steps = [
         Step::update(0, 0, MAP, 0, Answer::Done),
@@ -115,17 +114,16 @@ fn no_lock_is_held_at_the_gate(rt: HostRuntime) -> Result<(), Fail> {
         Step::read(1, 0x400000, 2, Answer::NotMapped),
     ];
     for replicas in [1, 2] {
-        let config = Config::new(Depth::Four, replicas, 2, 4)?;
-        let settled = run(&rt, rt.alloc(), config, Test::Hold(&steps, Signal::Go))?;
+        let config = Config::new(Depth::Four, replicas, 2, 4).expect(&rt, "a configuration");
+        let settled = run(&rt, rt.alloc(), config, Test::Hold(&steps, Signal::Go));
         settled.assert(&rt, &[0, 1], &[]);
     }
-    Ok(())
 }
 
 /// A call that is stopped makes no further step: it appends no update that has come to a slot of its replica meanwhile, has its
 /// replica take no entry that has come to the log, and does not take its answer, so that its slot is occupied.
 #[test]
-fn no_step_after_the_stop(rt: HostRuntime) -> Result<(), Fail> {
+fn no_step_after_the_stop(rt: HostRuntime) {
     let removed = Answer::Removed(0x1000, Size::K4, Rights::ALL);
     let steps = [
         Step::fault(0, 0, MAP, TURNS, UpdateFault::Stopped(0)),
@@ -134,8 +132,7 @@ fn no_step_after_the_stop(rt: HostRuntime) -> Result<(), Fail> {
         Step::fault(2, 2, MAP, 0, UpdateFault::Stopped(2)),
         Step::fault(0, 3, MAP, TURNS, UpdateFault::Occupied),
     ];
-    let config = Config::new(Depth::Four, 2, 3, 4)?;
-    let settled = run(&rt, rt.alloc(), config, Test::Hold(&steps, Signal::Stop))?;
+    let config = Config::new(Depth::Four, 2, 3, 4).expect(&rt, "a configuration");
+    let settled = run(&rt, rt.alloc(), config, Test::Hold(&steps, Signal::Stop));
     settled.assert(&rt, &[0, 1], &[1, 2]);
-    Ok(())
 }

@@ -7,7 +7,7 @@ use nr_replicas::UpdateFault;
 use std::alloc::Global;
 use std::process::Abort;
 use vs_plain::PlainSpace;
-use vs_types::{Config, Memory, Op, Query};
+use vs_types::{Config, Op, Query};
 
 /// Whether a call of this number may be answered so, which is at that place of the log, or nowhere in it.
 fn may_be_told(made: Made, call: u32, place: Option<u32>) -> bool {
@@ -22,13 +22,8 @@ fn may_be_told(made: Made, call: u32, place: Option<u32>) -> bool {
 }
 
 /// The place in the log of each of so many calls, of which each is there once at most.
-fn places_of(
-    rt: &impl Abort,
-    alloc: Global,
-    calls: &[u32],
-    count: usize,
-) -> Result<Vec<Option<u32>>, Memory> {
-    let mut places = vec![in alloc; None::<u32>; count]?;
+fn places_of(rt: &impl Abort, alloc: Global, calls: &[u32], count: usize) -> Vec<Option<u32>> {
+    let mut places = vec![in alloc; None::<u32>; count].expect(rt, "memory");
     let mut place = 0u32;
     for call in calls {
         let stands = places
@@ -38,7 +33,7 @@ fn places_of(
         *stands = Some(place);
         place = place.wrapping_add(1);
     }
-    Ok(places)
+    places
 }
 
 /// Each call was answered what fits to where it is in the log.
@@ -109,16 +104,10 @@ fn judge_update(rt: &impl Abort, made: &[Made], call: u32, space: &mut PlainSpac
 /// Each answer is that of a plain space at its place of the log, in which each call is there once at most: those that were answered do,
 /// and of the others those that were stopped may; and each dump is that of a plain space after as many entries as it says. The calls
 /// are numbered from 0.
-pub fn judge(
-    rt: &impl Abort,
-    alloc: Global,
-    config: Config,
-    settled: &Settled,
-) -> Result<(), Memory> {
+pub fn judge(rt: &impl Abort, alloc: Global, config: Config, settled: &Settled) {
     let made = settled.made.as_slice();
-    let places = places_of(rt, alloc, &settled.calls, made.len())?;
+    let places = places_of(rt, alloc, &settled.calls, made.len());
     judge_places(rt, made, &places);
     let updates = judge_answers(rt, alloc, config, settled);
     assert_dumps(rt, alloc, config, settled, &updates);
-    Ok(())
 }

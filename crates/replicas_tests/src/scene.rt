@@ -14,7 +14,6 @@ use std::alloc::Global;
 use std::marker::Brand;
 use std::process::Abort;
 use std::sync::Wait;
-use std::test::Fail;
 use std::thread::Threads;
 use vs_types::Config;
 use vs_walk::Dump;
@@ -59,7 +58,7 @@ pub fn run<R: Wait + Abort + Threads + Sync>(
     alloc: Global,
     config: Config,
     test: Test,
-) -> Result<Settled, Fail> {
+) -> Settled {
     run_on_log::<Brand, R>(rt, alloc, config, test)
 }
 
@@ -69,13 +68,13 @@ fn run_on_log<J: LogName + Send + Sync, R: Wait + Abort + Threads + Sync>(
     alloc: Global,
     config: Config,
     test: Test,
-) -> Result<Settled, Fail>
+) -> Settled
     requires depth { config.depth ≡ J.depth }
     requires replicas { config.replicas ≡ J.replicas }
     requires passes { J.passes ≡ config.replicas + config.threads }
 {
-    let (new, passes) = OpenReplicas::<J>::new(alloc, config)?;
-    Ok(run_named::<J, Brand, R>(rt, alloc, config, new, passes, test))
+    let (new, passes) = OpenReplicas::<J>::new(alloc, config).expect(rt, "memory");
+    run_named::<J, Brand, R>(rt, alloc, config, new, passes, test)
 }
 
 /// The same, where the replicas have their name.

@@ -6,13 +6,12 @@ use nr_replicas::UpdateFault;
 use std::alloc::Global;
 use std::process::Abort;
 use std::sync::Wait;
-use std::test::Fail;
 use std::thread::Threads;
 use vs_types::{Answer, Depth, Rights, Size};
 
 /// Each of 64 threads on four replicas maps a page, and then each reads the next one's.
 #[test]
-fn as_many_threads_as_can_be(rt: HostRuntime) -> Result<(), Fail> {
+fn as_many_threads_as_can_be(rt: HostRuntime) {
     let mapped = Answer::Mapped(0x1000, Size::K4, Rights::ALL);
     let mut plan = Plan::new(rt.alloc());
     for thread in 0..64u16 {
@@ -36,12 +35,12 @@ fn as_many_threads_as_can_be(rt: HostRuntime) -> Result<(), Fail> {
         batches: 64,
         ..Case::new(Depth::Five, 4, 64, 4096, &plan.steps)
     }
-    .assert(&rt, rt.alloc())
+    .assert(&rt, rt.alloc());
 }
 
 /// The updates of 64 threads wait in the slots of one replica, more than are in a batch; the last thread's call puts them all.
 #[test]
-fn more_updates_than_a_batch(rt: HostRuntime) -> Result<(), Fail> {
+fn more_updates_than_a_batch(rt: HostRuntime) {
     let mut plan = Plan::new(rt.alloc());
     for thread in 0..63u16 {
         let call = 2 * u32::from(thread);
@@ -58,13 +57,13 @@ fn more_updates_than_a_batch(rt: HostRuntime) -> Result<(), Fail> {
         batches: 4,
         ..Case::new(Depth::Four, 1, 64, 4, &plan.steps)
     }
-    .assert(&rt, rt.alloc())
+    .assert(&rt, rt.alloc());
 }
 
 /// Each page in 2 MiB of its own takes a table, and each 512 of them one more: with 4,086 of them all 4,096 tables are in use, at each
 /// of the replicas.
 #[test]
-fn as_many_tables_as_can_be(rt: HostRuntime) -> Result<(), Fail> {
+fn as_many_tables_as_can_be(rt: HostRuntime) {
     let mut plan = Plan::new(rt.alloc());
     for n in 0..4_088u32 {
         let answer = if n < 4_086 {
@@ -84,12 +83,11 @@ fn as_many_tables_as_can_be(rt: HostRuntime) -> Result<(), Fail> {
         batches: 4_088,
         ..Case::new(Depth::Four, 2, 2, 4096, &plan.steps)
     };
-    case.assert(&rt, rt.alloc())?;
-    let settled = case.settle(&rt, rt.alloc())?;
+    case.assert(&rt, rt.alloc());
+    let settled = case.settle(&rt, rt.alloc());
     for dump in settled.dumps.as_slice() {
         assert_eq!(rt; dump.count(), 4096);
     }
-    Ok(())
 }
 
 /// Where there is a table too few a map is answered how many it takes, at each replica.
@@ -98,7 +96,7 @@ fn map_with_too_few<R: Wait + Abort + Threads + Sync>(
     alloc: Global,
     depth: Depth,
     tables: u16,
-) -> Result<(), Fail> {
+) {
     let full = Answer::Full(u64::from(depth.levels()));
     let steps = [
         Step::update(2, 0, MAP, 0, full),
@@ -112,13 +110,12 @@ fn map_with_too_few<R: Wait + Abort + Threads + Sync>(
         batches: 3,
         ..Case::new(depth, 3, 3, tables, &steps)
     }
-    .assert(rt, alloc)
+    .assert(rt, alloc);
 }
 
 #[test]
-fn too_few_tables(rt: HostRuntime) -> Result<(), Fail> {
+fn too_few_tables(rt: HostRuntime) {
     for (depth, tables) in [(Depth::Four, 3), (Depth::Five, 4), (Depth::Four, 1)] {
-        map_with_too_few(&rt, rt.alloc(), depth, tables)?;
+        map_with_too_few(&rt, rt.alloc(), depth, tables);
     }
-    Ok(())
 }

@@ -7,48 +7,43 @@ use nr_replicas::{Point, UpdateFault};
 use std::alloc::Global;
 use std::process::Abort;
 use std::sync::Wait;
-use std::test::Fail;
 use std::thread::Threads;
 use vs_types::{Access, Answer, Depth, Rights, Size};
 
 /// An update that has no turn is not placed, and its slot stays occupied.
 #[test]
-fn update_without_turns(rt: HostRuntime) -> Result<(), Fail> {
+fn update_without_turns(rt: HostRuntime) {
     let steps = [
         Step::fault(0, 5, MAP, 0, UpdateFault::Stopped(5)),
         Step::fault(0, 6, MAP, TURNS, UpdateFault::Occupied),
         Step::read(0, 0x400000, 0, Answer::NotMapped),
     ];
-    Case::new(Depth::Four, 1, 1, 4, &steps).assert(&rt, rt.alloc())
+    Case::new(Depth::Four, 1, 1, 4, &steps).assert(&rt, rt.alloc());
 }
 
 /// An update of a lone thread, with a step, is placed and applied in its first turn.
-fn update_alone<R: Wait + Abort + Threads + Sync>(
-    rt: &R,
-    alloc: Global,
-    step: Step,
-) -> Result<(), Fail> {
+fn update_alone<R: Wait + Abort + Threads + Sync>(rt: &R, alloc: Global, step: Step) {
     Case {
         calls: &[0],
         applied: [1; 4],
         batches: 1,
         ..Case::new(Depth::Four, 1, 1, 4, &[step])
     }
-    .assert(rt, alloc)
+    .assert(rt, alloc);
 }
 
 /// One turn is one poll or one attempt, so that no update of a lone thread is answered in it.
 #[test]
-fn update_of_one_turn(rt: HostRuntime) -> Result<(), Fail> {
+fn update_of_one_turn(rt: HostRuntime) {
     let step = Step::fault(0, 0, MAP, 1, UpdateFault::Stopped(0));
-    update_alone(&rt, rt.alloc(), step)
+    update_alone(&rt, rt.alloc(), step);
 }
 
 /// Two turns are enough for an update of a lone thread: an attempt and a poll.
 #[test]
-fn update_of_two_turns(rt: HostRuntime) -> Result<(), Fail> {
+fn update_of_two_turns(rt: HostRuntime) {
     let step = Step::update(0, 0, MAP, 0, Answer::Done);
-    update_alone(&rt, rt.alloc(), Step { turns: 2, ..step })
+    update_alone(&rt, rt.alloc(), Step { turns: 2, ..step });
 }
 
 /// So many turns for a read before an update of another replica, and for the same read twice after it.
@@ -58,7 +53,7 @@ fn read_in_turns<R: Wait + Abort + Threads + Sync>(
     before: Step,
     after: Step,
     turns: u32,
-) -> Result<(), Fail> {
+) {
     let steps = [
         before.in_turns(turns, 1),
         Step::update(0, 0, MAP, 0, Answer::Done),
@@ -71,28 +66,27 @@ fn read_in_turns<R: Wait + Abort + Threads + Sync>(
         batches: 1,
         ..Case::new(Depth::Four, 2, 2, 4, &steps)
     }
-    .assert(rt, alloc)
+    .assert(rt, alloc);
 }
 
 /// A read or an access takes a turn, and at a replica that lags one more, in which that catches up. With fewer it is stopped.
 #[test]
-fn reads_of_few_turns(rt: HostRuntime) -> Result<(), Fail> {
+fn reads_of_few_turns(rt: HostRuntime) {
     let mapped = Answer::Mapped(0x1000, Size::K4, Rights::ALL);
     let read = Step::read(1, 0x400000, 0, Answer::NotMapped);
     let later_read = Step::read(1, 0x400000, 1, mapped);
     let access = Step::access(1, 0x400000, Access::Read, 0, Answer::Fault(4));
     let later_access = Step::access(1, 0x400000, Access::Read, 1, Answer::Allowed(0x1000));
     for turns in 0..3 {
-        read_in_turns(&rt, rt.alloc(), read, later_read, turns)?;
-        read_in_turns(&rt, rt.alloc(), access, later_access, turns)?;
+        read_in_turns(&rt, rt.alloc(), read, later_read, turns);
+        read_in_turns(&rt, rt.alloc(), access, later_access, turns);
     }
-    Ok(())
 }
 
 /// A thread is stopped after the batch that it appended: its update is placed and applied, and its slot stays occupied. The gate is
 /// asked after each batch, at no other point.
 #[test]
-fn stopped_after_the_batch(rt: HostRuntime) -> Result<(), Fail> {
+fn stopped_after_the_batch(rt: HostRuntime) {
     let removed = Answer::Removed(0x1000, Size::K4, Rights::ALL);
     let steps = [
         Step::fault(0, 8, MAP, TURNS, UpdateFault::Stopped(8)),
@@ -108,12 +102,12 @@ fn stopped_after_the_batch(rt: HostRuntime) -> Result<(), Fail> {
         batches: 3,
         ..Case::new(Depth::Four, 1, 2, 4, &steps)
     }
-    .assert(&rt, rt.alloc())
+    .assert(&rt, rt.alloc());
 }
 
 /// An update is asked for at no point but after a batch.
 #[test]
-fn other_points_are_not_asked(rt: HostRuntime) -> Result<(), Fail> {
+fn other_points_are_not_asked(rt: HostRuntime) {
     let steps = [Step::update(0, 0, MAP, 0, Answer::Done)];
     for point in [Point::Called, Point::Answered] {
         Case {
@@ -123,18 +117,13 @@ fn other_points_are_not_asked(rt: HostRuntime) -> Result<(), Fail> {
             batches: 1,
             ..Case::new(Depth::Four, 1, 1, 4, &steps)
         }
-        .assert(&rt, rt.alloc())?;
+        .assert(&rt, rt.alloc());
     }
-    Ok(())
 }
 
 /// The gate stops the thread of this number after a batch. Thread 0 leaves its update in its slot, and thread 3 of the same replica
 /// appends both.
-fn stop_the_thread<R: Wait + Abort + Threads + Sync>(
-    rt: &R,
-    alloc: Global,
-    stops: u16,
-) -> Result<(), Fail> {
+fn stop_the_thread<R: Wait + Abort + Threads + Sync>(rt: &R, alloc: Global, stops: u16) {
     let mut plan = Plan::new(alloc);
     plan.add(
         rt,
@@ -156,22 +145,21 @@ fn stop_the_thread<R: Wait + Abort + Threads + Sync>(
         batches: 6,
         ..Case::new(Depth::Four, 3, 7, 4, &plan.steps)
     }
-    .assert(rt, alloc)
+    .assert(rt, alloc);
 }
 
 /// The gate gets the number of the thread that appends: not its replica's, and not that of another whose update is in its batch.
 #[test]
-fn gate_is_asked_for_the_thread(rt: HostRuntime) -> Result<(), Fail> {
+fn gate_is_asked_for_the_thread(rt: HostRuntime) {
     for stops in 0..7 {
-        stop_the_thread(&rt, rt.alloc(), stops)?;
+        stop_the_thread(&rt, rt.alloc(), stops);
     }
-    Ok(())
 }
 
 /// An update that was left in its slot is placed with the next one of its replica, in the order of the threads, and not by another
 /// replica.
 #[test]
-fn stopped_update_is_placed_later(rt: HostRuntime) -> Result<(), Fail> {
+fn stopped_update_is_placed_later(rt: HostRuntime) {
     let overlap = Answer::Overlap(0x400000);
     let steps = [
         Step::fault(0, 10, MAP, 0, UpdateFault::Stopped(10)),
@@ -186,5 +174,5 @@ fn stopped_update_is_placed_later(rt: HostRuntime) -> Result<(), Fail> {
         batches: 3,
         ..Case::new(Depth::Four, 2, 4, 4, &steps)
     }
-    .assert(&rt, rt.alloc())
+    .assert(&rt, rt.alloc());
 }

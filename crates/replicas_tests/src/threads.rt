@@ -18,7 +18,6 @@ use std::process::Abort;
 use std::rt::Env;
 use std::sync::Wait;
 use std::sync::atomic::{AtomicU64, Ordering};
-use std::test::Fail;
 use std::thread::Threads;
 use std::{env, thread};
 use vs_types::{BadConfig, Config, Depth, Query};
@@ -278,13 +277,13 @@ fn drawn_run<R: Wait + Abort + Threads + Alloc<A = Global> + Sync>(
     threads: u16,
     replicas: u8,
     some_stop: bool,
-) -> Result<u64, Fail> {
-    let config = drawn_config(draws, replicas, threads)?;
+) -> u64 {
+    let config = drawn_config(draws, replicas, threads).expect(rt, "a configuration");
     let scripts = drawn_scripts(rt, rt.alloc(), draws, config, some_stop);
-    let settled = run(rt, rt.alloc(), config, Test::Scripts(scripts))?;
-    judge(rt, rt.alloc(), config, &settled)?;
+    let settled = run(rt, rt.alloc(), config, Test::Scripts(scripts));
+    judge(rt, rt.alloc(), config, &settled);
     assert_batches(rt, config, &settled, EACH);
-    Ok(settled.made.len() as u64)
+    settled.made.len() as u64
 }
 
 /// Two, four and eight threads on one, two and four replicas, at both depths, with many tables or few. How many runs and calls there
@@ -293,34 +292,32 @@ fn drawn_runs<R: Wait + Abort + Threads + Env + Alloc<A = Global> + Sync>(
     rt: &R,
     rounds: u64,
     some_stop: bool,
-) -> Result<(u64, u64), Fail> {
+) -> (u64, u64) {
     let mut draws = Draws::new(number_of(rt, "SEED", 1));
     let mut runs = 0u64;
     let mut calls = 0u64;
     for _ in 0..number_of(rt, "ROUNDS", rounds) {
         for threads in [2, 4, 8] {
             for replicas in [1, 2, 4] {
-                let made = drawn_run(rt, &mut draws, threads, replicas, some_stop)?;
+                let made = drawn_run(rt, &mut draws, threads, replicas, some_stop);
                 runs = runs.wrapping_add(1);
                 calls = calls.wrapping_add(made);
             }
         }
     }
-    Ok((runs, calls))
+    (runs, calls)
 }
 
 /// Each call is answered.
 #[test]
-fn drawn_calls(rt: HostRuntime) -> Result<(), Fail> {
-    let (runs, calls) = drawn_runs(&rt, 3, false)?;
-    println!(rt; "{runs} runs, {calls} calls")?;
-    Ok(())
+fn drawn_calls(rt: HostRuntime) {
+    let (runs, calls) = drawn_runs(&rt, 3, false);
+    println!(rt; "{runs} runs, {calls} calls").expect(&rt, "output");
 }
 
 /// Some calls are stopped, and then the updates of the same thread are refused; the other threads go on.
 #[test]
-fn drawn_calls_that_stop(rt: HostRuntime) -> Result<(), Fail> {
-    let (runs, calls) = drawn_runs(&rt, 3, true)?;
-    println!(rt; "{runs} runs, {calls} calls")?;
-    Ok(())
+fn drawn_calls_that_stop(rt: HostRuntime) {
+    let (runs, calls) = drawn_runs(&rt, 3, true);
+    println!(rt; "{runs} runs, {calls} calls").expect(&rt, "output");
 }

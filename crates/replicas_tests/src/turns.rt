@@ -7,7 +7,6 @@ use nr_replicas::UpdateFault;
 use std::alloc::Global;
 use std::process::Abort;
 use std::sync::Wait;
-use std::test::Fail;
 use std::thread::Threads;
 use vs_types::{Answer, Depth};
 
@@ -17,7 +16,7 @@ fn put_four_batches<R: Wait + Abort + Threads + Sync>(
     alloc: Global,
     turns: u32,
     wanted: Said,
-) -> Result<(), Fail> {
+) {
     let mut plan = Plan::new(alloc);
     for thread in 0..63u16 {
         let call = u32::from(thread);
@@ -39,18 +38,17 @@ fn put_four_batches<R: Wait + Abort + Threads + Sync>(
         batches: 4,
         ..Case::new(Depth::Four, 1, 64, 4, &plan.steps)
     }
-    .assert(rt, alloc)
+    .assert(rt, alloc);
 }
 
 /// Each batch of 16 takes a turn, and a poll comes after it.
 #[test]
-fn batch_takes_a_turn(rt: HostRuntime) -> Result<(), Fail> {
+fn batch_takes_a_turn(rt: HostRuntime) {
     let stopped = Said::Fault(UpdateFault::Stopped(63));
     let answered = Said::Answer(63, Answer::NotMapped);
     for (turns, wanted) in [(7, stopped), (8, answered)] {
-        put_four_batches(&rt, rt.alloc(), turns, wanted)?;
+        put_four_batches(&rt, rt.alloc(), turns, wanted);
     }
-    Ok(())
 }
 
 /// The first of four threads makes 16 updates, which fill the ring, and one more, which has so many turns; the other replicas have made no
@@ -62,7 +60,7 @@ fn meet_a_full_ring<R: Wait + Abort + Threads + Sync>(
     wanted: Said,
     placed: u32,
     applied: [u32; 4],
-) -> Result<(), Fail> {
+) {
     let mut plan = Plan::new(alloc);
     for call in 0..16 {
         let step = Step::update(0, call, Asks::Unmap, call, Answer::NotMapped);
@@ -84,13 +82,13 @@ fn meet_a_full_ring<R: Wait + Abort + Threads + Sync>(
         batches: placed,
         ..Case::new(Depth::Four, 4, 4, 4, &plan.steps)
     }
-    .assert(rt, alloc)
+    .assert(rt, alloc);
 }
 
 /// Where the ring is full each replica catches up in a turn of its own, by number; then come a poll, the batch, and the poll that finds
 /// the answer.
 #[test]
-fn full_ring_takes_a_turn_for_each_replica(rt: HostRuntime) -> Result<(), Fail> {
+fn full_ring_takes_a_turn_for_each_replica(rt: HostRuntime) {
     let stopped = Said::Fault(UpdateFault::Stopped(16));
     let answered = Said::Answer(16, Answer::NotMapped);
     let rows = [
@@ -104,7 +102,6 @@ fn full_ring_takes_a_turn_for_each_replica(rt: HostRuntime) -> Result<(), Fail> 
         (8, answered, 17, [17, 16, 16, 16]),
     ];
     for (turns, wanted, placed, applied) in rows {
-        meet_a_full_ring(&rt, rt.alloc(), turns, wanted, placed, applied)?;
+        meet_a_full_ring(&rt, rt.alloc(), turns, wanted, placed, applied);
     }
-    Ok(())
 }

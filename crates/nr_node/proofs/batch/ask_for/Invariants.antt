@@ -3,5 +3,5 @@ use Rattle.vs_types.specs.declared.limits.TheConstants.{CALLS}
 use Rattle.nr_node.specs.Calls.{entries_of}
 use Rattle.nr_node.proofs.batch.ask_for.Given as goal
 
-abbrev pub invariant-loop-waiting : goal.invariant-loop-waiting
-invariant-loop-waiting l = (l.entries.items ≡ entries_of (take l.waiting-index l.batch.items)) × All (λ entry. entry.call < CALLS) l.entries.items
+abbrev pub invariant-loop-place : goal.invariant-loop-place
+invariant-loop-place l = (take l.place l.asked ≡ entries_of (take l.place l.batch.items)) × All (λ entry. entry.call < CALLS) (take l.place l.asked)

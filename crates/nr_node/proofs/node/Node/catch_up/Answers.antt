@@ -1,11 +1,14 @@
-use Rattle.std.proofs.Common.{◌≡◌, ◌+◌, ◌≤◌, ℕ, List, None, length, sym, subst, ◌∙◌, arith}
+use Rattle.std.proofs.Common.{◌≡◌, ◌+◌, ◌++◌, ◌≤◌, ℕ, List, All, None, length, ap, sym, subst, ◌∙◌, arith}
 use Rattle.std.proofs.lemmas.Result.{err_from_is_err_and}
+use Rattle.vs_types.specs.LogEntry.{IsLogEntry}
+use Rattle.vs_types.specs.declared.log_entry.LogEntry.{LogEntry}
 use Rattle.nr_ring.specs.Calls.{HasMoved}
 use Rattle.nr_ring.specs.LogHistory.{log_after}
 use Rattle.nr_slots.specs.declared.waiting.Waiting.{Waiting}
 use Rattle.nr_node.specs.Calls.{HasCaughtUp, HasStayed, answers_of}
 use Rattle.nr_node.specs.Node.{NodeState, IsNode, replica_of}
 use Rattle.nr_node.specs.inside.Node.{node_state}
+use Rattle.nr_node.specs.inside.Replica.{ReplicaState}
 use Rattle.nr_node.proofs.Looks.{looked_owner, looked_taken, took_all}
 use Rattle.nr_node.proofs.Nodes.{answers_after, caught_up, looked_node, looked_follows, next_entries, stands_after, took_fit, took_follows, took_node, took_room}
 use Rattle.nr_node.proofs.node.Node.catch_up.Goals as goal
@@ -50,15 +53,17 @@ pub apply_all-requires-clause-fit : goal.apply_all-requires-clause-fit
 apply_all-requires-clause-fit g c =
     let self = c.self.inside in
     let is = c.self.invariant in
-    took_fit _ _ self.pass.view c.take.new.pass.view c.take.new.entries.items self.replica.depth
-    (took_all _ _ self.pass.view c.take.new.pass.view c.take.new.entries.items c.in_ok-take.ensures.taken is.0.owner) is.1.depth_is
+    let Fit : List LogEntry → Type 0 = λ l. All (IsLogEntry self.replica.depth) l in
+    subst Fit (sym c.as_slice.ensures.value) (took_fit _ _ self.pass.view c.take.new.pass.view c.take.new.entries.items self.replica.depth
+    (took_all _ _ self.pass.view c.take.new.pass.view c.take.new.entries.items c.in_ok-take.ensures.taken is.0.owner) is.1.depth_is)
 
 pub apply_all-requires-clause-room : goal.apply_all-requires-clause-room
 apply_all-requires-clause-room g c =
     let self = c.self.inside in
     let is = c.self.invariant in
-    took_room _ _ self.pass c.take.new.pass self.replica self.batch.items self.first c.take.new.entries.items
-    (took_all _ _ self.pass.view c.take.new.pass.view c.take.new.entries.items c.in_ok-take.ensures.taken is.0.owner) is.0 is.1
+    let room = took_room _ _ self.pass c.take.new.pass self.replica self.batch.items self.first c.take.new.entries.items
+    (took_all _ _ self.pass.view c.take.new.pass.view c.take.new.entries.items c.in_ok-take.ensures.taken is.0.owner) is.0 is.1 in
+    omega (arith, room, ap (λ (l : List LogEntry). length l) c.as_slice.ensures.value)
 
 pub answer-requires-clause-stand : goal.answer-requires-clause-stand
 answer-requires-clause-stand g c =
@@ -66,9 +71,11 @@ answer-requires-clause-stand g c =
     let is = c.self.invariant in
     let entries = c.take.new.entries.items in
     let next = c.apply_all.new.self in
+    let With : List LogEntry → ReplicaState = λ l. record self.replica { entries = self.replica.entries ++ l } in
+    let applied = c.apply_all.ensures ∙ ap With c.as_slice.ensures.value in
     let all = took_all _ _ self.pass.view c.take.new.pass.view entries c.in_ok-take.ensures.taken is.0.owner in
     stands_after _ _ self.pass c.take.new.pass self.replica next self.batch.items self.first entries all is.0
-    (next_entries _ _ self.pass c.take.new.pass self.replica next self.batch.items self.first entries all is.0 is.1 c.apply_all.ensures)
+    (next_entries _ _ self.pass c.take.new.pass self.replica next self.batch.items self.first entries all is.0 is.1 applied)
 
 pub invariant_of-self-2 : goal.invariant_of-self-2
 invariant_of-self-2 g c =
@@ -76,11 +83,13 @@ invariant_of-self-2 g c =
     let is = c.self.invariant in
     let entries = c.take.new.entries.items in
     let next = c.apply_all.new.self in
+    let With : List LogEntry → ReplicaState = λ l. record self.replica { entries = self.replica.entries ++ l } in
+    let applied = c.apply_all.ensures ∙ ap With c.as_slice.ensures.value in
     let all = took_all _ _ self.pass.view c.take.new.pass.view entries c.in_ok-take.ensures.taken is.0.owner in
     let Is : List Waiting → Type 0 = λ l. IsNode g.J.LogName.depth g.J.LogName.replicas (node_state c.take.new.pass next l None) in (
       subst Is (sym c.keep_unplaced.ensures) (took_node _ _ self.pass c.take.new.pass self.replica next self.batch.items self.first entries all is.0),
       took_follows _ _ self.pass c.take.new.pass self.replica next self.batch.items c.keep_unplaced.new.batch.items self.first None entries
-          all is.0 is.1 c.apply_all.ensures,
+          all is.0 is.1 applied,
     )
 
 pub returns-clause-caught_up : goal.returns-clause-caught_up
@@ -89,6 +98,8 @@ returns-clause-caught_up g c =
     let is = c.self.invariant in
     let entries = c.take.new.entries.items in
     let next = c.apply_all.new.self in
+    let With : List LogEntry → ReplicaState = λ l. record self.replica { entries = self.replica.entries ++ l } in
+    let applied = c.apply_all.ensures ∙ ap With c.as_slice.ensures.value in
     let took = c.in_ok-take.ensures.taken in
     let all = took_all _ _ self.pass.view c.take.new.pass.view entries took is.0.owner in
     let ByLeft : List Waiting → Type 0 = λ l. HasCaughtUp g.J.LogName.depth g.J.LogName.replicas (node_state self.pass self.replica self.batch.items self.first)
@@ -98,7 +109,7 @@ returns-clause-caught_up g c =
     let ByOld : NodeState → Type 0 = λ n. HasCaughtUp g.J.LogName.depth g.J.LogName.replicas n
     c.len.result (node_state c.take.new.pass next c.keep_unplaced.new.batch.items None) in
     subst ByOld c.self.view_is (subst ByCount (sym c.len.ensures.value) (subst ByLeft (sym c.keep_unplaced.ensures)
-    (caught_up _ _ self.pass c.take.new.pass self.replica next self.batch.items self.first entries took all is.0 c.apply_all.ensures)))
+    (caught_up _ _ self.pass c.take.new.pass self.replica next self.batch.items self.first entries took all is.0 applied)))
 
 pub returns-clause-answered : goal.returns-clause-answered
 returns-clause-answered g c =
@@ -106,9 +117,11 @@ returns-clause-answered g c =
     let is = c.self.invariant in
     let entries = c.take.new.entries.items in
     let next = c.apply_all.new.self in
+    let With : List LogEntry → ReplicaState = λ l. record self.replica { entries = self.replica.entries ++ l } in
+    let applied = c.apply_all.ensures ∙ ap With c.as_slice.ensures.value in
     let later = log_after g.J.LogName.replicas c.take.new.pass.view.seen in
     let all = took_all _ _ self.pass.view c.take.new.pass.view entries c.in_ok-take.ensures.taken is.0.owner in
-    let are = next_entries _ _ self.pass c.take.new.pass self.replica next self.batch.items self.first entries all is.0 is.1 c.apply_all.ensures in
+    let are = next_entries _ _ self.pass c.take.new.pass self.replica next self.batch.items self.first entries all is.0 is.1 applied in
     let ByOld : NodeState → Type 0 = λ n. c.answer.new.answers.items ≡ answers_of g.J.LogName.depth n.tables later.entries n.first n.batch in
     subst ByOld c.self.view_is (c.answer.ensures
-    ∙ answers_after g.J.LogName.depth self.replica next self.batch.items self.first entries later.entries c.apply_all.ensures are is.1.depth_is)
+    ∙ answers_after g.J.LogName.depth self.replica next self.batch.items self.first entries later.entries applied are is.1.depth_is)

@@ -1,4 +1,4 @@
-use Rattle.std.proofs.Common.{◌≡◌, ◌<◌, ◌≤◌, ℕ, List, All, length, sym, subst, ◌∙◌}
+use Rattle.std.proofs.Common.{◌≡◌, ◌<◌, ◌≤◌, ℕ, List, All, length, take, ap, sym, subst, ◌∙◌}
 use Rattle.std.proofs.lemmas.Result.{err_from_is_err_and}
 use Rattle.vs_types.specs.LogEntry.{IsLogEntry}
 use Rattle.vs_types.specs.declared.limits.TheConstants.{CALLS}
@@ -14,7 +14,7 @@ use Rattle.nr_node.proofs.node.Node.put_batch.Goals as goal
 pub append-requires-clause-entries : goal.append-requires-clause-entries
 append-requires-clause-entries g c =
     let self = c.self.inside in
-    let same = c.as_slice.ensures.value ∙ c.ask_for.ensures.entries in
+    let same = ap (λ (n : ℕ). take n c.ask_for.new.asked) c.len.ensures.value ∙ c.ask_for.ensures.entries in
     let Fit : List LogEntry → Type 0 = λ l. All (IsLogEntry g.J.LogName.depth) l in
     let Low : List LogEntry → Type 0 = λ l. All (λ entry. entry.call < CALLS) l in
     subst Fit (sym same)
@@ -50,5 +50,5 @@ invariant_of-self-2 g c =
     HasAppended g.J.LogName.depth g.J.LogName.replicas self.pass.view l c.in_ok-first.first c.append.new.pass.view in
     let Some : NodeState → Type 0 = λ n. 1 ≤ length n.batch in
     appended_node _ _ self.pass c.append.new.pass self.replica self.batch.items self.first c.in_ok-first.first
-    (subst Appends (c.as_slice.ensures.value ∙ c.ask_for.ensures.entries) c.in_ok-first.ensures.appended)
+    (subst Appends (ap (λ (n : ℕ). take n c.ask_for.new.asked) c.len.ensures.value ∙ c.ask_for.ensures.entries) c.in_ok-first.ensures.appended)
     (subst Some (sym c.self.view_is) c.requires.some) is.0 is.1

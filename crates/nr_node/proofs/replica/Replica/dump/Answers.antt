@@ -8,7 +8,7 @@ use Rattle.vs_walk.proofs.Gathered.{reached_few}
 use Rattle.nr_ring.proofs.Views.{contains_item}
 use Rattle.nr_node.specs.Spaces.{space_of}
 use Rattle.nr_node.specs.inside.Replica.{ReplicaState, entries_told}
-use Rattle.nr_node.proofs.Dumps.{same_frames, same_reached}
+use Rattle.vs_walk.proofs.SameFrames.{same_frames, same_reached}
 use Rattle.nr_node.proofs.replica.Replica.dump.Goals as goal
 
 pub gather-requires-clause-few : goal.gather-requires-clause-few

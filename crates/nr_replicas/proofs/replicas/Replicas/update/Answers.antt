@@ -1,8 +1,6 @@
-use Rattle.std.proofs.Common.{◌≤◌, Option, IfSome, ap, subst, arith}
-use Rattle.vs_types.specs.declared.answer.Answer.{Answer}
+use Rattle.std.proofs.Common.{◌≤◌, ap, arith}
 use Rattle.nr_ring.specs.LogHistory.{log_after, tail}
 use Rattle.nr_ring.specs.declared.tails.Tails.{Tails}
-use Rattle.nr_replicas.specs.Replicas.{IsAnsweredAt}
 use Rattle.nr_replicas.proofs.Hearing.{heard_on, heard_twice, later_than, looked_heard}
 use Rattle.nr_replicas.proofs.Logs.{tail_rises}
 use Rattle.nr_replicas.proofs.replicas.Replicas.update.Goals as goal
@@ -29,10 +27,7 @@ returns-in-Some-clause-answered g c =
     (looked_heard depth replicas c.args.pass.now.view c.look-from.new.pass.view c.look-from.ensures.looked) in
     let knew : tail (log_after replicas c.args.pass.now.view.seen) ≤ c.look-from.result.tail =
     omega (arith, tail_rises _ _ on, ap (λ (t : Tails). t.tail) c.look-from.ensures.tails) in
-    let Confirmed : Option Answer → Type 0 = λ update. IfSome update (λ answer.
-    IsAnsweredAt depth g.K.ReplicasName.tables c.look-from.result.tail (log_after replicas c.wait.new.pass.view.seen)
-    (record { call = c.args.call; op = c.args.op }) c.in_ok-place.place answer) in
-    let confirmed = subst Confirmed c.in-Some.is c.in_ok-place.ensures.confirmed in
+    let confirmed = rw c.in-Some.is at c.in_ok-place.ensures.own in
     record { fresh = later_than knew confirmed.fresh; stands = confirmed.stands; answered = confirmed.answered }
 
 pub returns-in-Some-confirm-clause-heard : goal.returns-in-Some-confirm-clause-heard

@@ -1,0 +1,85 @@
+-- What an entry that was applied is answered stays so as more are applied.
+use Rattle.std.proofs.Common.{◌≡◌, ℕ, ◌+◌, ◌<◌, List, [], ◌∷◌, ◌++◌, Option, Some, None, IfSome, length, take, get_or, ap, sym, subst, ◌∙◌, arith, append_assoc}
+use Rattle.std.specs.Prelude.{slice_get}
+use Rattle.std.proofs.lemmas.List.{take-append-le}
+use Rattle.std.proofs.lemmas.Option.{slice_get_within}
+use Rattle.vs_types.specs.Step.{step}
+use Rattle.vs_types.specs.declared.answer.Answer.{Answer}
+use Rattle.vs_types.specs.declared.depth.Depth.{Depth}
+use Rattle.vs_types.specs.declared.log_entry.LogEntry.{LogEntry}
+use Rattle.nr_slots.specs.declared.waiting.Waiting.{Waiting}
+use Rattle.nr_node.specs.Calls.{IsAnsweredIn, entries_of, entry_of}
+use Rattle.nr_node.specs.Spaces.{answer_at, space_of}
+use Rattle.nr_node.specs.inside.Replica.{ReplicaState}
+use Rattle.nr_node.proofs.Lists.{map_one_more}
+use Rattle.nr_node.proofs.Nodes.{slice_after, slice_more}
+
+pub if_some_on : {T : Type 0} (o : Option T) (P Q : T → Type 0) → ((x : T) → P x → Q x) → IfSome o P → IfSome o Q
+if_some_on (Some x) P Q on is = on x is
+if_some_on None P Q on is = tt
+
+answered_on : (depth : Depth) (tables : ℕ) (entries more : List LogEntry) (entry : LogEntry) (place : ℕ) (answer : Answer)
+    → IsAnsweredIn depth tables entries entry place answer → IsAnsweredIn depth tables (entries ++ more) entry place answer
+answered_on depth tables entries more entry place answer is =
+    let within = slice_get_within entries place entry is.stands in
+    record {
+      stands = slice_more entries more place entry is.stands;
+      answered = is.answered
+          ∙ ap (λ (l : List LogEntry). (step depth tables (space_of depth tables l) entry.op).answer) (sym (take-append-le place entries more (omega arith)));
+    }
+
+answered_last : (depth : Depth) (tables : ℕ) (entries : List LogEntry) (entry : LogEntry) (place : ℕ) (answer : Answer)
+    → place ≡ length entries → answer ≡ answer_at depth tables entries (length entries) entry.op
+    → IsAnsweredIn depth tables (entries ++ entry ∷ []) entry place answer
+answered_last depth tables entries entry place answer at made =
+    let here : place ≡ length entries + 0 = omega arith in
+    record {
+      stands = ap (slice_get (entries ++ entry ∷ [])) here ∙ slice_after entries (entry ∷ []) 0;
+      answered = made
+          ∙ ap (λ (n : ℕ). answer_at depth tables entries n entry.op) (sym at)
+          ∙ ap (λ (l : List LogEntry). (step depth tables (space_of depth tables l) entry.op).answer)
+          (sym (take-append-le place entries (entry ∷ []) (omega arith)));
+    }
+
+-- an entry more is applied, and is the one that is wanted
+pub own_made : (start now next : ReplicaState) (mid : List LogEntry) (entry wanted : LogEntry) (place : ℕ) (answer : Answer)
+    → now ≡ record start { entries = mid } → next ≡ record now { entries = now.entries ++ entry ∷ [] } → place ≡ length now.entries → entry ≡ wanted
+    → answer ≡ answer_at now.depth now.tables now.entries (length now.entries) entry.op
+    → IsAnsweredIn start.depth start.tables next.entries wanted place answer
+own_made start now next mid entry wanted place answer was made at same answered =
+    let entries : next.entries ≡ now.entries ++ entry ∷ [] = ap (λ (r : ReplicaState). r.entries) made in
+    let ByDepth : Depth → Type 0 = λ d. IsAnsweredIn d now.tables (now.entries ++ entry ∷ []) entry place answer in
+    let ByTables : ℕ → Type 0 = λ t. IsAnsweredIn start.depth t (now.entries ++ entry ∷ []) entry place answer in
+    let ByEntries : List LogEntry → Type 0 = λ l. IsAnsweredIn start.depth start.tables l entry place answer in
+    let ByEntry : LogEntry → Type 0 = λ e. IsAnsweredIn start.depth start.tables next.entries e place answer in
+    subst ByEntry same (subst ByEntries (sym entries) (subst ByTables (ap (λ (r : ReplicaState). r.tables) was)
+    (subst ByDepth (ap (λ (r : ReplicaState). r.depth) was) (answered_last now.depth now.tables now.entries entry place answer at answered))))
+
+-- an entry more is applied, and the one that is wanted was before
+pub own_stays : (start now next : ReplicaState) (entry wanted : LogEntry) (place : ℕ) (answer : Answer)
+    → next ≡ record now { entries = now.entries ++ entry ∷ [] } → IsAnsweredIn start.depth start.tables now.entries wanted place answer
+    → IsAnsweredIn start.depth start.tables next.entries wanted place answer
+own_stays start now next entry wanted place answer made is =
+    let ByEntries : List LogEntry → Type 0 = λ l. IsAnsweredIn start.depth start.tables l wanted place answer in
+    subst ByEntries (sym (ap (λ (r : ReplicaState). r.entries) made)) (answered_on start.depth start.tables now.entries (entry ∷ []) wanted place answer is)
+
+-- the next entry of a batch is applied
+pub applied_more : (start now next : ReplicaState) (batch : List Waiting) (i : ℕ) (x : Waiting) (entry : LogEntry)
+    → i < length batch → x ≡ get_or batch i x → entry ≡ entry_of x
+    → now ≡ record start { entries = start.entries ++ entries_of (take i batch) } → next ≡ record now { entries = now.entries ++ entry ∷ [] }
+    → next ≡ record start { entries = start.entries ++ entries_of (take (i + 1) batch) }
+applied_more start now next batch i x entry lt here is was made =
+    let Next : ReplicaState → ReplicaState = λ r. record r { entries = r.entries ++ entry ∷ [] } in
+    let With : List LogEntry → ReplicaState = λ l. record start { entries = l } in
+    let more : entries_of (take i batch) ++ entry ∷ [] ≡ entries_of (take (i + 1) batch) =
+    ap (λ (e : LogEntry). entries_of (take i batch) ++ e ∷ []) is ∙ sym (map_one_more entry_of batch i x lt here) in
+    made ∙ ap Next was ∙ ap With (append_assoc start.entries (entries_of (take i batch)) (entry ∷ []) ∙ ap (λ (l : List LogEntry). start.entries ++ l) more)
+
+-- entries are applied, and then a batch
+pub both_applied : (start mid next : ReplicaState) (first entries second : List LogEntry)
+    → mid ≡ record start { entries = start.entries ++ first } → first ≡ entries → next ≡ record mid { entries = mid.entries ++ second }
+    → next ≡ record start { entries = start.entries ++ (entries ++ second) }
+both_applied start mid next first entries second was are made =
+    let Next : ReplicaState → ReplicaState = λ r. record r { entries = r.entries ++ second } in
+    let With : List LogEntry → ReplicaState = λ l. record start { entries = l } in
+    made ∙ ap Next (was ∙ ap With (ap (λ (l : List LogEntry). start.entries ++ l) are)) ∙ ap With (append_assoc start.entries entries second)
