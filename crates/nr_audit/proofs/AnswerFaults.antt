@@ -22,16 +22,16 @@ use Rattle.nr_trace.specs.Orders.{before, updates, operations, space_from, answe
 use Rattle.nr_trace.specs.Faults.{HasFaultFrom, Earlier, IsWrongFrom}
 use Rattle.nr_trace.specs.Laws.{HasCleanLog}
 use Rattle.nr_trace.specs.declared.event.Event.{Event}
-use Rattle.nr_trace.specs.declared.event.Event.TheVariants.{Call, Reply, Touch}
+use Rattle.nr_trace.specs.declared.event.Event.TheVariants.{Call}
 use Rattle.nr_trace.specs.declared.fault.Fault.{Fault}
 use Rattle.nr_trace.specs.declared.fault.Fault.TheVariants.{WrongAnswer}
 use Rattle.nr_trace.proofs.LawsOfOrder.{order_distinct, updates_of_order}
 use Rattle.nr_trace.proofs.LawsOfFaults.{wrong_is_member}
 use Rattle.nr_audit.specs.inside.Search.{HasNoneFrom, IsFirstAmongFrom}
 use Rattle.nr_audit.specs.inside.Passes.{IsAnswerFault}
-use Rattle.nr_audit.specs.inside.Steps.{Serves}
+use Rattle.nr_audit.specs.Served.{asked_by, Serves}
 use Rattle.nr_audit.specs.Verdict.{space_of}
-use Rattle.nr_audit.specs.inside.Replies.{answer_to, asked_by}
+use Rattle.nr_audit.specs.inside.Replies.{answer_to}
 use Rattle.nr_audit.proofs.Ranks.{earlier_cases}
 
 -- ---- where a call is among distinct ones
@@ -43,10 +43,9 @@ apart_at x (y ∷ ys) (suc k) d h lt e = apart_at x ys k d h.1 (omega arith) e
 
 distinct_at : (xs : List ℕ) (j k d : ℕ) → IsDistinct nat_eq xs → j < k → k < length xs → get_or xs j d ≡ get_or xs k d → ⊥
 unfolding IsDistinct
-distinct_at [] j k d h lt within e = absurd (omega arith)
-distinct_at (x ∷ xs) j zero d h lt within e = absurd (omega arith)
 distinct_at (x ∷ xs) zero (suc k) d h lt within e = apart_at x xs k d h.0 (omega arith) (sym e)
 distinct_at (x ∷ xs) (suc j) (suc k) d h lt within e = distinct_at xs j k d h.1 (omega arith) (omega arith) e
+distinct_at _ j _ d h lt within e = absurd (omega arith)
 
 place_of : (xs : List ℕ) (k d : ℕ) → IsDistinct nat_eq xs → k < length xs → position_or_len (λ other. other == get_or xs k d) xs ≡ k
 place_of xs k d distinct within = position_or_len_is (λ other. other == get_or xs k d) xs k d (omega arith)
@@ -73,21 +72,18 @@ stands_there xs call k d lt within =
 -- the space that a request leaves
 pub served : Layout → Space → Query → Space
 served layout space (Update action) = (step layout.depth layout.tables space action).space
-served layout space (Resolve address) = space
-served layout space (Access address mode access) = space
+served layout space _ = space
 
 pub answered : (layout : Layout) (space : Space) (query : Query) (answer : Answer) (new : BoundedSpace) → Serves (space_of layout space) query answer new
     → answer ≡ answer_in layout space query
 answered layout space (Update action) answer new h = h.0
-answered layout space (Resolve address) answer new h = h.0
-answered layout space (Access address mode access) answer new h = h.0
+answered layout space _ answer new h = h.0
 
 pub left : (layout : Layout) (space : Space) (query : Query) (answer : Answer) (new : BoundedSpace) → Serves (space_of layout space) query answer new
     → new ≡ space_of layout (served layout space query)
 unfolding served
 left layout space (Update action) answer new h = h.1
-left layout space (Resolve address) answer new h = h.1
-left layout space (Access address mode access) answer new h = h.1
+left layout space _ answer new h = h.1
 
 more : (start : Space) (trace : Recording) (order : List ℕ) (k d : ℕ) → k < length order
     → space_from start trace (take (k + 1) order)
@@ -103,10 +99,8 @@ asks_in event = option_and_then (λ (made : Invocation). if made.touch then None
 
 asked : (event : Option Event)
     → option_and_then (λ (made : Invocation). operation_in made.request) (option_and_then made_by event) ≡ option_and_then operation_in (asks_in event)
-asked None = refl
 asked (Some (Call replica thread request)) = refl
-asked (Some (Touch replica thread address mode access)) = refl
-asked (Some (Reply call at answer)) = refl
+asked _ = refl
 
 -- what a request says of its call
 pub operation_by : (trace : Recording) (call : ℕ) (query : Option Query) → query ≡ asked_by trace call

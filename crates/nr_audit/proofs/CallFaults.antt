@@ -16,8 +16,9 @@ use Rattle.nr_audit.specs.inside.Search.{HasNone, IsFirstAmong}
 use Rattle.nr_audit.specs.inside.Passes.{IsCallFaultAt, IsCallFault}
 use Rattle.nr_audit.specs.inside.Tables.{IsReplyBelow, AreReplies}
 use Rattle.nr_audit.proofs.Ranks.{IsRanked, none_of_all, first_of_all, lower_number}
-use Rattle.nr_audit.proofs.CallsAndReplies.{reply_here, no_call_at_reply, no_call_past, no_reply_past, answers_by, reply_by}
+use Rattle.nr_audit.proofs.CallsAndReplies.{reply_here, no_call_at_reply, no_call_past, no_reply_past, reply_by}
 use Rattle.nr_audit.proofs.CallsAndReplies.{no_reply_with, no_answer, answers_only}
+use Rattle.nr_trace.proofs.LawsOfCalls.{answers_from}
 
 pub record HasFound (trace : Recording) (end : ℕ) (last table : List (Option ℕ)) : Type 0 where
   pub threads : length last ≡ trace.layout.threads
@@ -284,7 +285,7 @@ module _ (trace : Recording) (end : ℕ) (last table : List (Option ℕ)) (known
             (get_or-set_same table call (Some end) None (below_table call low)) in
             subst (λ o. IsReplyBelow trace (end + 1) other o) (sym here) (
               omega arith,
-              answers_by trace end other (record { call = call; at = at; answer = answer }) mine (sym same),
+              answers_from trace end other (record { call = call; at = at; answer = answer }) mine (sym same),
               λ index below answers. elim (cases_lt index end) [
                 | inl before ↦ absurd (unanswered trace end call (get_or table call None) none (known.replies call (below_table call low)) index before
                     (subst (λ c. Answers trace index c) same answers))

@@ -1,7 +1,7 @@
 -- What an event is: a call or a reply.
 use Rattle.std.proofs.Common.{◌≡◌, ◌≢◌, Bool, true, false, List, ℕ, ◌<◌, ◌≤◌, Some, None, Option, length, refl, sym, ap, subst, ◌∙◌, inl, inr, arith, get_or}
 use Rattle.std.specs.Prelude.{slice_get, IsSome, is_some, option_and_then, option_map, IfSome, IsSomeAnd, ◌==◌, if◌then◌else◌}
-use Rattle.std.proofs.lemmas.Bool.{false≢true, eqb-true, eq-eqb, cond-true, cond-false, cases_Bool}
+use Rattle.std.proofs.lemmas.Bool.{false≢true, eqb-true, cond-false, cases_Bool}
 use Rattle.std.proofs.lemmas.Option.{slice_get_past, slice_get-get_or}
 use Rattle.std.proofs.lemmas.List.Elements.{All-get_or}
 use Rattle.nr_trace.specs.Recording.{Recording, IsRecording, IsEvent}
@@ -16,9 +16,8 @@ use Rattle.vs_types.specs.declared.answer.Answer.{Answer}
 
 -- an event that is no reply
 pub no_reply_unless : (event : Event) → ((call at : ℕ) (answer : Answer) → event ≢ Reply call at answer) → reply_in event ≡ None
-no_reply_unless (Call replica thread request) none = refl
-no_reply_unless (Touch replica thread address mode access) none = refl
 no_reply_unless (Reply call at answer) none = absurd (none call at answer refl)
+no_reply_unless _ none = refl
 
 pub no_reply_there : (trace : Recording) (i : ℕ) (event : Event) → slice_get trace.events i ≡ Some event → reply_in event ≡ None → reply_of trace i ≡ None
 no_reply_there trace i event is none = ap (λ o. option_and_then reply_in o) is ∙ none
@@ -39,12 +38,6 @@ no_reply_past trace i past = ap (λ o. option_and_then reply_in o) (slice_get_pa
 -- the call at an index, as it is read from the events
 pub read_call : (trace : Recording) (i : ℕ) (event : Event) → i < length trace.events → event ≡ get_or trace.events i event → call_of trace i ≡ made_by event
 read_call trace i event lt e = ap (λ o. option_and_then made_by o) (slice_get-get_or trace.events i event lt ∙ ap (λ x. Some x) (sym e))
-
--- a reply to the call is a reply that names it
-pub answers_by : (trace : Recording) (i call : ℕ) (reply : Response) → reply_of trace i ≡ Some reply → reply.call ≡ call → Answers trace i call
-answers_by trace i call reply is same =
-    subst (λ (o : Option Response). IsSome (option_and_then (λ (r : Response). if r.call == call then Some r else None) o)) (sym is)
-    (ap is_some (cond-true (reply.call == call) (Some reply) None (eq-eqb reply.call call same)))
 
 pub reply_by : (trace : Recording) (i call : ℕ) → Answers trace i call → (reply : Response) × (reply_of trace i ≡ Some reply) × (reply.call ≡ call)
 reply_by trace i call h =
@@ -73,9 +66,6 @@ answers_only trace i call reply is h =
     let named = other.2 in
     let same : reply ≡ other.0 = cc in
     ap (λ (r : Response). r.call) same ∙ named
-
-pub is_call_from : (trace : Recording) (i : ℕ) (made : Invocation) → call_of trace i ≡ Some made → IsCall trace i
-is_call_from trace i made e = ap is_some e
 
 pub made_from : (trace : Recording) (i : ℕ) → IsCall trace i → (made : Invocation) × (call_of trace i ≡ Some made)
 made_from trace i h =

@@ -1,5 +1,5 @@
 -- What is found in the dumps, as they are compared one after another.
-use Rattle.std.proofs.Common.{◌≡◌, ◌≢◌, ℕ, ◌+◌, ◌<◌, ◌≤◌, inl, inr, List, length, replicate, set, slice_get, take, get_or, Some, None, Option, refl, sym, ap}
+use Rattle.std.proofs.Common.{◌≡◌, ◌≢◌, ℕ, ◌+◌, ◌<◌, ◌≤◌, inl, inr, List, length, replicate, set, slice_get, take, get_or, Some, None, Option, sym, ap}
 use Rattle.std.proofs.Common.{subst, ◌∙◌, arith, get_or-set_other, get_or-set_same}
 use Rattle.std.proofs.lemmas.Bool.{cases_lt, cases_eq}
 use Rattle.std.proofs.lemmas.List.{length-set, length-replicate}
@@ -11,15 +11,8 @@ use Rattle.nr_dump.specs.declared.fault.DumpFault.{DumpFault}
 use Rattle.nr_trace.specs.Recording.{Recording}
 use Rattle.nr_trace.specs.Orders.{space_from}
 use Rattle.nr_audit.specs.Verdict.{space_of}
-use Rattle.nr_audit.specs.inside.Dumps.{IsFoundBeside, IsFoundIn, AreFound, AreCompared}
-
-pub compared_at_start : (trace : Recording) (space : BoundedSpace) (applied : ℕ) (faults : List (Option DumpFault))
-    → AreCompared trace space applied 0 faults faults
-compared_at_start trace space applied faults = record {
-  as_many = refl;
-  found = λ replica dump low is same. absurd (omega arith);
-  kept = λ replica dump is other. refl;
-}
+use Rattle.nr_audit.specs.Dumps.{IsFoundBeside}
+use Rattle.nr_audit.specs.inside.Dumps.{IsFoundIn, AreFound, AreCompared}
 
 module _ (trace : Recording) (space : BoundedSpace) (applied end : ℕ) (old new : List (Option DumpFault)) (dump : Image)
     (here : slice_get trace.dumps end ≡ Some dump)

@@ -19,7 +19,7 @@ use Rattle.nr_dump.specs.declared.fault.DumpFault.{DumpFault}
 use Rattle.nr_dump.specs.declared.fault.DumpFault.TheVariants as of_dump
 use Rattle.nr_audit.specs.inside.Search.{HasNoneFrom, IsFirstAmongFrom}
 use Rattle.nr_audit.specs.inside.Passes.{IsDumpFaultAt, IsDumpFault}
-use Rattle.nr_audit.specs.inside.Dumps.{at_replica}
+use Rattle.nr_audit.specs.Dumps.{at_replica}
 use Rattle.nr_audit.specs.inside.Prefixes.{AreNeeds}
 use Rattle.nr_audit.proofs.Ranks.{IsRanked, none_from, first_from, lower_number}
 
@@ -148,17 +148,11 @@ number_in (of_dump.Differs address) = 17
 
 rank_in : (trace : Recording) (replica : ℕ) (fault : DumpFault) → rank trace (at_replica replica fault) ≡ 7 ∷ replica ∷ number_in fault ∷ []
 rank_in trace replica (of_dump.MissingFrame frame) = refl
-rank_in trace replica (of_dump.SharedFrame frame) = refl
-rank_in trace replica (of_dump.ReservedBit frame index) = refl
-rank_in trace replica (of_dump.StrayFrame frame) = refl
-rank_in trace replica (of_dump.Differs address) = refl
+rank_in trace replica _ = refl
 
 is_of_replica : (replica : ℕ) (fault : DumpFault) → IsDumpFaultAt replica (at_replica replica fault)
 is_of_replica replica (of_dump.MissingFrame frame) = refl
-is_of_replica replica (of_dump.SharedFrame frame) = refl
-is_of_replica replica (of_dump.ReservedBit frame index) = refl
-is_of_replica replica (of_dump.StrayFrame frame) = refl
-is_of_replica replica (of_dump.Differs address) = refl
+is_of_replica replica _ = refl
 
 reply_below : (trace : Recording) (index : ℕ) (reply : Response) → reply_of trace index ≡ Some reply → index < length trace.events
 reply_below trace index reply is = let (event, at, own) = reply_in_event (slice_get trace.events index) reply is in slice_get_within trace.events index event at
@@ -168,10 +162,7 @@ module _ (start : Space) (trace : Recording) (replica : ℕ) (dump : Image) (is 
   told : (fault : DumpFault) → dumps.HoldsOfDump trace.layout.depth dump (space_from start trace (take dump.applied trace.log)) fault
       → HasFaultFrom start trace (at_replica replica fault)
   told (of_dump.MissingFrame frame) holds = (dump, is, there, holds)
-  told (of_dump.SharedFrame frame) holds = (dump, is, there, holds)
-  told (of_dump.ReservedBit frame index) holds = (dump, is, there, holds)
-  told (of_dump.StrayFrame frame) holds = (dump, is, there, holds)
-  told (of_dump.Differs address) holds = (dump, is, there, holds)
+  told _ holds = (dump, is, there, holds)
 
   own_dump : (at : ℕ) (other : Image) → at ≡ replica → slice_get trace.dumps at ≡ Some other → other ≡ dump
   own_dump at other same there = same_Some other dump (sym there ∙ ap (slice_get trace.dumps) same ∙ is)
@@ -230,31 +221,18 @@ module _ (start : Space) (trace : Recording) (replica : ℕ) (dump : Image) (is 
       → dumps.HoldsOfDump trace.layout.depth dump (space_from start trace (take dump.applied trace.log)) other
       → dumps.HoldsOfDump trace.layout.depth dump (space_from start trace (take dump.applied trace.log)) fault
       → dumps.rank_in_dump other < dumps.rank_in_dump fault
-  comes_earlier (of_dump.MissingFrame a) (of_dump.MissingFrame b) lt f g = absurd (omega arith)
   comes_earlier (of_dump.MissingFrame a) (of_dump.SharedFrame b) lt f g = absurd cc
   comes_earlier (of_dump.MissingFrame a) (of_dump.ReservedBit b i) lt f g = absurd cc
   comes_earlier (of_dump.MissingFrame a) (of_dump.StrayFrame b) lt f g = lit< tt
   comes_earlier (of_dump.MissingFrame a) (of_dump.Differs b) lt f g = lit< tt
-  comes_earlier (of_dump.SharedFrame a) (of_dump.MissingFrame b) lt f g = absurd (omega arith)
-  comes_earlier (of_dump.SharedFrame a) (of_dump.SharedFrame b) lt f g = absurd (omega arith)
   comes_earlier (of_dump.SharedFrame a) (of_dump.ReservedBit b i) lt f g = absurd cc
   comes_earlier (of_dump.SharedFrame a) (of_dump.StrayFrame b) lt f g = lit< tt
   comes_earlier (of_dump.SharedFrame a) (of_dump.Differs b) lt f g = lit< tt
-  comes_earlier (of_dump.ReservedBit a i) (of_dump.MissingFrame b) lt f g = absurd (omega arith)
-  comes_earlier (of_dump.ReservedBit a i) (of_dump.SharedFrame b) lt f g = absurd (omega arith)
-  comes_earlier (of_dump.ReservedBit a i) (of_dump.ReservedBit b j) lt f g = absurd (omega arith)
   comes_earlier (of_dump.ReservedBit a i) (of_dump.StrayFrame b) lt f g = lit< tt
   comes_earlier (of_dump.ReservedBit a i) (of_dump.Differs b) lt f g = lit< tt
-  comes_earlier (of_dump.StrayFrame a) (of_dump.MissingFrame b) lt f g = absurd (omega arith)
-  comes_earlier (of_dump.StrayFrame a) (of_dump.SharedFrame b) lt f g = absurd (omega arith)
-  comes_earlier (of_dump.StrayFrame a) (of_dump.ReservedBit b i) lt f g = absurd (omega arith)
-  comes_earlier (of_dump.StrayFrame a) (of_dump.StrayFrame b) lt f g = absurd (omega arith)
   comes_earlier (of_dump.StrayFrame a) (of_dump.Differs b) lt f g = lit< tt
   comes_earlier (of_dump.Differs a) (of_dump.MissingFrame b) lt f g = absurd (omega arith)
-  comes_earlier (of_dump.Differs a) (of_dump.SharedFrame b) lt f g = absurd (omega arith)
-  comes_earlier (of_dump.Differs a) (of_dump.ReservedBit b i) lt f g = absurd (omega arith)
-  comes_earlier (of_dump.Differs a) (of_dump.StrayFrame b) lt f g = absurd (omega arith)
-  comes_earlier (of_dump.Differs a) (of_dump.Differs b) lt f g = absurd (omega arith)
+  comes_earlier _ _ lt f g = absurd (omega arith)
 
   -- ---- how many entries are applied
 

@@ -33,13 +33,7 @@ pass_of (NotPlaced index) = 4
 pass_of (PastLog index) = 4
 pass_of (Early call) = 5
 pass_of (WrongAnswer call) = 6
-pass_of (PrefixPastLog replica) = 7
-pass_of (PrefixShort replica) = 7
-pass_of (MissingFrame replica number) = 7
-pass_of (SharedFrame replica number) = 7
-pass_of (ReservedBit replica number index) = 7
-pass_of (StrayFrame replica number) = 7
-pass_of (Differs replica address) = 7
+pass_of _ = 7
 
 -- a fault is by its pass first
 record Ranked (trace : Recording) (fault : Fault) : Type 0 where
@@ -77,22 +71,7 @@ HasNoneBefore start pass trace = (fault : Fault) → pass_of fault < pass → Ha
 
 pub none_of_format : (trace : Recording) → HasNoneBefore no_pages 2 trace
 none_of_format trace (Format fault) lt holds = holds
-none_of_format trace (ThreadOpen index) lt holds = omega arith
-none_of_format trace (NoSuchCall index) lt holds = omega arith
-none_of_format trace (AnsweredTwice index) lt holds = omega arith
-none_of_format trace (NotAnUpdate place) lt holds = omega arith
-none_of_format trace (PlacedTwice place) lt holds = omega arith
-none_of_format trace (NotPlaced index) lt holds = omega arith
-none_of_format trace (PastLog index) lt holds = omega arith
-none_of_format trace (Early call) lt holds = omega arith
-none_of_format trace (WrongAnswer call) lt holds = omega arith
-none_of_format trace (PrefixPastLog replica) lt holds = omega arith
-none_of_format trace (PrefixShort replica) lt holds = omega arith
-none_of_format trace (MissingFrame replica number) lt holds = omega arith
-none_of_format trace (SharedFrame replica number) lt holds = omega arith
-none_of_format trace (ReservedBit replica number index) lt holds = omega arith
-none_of_format trace (StrayFrame replica number) lt holds = omega arith
-none_of_format trace (Differs replica address) lt holds = omega arith
+none_of_format trace _ lt holds = omega arith
 
 -- one pass more
 pub none_before_next : (start : Space) (pass : ℕ) (Among : Fault → Type 0) (trace : Recording) → AreOfPass pass Among → HasNoneBefore start pass trace
@@ -138,23 +117,9 @@ refused_in start Among one other fail same first = subst (λ t. IfRefused (IsFir
 -- ---- faults of the passes before the answers are those from any start on
 
 of_any : (one other : Space) (trace : Recording) (fault : Fault) → pass_of fault < 6 → HasFaultFrom one trace fault → HasFaultFrom other trace fault
-of_any one other trace (Format fault) low holds = holds
-of_any one other trace (ThreadOpen index) low holds = holds
-of_any one other trace (NoSuchCall index) low holds = holds
-of_any one other trace (AnsweredTwice index) low holds = holds
-of_any one other trace (NotAnUpdate place) low holds = holds
-of_any one other trace (PlacedTwice place) low holds = holds
-of_any one other trace (NotPlaced index) low holds = holds
-of_any one other trace (PastLog index) low holds = holds
-of_any one other trace (Early call) low holds = holds
 of_any one other trace (WrongAnswer call) low holds = absurd (omega arith)
-of_any one other trace (PrefixPastLog replica) low holds = holds
-of_any one other trace (PrefixShort replica) low holds = holds
-of_any one other trace (MissingFrame replica number) low holds = holds
-of_any one other trace (SharedFrame replica number) low holds = holds
-of_any one other trace (ReservedBit replica number index) low holds = holds
-of_any one other trace (StrayFrame replica number) low holds = holds
 of_any one other trace (Differs replica address) low holds = absurd (omega arith)
+of_any one other trace _ low holds = holds
 
 pub none_before_from : (start : Space) (trace : Recording) → HasNoneBefore no_pages 6 trace → HasNoneBefore start 6 trace
 none_before_from start trace none fault low holds = none fault low (of_any start no_pages trace fault low holds)
@@ -199,7 +164,6 @@ IsOfPass pass fault =
     (MatchBool (pass == 5) (IsFloorFault fault) (MatchBool (pass == 6) (IsAnswerFault fault) (MatchBool (pass == 7) (IsDumpFault fault) ⊤)))))
 
 own_pass : (fault : Fault) → IsOfPass (pass_of fault) fault
-own_pass (Format fault) = tt
 own_pass (ThreadOpen index) = (index, refl)
 own_pass (NoSuchCall index) = (index, refl)
 own_pass (AnsweredTwice index) = (index, refl)
@@ -208,7 +172,6 @@ own_pass (PlacedTwice place) = (place, refl)
 own_pass (NotPlaced index) = (index, refl)
 own_pass (PastLog index) = (index, refl)
 own_pass (Early call) = (call, refl)
-own_pass (WrongAnswer call) = tt
 own_pass (PrefixPastLog replica) = (replica, refl)
 own_pass (PrefixShort replica) = (replica, refl)
 own_pass (MissingFrame replica number) = (replica, refl)
@@ -216,6 +179,7 @@ own_pass (SharedFrame replica number) = (replica, refl)
 own_pass (ReservedBit replica number index) = (replica, refl)
 own_pass (StrayFrame replica number) = (replica, refl)
 own_pass (Differs replica address) = (replica, refl)
+own_pass _ = tt
 
 from_call : (fault : Fault) → IsCallFault fault → pass_of fault ≡ 2
 from_call (ThreadOpen index) among = refl
@@ -272,22 +236,7 @@ dump_faults = record { all = λ fault e. subst (λ pass. IsOfPass pass fault) e 
 -- a fault is of one of the passes
 last_pass : (fault : Fault) → pass_of fault < 8
 last_pass (Format fault) = lit< tt
-last_pass (ThreadOpen index) = lit< tt
-last_pass (NoSuchCall index) = lit< tt
-last_pass (AnsweredTwice index) = lit< tt
-last_pass (NotAnUpdate place) = lit< tt
-last_pass (PlacedTwice place) = lit< tt
-last_pass (NotPlaced index) = lit< tt
-last_pass (PastLog index) = lit< tt
-last_pass (Early call) = lit< tt
-last_pass (WrongAnswer call) = lit< tt
-last_pass (PrefixPastLog replica) = lit< tt
-last_pass (PrefixShort replica) = lit< tt
-last_pass (MissingFrame replica number) = lit< tt
-last_pass (SharedFrame replica number) = lit< tt
-last_pass (ReservedBit replica number index) = lit< tt
-last_pass (StrayFrame replica number) = lit< tt
-last_pass (Differs replica address) = lit< tt
+last_pass _ = lit< tt
 
 pub faultless_after_all : (start : Space) (trace : Recording) → HasNoneBefore start 8 trace → IsFaultlessFrom start trace
 faultless_after_all start trace none fault holds = none fault (last_pass fault) holds

@@ -10,7 +10,8 @@ use Rattle.nr_trace.specs.Laws.{HasCleanLog}
 use Rattle.nr_trace.specs.declared.fault.Fault.{Fault}
 use Rattle.nr_trace.specs.declared.fault.Fault.TheVariants.{Early}
 use Rattle.nr_trace.proofs.LawsOfCalls.{call_within, stands_once, update_is_call, read_is_call}
-use Rattle.nr_audit.specs.inside.Search.{Finds, FindsEarly, HasNone, IsFirstAmong}
+use Rattle.vs_types.specs.Finds.{Finds}
+use Rattle.nr_audit.specs.inside.Search.{FindsEarly, HasNone, IsFirstAmong}
 use Rattle.nr_audit.specs.inside.Passes.{IsFloorFaultAt, IsFloorFault}
 use Rattle.nr_audit.proofs.Ranks.{IsRanked, more_of, none_of_all, first_of_all, lower_number}
 

@@ -10,7 +10,7 @@ use Rattle.nr_trace.specs.Calls.{made_by, Response, reply_in, IsCall}
 use Rattle.nr_trace.specs.Laws.{HasCleanLog}
 use Rattle.nr_trace.specs.Orders.{recorded_order}
 use Rattle.nr_trace.specs.declared.event.Event.{Event}
-use Rattle.nr_trace.specs.declared.event.Event.TheVariants.{Call, Reply, Touch}
+use Rattle.nr_trace.specs.declared.event.Event.TheVariants.{Reply}
 use Rattle.nr_trace.proofs.LawsOfCalls.{update_is_call, read_is_call}
 use Rattle.nr_trace.proofs.LawsOfLists.{in_from_Contains}
 use Rattle.nr_trace.proofs.LawsOfOrder.{member_stands}
@@ -31,10 +31,8 @@ all_calls trace clean k d lt =
 
 -- a call is no reply
 call_or_reply : (o : Option Event) → IsSome (option_and_then made_by o) → option_and_then reply_in o ≡ None
-call_or_reply None h = refl
-call_or_reply (Some (Call replica thread request)) h = refl
-call_or_reply (Some (Touch replica thread address mode access)) h = refl
 call_or_reply (Some (Reply call at answer)) h = absurd (false≢true h)
+call_or_reply _ h = refl
 
 -- the reply that the table names
 pub last_by_reply : (trace : Recording) (table : List (Option ℕ)) (call index : ℕ) → AreReplies trace table → call < length table

@@ -1,7 +1,7 @@
 -- The most entries that are known by the replies at each replica, and what that says of its dump.
 use Rattle.std.proofs.Common.{cond, ◌≡◌, ℕ, ◌+◌, ◌<◌, ◌≤◌, ◌⊎◌, inl, inr, List, max, replicate, set, get_or, Some, None, Option, refl, sym, ap, subst, ◌∙◌}
 use Rattle.std.proofs.Common.{arith, get_or-set_other, get_or-set_same}
-use Rattle.std.specs.Prelude.{option_map, IfSome}
+use Rattle.std.specs.Prelude.{IfSome}
 use Rattle.std.specs.Ordering.{nat_cmp, ord_max, is_lt}
 use Rattle.std.specs.declared.cmp.Ordering.{Ordering}
 use Rattle.std.specs.declared.cmp.Ordering.TheVariants.{Less, Equal, Greater}
@@ -155,12 +155,3 @@ greater_is a b = by_cmp (nat_cmp b a) refl where
   by_cmp Less e = let h = ranked b a Less e in let it : a ≡ max a b = omega arith in it
   by_cmp Equal e = let h = ranked b a Equal e in let it : b ≡ max a b = omega arith in it
   by_cmp Greater e = let h = ranked b a Greater e in let it : b ≡ max a b = omega arith in it
-
-pub made_at : (o : Option Invocation) (replica : ℕ) → Some replica ≡ option_map (λ (made : Invocation). made.replica) o
-    → (made : Invocation) × (o ≡ Some made) × (made.replica ≡ replica)
-made_at None replica e = absurd cc
-made_at (Some made) replica e = (made, refl, cc)
-
-pub made_nowhere : (o : Option Invocation) → option_map (λ (made : Invocation). made.replica) o ≡ None → o ≡ None
-made_nowhere None e = refl
-made_nowhere (Some made) e = absurd cc

@@ -13,9 +13,7 @@ use Rattle.nr_trace.specs.Orders.{recorded_order, space_from, HasItsCalls, Keeps
 use Rattle.nr_trace.specs.Faults.{HasFault, IsFirst, IsFirstFrom, IsFirstOf}
 use Rattle.nr_trace.specs.Laws.{IsFaultless, IsFaultlessFrom}
 use Rattle.nr_trace.specs.declared.fault.Fault.{Fault}
-use Rattle.nr_trace.specs.declared.fault.Fault.TheVariants.{Format, ThreadOpen, NoSuchCall, AnsweredTwice, NotAnUpdate, PlacedTwice, NotPlaced, PastLog, Early}
-use Rattle.nr_trace.specs.declared.fault.Fault.TheVariants.{WrongAnswer, PrefixPastLog, PrefixShort, MissingFrame, SharedFrame, ReservedBit, StrayFrame}
-use Rattle.nr_trace.specs.declared.fault.Fault.TheVariants.{Differs}
+use Rattle.nr_trace.specs.declared.fault.Fault.TheVariants.{Format}
 use Rattle.nr_trace.specs.declared.fault.Format.{Format as FormatFault}
 use Rattle.nr_trace.proofs.LawsOfSpelling.{one_trace}
 use Rattle.nr_trace.proofs.LawsOfFormat.{no_fault}
@@ -128,22 +126,7 @@ dumps_on trace (No fault) is = tt
 
 first_of_spelled : (bytes : List ℕ) (trace : Recording) (fault : Fault) → Spells bytes trace → IsFirst trace fault → IsFirstOf bytes fault
 first_of_spelled bytes trace (Format fault) spelled first = absurd first.holds
-first_of_spelled bytes trace (ThreadOpen index) spelled first = (trace, spelled, first)
-first_of_spelled bytes trace (NoSuchCall index) spelled first = (trace, spelled, first)
-first_of_spelled bytes trace (AnsweredTwice index) spelled first = (trace, spelled, first)
-first_of_spelled bytes trace (NotAnUpdate place) spelled first = (trace, spelled, first)
-first_of_spelled bytes trace (PlacedTwice place) spelled first = (trace, spelled, first)
-first_of_spelled bytes trace (NotPlaced index) spelled first = (trace, spelled, first)
-first_of_spelled bytes trace (PastLog index) spelled first = (trace, spelled, first)
-first_of_spelled bytes trace (Early call) spelled first = (trace, spelled, first)
-first_of_spelled bytes trace (WrongAnswer call) spelled first = (trace, spelled, first)
-first_of_spelled bytes trace (PrefixPastLog replica) spelled first = (trace, spelled, first)
-first_of_spelled bytes trace (PrefixShort replica) spelled first = (trace, spelled, first)
-first_of_spelled bytes trace (MissingFrame replica number) spelled first = (trace, spelled, first)
-first_of_spelled bytes trace (SharedFrame replica number) spelled first = (trace, spelled, first)
-first_of_spelled bytes trace (ReservedBit replica number index) spelled first = (trace, spelled, first)
-first_of_spelled bytes trace (StrayFrame replica number) spelled first = (trace, spelled, first)
-first_of_spelled bytes trace (Differs replica address) spelled first = (trace, spelled, first)
+first_of_spelled bytes trace _ spelled first = (trace, spelled, first)
 
 pub of_spelled : (bytes : List ℕ) (trace : Recording) (verdict : Verdict) → Spells bytes trace → IsVerdictOn trace verdict → IsVerdictOf bytes verdict
 of_spelled bytes trace (Yes order) spelled is = (trace, spelled, is.0, is.1)

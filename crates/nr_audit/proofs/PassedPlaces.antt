@@ -1,10 +1,10 @@
 -- The places of the log that the calls of the recorded order pass, and the dumps that are compared at them.
-use Rattle.std.proofs.Common.{Bor, nat_eq, IsTrue, ◌≡◌, ◌≢◌, ℕ, ◌+◌, ◌<◌, ◌≤◌, ◌⊎◌, inl, inr, Bool, true, false, cond, List, [], ◌∷◌, ◌++◌, length, take, drop, slice_get, get_or}
+use Rattle.std.proofs.Common.{Bor, nat_eq, IsTrue, ◌≡◌, ◌≢◌, ℕ, ◌+◌, ◌<◌, ◌≤◌, ◌⊎◌, inl, inr, true, false, cond, List, [], ◌∷◌, ◌++◌, length, take, drop, slice_get, get_or}
 use Rattle.std.proofs.Common.{Some, None, Option, refl, sym, ap, subst, ◌∙◌, arith}
 use Rattle.std.specs.Prelude.{◌↔◌, is_some}
 use Rattle.std.specs.Option.{option_copied}
 use Rattle.std.proofs.Math.Seq.{take-length}
-use Rattle.std.proofs.lemmas.Bool.{cases_eq, cond-true, cond-false, eq-eqb, eqb-true, false≢true}
+use Rattle.std.proofs.lemmas.Bool.{cases_eq, cond-true, cond-false, eq-eqb, eqb-true, false≢true, cases_Bool}
 use Rattle.std.proofs.lemmas.List.{append-nil, append_assoc, length-take-le, take-append-drop, take_more}
 use Rattle.std.proofs.lemmas.List.Elements.{filter-append}
 use Rattle.std.proofs.lemmas.Option.{same_Some, slice_get_within, slice_get-get_or}
@@ -112,10 +112,6 @@ some_place log place call = by_place (slice_get log place) where
     | inr apart ↦ inr (λ e. apart (same_Some other call e))
   ]
 
-by_test : (b : Bool) → (b ≡ true) ⊎ (b ≡ false)
-by_test true = inl refl
-by_test false = inr refl
-
 module _ (start : Space) (trace : Recording) (clean : HasCleanLog trace) (k place : ℕ) (faults : List (Option DumpFault))
     (within : k < length (recorded_order trace)) (reached : HasReached start trace k place faults) where
   -- a call that is no update passes no place
@@ -146,7 +142,7 @@ module _ (start : Space) (trace : Recording) (clean : HasCleanLog trace) (k plac
     | inr apart ↦
         let step = passed.other apart in
         let none : is_some (operation_of trace (get_or (recorded_order trace) k 0)) ≡ false =
-        elim (by_test (is_some (operation_of trace (get_or (recorded_order trace) k 0)))) [
+        elim (cases_Bool (is_some (operation_of trace (get_or (recorded_order trace) k 0)))) [
           | inl some ↦ absurd (apart (update_is_next trace k place clean within reached.within reached.passed some))
           | inr none ↦ none
         ] in

@@ -15,7 +15,7 @@ use Rattle.vs_types.specs.declared.refusal.Fail.{Fail}
 use Rattle.vs_types.specs.declared.refusal.Fail.TheVariants.{Memory, Refused}
 use Rattle.nr_audit.specs.inside.Search.{HasNone, HasNoneFrom, IsFirstAmong, IsFirstAmongFrom}
 
-then_less : (r s : Ordering) → ordering_then r s ≡ Less → (r ≡ Less) ⊎ ((r ≡ Equal) × (s ≡ Less))
+pub then_less : (r s : Ordering) → ordering_then r s ≡ Less → (r ≡ Less) ⊎ ((r ≡ Equal) × (s ≡ Less))
 then_less Less s e = inl refl
 then_less Equal s e = inr (refl, e)
 then_less Greater s e = cc

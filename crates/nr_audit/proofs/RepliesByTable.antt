@@ -11,7 +11,7 @@ use Rattle.std.proofs.lemmas.Bool.{cases_lt, eq-eqb, cond-true, false≢true}
 use Rattle.std.proofs.lemmas.List.{get_or_past}
 use Rattle.std.specs.Prelude.{option_map}
 use Rattle.nr_trace.specs.Calls.{Invocation, read_address, address_of, call_of, IsRead, IsUpdate}
-use Rattle.nr_trace.proofs.LawsOfCalls.{not_both}
+use Rattle.nr_trace.proofs.LawsOfCalls.{not_both, reply_in_event}
 use Rattle.nr_audit.specs.inside.Tables.{IsReplyBelow, AreReplies}
 use Rattle.nr_audit.specs.inside.Replies.{position_of, entries_seen}
 use Rattle.nr_audit.proofs.CallsAndReplies.{reply_by}
@@ -41,11 +41,6 @@ none_given h (e ∷ es) none = skip (h e) refl (none_given h es (λ k z w is giv
 abbrev says : ℕ → Event → Option Response
 says call event = option_and_then (λ (reply : Response). if reply.call == call then Some reply else None) (reply_in event)
 
-some_event : (o : Option Event) (reply : Response) → option_and_then reply_in o ≡ Some reply
-    → (event : Event) × (o ≡ Some event) × (reply_in event ≡ Some reply)
-some_event None reply e = absurd (cc)
-some_event (Some event) reply e = (event, refl, e)
-
 -- the reply to a call is the event that the table names
 pub replied : (trace : Recording) (call : ℕ) (o : Option ℕ) → IsReplyBelow trace (length trace.events) call o
     → reply_to trace call ≡ option_and_then (λ index. reply_of trace index) o
@@ -55,7 +50,7 @@ replied trace call None h = none_given (says call) trace.events (λ k event repl
     is ∙ ap is_some given))
 replied trace call (Some index) h =
     let named = reply_by trace index call h.1 in
-    let event = some_event (slice_get trace.events index) named.0 named.1 in
+    let event = reply_in_event (slice_get trace.events index) named.0 named.1 in
     let gives : says call event.0 ≡ Some named.0 =
     ap (λ o. option_and_then (λ (reply : Response). if reply.call == call then Some reply else None) o) event.2
     ∙ cond-true (named.0.call == call) (Some named.0) None (eq-eqb named.0.call call named.2) in

@@ -6,7 +6,7 @@ use Rattle.std.proofs.lemmas.Option.{slice_get_within}
 use Rattle.nr_trace.specs.Recording.{Recording}
 use Rattle.nr_trace.specs.Calls.{Response, address_of, reply_to, IsUpdate}
 use Rattle.nr_trace.specs.Faults.{StandsAfter}
-use Rattle.nr_audit.specs.inside.Search.{Finds}
+use Rattle.vs_types.specs.Finds.{Finds}
 use Rattle.nr_trace.proofs.LawsOfCalls.{not_both}
 use Rattle.nr_audit.specs.inside.Tables.{IsPlaceBelow}
 use Rattle.nr_audit.specs.inside.Replies.{entries_seen}
@@ -24,11 +24,9 @@ from_reply : (address : Option ℕ) (response : Option Response) (seen : Option 
     → seen ≡ option_and_then (λ (a : ℕ). option_map (λ (r : Response). r.at) response) address
     → Finds (λ n. IsSome address × (reply : Response) × (response ≡ Some reply) × (reply.at ≡ n)) seen
 from_reply None response None e = λ n there. false≢true there.0
-from_reply None response (Some n) e = absurd cc
 from_reply (Some a) None None e = λ n there. let some = there.2 in cc
-from_reply (Some a) None (Some n) e = absurd cc
-from_reply (Some a) (Some r) None e = absurd cc
 from_reply (Some a) (Some r) (Some n) e = (refl, r, refl, cc)
+from_reply _ _ _ e = absurd cc
 
 -- what is no update comes after what it saw
 pub by_reply : (trace : Recording) (call : ℕ) (seen : Option ℕ) → (IsUpdate trace call → ⊥) → seen ≡ entries_seen trace call

@@ -7,5 +7,4 @@ pub mod Passes
 pub mod Prefixes
 pub mod Replies
 pub mod Search
-pub mod Steps
 pub mod Tables

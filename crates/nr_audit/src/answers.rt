@@ -11,7 +11,7 @@ ghost use Rattle.nr_audit.specs.inside.Dumps.{AreFound, HasPassed};
 ghost use Rattle.nr_audit.specs.inside.LastEvents.{AreLastEvents};
 ghost use Rattle.nr_audit.specs.inside.Search.{HasNoneFrom, IsFirstAmongFrom};
 ghost use Rattle.nr_audit.specs.inside.Passes.{IsAnswerFault};
-ghost use Rattle.nr_audit.specs.inside.Steps.{Serves};
+ghost use Rattle.nr_audit.specs.Served.{Serves};
 ghost use Rattle.nr_audit.specs.Verdict.{space_of};
 
 use crate::dumps::compare_dumps;
@@ -24,8 +24,12 @@ use std::alloc::Global;
 use vs_plain::PlainSpace;
 use vs_types::{Answer, Fail, Memory, Query, REPLICAS, Request};
 
-/// Serves a request on a space.
-fn serve(space: &mut PlainSpace, request: Request) -> Result<Answer, Memory>
+/// Serves a request on a space: an update is applied, a resolve and an access are answered and change nothing.
+///
+/// # Errors
+///
+/// `Memory` where a growth of memory was refused.
+pub fn serve(space: &mut PlainSpace, request: Request) -> Result<Answer, Memory>
     requires { IsQuery space.old.depth request }
     ensures { IfOk result (λ answer. Serves space.old request answer space.new) }
 {

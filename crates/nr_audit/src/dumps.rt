@@ -3,7 +3,8 @@
 ghost use Rattle.std.specs.Prelude.{◌≡◌, ◌+◌, ◌<◌, OnOk, IfOk, IfErr, length};
 ghost use Rattle.vs_types.specs.Refusal.{IfRefused};
 ghost use Rattle.vs_types.specs.Space.{Space};
-ghost use Rattle.nr_audit.specs.inside.Dumps.{at_replica, IsFoundBeside, AreFound, AreCompared, IsServed};
+ghost use Rattle.nr_audit.specs.Dumps.{at_replica, IsFoundBeside};
+ghost use Rattle.nr_audit.specs.inside.Dumps.{AreFound, AreCompared, IsServed};
 ghost use Rattle.nr_audit.specs.inside.Passes.{IsDumpFault, IsDumpFaultAt};
 ghost use Rattle.nr_audit.specs.inside.Prefixes.{AreNeeds};
 ghost use Rattle.nr_audit.specs.inside.Search.{HasNoneFrom, IsFirstAmongFrom};
@@ -16,7 +17,7 @@ use vs_types::{Fail, Memory, REPLICAS};
 use vs_walk::Dump;
 
 /// The fault of a dump as that of its replica.
-fn fault_at(replica: u8, fault: DumpFault) -> Fault
+pub fn fault_at(replica: u8, fault: DumpFault) -> Fault
     ensures { result ≡ at_replica replica fault }
 {
     match fault {
@@ -29,7 +30,15 @@ fn fault_at(replica: u8, fault: DumpFault) -> Fault
 }
 
 /// What is wrong with the tables of a dump beside a space, or `None`. Allocates the memory of the check.
-fn table_fault(alloc: Global, dump: &Dump, space: &PlainSpace) -> Result<Option<DumpFault>, Memory>
+///
+/// # Errors
+///
+/// `Memory` where a growth of memory was refused.
+pub fn table_fault(
+    alloc: Global,
+    dump: &Dump,
+    space: &PlainSpace,
+) -> Result<Option<DumpFault>, Memory>
     ensures { IfOk result (IsFoundBeside dump.now space.now) }
 {
     match check(alloc, dump, space) {

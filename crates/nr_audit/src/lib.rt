@@ -15,6 +15,7 @@ mod judging;
 mod last_events;
 pub mod laws;
 mod log;
+mod needs;
 mod order;
 mod positions;
 mod reads;
@@ -23,5 +24,8 @@ mod search;
 mod tables;
 mod verdict;
 
+pub use answers::serve;
+pub use dumps::{fault_at, table_fault};
 pub use judging::{audit, judge, judge_from, judge_read};
+pub use requests::request_of;
 pub use verdict::{Judged, Order, Verdict};

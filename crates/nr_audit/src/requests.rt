@@ -2,13 +2,13 @@
 
 ghost use Rattle.std.specs.Prelude.{◌≡◌, IfSome};
 ghost use Rattle.vs_types.specs.Query.{IsQuery};
-ghost use Rattle.nr_audit.specs.inside.Replies.{asked_by};
+ghost use Rattle.nr_audit.specs.Served.{asked_by};
 
 use nr_trace::{Event, Trace};
 use vs_types::Request;
 
 /// What the update or the read of this number asks, or `None` where there is none.
-pub(crate) fn request_of(trace: &Trace, call: u32) -> Option<Request>
+pub fn request_of(trace: &Trace, call: u32) -> Option<Request>
     ensures asks { result ≡ asked_by trace.now call }
     ensures well_formed { IfSome result (IsQuery trace.now.layout.depth) }
 {

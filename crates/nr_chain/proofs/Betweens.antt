@@ -1,9 +1,9 @@
 -- A reader of a chain between two pieces.
-use Rattle.std.proofs.Common.{◌≡◌, ℕ, Bool, true, false, List, [], ◌∷◌, ◌++◌, ◌⊎◌, inl, inr, length, take, Option, Some, None, is_some, option_map, refl, sym, ap, ◌∙◌, subst}
+use Rattle.std.proofs.Common.{◌≡◌, ℕ, Bool, true, false, List, [], ◌∷◌, ◌++◌, ◌⊎◌, inl, inr, Option, Some, None, is_some, option_map, refl, sym, ap, ◌∙◌, subst}
 use Rattle.std.specs.Prelude.{IfSome}
 use Rattle.vs_types.specs.Config.{Layout}
 use Rattle.nr_trace.specs.FirstFault.{HasFaultAs}
-use Rattle.nr_trace.specs.Feed.{Fed, FedSegment, IsWhole}
+use Rattle.nr_trace.specs.Feed.{FedSegment, IsWhole}
 use Rattle.nr_trace.specs.Feed.Fed.{Taken}
 use Rattle.nr_trace.specs.declared.fault.Fault.TheVariants.{Format}
 use Rattle.nr_trace.specs.declared.fault.Format.TheVariants.{Truncated}

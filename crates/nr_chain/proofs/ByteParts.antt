@@ -37,9 +37,8 @@ begins_behind layout bytes segment rest same begins = record {
 
 -- a chain ends well behind a segment alone
 pub ended : (kept : Option Kept) (bytes : List ℕ) → EndsWith kept bytes None → bytes ≡ []
-ended None bytes end = absurd end
 ended (Some kept) [] end = refl
-ended (Some kept) (x ∷ bytes) end = absurd end
+ended _ _ end = absurd end
 
 module _ (end : Kept) (back : List ℕ) (follow : MayFollow end back) where
   -- what is kept after the first segment is as it is where the chain begins with it

@@ -1,9 +1,9 @@
 -- What a piece makes of a chain, of all its bytes.
-use Rattle.std.proofs.Common.{◌≡◌, ◌<◌, ℕ, List, [], ◌∷◌, ◌++◌, length, take, drop, append_assoc, Option, Some, None, is_some, true, refl, sym, ap, ◌∙◌, subst, arith}
-use Rattle.std.proofs.lemmas.List.{append-nil, length-append, take-append-drop}
+use Rattle.std.proofs.Common.{◌≡◌, ℕ, List, [], ◌∷◌, ◌++◌, take, drop, append_assoc, Option, Some, None, sym, ap, ◌∙◌, subst}
+use Rattle.std.proofs.lemmas.List.{append-nil, take-append-drop}
 use Rattle.nr_segment.specs.declared.fault.SegmentFault.{SegmentFault}
 use Rattle.nr_chain.specs.Fed.{ChainFed}
-use Rattle.nr_chain.specs.Bytes.{kept_after, EndsWith, GoesOnSo, IsFirstNext}
+use Rattle.nr_chain.specs.Bytes.{EndsWith, GoesOnSo, IsFirstNext}
 use Rattle.nr_chain.specs.Verdict.{FeedsChain}
 use Rattle.nr_chain.specs.declared.chain.Step.TheVariants.{More, Right, Wrong}
 use Rattle.nr_chain.proofs.Ends.{ends_first}
@@ -48,12 +48,6 @@ wrong_step old piece fault lasts some =
 abbrev pub Leads : List ℕ → ChainFed → List (List ℕ) → List ℕ → Type 0
 Leads bytes chain orders rest = (more : List (List ℕ)) (found : Option SegmentFault) → GoesOnSo chain.kept (chain.bytes ++ rest) more found
     → GoesOnSo None bytes (orders ++ more) found
-
-pub leads_first : (bytes : List ℕ) (chain : ChainFed) (orders : List (List ℕ)) → chain ≡ record { kept = None; bytes = [] } → orders ≡ []
-    → Leads bytes chain orders bytes
-leads_first bytes chain orders is none = λ more found h.
-    subst (λ (all : List (List ℕ)). GoesOnSo None bytes (all ++ more) found) (sym none)
-    (subst (λ (fed : ChainFed). GoesOnSo fed.kept (fed.bytes ++ bytes) more found) is h)
 
 pub leads_on : (bytes : List ℕ) (old new : ChainFed) (orders next : List (List ℕ)) (rest behind : List ℕ) (count : ℕ) (order : List ℕ)
     → Leads bytes old orders rest → FeedsChain old rest (Right count order new) → next ≡ orders ++ order ∷ [] → behind ≡ drop count rest

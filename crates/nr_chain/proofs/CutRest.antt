@@ -232,6 +232,13 @@ module _ (start : Space) (first second : Recording) (same_layout : second.layout
             (subst (λ (layout : Layout). HasDifference layout.depth dump (space_from space second (take dump.applied second.log)) address) same_layout h),
       )
 
+  -- a fault of the frames alone
+  of_frames : (P : Layout → Image → Type 0) → ((dump : Image) → P first.layout dump → P first.layout (dump_behind (length first.log) dump)) → (replica : ℕ)
+      → (dump : Image) × (slice_get second.dumps replica ≡ Some dump) × IsThere dump × P second.layout dump
+      → (dump : Image) × (slice_get whole.dumps replica ≡ Some dump) × IsThere dump × P first.layout dump
+  of_frames P same replica (dump, is, is_there, h) =
+      (dump_behind (length first.log) dump, dump_there replica dump is, is_there, same dump (subst (λ (l : Layout). P l dump) same_layout h))
+
   pub rest_faultless : IsFaultlessFrom space second
   rest_faultless (Format fault) h = h
   rest_faultless (ThreadOpen index) h = opens_once index h
@@ -246,31 +253,11 @@ module _ (start : Space) (first second : Recording) (same_layout : second.layout
   rest_faultless (PrefixPastLog replica) h = within_log replica h.0 h.1 h.2 h.3
   rest_faultless (PrefixShort replica) h = enough replica h.0 h.1 h.2 h.3
   rest_faultless (MissingFrame replica number) h =
-      faultless (MissingFrame replica number) (
-        dump_behind (length first.log) h.0,
-        dump_there replica h.0 h.1,
-        h.2,
-        subst (λ (layout : Layout). HasMissingFrame layout.depth h.0 number) same_layout h.3,
-      )
+      faultless (MissingFrame replica number) (of_frames (λ (l : Layout) (d : Image). HasMissingFrame l.depth d number) (λ dump x. x) replica h)
   rest_faultless (SharedFrame replica number) h =
-      faultless (SharedFrame replica number) (
-        dump_behind (length first.log) h.0,
-        dump_there replica h.0 h.1,
-        h.2,
-        subst (λ (layout : Layout). HasSharedFrame layout.depth h.0 number) same_layout h.3,
-      )
+      faultless (SharedFrame replica number) (of_frames (λ (l : Layout) (d : Image). HasSharedFrame l.depth d number) (λ dump x. x) replica h)
   rest_faultless (ReservedBit replica number index) h =
-      faultless (ReservedBit replica number index) (
-        dump_behind (length first.log) h.0,
-        dump_there replica h.0 h.1,
-        h.2,
-        subst (λ (layout : Layout). HasReservedBit layout.depth h.0 number index) same_layout h.3,
-      )
+      faultless (ReservedBit replica number index) (of_frames (λ (l : Layout) (d : Image). HasReservedBit l.depth d number index) (λ dump x. x) replica h)
   rest_faultless (StrayFrame replica number) h =
-      faultless (StrayFrame replica number) (
-        dump_behind (length first.log) h.0,
-        dump_there replica h.0 h.1,
-        h.2,
-        subst (λ (layout : Layout). HasStrayFrame layout.depth h.0 number) same_layout h.3,
-      )
+      faultless (StrayFrame replica number) (of_frames (λ (l : Layout) (d : Image). HasStrayFrame l.depth d number) (λ dump x. x) replica h)
   rest_faultless (Differs replica address) h = none_differs replica h.0 address h.1 h.2 h.3

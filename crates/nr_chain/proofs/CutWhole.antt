@@ -411,66 +411,44 @@ module _ (start : Space) (first second : Recording) (same_layout : second.layout
         )
 
     -- a fault of the frames alone
-    of_frames : (P : Layout → Image → Type 0) (replica : ℕ) (dump : Image) → slice_get whole.dumps replica ≡ Some dump → IsThere dump
-        → P first.layout dump → HasOwnDump replica (λ (own : Image). P second.layout (dump_behind (length first.log) own))
-    of_frames P replica dump is is_there h =
+    of_frames : (P : Layout → Image → Type 0) (replica : ℕ)
+        → (dump : Image) × (slice_get whole.dumps replica ≡ Some dump) × IsThere dump × P first.layout dump
+        → HasOwnDump replica (λ (own : Image). P second.layout (dump_behind (length first.log) own))
+    of_frames P replica (dump, is, is_there, h) =
         let (own, own_is, own_there, there) = own_dump (λ (d : Image). P first.layout d) replica dump is is_there h in
         (own, own_is, own_there, subst (λ (layout : Layout). P layout (dump_behind (length first.log) own)) (sym same_layout) there)
 
-pub whole_faultless : (start : Space) (first second : Recording) → second.layout ≡ first.layout → IsClosed first
-    → IsFaultlessFrom start (without_dumps first) → IsFaultlessFrom (space_from start first first.log) second
-    → (fault : Fault) → HasFaultFrom start (joined_traces first second) fault → ⊥
-whole_faultless start first second same_layout closed front rest = none where
-  clean : HasCleanLog first
-  clean = clean_without_dumps start first front
-
-  clean_rest : HasCleanLog second
-  clean_rest = clean_if_faultless (space_from start first first.log) second rest
-
-  by_index : (P : ℕ → Type 0) → ((index : ℕ) → index < length first.events → P index) → ((index : ℕ) → P (length first.events + index))
-      → (index : ℕ) → P index
-  by_index P left right index = by_events start first second same_layout closed clean clean_rest P left right index
-
-  none : (fault : Fault) → HasFaultFrom start (joined_traces first second) fault → ⊥
-  none (Format fault) h = h
-  none (ThreadOpen index) h =
-      by_index (λ (i : ℕ). HasFaultFrom start (joined_traces first second) (ThreadOpen i) → ⊥)
-      (opens_left start first second same_layout closed clean clean_rest) (opens_right start first second same_layout closed clean clean_rest) index h
-  none (NoSuchCall index) h =
-      by_index (λ (i : ℕ). HasFaultFrom start (joined_traces first second) (NoSuchCall i) → ⊥)
-      (such_left start first second same_layout closed clean clean_rest) (such_right start first second same_layout closed clean clean_rest) index h
-  none (AnsweredTwice index) h =
-      by_index (λ (i : ℕ). HasFaultFrom start (joined_traces first second) (AnsweredTwice i) → ⊥)
-      (twice_left start first second same_layout closed clean clean_rest) (twice_right start first second same_layout closed clean clean_rest) index h
-  none (NotAnUpdate place) h = updates_alone start first second same_layout closed clean clean_rest place h
-  none (PlacedTwice place) h = placed_once start first second same_layout closed clean clean_rest place h
-  none (NotPlaced index) h =
-      by_index (λ (i : ℕ). HasFaultFrom start (joined_traces first second) (NotPlaced i) → ⊥)
-      (unplaced_left start first second same_layout closed clean clean_rest) (unplaced_right start first second same_layout closed clean clean_rest) index h
-  none (PastLog index) h =
-      by_index (λ (i : ℕ). HasFaultFrom start (joined_traces first second) (PastLog i) → ⊥)
-      (past_left start first second same_layout closed clean clean_rest) (past_right start first second same_layout closed clean clean_rest) index h
-  none (Early call) h =
-      none_early start first second same_layout closed clean clean_rest (λ c e. front (Early c) e) (λ c e. rest (Early c) e) call h
-  none (WrongAnswer call) h =
-      by_index (λ (c : ℕ). HasFaultFrom start (joined_traces first second) (WrongAnswer c) → ⊥)
-      (wrong_left start first second same_layout closed clean clean_rest (λ c e. front (WrongAnswer c) e) (λ c e. rest (WrongAnswer c) e))
-      (wrong_right start first second same_layout closed clean clean_rest (λ c e. front (WrongAnswer c) e) (λ c e. rest (WrongAnswer c) e)) call h
-  none (PrefixPastLog replica) h = dumps_past start first second same_layout closed clean clean_rest rest replica h
-  none (PrefixShort replica) h = dumps_short start first second same_layout closed clean clean_rest rest replica h
-  none (MissingFrame replica number) h =
-      rest (MissingFrame replica number) (of_frames start first second same_layout closed clean clean_rest rest
-      (λ (layout : Layout) (dump : Image). HasMissingFrame layout.depth dump number) replica h.0 h.1 h.2 h.3)
-  none (SharedFrame replica number) h =
-      rest (SharedFrame replica number) (of_frames start first second same_layout closed clean clean_rest rest
-      (λ (layout : Layout) (dump : Image). HasSharedFrame layout.depth dump number) replica h.0 h.1 h.2 h.3)
-  none (ReservedBit replica number index) h =
-      rest (ReservedBit replica number index) (of_frames start first second same_layout closed clean clean_rest rest
-      (λ (layout : Layout) (dump : Image). HasReservedBit layout.depth dump number index) replica h.0 h.1 h.2 h.3)
-  none (StrayFrame replica number) h =
-      rest (StrayFrame replica number) (of_frames start first second same_layout closed clean clean_rest rest
-      (λ (layout : Layout) (dump : Image). HasStrayFrame layout.depth dump number) replica h.0 h.1 h.2 h.3)
-  none (Differs replica address) h = dumps_differ start first second same_layout closed clean clean_rest rest replica address h
+    module _ (front : IsFaultlessFrom start (without_dumps first)) where
+      pub whole_faultless : (fault : Fault) → HasFaultFrom start whole fault → ⊥
+      whole_faultless (Format fault) h = h
+      whole_faultless (ThreadOpen index) h =
+          by_events (λ (i : ℕ). HasFaultFrom start whole (ThreadOpen i) → ⊥) opens_left opens_right index h
+      whole_faultless (NoSuchCall index) h =
+          by_events (λ (i : ℕ). HasFaultFrom start whole (NoSuchCall i) → ⊥) such_left such_right index h
+      whole_faultless (AnsweredTwice index) h =
+          by_events (λ (i : ℕ). HasFaultFrom start whole (AnsweredTwice i) → ⊥) twice_left twice_right index h
+      whole_faultless (NotAnUpdate place) h = updates_alone place h
+      whole_faultless (PlacedTwice place) h = placed_once place h
+      whole_faultless (NotPlaced index) h =
+          by_events (λ (i : ℕ). HasFaultFrom start whole (NotPlaced i) → ⊥) unplaced_left unplaced_right index h
+      whole_faultless (PastLog index) h = by_events (λ (i : ℕ). HasFaultFrom start whole (PastLog i) → ⊥) past_left past_right index h
+      whole_faultless (Early call) h = none_early (λ c e. front (Early c) e) (λ c e. faultless (Early c) e) call h
+      whole_faultless (WrongAnswer call) h =
+          by_events (λ (c : ℕ). HasFaultFrom start whole (WrongAnswer c) → ⊥)
+          (wrong_left (λ c e. front (WrongAnswer c) e) (λ c e. faultless (WrongAnswer c) e))
+          (wrong_right (λ c e. front (WrongAnswer c) e) (λ c e. faultless (WrongAnswer c) e)) call h
+      whole_faultless (PrefixPastLog replica) h = dumps_past replica h
+      whole_faultless (PrefixShort replica) h = dumps_short replica h
+      whole_faultless (MissingFrame replica number) h =
+          faultless (MissingFrame replica number) (of_frames (λ (layout : Layout) (dump : Image). HasMissingFrame layout.depth dump number) replica h)
+      whole_faultless (SharedFrame replica number) h =
+          faultless (SharedFrame replica number) (of_frames (λ (layout : Layout) (dump : Image). HasSharedFrame layout.depth dump number) replica h)
+      whole_faultless (ReservedBit replica number index) h =
+          faultless (ReservedBit replica number index)
+          (of_frames (λ (layout : Layout) (dump : Image). HasReservedBit layout.depth dump number index) replica h)
+      whole_faultless (StrayFrame replica number) h =
+          faultless (StrayFrame replica number) (of_frames (λ (layout : Layout) (dump : Image). HasStrayFrame layout.depth dump number) replica h)
+      whole_faultless (Differs replica address) h = dumps_differ replica address h
 
 pub cut : (start : Space) (first second : Recording) → second.layout ≡ first.layout → IsClosed first
     → IsFaultlessFrom start (joined_traces first second)
@@ -480,5 +458,7 @@ cut start first second same_layout closed = (
     front_faultless start first second closed faultless,
     rest_faultless start first second same_layout (clean_front start first second closed faultless) faultless,
   ),
-  λ parts. whole_faultless start first second same_layout closed parts.0 parts.1,
+  λ parts.
+      whole_faultless start first second same_layout closed (clean_without_dumps start first parts.0)
+      (clean_if_faultless (space_from start first first.log) second parts.1) parts.1 parts.0,
 )

@@ -1,14 +1,11 @@
 -- How a chain ends at some bytes.
-use Rattle.std.proofs.Common.{◌≡◌, ℕ, List, [], ◌∷◌, ◌++◌, Option, Some, None, is_some, true, false, refl, sym, subst, lit<, inl}
-use Rattle.vs_types.specs.Config.{Layout}
-use Rattle.nr_trace.specs.FirstFault.{HasFaultAs, HasSegmentFault}
-use Rattle.nr_trace.specs.declared.fault.Fault.TheVariants.{Format}
+use Rattle.std.proofs.Common.{◌≡◌, ℕ, List, [], Option, Some, None, is_some, true, false, refl, sym, subst, lit<, inl}
+use Rattle.nr_trace.specs.FirstFault.{HasFaultAs}
 use Rattle.nr_trace.specs.declared.fault.Format.TheVariants.{Truncated}
 use Rattle.nr_trace.specs.declared.version.Form.{Form}
 use Rattle.nr_segment.specs.declared.fault.SegmentFault.{SegmentFault}
-use Rattle.nr_segment.specs.declared.fault.SegmentFault.TheVariants.{Within}
 use Rattle.nr_chain.specs.Fed.{Kept}
-use Rattle.nr_chain.specs.Bytes.{layout_before, EndsWith, IsFirstNext}
+use Rattle.nr_chain.specs.Bytes.{EndsWith, IsFirstNext}
 
 -- no bytes are too few
 pub none_is_short : (form : Form) → HasFaultAs form [] Truncated
@@ -21,6 +18,5 @@ ends_well (Some kept) bytes some none = subst (λ bytes. EndsWith (Some kept) by
 -- the first fault of the next segment, where there is a byte or it is the first one
 pub ends_first : (kept : Option Kept) (bytes : List ℕ) (fault : SegmentFault) → (is_some kept ≡ true → bytes ≡ [] → ⊥) → IsFirstNext kept bytes fault
     → EndsWith kept bytes (Some fault)
-ends_first None bytes fault some first = first
 ends_first (Some kept) [] fault some first = absurd (some refl refl)
-ends_first (Some kept) (x ∷ bytes) fault some first = first
+ends_first _ _ fault some first = first

@@ -44,13 +44,12 @@ sound_or_first kept bytes segment rest fault begins sound (inr (other, last, sta
 -- a chain doesn't end at a segment that is sound
 pub ends_or_sound : (kept : Option Kept) (bytes : List ℕ) (found : Option SegmentFault) (segment : Recording) (rest : List ℕ) → EndsWith kept bytes found
     → BeginsWith (layout_before kept) bytes segment rest → IsSoundAfter (space_before kept) segment → ⊥
-ends_or_sound None bytes None segment rest ends begins sound = ends
 ends_or_sound None bytes (Some fault) segment rest ends begins sound =
     sound_or_first None bytes segment rest fault begins sound (first_of_either None bytes fault ends)
 ends_or_sound (Some kept) [] found segment rest ends begins sound = begins_some (Some kept.layout) [] segment rest begins refl
-ends_or_sound (Some kept) (x ∷ bytes) None segment rest ends begins sound = ends
 ends_or_sound (Some kept) (x ∷ bytes) (Some fault) segment rest ends begins sound =
     sound_or_first (Some kept) (x ∷ bytes) segment rest fault begins sound (first_of_either (Some kept) (x ∷ bytes) fault ends)
+ends_or_sound _ _ None segment rest ends begins sound = ends
 
 module _ (one_first : (before : Option Space) (segment : Recording) (first second : SegmentFault) → IsFirstAfter before segment first
     → IsFirstAfter before segment second → first ≡ second) where
@@ -73,13 +72,11 @@ module _ (one_first : (before : Option Space) (segment : Recording) (first secon
 
   one_end : (kept : Option Kept) (bytes : List ℕ) (first second : Option SegmentFault) → EndsWith kept bytes first → EndsWith kept bytes second
       → first ≡ second
-  one_end None bytes None second h k = absurd h
-  one_end None bytes (Some first) None h k = absurd k
   one_end None bytes (Some first) (Some second) h k = ap Some (one_next None bytes first second h k)
   one_end (Some kept) [] first second h k = h ∙ sym k
-  one_end (Some kept) (x ∷ bytes) None second h k = absurd h
-  one_end (Some kept) (x ∷ bytes) (Some first) None h k = absurd k
   one_end (Some kept) (x ∷ bytes) (Some first) (Some second) h k = ap Some (one_next (Some kept) (x ∷ bytes) first second h k)
+  one_end _ _ (Some first) None h k = absurd k
+  one_end _ _ None second h k = absurd h
 
   pub found_once : (kept : Option Kept) (bytes : List ℕ) (orders others : List (List ℕ)) (found other : Option SegmentFault)
       → GoesOnSo kept bytes orders found → GoesOnSo kept bytes others other → (orders ≡ others) × (found ≡ other)

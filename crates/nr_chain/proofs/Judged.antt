@@ -1,5 +1,5 @@
 -- What a piece makes of a chain: it is taken, or ends a segment, which is judged, or is refused.
-use Rattle.std.proofs.Common.{◌≡◌, ◌<◌, ◌≤◌, ℕ, Bool, List, [], ◌++◌, length, take, drop, append_assoc, Option, Some, option_map, Result, Ok, Err, refl, sym, ap, ◌∙◌, subst}
+use Rattle.std.proofs.Common.{◌≡◌, ◌<◌, ◌≤◌, ℕ, Bool, List, ◌++◌, length, take, drop, append_assoc, Option, option_map, Result, Ok, Err, sym, ap, ◌∙◌, subst}
 use Rattle.std.specs.Prelude.{IfOk}
 use Rattle.std.proofs.lemmas.List.{take-append-drop}
 use Rattle.vs_types.specs.Config.{Layout}
@@ -23,10 +23,7 @@ use Rattle.nr_chain.specs.inside.Between.{bytes_in, kept_by, IsBetween}
 use Rattle.nr_chain.specs.inside.Steps.{JudgesWhole, RefusesWith}
 use Rattle.nr_chain.proofs.Betweens.{bytes_more, seen}
 use Rattle.nr_chain.proofs.Pieces.{refused, some_taken, took, too_short}
-
-pub if_ok : {A E : Type 0} (P Q : A → Type 0) (result : Result A E) → ((a : A) → P a → Q a) → IfOk result P → IfOk result Q
-if_ok P Q (Ok a) widen h = widen a h
-if_ok P Q (Err e) widen h = tt
+use Rattle.std.proofs.lemmas.Result.{IfOk-weaker}
 
 -- the first fault of a segment that is spelled is none of the format
 pub first_next : (kept : Option Kept) (bytes : List ℕ) (fault : SegmentFault) → HasFirstNext kept bytes fault → IsFirstNext kept bytes fault
@@ -73,7 +70,7 @@ module _ (last : Option Last) (begun : Bool) (feed new : FedSegment) (self : Cha
       let bytes : bytes_in new.pieces ≡ bytes_in feed.pieces ++ take count piece = ap bytes_in is.taken in
       let some = some_taken feed new piece count old.taken old.not_whole whole is in
       subst (λ (fed : ChainFed). IfOk result (FeedsChain fed piece)) view
-      (if_ok (JudgesWhole (option_map kept_by last) (bytes_in new.pieces) count) (FeedsChain (seen last feed) piece) result
+      (IfOk-weaker result (JudgesWhole (option_map kept_by last) (bytes_in new.pieces) count) (FeedsChain (seen last feed) piece)
       (λ step h. judged_step (option_map kept_by last) (bytes_in feed.pieces) piece count step some is.within
       (subst (λ (bs : List ℕ). JudgesWhole (option_map kept_by last) bs count step) bytes h)) h)
 
@@ -100,7 +97,7 @@ module _ (last : Option Last) (begun : Bool) (feed new : FedSegment) (self : Cha
   -- the same, or memory is refused
   pub any_refused : {E : Type 0} (fail : Fail Format) (result : Result Step E) → FeedsSegment feed piece new (Err fail)
       → IfOk result (RefusesWith fail) → IfOk result (FeedsChain self piece)
-  any_refused Memory result feeds h = if_ok (RefusesWith Memory) (FeedsChain self piece) result (λ step none. absurd none) h
+  any_refused Memory result feeds h = IfOk-weaker result (RefusesWith Memory) (FeedsChain self piece) (λ step none. absurd none) h
   any_refused (Refused fault) result feeds h =
-      if_ok (RefusesWith (Refused fault)) (FeedsChain self piece) result
+      IfOk-weaker result (RefusesWith (Refused fault)) (FeedsChain self piece)
       (λ step is. subst (FeedsChain self piece) (sym is) (piece_refused fault feeds)) h

@@ -1,14 +1,14 @@
 -- Lists one behind the other, and numbers of calls behind so many events.
 use Rattle.std.proofs.Common.{◌≡◌, ℕ, zero, suc, ◌+◌, ◌-◌, ◌<◌, ◌≤◌, ◌⊎◌, inl, inr, Bool, true, false, cond, nat_eq, List, [], ◌∷◌, ◌++◌, length, take, map}
 use Rattle.std.proofs.Common.{slice_get, filter, Option, Some, None, is_some, IsSome, option_to_list, option_and_then, option_map, refl, ap, ap₂, sym, ◌∙◌, subst}
-use Rattle.std.proofs.Common.{arith, eq-eqb, ne_eqb, one-add}
+use Rattle.std.proofs.Common.{arith}
 use Rattle.std.specs.Prelude.{filter_map, flat_map}
 use Rattle.std.specs.List.{IsDistinct, cons_option}
 use Rattle.std.proofs.lemmas.Bool.{cases_eq, cases_lt}
 use Rattle.std.proofs.lemmas.List.{append_assoc, append-nil, map-append}
 use Rattle.std.proofs.lemmas.Option.{none-some, same_Some}
 use Rattle.nr_trace.specs.Orders.{before, below}
-use Rattle.nr_trace.proofs.LawsOfLists.{In, absent_from, absent_not_in}
+use Rattle.nr_trace.proofs.LawsOfLists.{In, absent_from, absent_not_in, before_here, before_there}
 use Rattle.nr_chain.specs.Joined.{calls_behind}
 
 -- ---- elements by their index
@@ -53,16 +53,6 @@ behind_distinct n [] h = tt
 behind_distinct n (x ∷ xs) h = (absent_from (n + x) (calls_behind n xs) (λ i. absent_not_in x xs h.0 (in_behind n x xs i)), behind_distinct n xs h.1)
 
 -- ---- what comes before a member
-
-before_here : (x y : ℕ) (xs : List ℕ) → y ≡ x → before x (y ∷ xs) ≡ []
-before_here x y xs e =
-    let t = eq-eqb y x e in
-    rw t refl
-
-before_there : (x y : ℕ) (xs : List ℕ) → (y ≡ x → ⊥) → before x (y ∷ xs) ≡ y ∷ before x xs
-before_there x y xs n =
-    let t = ne_eqb y x n in
-    rw (t, one-add) refl
 
 pub before_left : (x : ℕ) (xs ys : List ℕ) → In x xs → before x (xs ++ ys) ≡ before x xs
 before_left x [] ys i = absurd i

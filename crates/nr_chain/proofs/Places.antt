@@ -150,9 +150,8 @@ abbrev known_from : ℕ → Option Action → Option Query → ℕ
 known_from at o t = option_map_or (λ (action : Action). at + 1) o (option_map_or (λ (touch : Query). 0) t at)
 
 known_behind : (places at : ℕ) (o : Option Action) (t : Option Query) → KnowsBehind places (known_from at o t) (known_from (places + at) o t)
-known_behind places at (Some action) t = (omega arith, λ some. omega arith)
 known_behind places at None (Some touch) = (omega arith, λ some. absurd (omega arith))
-known_behind places at None None = (omega arith, λ some. omega arith)
+known_behind places at _ _ = (omega arith, λ some. omega arith)
 
 pub known_right : (first second : Recording) (reply : Response)
     → KnowsBehind (length first.log) (known_by second reply)
@@ -195,10 +194,9 @@ given_at {X} {Y} h (x ∷ xs) y i = by_first (λ j. given_at h xs y j) (h x) ref
 
 get_taken : {X : Type 0} (xs : List X) (n i : ℕ) (x : X) → slice_get (take n xs) i ≡ Some x → (i < n) × (slice_get xs i ≡ Some x)
 get_taken [] zero i x e = absurd (none-some x e)
-get_taken [] (suc n) i x e = absurd (none-some x e)
-get_taken (y ∷ ys) zero i x e = absurd (none-some x e)
 get_taken (y ∷ ys) (suc n) zero x e = (omega arith, e)
 get_taken (y ∷ ys) (suc n) (suc i) x e = let (l, f) = get_taken ys n i x e in (omega arith, f)
+get_taken _ _ i x e = absurd (none-some x e)
 
 pub knows_more : (trace : Recording) (call entries : ℕ) → entries < floor trace call → KnowsMore trace call entries
 knows_more trace call entries l = by_side (max_of 0 entries (map (known_by trace) (filter_map reply_in (take call trace.events))) l) where

@@ -1,5 +1,5 @@
 -- A segment that begins a chain, and whose start has the pages of a space, is right behind a segment that leaves that space.
-use Rattle.std.proofs.Common.{◌≡◌, ℕ, zero, suc, ◌+◌, ◌<◌, ◌≤◌, ◌⊎◌, inl, inr, true, false, cond, List, [], ◌∷◌, map, get_or, Option, Some, None, refl, sym, ap, subst, ◌∙◌, arith, Contains}
+use Rattle.std.proofs.Common.{◌≡◌, ℕ, ◌+◌, ◌<◌, ◌≤◌, ◌⊎◌, inl, inr, true, false, cond, List, [], ◌∷◌, map, get_or, Option, Some, None, refl, sym, ap, subst, ◌∙◌, arith, Contains}
 use Rattle.std.specs.Prelude.{All, IfSome}
 use Rattle.std.specs.FinMap as finite
 use Rattle.std.specs.FinMap.Entries as entries
@@ -15,7 +15,6 @@ use Rattle.vs_types.specs.Space.{Space, no_pages, IsSpace}
 use Rattle.vs_types.specs.declared.depth.Depth.{Depth}
 use Rattle.vs_types.specs.declared.page.Page.{Page}
 use Rattle.vs_types.specs.declared.page.TheConstants.Page.{PHYS_END}
-use Rattle.vs_walk.specs.Differences.{IsLeast}
 use Rattle.vs_walk.specs.Dump.{Image}
 use Rattle.vs_walk.specs.Memory.{AreWhole}
 use Rattle.vs_walk.specs.Walk.{TranslatesAs}
@@ -35,6 +34,7 @@ use Rattle.nr_segment.specs.inside.Begun.{HasNoneBeyond, HasRightTables}
 use Rattle.nr_segment.proofs.FilledSpaces.{of_own_pages}
 use Rattle.nr_chain.specs.Headline.{BeginsIn}
 use Rattle.nr_segment.proofs.Starts.{found_apart, none_differs, right_tables}
+use Rattle.nr_trace.proofs.LawsOfDumps.{none_from_no_least}
 
 -- what is found at a number is one of the values
 valued : (q : ℕ) (es : List (ℕ × List ℕ)) (words : List ℕ) → entries.find nat_cmp q es ≡ Some words → Contains (map (λ (e : ℕ × List ℕ). e.1) es) words
@@ -53,13 +53,6 @@ start_is_whole : (start : Image) → IsStart start → AreWhole start.frames
 start_is_whole start is number words there =
     (All-contains IsFrame (finite.values start.frames) words is.image.words
     (valued number (finite.entries start.frames) words (sym (finite.get-entries start.frames number) ∙ there))).whole
-
--- where no least number has a property, none has it
-least_none : (P : ℕ → Type 0) → ((n : ℕ) → IsLeast P n → ⊥) → (n : ℕ) → P n → ⊥
-least_none P none n p = below (n + 1) n (omega arith) p where
-  below : (end n : ℕ) → n < end → P n → ⊥
-  below zero n lt p = absurd (omega arith)
-  below (suc end) n lt p = none n (p, λ other less q. below end other (omega arith) q)
 
 module _ (segment : Recording) (start : Image) (has : segment.start ≡ Some start) (in_range : IsRecording segment) (sound : IsSoundAfter None segment) where
   none_of_start : (fault : StartFault) → HoldsOfStart segment.layout.depth None start fault → ⊥
@@ -84,7 +77,7 @@ module _ (segment : Recording) (start : Image) (has : segment.start ≡ Some sta
 
     by_order : (PHYS_END < page.phys + bytes_of page.size) ⊎ (page.phys + bytes_of page.size ≤ PHYS_END) → page.phys + bytes_of page.size ≤ PHYS_END
     by_order (inl beyond) =
-        absurd (least_none (HasPageBeyond segment.layout.depth start) (λ base least. none_of_start (Beyond base) least) page.base
+        absurd (none_from_no_least (HasPageBeyond segment.layout.depth start) (λ base least. none_of_start (Beyond base) least) page.base
         (page, (k, lt, get_or_default (found_in segment.layout.depth start) k page d lt), refl, beyond))
     by_order (inr within) = within
 

@@ -24,10 +24,9 @@ got_in (y ∷ ys) zero x e = inl (same_Some y x e)
 got_in (y ∷ ys) (suc k) x e = inr (got_in ys k x e)
 
 in_taken : {X : Type 0} (n : ℕ) (x : X) (xs : List X) → In x (take n xs) → In x xs
-in_taken zero x xs i = absurd i
-in_taken (suc n) x [] i = absurd i
 in_taken (suc n) x (y ∷ ys) (inl same) = inl same
 in_taken (suc n) x (y ∷ ys) (inr later) = inr (in_taken n x ys later)
+in_taken _ x _ i = absurd i
 
 -- a touch behind so many events
 abbrev pub touch_behind : ℕ → Touch → Touch

@@ -11,7 +11,7 @@ use Rattle.nr_chain.specs.Fed.{Kept}
 use Rattle.nr_segment.specs.Faults.{IsFirstAfter, IsSoundAfter}
 use Rattle.nr_segment.specs.Verdict.{last_space}
 use Rattle.nr_segment.specs.declared.fault.SegmentFault.{SegmentFault}
-use Rattle.nr_segment.specs.declared.fault.SegmentFault.TheVariants.{Start, Within, Stale}
+use Rattle.nr_segment.specs.declared.fault.SegmentFault.TheVariants.{Within}
 
 abbrev pub layout_before : Option Kept → Option Layout
 layout_before kept = option_map (λ last. last.layout) kept

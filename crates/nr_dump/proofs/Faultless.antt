@@ -27,21 +27,15 @@ abbrev Decided : {X : Type 0} → X → X → Type 0
 Decided x y = (x ≡ y) ⊎ (x ≢ y)
 
 bools : (a b : Bool) → Decided a b
-bools true true = inl refl
 bools true false = inr (λ e. cc)
 bools false true = inr (λ e. cc)
-bools false false = inl refl
+bools _ _ = inl refl
 
 sizes : (a b : Size) → Decided a b
 sizes K4 K4 = inl refl
-sizes K4 M2 = inr (λ e. cc)
-sizes K4 G1 = inr (λ e. cc)
-sizes M2 K4 = inr (λ e. cc)
 sizes M2 M2 = inl refl
-sizes M2 G1 = inr (λ e. cc)
-sizes G1 K4 = inr (λ e. cc)
-sizes G1 M2 = inr (λ e. cc)
 sizes G1 G1 = inl refl
+sizes _ _ = inr (λ e. cc)
 
 rights_of : (a b : Rights) → Decided a b
 rights_of a b =
@@ -141,22 +135,9 @@ same_rank depth dump space (SharedFrame a) (ReservedBit b i) h k same = cc
 same_rank depth dump space (ReservedBit a i) (MissingFrame b) h k same = cc
 same_rank depth dump space (ReservedBit a i) (SharedFrame b) h k same = cc
 same_rank depth dump space (ReservedBit a i) (ReservedBit b j) h k same = cc
-same_rank depth dump space (MissingFrame a) (StrayFrame b) h k same = absurd (omega arith)
-same_rank depth dump space (MissingFrame a) (Differs b) h k same = absurd (omega arith)
-same_rank depth dump space (SharedFrame a) (StrayFrame b) h k same = absurd (omega arith)
-same_rank depth dump space (SharedFrame a) (Differs b) h k same = absurd (omega arith)
-same_rank depth dump space (ReservedBit a i) (StrayFrame b) h k same = absurd (omega arith)
-same_rank depth dump space (ReservedBit a i) (Differs b) h k same = absurd (omega arith)
 same_rank depth dump space (StrayFrame a) (StrayFrame b) h k same = ap StrayFrame (same_least _ a b h k)
 same_rank depth dump space (Differs a) (Differs b) h k same = ap Differs (same_least _ a b h k)
-same_rank depth dump space (StrayFrame a) (MissingFrame b) h k same = absurd (omega arith)
-same_rank depth dump space (StrayFrame a) (SharedFrame b) h k same = absurd (omega arith)
-same_rank depth dump space (StrayFrame a) (ReservedBit b i) h k same = absurd (omega arith)
-same_rank depth dump space (StrayFrame a) (Differs b) h k same = absurd (omega arith)
-same_rank depth dump space (Differs a) (MissingFrame b) h k same = absurd (omega arith)
-same_rank depth dump space (Differs a) (SharedFrame b) h k same = absurd (omega arith)
-same_rank depth dump space (Differs a) (ReservedBit b i) h k same = absurd (omega arith)
-same_rank depth dump space (Differs a) (StrayFrame b) h k same = absurd (omega arith)
+same_rank depth dump space _ _ h k same = absurd (omega arith)
 
 pub one_first : (depth : Depth) (dump : Image) (space : Space) (fault other : DumpFault) → IsFirstOfDump depth dump space fault
     → IsFirstOfDump depth dump space other → fault ≡ other

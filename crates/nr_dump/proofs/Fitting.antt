@@ -88,11 +88,9 @@ fits_faultless depth dump space whole fits = none where
   way = faultless_way depth dump.frames dump.root space whole fits.translates fits.once
 
   none : HasNoFault depth dump space
-  none (MissingFrame number) holds = cc (holds, way)
-  none (SharedFrame number) holds = cc (holds, way)
-  none (ReservedBit number index) holds = cc (holds, way)
   none (StrayFrame number) holds = fits.none_stray number holds.0
   none (Differs address) holds = holds.0.1 (fits.translates address holds.0.0)
+  none _ holds = cc (holds, way)
 
 pub fault_unfits : (depth : Depth) (dump : Image) (space : Space) (fault : DumpFault) → AreWhole dump.frames → HoldsOfDump depth dump space fault
     → FitsSpace depth dump space → ⊥
@@ -121,10 +119,7 @@ way_fault_first depth dump space fault lowest holds = record {
   where
     not_below : (other : DumpFault) → rank_in_dump other < 1 → ⊥
     not_below (MissingFrame number) less = omega arith
-    not_below (SharedFrame number) less = omega arith
-    not_below (ReservedBit number index) less = omega arith
-    not_below (StrayFrame number) less = omega arith
-    not_below (Differs address) less = omega arith
+    not_below _ less = omega arith
 
 -- before a stray frame come the faults of the traversal
 pub stray_first : (depth : Depth) (dump : Image) (space : Space) (number : ℕ) → walk_fault depth dump.frames dump.root ≡ None
@@ -147,11 +142,9 @@ difference_first depth dump space base whole is way stray compared = record {
 }
   where
     earlier : (other : DumpFault) → HoldsOfDump depth dump space other → rank_in_dump other < 3 → ⊥
-    earlier (MissingFrame other) holds less = cc (holds, way)
-    earlier (SharedFrame other) holds less = cc (holds, way)
-    earlier (ReservedBit other index) holds less = cc (holds, way)
     earlier (StrayFrame other) holds less = stray other holds.0
     earlier (Differs address) holds less = omega arith
+    earlier _ holds less = cc (holds, way)
 
 -- the mark is no page of a space
 pub unmarked : {depth : Depth} {space : Space} → IsSpace depth space → Contains (pages space) mark → ⊥

@@ -1,16 +1,15 @@
 -- The space of some pages, by rising base.
-use Rattle.std.proofs.Common.{◌≡◌, ℕ, zero, suc, ◌+◌, ◌<◌, ◌≤◌, Bool, true, false, cond, List, [], ◌∷◌, ◌++◌, length, map, take, get_or, Some, None, inl, inr, refl, sym, ap, subst, ◌∙◌, arith, Contains}
-use Rattle.std.specs.Prelude.{All, IsTrue}
+use Rattle.std.proofs.Common.{◌≡◌, ℕ, zero, suc, ◌+◌, ◌<◌, true, false, cond, List, [], ◌∷◌, ◌++◌, length, map, take, get_or, Some, None, inl, inr, refl, sym, ap, subst, ◌∙◌, arith, Contains}
+use Rattle.std.specs.Prelude.{IsTrue}
 use Rattle.std.specs.FinMap as finite
 use Rattle.std.specs.FinMap.{nat_cmp-IsAntisymmetric}
 use Rattle.std.specs.FinMap.Entries as entries
-use Rattle.std.specs.List.{AllPairs}
 use Rattle.std.specs.Ordering.{nat_cmp, eq_by_cmp}
 use Rattle.std.specs.Cmp.{nat_cmp_total}
 use Rattle.std.proofs.lemmas.Bool.{eq-eqb, eqb-true}
 use Rattle.std.proofs.lemmas.List.{get_or_default, take_more}
 use Rattle.std.proofs.lemmas.List.Elements.{All-contains, All-contains_itself, All-weaker}
-use Rattle.vs_types.specs.Page.{covers, overlaps, IsPage}
+use Rattle.vs_types.specs.Page.{covers, IsPage}
 use Rattle.vs_types.specs.Space.{Space, Holds, IsSpace, pages, least_overlapped}
 use Rattle.vs_types.specs.declared.depth.Depth.{Depth}
 use Rattle.vs_types.specs.declared.page.Page.{Page}
@@ -102,11 +101,10 @@ space_is ps formed apart = record {
 
 -- an element of a front of a list, by its index
 taken : {X : Type 0} (k : ℕ) (xs : List X) (x : X) → Contains (take k xs) x → (j : ℕ) × (j < k) × (j < length xs) × (get_or xs j x ≡ x)
-taken zero xs x (j, lt, is) = absurd (omega arith)
-taken (suc k) [] x (j, lt, is) = absurd (omega arith)
 taken (suc k) (y ∷ ys) x (zero, lt, is) = (0, omega arith, omega arith, is)
 taken (suc k) (y ∷ ys) x (suc j, lt, is) =
     let there = taken k ys x (j, omega arith, is) in (suc there.0, omega (arith, there.1), omega (arith, there.2), there.3)
+taken _ _ x (j, lt, is) = absurd (omega arith)
 
 module _ {depth : Depth} (ps : List Page) (k : ℕ) (d : Page) (lt : k < length ps) (are : AreApart depth ps) where
   here : Contains ps (get_or ps k d)

@@ -1,8 +1,7 @@
 -- At most one fault of a segment is the first.
-use Rattle.std.proofs.Common.{◌≡◌, ℕ, ◌<◌, ◌⊎◌, inl, inr, Option, Some, List, [], ◌∷◌, refl, sym, ap, ap₂, ◌∙◌, subst, arith}
+use Rattle.std.proofs.Common.{◌≡◌, ℕ, inl, inr, Option, List, [], ◌∷◌, refl, sym, ap, ◌∙◌, subst, arith}
 use Rattle.std.specs.Ordering.{nat_cmp, ordering_then, ordering_reverse}
 use Rattle.std.specs.Cmp.Lexicographic.{slice_cmp}
-use Rattle.std.specs.declared.cmp.Ordering.{Ordering}
 use Rattle.std.specs.declared.cmp.Ordering.TheVariants.{Less, Equal, Greater}
 use Rattle.std.proofs.lemmas.Bool.{cases_order}
 use Rattle.std.proofs.lemmas.Cmp.{ranked, nat_list_cmp_total}
@@ -13,21 +12,14 @@ use Rattle.vs_walk.specs.Dump.{Image}
 use Rattle.nr_trace.specs.Recording.{Recording}
 use Rattle.nr_trace.specs.Faults.{Earlier, IsFirstFrom, rank}
 use Rattle.nr_trace.specs.declared.fault.Fault.{Fault}
-use Rattle.nr_trace.proofs.LawsOfFaults.{one_first}
+use Rattle.nr_trace.proofs.LawsOfFaults.{one_first, one_least}
 use Rattle.nr_segment.specs.Start.{first_space, HasPageBeyond, HasStartFault, HoldsOfStart, rank_in_start}
-use Rattle.nr_segment.specs.Faults.{part_of, rank_in_segment, ComesBefore, IsFirstAfter}
+use Rattle.nr_segment.specs.Faults.{part_of, ComesBefore, IsFirstAfter}
 use Rattle.nr_segment.specs.declared.fault.StartFault.{StartFault}
 use Rattle.nr_segment.specs.declared.fault.StartFault.TheVariants.{Missing, Shared, Reserved, Stray, Beyond, Differs}
 use Rattle.nr_segment.specs.declared.fault.SegmentFault.{SegmentFault}
 use Rattle.nr_segment.specs.declared.fault.SegmentFault.TheVariants.{Start, Within, Stale}
 use Rattle.nr_segment.proofs.Order.{before_by_first, comes_by_part, earlier_part, no_part, part_in}
-
-one_least : (P : ℕ → Type 0) (m n : ℕ) → IsLeast P m → IsLeast P n → m ≡ n
-one_least P m n h k = by_order (cases_order m n) where
-  by_order : (m ≡ n) ⊎ ((m < n) ⊎ (n < m)) → m ≡ n
-  by_order (inl e) = e
-  by_order (inr (inl l)) = absurd (k.1 m l h.0)
-  by_order (inr (inr l)) = absurd (h.1 n l k.0)
 
 -- ---- faults of a start
 
@@ -94,7 +86,7 @@ within_before segment first second less = elim (cases_order (part_of first) (par
   ]
 ]
 
-first_within : (before : Option Space) (segment : Recording) (fault : Fault) → IsFirstAfter before segment (Within fault)
+pub first_within : (before : Option Space) (segment : Recording) (fault : Fault) → IsFirstAfter before segment (Within fault)
     → IsFirstFrom (first_space before segment) segment fault
 first_within before segment fault first = record {
   holds = first.holds;
@@ -114,8 +106,7 @@ in_part before segment (Start a) (Within b) same x y = absurd (no_part b 2 (sym 
 in_part before segment (Stale a) (Within b) same x y = absurd (no_part b 4 (sym same) (inr refl))
 in_part before segment (Within a) (Start b) same x y = absurd (no_part a 2 same (inl refl))
 in_part before segment (Within a) (Stale b) same x y = absurd (no_part a 4 same (inr refl))
-in_part before segment (Start a) (Stale b) same x y = absurd (omega arith)
-in_part before segment (Stale a) (Start b) same x y = absurd (omega arith)
+in_part before segment _ _ same x y = absurd (omega arith)
 
 pub one_first_after : (before : Option Space) (segment : Recording) (first second : SegmentFault) → IsFirstAfter before segment first
     → IsFirstAfter before segment second → first ≡ second

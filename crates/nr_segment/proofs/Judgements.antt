@@ -1,5 +1,5 @@
 -- The verdict on a segment: from the faults of its start, of a trace, and of its touches.
-use Rattle.std.proofs.Common.{◌≡◌, ℕ, ◌<◌, inl, inr, Bool, true, false, IsSome, Option, refl, sym, ap, ap₂, subst, arith, lit<}
+use Rattle.std.proofs.Common.{◌≡◌, ℕ, ◌<◌, inl, inr, true, IsSome, Option, refl, sym, ap, ap₂, subst, arith, lit<}
 use Rattle.std.specs.Prelude.{nat_eq}
 use Rattle.std.proofs.lemmas.Bool.{eqb-true}
 use Rattle.vs_types.specs.Space.{Space}
@@ -12,7 +12,7 @@ use Rattle.nr_trace.specs.Orders.{recorded_order}
 use Rattle.nr_audit.specs.Verdict.{space_of, IsJudgedFrom}
 use Rattle.nr_audit.specs.declared.verdict.Judged.{Judged}
 use Rattle.nr_audit.specs.declared.verdict.Judged.TheVariants as judged
-use Rattle.nr_segment.specs.Start.{first_space, HasStartFault, rank_in_start}
+use Rattle.nr_segment.specs.Start.{first_space, rank_in_start, BeginsRight, BeginsWrong}
 use Rattle.nr_segment.specs.Faults.{part_of, ComesBefore, HasFaultAfter, HasNoFaultAfter, IsFirstAfter}
 use Rattle.nr_segment.specs.Touches.{IsStale, HasRightTouches}
 use Rattle.nr_segment.specs.Verdict.{last_space, IsVerdictAfter}
@@ -21,7 +21,7 @@ use Rattle.nr_segment.specs.declared.fault.SegmentFault.{SegmentFault}
 use Rattle.nr_segment.specs.declared.fault.SegmentFault.TheVariants.{Start, Within, Stale}
 use Rattle.nr_segment.specs.declared.verdict.SegmentVerdict.{SegmentVerdict}
 use Rattle.nr_segment.specs.declared.verdict.SegmentVerdict.TheVariants.{Right, Wrong}
-use Rattle.nr_segment.specs.inside.Begun.{BeginsRight, BeginsWrong, HasSomeTouch, IsFirstStale}
+use Rattle.nr_segment.specs.inside.Begun.{HasSomeTouch, IsFirstStale}
 use Rattle.nr_segment.specs.inside.Judged.{has_answers, verdict_of, HasFaultFromStart, IsVerdictFrom}
 use Rattle.nr_segment.proofs.Order.{comes, lower, earlier_part, last_part, no_part, none_of_first}
 

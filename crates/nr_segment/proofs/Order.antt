@@ -1,29 +1,21 @@
 -- Which fault of a segment comes first: by its part, and then by where it is in that.
-use Rattle.std.proofs.Common.{◌≡◌, ℕ, ◌+◌, ◌<◌, ◌≤◌, ◌⊎◌, inl, inr, Bool, true, false, Option, List, [], ◌∷◌, refl, sym, ap, subst, ◌∙◌, arith, lit<, lit≤}
-use Rattle.std.specs.Prelude.{nat_eq}
+use Rattle.std.proofs.Common.{◌≡◌, ℕ, ◌<◌, ◌≤◌, ◌⊎◌, inl, inr, List, [], ◌∷◌, refl, sym, ap, subst, arith, lit<, lit≤}
 use Rattle.std.specs.Ordering.{nat_cmp, ordering_then}
 use Rattle.std.specs.Cmp.Lexicographic.{slice_cmp}
-use Rattle.std.specs.declared.cmp.Ordering.{Ordering}
 use Rattle.std.specs.declared.cmp.Ordering.TheVariants.{Less, Equal, Greater}
 use Rattle.std.proofs.lemmas.Cmp.{ranked}
-use Rattle.vs_types.specs.Space.{Space, no_pages}
+use Rattle.vs_types.specs.Space.{Space}
 use Rattle.nr_trace.specs.Recording.{Recording}
-use Rattle.nr_trace.specs.Faults.{HasFaultFrom, Earlier, IsFirstFrom, rank}
-use Rattle.nr_trace.specs.Laws.{HasCleanLog}
+use Rattle.nr_trace.specs.Faults.{HasFaultFrom, Earlier, rank}
 use Rattle.nr_trace.specs.declared.fault.Fault.{Fault}
 use Rattle.nr_trace.specs.declared.fault.Fault.TheVariants.{Format, ThreadOpen, NoSuchCall, AnsweredTwice, NotAnUpdate, PlacedTwice, NotPlaced, PastLog, Early}
 use Rattle.nr_trace.specs.declared.fault.Fault.TheVariants.{WrongAnswer, PrefixPastLog, PrefixShort, MissingFrame, SharedFrame, ReservedBit, StrayFrame}
 use Rattle.nr_trace.specs.declared.fault.Fault.TheVariants.{Differs}
-use Rattle.nr_segment.specs.Start.{HasStartFault, rank_in_start}
+use Rattle.nr_segment.specs.Start.{rank_in_start}
 use Rattle.nr_segment.specs.Faults.{part_of, rank_in_segment, ComesBefore}
-use Rattle.nr_segment.specs.Touches.{IsStale}
 use Rattle.nr_segment.specs.declared.fault.SegmentFault.{SegmentFault}
 use Rattle.nr_segment.specs.declared.fault.SegmentFault.TheVariants.{Start, Within, Stale}
-
-then_less : (r s : Ordering) → ordering_then r s ≡ Less → (r ≡ Less) ⊎ ((r ≡ Equal) × (s ≡ Less))
-then_less Less s e = inl refl
-then_less Equal s e = inr (refl, e)
-then_less Greater s e = cc
+use Rattle.nr_audit.proofs.Ranks.{then_less}
 
 pub before_cases : (p q : ℕ) (xs ys : List ℕ) → slice_cmp nat_cmp (p ∷ xs) (q ∷ ys) ≡ Less → (p < q) ⊎ ((p ≡ q) × (slice_cmp nat_cmp xs ys ≡ Less))
 before_cases p q xs ys e =
@@ -78,13 +70,7 @@ passed trace (NotPlaced index) = record { pass = 4; rest = _; is = refl; of = of
 passed trace (PastLog index) = record { pass = 4; rest = _; is = refl; of = of_calls _ _ refl (lit≤ tt) (lit< tt) }
 passed trace (Early call) = record { pass = 5; rest = _; is = refl; of = of_calls _ _ refl (lit≤ tt) (lit< tt) }
 passed trace (WrongAnswer call) = record { pass = 6; rest = _; is = refl; of = of_calls _ _ refl (lit≤ tt) (lit< tt) }
-passed trace (PrefixPastLog replica) = record { pass = 7; rest = _; is = refl; of = of_dumps _ _ refl refl }
-passed trace (PrefixShort replica) = record { pass = 7; rest = _; is = refl; of = of_dumps _ _ refl refl }
-passed trace (MissingFrame replica number) = record { pass = 7; rest = _; is = refl; of = of_dumps _ _ refl refl }
-passed trace (SharedFrame replica number) = record { pass = 7; rest = _; is = refl; of = of_dumps _ _ refl refl }
-passed trace (ReservedBit replica number index) = record { pass = 7; rest = _; is = refl; of = of_dumps _ _ refl refl }
-passed trace (StrayFrame replica number) = record { pass = 7; rest = _; is = refl; of = of_dumps _ _ refl refl }
-passed trace (Differs replica address) = record { pass = 7; rest = _; is = refl; of = of_dumps _ _ refl refl }
+passed trace _ = record { pass = 7; rest = _; is = refl; of = of_dumps _ _ refl refl }
 
 lower_pass : (part pass other next : ℕ) → IsPart part pass → IsPart other next → part < other → pass < next
 lower_pass part pass other next a b lt = elim a.some [
@@ -124,15 +110,6 @@ earlier_part trace first second lt =
 
 -- of parts 1, 3 and 5
 one_of : (fault : Fault) → (part_of fault ≡ 1) ⊎ ((part_of fault ≡ 3) ⊎ (part_of fault ≡ 5))
-one_of (ThreadOpen index) = inr (inl refl)
-one_of (NoSuchCall index) = inr (inl refl)
-one_of (AnsweredTwice index) = inr (inl refl)
-one_of (NotAnUpdate place) = inr (inl refl)
-one_of (PlacedTwice place) = inr (inl refl)
-one_of (NotPlaced index) = inr (inl refl)
-one_of (PastLog index) = inr (inl refl)
-one_of (Early call) = inr (inl refl)
-one_of (WrongAnswer call) = inr (inl refl)
 one_of (PrefixPastLog replica) = inr (inr refl)
 one_of (PrefixShort replica) = inr (inr refl)
 one_of (MissingFrame replica number) = inr (inr refl)
@@ -141,6 +118,7 @@ one_of (ReservedBit replica number index) = inr (inr refl)
 one_of (StrayFrame replica number) = inr (inr refl)
 one_of (Differs replica address) = inr (inr refl)
 one_of (Format fault) = inl refl
+one_of _ = inr (inl refl)
 
 pub last_part : (fault : Fault) → 3 < part_of fault → part_of fault ≡ 5
 last_part fault lt = elim (one_of fault) [
@@ -179,8 +157,7 @@ rest_in segment (Stale call) = call ∷ []
 
 rank_is : (segment : Recording) (fault : SegmentFault) → rank_in_segment segment fault ≡ part_in fault ∷ rest_in segment fault
 rank_is segment (Start fault) = refl
-rank_is segment (Within fault) = refl
-rank_is segment (Stale call) = refl
+rank_is segment _ = refl
 
 pub comes : (segment : Recording) (first second : SegmentFault) → ComesBefore segment first second
     → (part_in first < part_in second) ⊎ ((part_in first ≡ part_in second) × (slice_cmp nat_cmp (rest_in segment first) (rest_in segment second) ≡ Less))

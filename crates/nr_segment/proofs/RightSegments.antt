@@ -1,5 +1,5 @@
 -- What the verdict says of a right segment.
-use Rattle.std.proofs.Common.{◌≡◌, Option}
+use Rattle.std.proofs.Common.{Option}
 use Rattle.vs_types.specs.Space.{Space}
 use Rattle.nr_trace.specs.Recording.{Recording}
 use Rattle.nr_audit.specs.Verdict.{IsJudgedFrom}

@@ -1,5 +1,5 @@
 -- A start in which nothing is wrong translates as the space of its pages; so a segment with a start goes on from that space as from the start.
-use Rattle.std.proofs.Common.{◌≡◌, ℕ, ◌+◌, ◌<◌, ◌≤◌, true, false, cond, List, [], ◌∷◌, map, Option, Some, None, inl, inr, refl, sym, ap, ◌∙◌, subst, arith, Contains}
+use Rattle.std.proofs.Common.{◌≡◌, ℕ, ◌+◌, ◌≤◌, true, false, cond, List, [], ◌∷◌, map, Option, Some, None, inl, inr, refl, sym, ap, ◌∙◌, subst, Contains}
 use Rattle.std.proofs.Common.{get_or}
 use Rattle.std.specs.Prelude.{All, IfSome}
 use Rattle.std.specs.FinMap as finite
@@ -10,9 +10,8 @@ use Rattle.std.proofs.lemmas.Bool.{cases_lt}
 use Rattle.std.proofs.lemmas.List.{get_or_default}
 use Rattle.vs_types.specs.Frame.{IsFrame}
 use Rattle.vs_types.specs.Page.{bytes_of, IsPage}
-use Rattle.vs_types.specs.Space.{Space, IsSpace, pages}
+use Rattle.vs_types.specs.Space.{Space, IsSpace}
 use Rattle.vs_types.specs.declared.depth.Depth.{Depth}
-use Rattle.vs_types.specs.declared.page.Page.{Page}
 use Rattle.vs_types.specs.declared.page.TheConstants.Page.{PHYS_END}
 use Rattle.vs_types.proofs.Lists.{Contains-head, Contains-tail}
 use Rattle.vs_walk.specs.Dump.{Image}
@@ -27,16 +26,16 @@ use Rattle.nr_dump.specs.declared.fault.DumpFault.TheVariants as dumps
 use Rattle.nr_dump.proofs.Faultless.{faultless_fits}
 use Rattle.nr_trace.specs.Recording.{Recording, IsRecording, IsStart}
 use Rattle.nr_trace.specs.Faults.{HasFaultFrom}
-use Rattle.nr_segment.specs.Start.{first_space, found_in, space_of_pages, start_space, HasPageBeyond, HasStartFault, HoldsOfStart}
-use Rattle.nr_segment.specs.Faults.{HasFaultAfter, HasNoFaultAfter, IsSoundAfter}
+use Rattle.nr_segment.specs.Start.{first_space, found_in, space_of_pages, start_space, BeginsRight, HasPageBeyond, HasStartFault}
+use Rattle.nr_segment.specs.Faults.{HasNoFaultAfter, IsSoundAfter}
 use Rattle.nr_segment.specs.Touches.{HasRightTouches, IsStale}
 use Rattle.nr_segment.specs.declared.fault.StartFault.{StartFault}
 use Rattle.nr_segment.specs.declared.fault.StartFault.TheVariants.{Missing, Shared, Reserved, Stray, Beyond, Differs}
-use Rattle.nr_segment.specs.declared.fault.SegmentFault.{SegmentFault}
 use Rattle.nr_segment.specs.declared.fault.SegmentFault.TheVariants.{Start, Within, Stale}
-use Rattle.nr_segment.specs.inside.Begun.{BeginsRight, HasNoStartFault}
+use Rattle.nr_segment.specs.inside.Begun.{HasNoStartFault}
 use Rattle.nr_segment.proofs.FilledSpaces.{of_own_pages}
-use Rattle.nr_segment.proofs.Starts.{least_none, none_walked}
+use Rattle.nr_segment.proofs.Starts.{none_walked}
+use Rattle.nr_trace.proofs.LawsOfDumps.{none_from_no_least}
 
 -- ---- the frames of a start are whole
 
@@ -76,7 +75,7 @@ translates_start depth before start whole none =
     let way : walk_fault depth start.frames start.root ≡ None =
     none_walked depth start (λ number. none (Missing number)) (λ number. none (Shared number)) (λ number index. none (Reserved number index)) in
     let there = found_space depth start.frames start.root whole way
-    (formed depth start whole (least_none (HasPageBeyond depth start) (λ base least. none (Beyond base) least))) in
+    (formed depth start whole (none_from_no_least (HasPageBeyond depth start) (λ base least. none (Beyond base) least))) in
     subst (TranslatesAs depth start.frames start.root) (sym (ap space_of_pages (sym there.2) ∙ of_own_pages there.1)) there.3
 
 -- the same of a segment: its start translates as the space with which it begins

@@ -1,5 +1,5 @@
 -- What the check of a start says of its faults.
-use Rattle.std.proofs.Common.{◌≡◌, ◌≢◌, ℕ, zero, suc, ◌+◌, ◌<◌, ◌≤◌, List, get_or, slice_get, Option, Some, None, Result, Ok, Err, inl, inr, refl, sym, ap, ◌∙◌, subst, arith, lit<, Contains}
+use Rattle.std.proofs.Common.{◌≡◌, ℕ, ◌<◌, ◌≤◌, List, get_or, slice_get, Option, Some, None, Result, Ok, Err, inl, inr, refl, sym, ap, ◌∙◌, subst, arith, lit<, Contains}
 use Rattle.std.specs.Prelude.{All, IfErr, OnOk}
 use Rattle.std.specs.List.{AllPairs}
 use Rattle.std.proofs.lemmas.Bool.{cases_lt}
@@ -13,7 +13,7 @@ use Rattle.vs_types.proofs.Spaces.{holds_listed}
 use Rattle.vs_types.specs.Step.{look}
 use Rattle.vs_types.specs.Refusal.{IfRefused}
 use Rattle.vs_types.specs.declared.refusal.Fail.{Fail}
-use Rattle.vs_types.specs.declared.refusal.Fail.TheVariants.{Memory, Refused}
+use Rattle.vs_types.specs.declared.refusal.Fail.TheVariants.{Refused}
 use Rattle.vs_walk.specs.Differences.{IsLeast, IsStray}
 use Rattle.vs_walk.specs.Dump.{Image}
 use Rattle.vs_walk.specs.Memory.{AreWhole}
@@ -27,10 +27,11 @@ use Rattle.nr_dump.specs.Faults.{HoldsOfDump, IsFirstOfDump, HasNoFault, rank_in
 use Rattle.nr_dump.specs.declared.fault.DumpFault.{DumpFault}
 use Rattle.nr_dump.specs.declared.fault.DumpFault.TheVariants as dumps
 use Rattle.nr_trace.specs.Recording.{Recording}
-use Rattle.nr_segment.specs.Start.{found_in, HasPageBeyond, HoldsOfStart, rank_in_start}
+use Rattle.nr_segment.specs.Start.{found_in, HasPageBeyond, HoldsOfStart, rank_in_start, BeginsRight, BeginsWrong}
 use Rattle.nr_segment.specs.declared.fault.StartFault.{StartFault}
 use Rattle.nr_segment.specs.declared.fault.StartFault.TheVariants.{Missing, Shared, Reserved, Stray, Beyond, Differs}
-use Rattle.nr_segment.specs.inside.Begun.{AreApart, BeginsRight, BeginsWrong, EndsBeyond, HasNoneBeyond, HasNoStartFault, HasRightTables, IsFirstBeyond, IsFirstOfStart}
+use Rattle.nr_segment.specs.inside.Begun.{AreApart, EndsBeyond, HasNoneBeyond, HasNoStartFault, HasRightTables, IsFirstBeyond, IsFirstOfStart}
+use Rattle.nr_trace.proofs.LawsOfDumps.{none_from_no_least}
 
 -- no first fault of the traversal is none
 no_walk_fault : (depth : Depth) (dump : Image) → ((fault : WalkFault) → walk_fault depth dump.frames dump.root ≡ Some fault → ⊥)
@@ -51,13 +52,6 @@ none_walked depth dump missing shared reserved = no_walk_fault depth dump each w
   each (walks.Shared number) e = shared number e
   each (walks.Reserved number index) e = reserved number index e
 
--- a traversal without fault, and no stray frame
-pub least_none : (P : ℕ → Type 0) → ((n : ℕ) → P n × ((other : ℕ) → other < n → P other → ⊥) → ⊥) → (n : ℕ) → P n → ⊥
-least_none P none n p = below (n + 1) n (omega arith) p where
-  below : (end n : ℕ) → n < end → P n → ⊥
-  below zero n lt p = absurd (omega arith)
-  below (suc end) n lt p = none n (p, λ other less q. below end other (omega arith) q)
-
 pub right_tables : (depth : Depth) (start : Image) (space : Space) (rank : ℕ) → 3 ≤ rank
     → ((other : DumpFault) → HoldsOfDump depth start space other → rank_in_dump other < rank → ⊥) → HasRightTables depth start
 right_tables depth start space rank le none = record {
@@ -65,23 +59,11 @@ right_tables depth start space rank le none = record {
       (λ number e. none (dumps.MissingFrame number) e (omega arith))
       (λ number e. none (dumps.SharedFrame number) e (omega arith))
       (λ number index e. none (dumps.ReservedBit number index) e (omega arith));
-  none_stray = least_none (IsStray depth start.frames start.root) (λ number stray. none (dumps.StrayFrame number) stray (omega arith));
+  none_stray = none_from_no_least (IsStray depth start.frames start.root) (λ number stray. none (dumps.StrayFrame number) stray (omega arith));
 }
 
 pub faultless_tables : (depth : Depth) (start : Image) (space : Space) → HasNoFault depth start space → HasRightTables depth start
 faultless_tables depth start space none = right_tables depth start space 3 (omega arith) (λ other holds less. none other holds)
-
--- faults of the tables, before which no other comes
-pub walk_first : (depth : Depth) (before : Option Space) (start : Image) (fault : StartFault) → rank_in_start fault ≡ 1
-    → HoldsOfStart depth before start fault → IsFirstOfStart depth before start fault
-walk_first depth before start fault rank holds = record { holds = holds; none_earlier = λ other h less. low other (omega arith) } where
-  low : (other : StartFault) → rank_in_start other < 1 → ⊥
-  low (Missing number) less = omega arith
-  low (Shared number) less = omega arith
-  low (Reserved number index) less = omega arith
-  low (Stray number) less = omega arith
-  low (Beyond base) less = omega arith
-  low (Differs address) less = omega arith
 
 pub stray_first : (depth : Depth) (before : Option Space) (start : Image) (space : Space) (number : ℕ)
     → IsFirstOfDump depth start space (dumps.StrayFrame number) → IsFirstOfStart depth before start (Stray number)
@@ -97,12 +79,10 @@ stray_first depth before start space number first = record { holds = first.holds
 -- where the tables are right
 module _ (depth : Depth) (before : Option Space) (start : Image) (right : HasRightTables depth start) where
   tables_none : (other : StartFault) → rank_in_start other < 3 → HoldsOfStart depth before start other → ⊥
-  tables_none (Missing number) less h = let none = right.walked in cc
-  tables_none (Shared number) less h = let none = right.walked in cc
-  tables_none (Reserved number index) less h = let none = right.walked in cc
   tables_none (Stray number) less h = right.none_stray number h.0
   tables_none (Beyond base) less h = absurd (omega arith)
   tables_none (Differs address) less h = absurd (omega arith)
+  tables_none _ less h = let none = right.walked in cc
 
   pub beyond_first : (base : ℕ) → HoldsOfStart depth before start (Beyond base) → IsFirstOfStart depth before start (Beyond base)
   beyond_first base holds = record { holds = holds; none_earlier = λ other h less. tables_none other less h }
@@ -210,6 +190,5 @@ on_ok P Q (Err e) widen h = tt
 
 pub if_refused : {A E : Type 0} (P Q : E → Type 0) (result : Result A (Fail E)) → ((fault : E) → P fault → Q fault) → IfErr result (IfRefused P)
     → IfErr result (IfRefused Q)
-if_refused P Q (Ok a) widen h = tt
-if_refused P Q (Err Memory) widen h = tt
 if_refused P Q (Err (Refused fault)) widen h = widen fault h
+if_refused P Q _ widen h = tt

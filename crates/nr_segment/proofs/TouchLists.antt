@@ -1,9 +1,9 @@
 -- The touches of a segment by the events at which they are made, and the replies by call.
-use Rattle.std.proofs.Common.{◌≡◌, ◌≢◌, ℕ, zero, suc, ◌+◌, ◌<◌, ◌⊎◌, ◌≤◌, List, [], ◌∷◌, ◌++◌, length, slice_get, get_or, Option, Some, None, option_and_then, option_map, inl, inr, IsSome, Bool, true, false, refl, sym, ap}
+use Rattle.std.proofs.Common.{◌≡◌, ◌≢◌, ℕ, zero, suc, ◌+◌, ◌<◌, ◌⊎◌, ◌≤◌, List, [], ◌∷◌, ◌++◌, length, slice_get, get_or, Option, Some, None, option_and_then, option_map, inl, inr, IsSome, refl, sym, ap}
 use Rattle.std.proofs.Common.{◌∙◌, subst, arith}
 use Rattle.std.specs.Prelude.{if◌then◌else◌, ◌==◌, slice_index_or}
 use Rattle.std.specs.List.{AllPairs}
-use Rattle.std.proofs.lemmas.Bool.{cases_eq, cases_lt, eq-eqb, eqb-true}
+use Rattle.std.proofs.lemmas.Bool.{cases_eq, cases_lt, eq-eqb}
 use Rattle.std.proofs.lemmas.List.{get_or-set_other, get_or-set_same, length-append, length-set}
 use Rattle.std.proofs.Math.ListN.{set}
 use Rattle.std.proofs.lemmas.Option.{slice_get_within, slice_get-get_or, get_or_from_slice_get}
@@ -18,10 +18,11 @@ use Rattle.nr_trace.specs.Laws.{HasCleanLog}
 use Rattle.nr_trace.specs.declared.event.Event.{Event}
 use Rattle.nr_trace.specs.declared.event.Event.TheVariants as events
 use Rattle.nr_touch.specs.Stale.{FindsStale}
-use Rattle.nr_touch.specs.Touches.{IsRightTouch}
 use Rattle.nr_touch.specs.declared.touch.Touch.{Touch}
 use Rattle.nr_segment.specs.Touches.{HasRightTouches, HasTouch, IsStale}
 use Rattle.nr_segment.specs.inside.Begun.{touch_by, touch_between, AreRepliesBelow, AreTouchesBelow, IsFirstStale}
+use Rattle.nr_trace.proofs.LawsOfCalls.{answers_from, reply_that_answers}
+use Rattle.nr_audit.proofs.CallsAndReplies.{answers_only}
 
 abbrev asked_in : Option Event → Option Query
 asked_in event = option_and_then (λ (made : Invocation). if made.touch then Some made.request else None) (option_and_then made_by event)
@@ -29,19 +30,15 @@ asked_in event = option_and_then (λ (made : Invocation). if made.touch then Som
 -- an event that asks for a touch is that touch
 of_asked : (event : Option Event) (address : ℕ) (mode : Mode) (access : Access) → asked_in event ≡ Some (queries.Access address mode access)
     → (replica : ℕ) × (thread : ℕ) × (event ≡ Some (events.Touch replica thread address mode access))
-of_asked None address mode access e = cc
-of_asked (Some (events.Call replica thread request)) address mode access e = cc
 of_asked (Some (events.Touch replica thread own_address own_mode own_access)) address mode access e = (replica, thread, cc)
-of_asked (Some (events.Reply call at answer)) address mode access e = cc
+of_asked _ address mode access e = cc
 
 of_replied : (event : Option Event) (reply : Response) → option_and_then reply_in event ≡ Some reply
     → event ≡ Some (events.Reply reply.call reply.at reply.answer)
-of_replied None reply e = cc
-of_replied (Some (events.Call replica thread request)) reply e = cc
-of_replied (Some (events.Touch replica thread address mode access)) reply e = cc
 of_replied (Some (events.Reply call at answer)) reply e =
     let same : record { call = call; at = at; answer = answer } ≡ reply = cc in
     ap (λ (r : Response). Some (events.Reply r.call r.at r.answer)) same
+of_replied _ reply e = cc
 
 -- a touch of the segment lies between its events
 pub has_between : (segment : Recording) (touch : Touch) → HasTouch segment touch → touch_between segment touch.made touch.answered ≡ Some touch
@@ -63,13 +60,6 @@ record Lies (segment : Recording) (made answered : ℕ) (touch : Touch) : Type 0
 
 lies_by : (segment : Recording) (made answered : ℕ) (touch : Touch) (asked replied : Option Event) → slice_get segment.events made ≡ asked
     → slice_get segment.events answered ≡ replied → touch_by made answered asked replied ≡ Some touch → Lies segment made answered touch
-lies_by segment made answered touch None replied a r e = cc
-lies_by segment made answered touch (Some (events.Call replica thread request)) replied a r e = cc
-lies_by segment made answered touch (Some (events.Reply call at answer)) replied a r e = cc
-lies_by segment made answered touch (Some (events.Touch replica thread address mode access)) None a r e = cc
-lies_by segment made answered touch (Some (events.Touch replica thread address mode access)) (Some (events.Call other_replica other_thread request)) a r e = cc
-lies_by segment made answered touch (Some (events.Touch replica thread address mode access))
-    (Some (events.Touch other_replica other_thread other_address other_mode other_access)) a r e = cc
 lies_by segment made answered touch (Some (events.Touch replica thread address mode access)) (Some (events.Reply call at answer)) a r e =
     let same : record { made = made; answered = answered; address = address; mode = mode; access = access; answer = answer } ≡ touch = cc in
     subst (Lies segment made answered) same record {
@@ -80,14 +70,7 @@ lies_by segment made answered touch (Some (events.Touch replica thread address m
       at = at;
       replies = ap (option_and_then reply_in) r;
     }
-
--- which reply it is
-named : (segment : Recording) (index call : ℕ) (reply : Response) → reply_of segment index ≡ Some reply → Answers segment index call → reply.call ≡ call
-named segment index call reply is answers =
-    by_name (reply.call == call) refl (subst (λ o. IsSome (option_and_then (λ (r : Response). if r.call == call then Some r else None) o)) is answers) where
-      by_name : (b : Bool) → (reply.call == call) ≡ b → IsSome (if b then Some reply else None) → reply.call ≡ call
-      by_name true t h = eqb-true reply.call call t
-      by_name false t h = absurd (let none : false ≡ true = h in cc)
+lies_by segment made answered touch _ _ a r e = cc
 
 pub between_has : (segment : Recording) (made answered : ℕ) (touch : Touch) → touch_between segment made answered ≡ Some touch
     → Answers segment answered made → HasTouch segment touch × (touch.made ≡ made) × (touch.answered ≡ answered)
@@ -98,7 +81,7 @@ between_has segment made answered touch e answers =
         asks = subst (λ call. touch_of segment call ≡ Some (queries.Access touch.address touch.mode touch.access)) (sym lies.made_so) lies.asks;
         reply = reply;
         is_reply = subst (λ index. reply_of segment index ≡ Some reply) (sym lies.answered_so) lies.replies;
-        of_it = named segment answered made reply lies.replies answers ∙ sym lies.made_so;
+        of_it = answers_only segment answered made reply lies.replies answers ∙ sym lies.made_so;
         answer = refl;
       },
       lies.made_so,
@@ -140,20 +123,6 @@ pushed_cases (z ∷ zs) x (suc k) y e = pushed_cases zs x k y e
 
 -- ---- the replies by call
 
--- an event that answers a call is a reply to it
-answer_event : (segment : Recording) (index call : ℕ) → Answers segment index call
-    → (reply : Response) × (reply_of segment index ≡ Some reply) × (reply.call ≡ call)
-answer_event segment index call answers = by_reply (reply_of segment index) refl where
-  by_reply : (o : Option Response) → reply_of segment index ≡ o → (reply : Response) × (reply_of segment index ≡ Some reply) × (reply.call ≡ call)
-  by_reply None is = absurd (let none = subst (λ r. IsSome (option_and_then (λ (r : Response). if r.call == call then Some r else None) r)) is answers in
-      let no : false ≡ true = none in cc)
-  by_reply (Some reply) is = (reply, is, named segment index call reply is answers)
-
-answers_by : (segment : Recording) (index call : ℕ) (reply : Response) → reply_of segment index ≡ Some reply → reply.call ≡ call → Answers segment index call
-answers_by segment index call reply is same =
-    subst (λ o. IsSome (option_and_then (λ (r : Response). if r.call == call then Some r else None) o)) (sym is)
-    (subst (λ b. IsSome (if b then Some reply else None)) (sym (eq-eqb reply.call call same)) refl)
-
 -- an event that answers no call of the table changes nothing
 pub no_reply : (segment : Recording) (end : ℕ) (replies : List (Option ℕ)) → ((call : ℕ) → Answers segment end call → ⊥)
     → AreRepliesBelow segment end replies → AreRepliesBelow segment (end + 1) replies
@@ -168,7 +137,7 @@ no_reply segment end replies none are = record {
 
 -- no event that is no reply answers a call
 pub no_answer : (segment : Recording) (end : ℕ) → reply_of segment end ≡ None → (call : ℕ) → Answers segment end call → ⊥
-no_answer segment end is call answers = let reply = answer_event segment end call answers in let other = reply.1 in cc
+no_answer segment end is call answers = let reply = reply_that_answers segment end call answers in let other = reply.1 in cc
 
 -- with a clean log each reply is to a call that there is
 pub reply_within : (segment : Recording) (end : ℕ) (reply : Response) → HasCleanLog segment → end < length segment.events
@@ -195,7 +164,7 @@ one_reply segment end reply replies clean is lt are = record {
     | inl same ↦ (
         let there = ap (λ c. slice_index_or (set replies reply.call (Some end)) c None) (sym same) in
         let index_is : index ≡ end = (let x = here in cc) in
-        (omega arith, answers_by segment index call reply (subst (λ i. reply_of segment i ≡ Some reply) (sym index_is) is) (sym same)))
+        (omega arith, answers_from segment index call reply (subst (λ i. reply_of segment i ≡ Some reply) (sym index_is) is) (sym same)))
     | inr differs ↦ (let own = are.each call index (sym (other call differs) ∙ at) in (omega (arith, own.0), own.1))
   ]
 
@@ -207,7 +176,7 @@ one_reply segment end reply replies clean is lt are = record {
     ]
     | inr behind ↦ (
         let now : index ≡ end = omega arith in
-        let answer = answer_event segment end call (subst (λ i. Answers segment i call) now answers) in
+        let answer = reply_that_answers segment end call (subst (λ i. Answers segment i call) now answers) in
         let one : answer.0 ≡ reply = (let a = answer.1 in cc) in
         let called : call ≡ reply.call = sym answer.2 ∙ ap (λ (r : Response). r.call) one in
         ap (λ c. slice_index_or (set replies reply.call (Some end)) c None) called ∙ here ∙ ap Some (sym now))

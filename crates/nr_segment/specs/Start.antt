@@ -1,5 +1,5 @@
 -- The space with which a segment begins, and what is wrong with its start.
-use Rattle.std.specs.Prelude.{◌≡◌, ◌≢◌, ℕ, ◌+◌, ◌<◌, List, map, Contains, Option, Some, None}
+use Rattle.std.specs.Prelude.{◌≡◌, ℕ, ◌+◌, ◌<◌, List, map, Contains, Option, Some, None}
 use Rattle.std.specs.FinMap as finite
 use Rattle.std.specs.Ordering.{nat_cmp}
 use Rattle.vs_types.specs.Page.{bytes_of}
@@ -59,3 +59,11 @@ rank_in_start (Reserved number index) = 1
 rank_in_start (Stray number) = 2
 rank_in_start (Beyond base) = 3
 rank_in_start (Differs address) = 4
+
+-- a segment begins with no fault of its start, or with one, which is the first
+abbrev pub BeginsRight : Option Space → Recording → Type 0
+BeginsRight before segment = (fault : StartFault) → HasStartFault before segment fault → ⊥
+
+pub record BeginsWrong (before : Option Space) (segment : Recording) (fault : StartFault) : Type 0 where
+  pub holds : HasStartFault before segment fault
+  pub none_earlier : (other : StartFault) → HasStartFault before segment other → rank_in_start other < rank_in_start fault → ⊥

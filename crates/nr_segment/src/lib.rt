@@ -13,4 +13,5 @@ mod verdict;
 
 pub use fault::{SegmentFault, StartFault};
 pub use judging::judge_segment;
+pub use start::{begin, copy};
 pub use verdict::SegmentVerdict;

@@ -7,16 +7,18 @@ ghost use Rattle.vs_walk.specs.Differences.{HasDifference};
 ghost use Rattle.vs_walk.specs.Dump.{IsDump};
 ghost use Rattle.vs_walk.specs.Walk.{TranslatesAs};
 ghost use Rattle.nr_audit.specs.Verdict.{space_of};
-ghost use Rattle.nr_segment.specs.Start.{first_space, found_in, space_of_pages};
+ghost use Rattle.nr_segment.specs.Start.{first_space, found_in, space_of_pages, BeginsRight, BeginsWrong};
 ghost use Rattle.nr_segment.specs.Verdict.{pages_before, FitsLayout};
-ghost use Rattle.nr_segment.specs.inside.Begun.{AreApart, BeginsRight, BeginsWrong, HasNoneBeyond, HasNoStartFault, HasRightTables, IsFirstBeyond, IsFirstOfAny, IsFirstOfStart};
+ghost use Rattle.nr_segment.specs.inside.Begun.{AreApart, HasNoneBeyond, HasNoStartFault, HasRightTables, IsFirstBeyond, IsFirstOfAny, IsFirstOfStart};
 
 use crate::fault::StartFault;
 use nr_dump::{DumpFault, check};
 use nr_trace::Trace;
 use std::alloc::Global;
 use vs_plain::PlainSpace;
+use vs_plain::laws::pages_are_a_space;
 use vs_types::{Depth, Fail, Memory, Page};
+use vs_walk::laws::frames_are_a_dump;
 use vs_walk::pages::Pages;
 use vs_walk::{Dump, leaves};
 
@@ -32,8 +34,12 @@ fn fill(space: &mut PlainSpace, found: &[Page]) -> Result<(), Memory>
     Ok(())
 }
 
-/// A space with the same pages, of this limit of tables. It allocates memory for them.
-pub(crate) fn copy(alloc: Global, tables: u16, space: &PlainSpace) -> Result<PlainSpace, Memory>
+/// A space with the same pages, of this limit of tables, which is the space's. It allocates memory for them.
+///
+/// # Errors
+///
+/// `Memory` where a growth of memory was refused.
+pub fn copy(alloc: Global, tables: u16, space: &PlainSpace) -> Result<PlainSpace, Memory>
     requires { space.now.limit ≡ tables }
     ensures { IfOk result (λ copy. copy ≡ space.now) }
 {
@@ -76,9 +82,8 @@ fn difference(
         (HasDifference space.now.depth start.now space.now.space)) }
     ensures first { IfErr result (IfRefused (IsFirstOfAny space.now.depth start.now)) }
 {
-    // These two read nothing of use, but say that the start is a dump and the space one of pages.
-    let _frames = start.count();
-    let _pages = space.iter();
+    frames_are_a_dump(start);
+    pages_are_a_space(space);
     match check(alloc, start, space) {
         Ok(()) => Ok(None),
         Err(Fail::Memory) => Err(Fail::Memory),
@@ -152,13 +157,14 @@ fn go_on(alloc: Global, start: &Dump, before: PlainSpace) -> Result<PlainSpace, 
     }
 }
 
-/// The space with which a segment begins, where this is the space before it, or it is the first one. It allocates memory for the
-/// check of a start, and for the pages of the first one.
+/// The space with which a segment begins, where this is the space before it, or it is the first one: the space before it; of the
+/// first segment that of the pages of its start, or one with no pages. A space before it has the depth and the limit of the segment's
+/// layout. It allocates memory for the check of a start, and for the pages of the first one.
 ///
 /// # Errors
 ///
-/// The first fault of the start, and `Memory`.
-pub(crate) fn begin(
+/// The first fault of the start, and `Memory` where a growth of memory was refused.
+pub fn begin(
     alloc: Global,
     segment: &Trace,
     before: Option<PlainSpace>,

@@ -104,14 +104,9 @@ module _ (change : Change) where
 -- how far behind its base the address lies in the page of a size
 offset_in : (s t : Size) (base a : ℕ) → base % bytes_of s ≡ 0 → base + level_of s ≡ number_at a t → a - base ≡ a % bytes_of t
 offset_in K4 K4 base a aligned e = omega arith
-offset_in K4 M2 base a aligned e = absurd (omega arith)
-offset_in K4 G1 base a aligned e = absurd (omega arith)
-offset_in M2 K4 base a aligned e = absurd (omega arith)
 offset_in M2 M2 base a aligned e = omega arith
-offset_in M2 G1 base a aligned e = absurd (omega arith)
-offset_in G1 K4 base a aligned e = absurd (omega arith)
-offset_in G1 M2 base a aligned e = absurd (omega arith)
 offset_in G1 G1 base a aligned e = omega arith
+offset_in _ _ base a aligned e = absurd (omega arith)
 
 -- ---- in the pages of one size
 

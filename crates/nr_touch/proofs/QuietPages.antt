@@ -44,21 +44,19 @@ page_or_not p q =
 -- what covers an address is the same where it doesn't differ
 pub same_look : (a b : Option Page) → ((a ≢ b) → ⊥) → a ≡ b
 same_look None None h = refl
-same_look None (Some q) h = absurd (h (λ e. cc))
-same_look (Some p) None h = absurd (h (λ e. cc))
 same_look (Some p) (Some q) h = by_case (page_or_not p q) where
   by_case : (p ≡ q) ⊎ (p ≢ q) → Some p ≡ Some q
   by_case (inl e) = ap Some e
   by_case (inr n) = absurd (h (λ e. n (same_Some p q e)))
+same_look _ _ h = absurd (h (λ e. cc))
 
 pub look_or_not : (a b : Option Page) → (a ≡ b) ⊎ (a ≢ b)
 look_or_not None None = inl refl
-look_or_not None (Some q) = inr (λ e. cc)
-look_or_not (Some p) None = inr (λ e. cc)
 look_or_not (Some p) (Some q) = by_case (page_or_not p q) where
   by_case : (p ≡ q) ⊎ (p ≢ q) → (Some p ≡ Some q) ⊎ (Some p ≢ Some q)
   by_case (inl e) = inl (ap Some e)
   by_case (inr n) = inr (λ e. n (same_Some p q e))
+look_or_not _ _ = inr (λ e. cc)
 
 -- ---- looks of a quiet page
 

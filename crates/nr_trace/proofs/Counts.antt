@@ -6,7 +6,7 @@ use Rattle.nr_trace.specs.Versions.{most_start}
 use Rattle.nr_trace.specs.Spelling.{start_count}
 use Rattle.nr_trace.specs.inside.Reading.{SpellsCounts, SpellsHead}
 use Rattle.nr_trace.specs.declared.version.Version.{Version}
-use Rattle.nr_trace.specs.declared.version.Version.TheVariants.{V1, V2, Segment}
+use Rattle.nr_trace.specs.declared.version.Version.TheVariants.{Segment}
 use Rattle.nr_trace.specs.declared.fields.Counts.{Counts}
 use Rattle.nr_trace.specs.declared.fields.DumpHead.{DumpHead}
 use Rattle.nr_trace.proofs.LawsOfUnits.{few_of, number_32, number_64}
@@ -28,10 +28,6 @@ events_are bytes levels replicas threads tables places events rest parts fits ve
 pub start_few : (version : Version) (bytes : List ℕ) (levels replicas threads tables places events start : ℕ) (rest : List ℕ)
     → bytes ≡ counts_bytes levels replicas threads tables places events rest → rest ≡ start_count version start → start < 2 ^ 32
     → (version ≡ Segment) ⊎ (start ≡ 0) → (numbers : Counts) → SpellsCounts version bytes numbers → start ≤ most_start version
-start_few V1 bytes levels replicas threads tables places events start rest parts is fits (inl segment) numbers spells = absurd cc
-start_few V1 bytes levels replicas threads tables places events start rest parts is fits (inr none) numbers spells = omega (arith, none)
-start_few V2 bytes levels replicas threads tables places events start rest parts is fits (inl segment) numbers spells = absurd cc
-start_few V2 bytes levels replicas threads tables places events start rest parts is fits (inr none) numbers spells = omega (arith, none)
 start_few Segment bytes levels replicas threads tables places events start rest parts is fits segment numbers spells =
     let one : from_be_bytes w32 (to_be_bytes w32 start) ≡ from_be_bytes w32 (to_be_bytes w32 numbers.start) =
     ap (λ (l : List ℕ). from_be_bytes w32 (drop 14 l))
@@ -39,6 +35,8 @@ start_few Segment bytes levels replicas threads tables places events start rest 
     let same : start ≡ numbers.start = sym (from_be_bytes-to_be_bytes_4 start fits) ∙ one
     ∙ from_be_bytes-to_be_bytes_4 numbers.start (omega (arith, spells.in_range.few_start)) in
     omega (arith, same, spells.in_range.few_start)
+start_few _ bytes levels replicas threads tables places events start rest parts is fits (inr none) numbers spells = omega (arith, none)
+start_few _ bytes levels replicas threads tables places events start rest parts is fits (inl segment) numbers spells = absurd cc
 
 -- the head that the bytes spell has these numbers
 pub head_is : (version : Version) (bytes : List ℕ) (applied frames root : ℕ) (rest : List ℕ)

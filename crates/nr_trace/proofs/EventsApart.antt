@@ -1,10 +1,11 @@
--- Events that fit are distinguished by their spelling, whatever comes after it.
-use Rattle.std.proofs.Common.{◌≡◌, ℕ, zero, suc, ◌<◌, ◌^◌, List, ◌++◌, ap, sym, arith}
-use Rattle.std.specs.Int.{w8, w16, w32, w64, to_be_bytes}
+-- Events that fit are read back from their spelling, so it differs from any other, whatever comes after it.
+use Rattle.std.proofs.Common.{◌≡◌, ◌==◌, ℕ, zero, suc, ◌<◌, ◌^◌, ◌%◌, false, List, [], ◌∷◌, ◌++◌, get_or, drop, ap, sym, ◌∙◌, arith}
+use Rattle.std.specs.Prelude.{if◌then◌else◌}
+use Rattle.std.specs.Int.{w8, w16, w32, w64, to_be_bytes, from_be_bytes}
+use Rattle.std.proofs.lemmas.Bool.{ne_eqb}
+use Rattle.std.proofs.lemmas.Nat.{from_be_bytes-to_be_bytes_2, from_be_bytes-to_be_bytes_4, from_be_bytes-to_be_bytes_8}
 use Rattle.vs_types.specs.Config.{Layout}
 use Rattle.vs_types.specs.Fields.{request_fields}
-use Rattle.vs_types.specs.Query.{IsQuery}
-use Rattle.vs_types.specs.declared.depth.Depth.{Depth}
 use Rattle.vs_types.specs.declared.access.Mode.{Mode}
 use Rattle.vs_types.specs.declared.access.Access as accesses
 use Rattle.vs_types.specs.declared.request.Query.{Query}
@@ -17,7 +18,7 @@ use Rattle.nr_trace.specs.declared.fields.AnswerFields.{AnswerFields}
 use Rattle.nr_trace.specs.declared.version.Version.{Version}
 use Rattle.nr_trace.specs.declared.event.Event.{Event}
 use Rattle.nr_trace.specs.declared.event.Event.TheVariants.{Call, Reply, Touch}
-use Rattle.nr_trace.proofs.LawsOfUnits.{ToldApart, IsWide, number_8, number_16, number_32, number_64, request_fits, request_apart, touch_apart, answer_fits, answer_apart}
+use Rattle.nr_trace.proofs.LawsOfUnits.{ToldApart, IsWide, apart_by, length-event, request_from, request_back, request_fits, touch_back, answer_from, answer_back, answer_fits}
 
 -- what comes after the tag of a call, and of a reply; the unused field of each has this number
 abbrev pub call_bytes : ℕ → ℕ → RequestFields → ℕ → List ℕ
@@ -35,31 +36,32 @@ pub record CallFits (replica thread : ℕ) (fields : RequestFields) (unused : �
   pub address : fields.address < 2 ^ 64
   pub physical : fields.physical < 2 ^ 64
 
-pub record SameCall (a b c d : ℕ) (g h : RequestFields) (u v : ℕ) (us vs : List ℕ) : Type 0 where
-  pub replica : a ≡ b
-  pub thread : c ≡ d
-  pub fields : g ≡ h
-  pub unused : u ≡ v
-  pub rest : us ≡ vs
+abbrev pub request_at : List ℕ → RequestFields
+request_at bytes = record {
+  kind = get_or bytes 4 0;
+  size = get_or bytes 5 0;
+  rights = get_or bytes 6 0;
+  address = from_be_bytes w64 (drop 8 bytes);
+  physical = from_be_bytes w64 (drop 16 bytes);
+}
 
-pub calls_apart : (a b c d : ℕ) (g h : RequestFields) (u v : ℕ) (us vs : List ℕ) → CallFits a c g u → CallFits b d h v
-    → call_bytes a c g u ++ us ≡ call_bytes b d h v ++ vs → SameCall a b c d g h u v us vs
-calls_apart a b c d g h u v us vs x y is =
-    let r1 = number_8 a b _ _ x.replica_fits y.replica_fits is in
-    let r2 = number_16 c d _ _ x.thread_fits y.thread_fits r1.1 in
-    let r3 = number_8 g.kind h.kind _ _ x.kind y.kind r2.1 in
-    let r4 = number_8 g.size h.size _ _ x.size y.size r3.1 in
-    let r5 = number_8 g.rights h.rights _ _ x.rights y.rights r4.1 in
-    let r6 = number_8 u v _ _ x.unused_fits y.unused_fits r5.1 in
-    let r7 = number_64 g.address h.address _ _ x.address y.address r6.1 in
-    let r8 = number_64 g.physical h.physical us vs x.physical y.physical r7.1 in
-    record {
-      replica = r1.0;
-      thread = r2.0;
-      fields = λ i. record { kind = r3.0 i; size = r4.0 i; rights = r5.0 i; address = r7.0 i; physical = r8.0 i };
-      unused = r6.0;
-      rest = r8.1;
-    }
+call_back : (replica thread unused : ℕ) (fields : RequestFields) (rest : List ℕ) → CallFits replica thread fields unused
+    → request_at (0 ∷ (call_bytes replica thread fields unused ++ rest)) ≡ fields
+call_back replica thread unused fields rest fits =
+    let kind : fields.kind % 256 ≡ fields.kind = omega (arith, fits.kind) in
+    let size : fields.size % 256 ≡ fields.size = omega (arith, fits.size) in
+    let rights : fields.rights % 256 ≡ fields.rights = omega (arith, fits.rights) in
+    let address = from_be_bytes-to_be_bytes_8 fields.address fits.address in
+    let physical = from_be_bytes-to_be_bytes_8 fields.physical fits.physical in
+    λ i. record { kind = kind i; size = size i; rights = rights i; address = address i; physical = physical i }
+
+-- the fields that the bytes of a call have are those that they spell
+pub one_call : (bytes : List ℕ) (replica thread unused r t : ℕ) (fields others : RequestFields) (rest : List ℕ)
+    → bytes ≡ call_bytes replica thread fields unused ++ rest → CallFits replica thread fields unused → CallFits r t others 0
+    → 0 ∷ bytes ≡ 0 ∷ call_bytes r t others 0 → fields ≡ others
+one_call bytes replica thread unused r t fields others rest parts fits also spelled =
+    sym (call_back replica thread unused fields rest fits) ∙ ap (λ (l : List ℕ). request_at (0 ∷ l)) (sym parts) ∙ ap request_at spelled
+    ∙ call_back r t 0 others [] also
 
 abbrev pub reply_bytes : AnswerFields → ℕ → ℕ → ℕ → List ℕ
 reply_bytes fields call at unused =
@@ -75,30 +77,24 @@ pub record ReplyFits (fields : AnswerFields) (call at unused : ℕ) : Type 0 whe
   pub unused_fits : unused < 2 ^ 32
   pub value : fields.value < 2 ^ 64
 
-pub record SameReply (c d : AnswerFields) (e f g h u v : ℕ) (us vs : List ℕ) : Type 0 where
-  pub fields : c ≡ d
-  pub call : e ≡ f
-  pub at : g ≡ h
-  pub unused : u ≡ v
-  pub rest : us ≡ vs
+abbrev pub answer_at : List ℕ → AnswerFields
+answer_at bytes = record { code = get_or bytes 1 0; size = get_or bytes 2 0; rights = get_or bytes 3 0; value = from_be_bytes w64 (drop 16 bytes) }
 
-pub replies_apart : (c d : AnswerFields) (e f g h u v : ℕ) (us vs : List ℕ) → ReplyFits c e g u → ReplyFits d f h v
-    → reply_bytes c e g u ++ us ≡ reply_bytes d f h v ++ vs → SameReply c d e f g h u v us vs
-replies_apart c d e f g h u v us vs x y is =
-    let r1 = number_8 c.code d.code _ _ x.code y.code is in
-    let r2 = number_8 c.size d.size _ _ x.size y.size r1.1 in
-    let r3 = number_8 c.rights d.rights _ _ x.rights y.rights r2.1 in
-    let r4 = number_32 e f _ _ x.call_fits y.call_fits r3.1 in
-    let r5 = number_32 g h _ _ x.at_fits y.at_fits r4.1 in
-    let r6 = number_32 u v _ _ x.unused_fits y.unused_fits r5.1 in
-    let r7 = number_64 c.value d.value us vs x.value y.value r6.1 in
-    record {
-      fields = λ i. record { code = r1.0 i; size = r2.0 i; rights = r3.0 i; value = r7.0 i };
-      call = r4.0;
-      at = r5.0;
-      unused = r6.0;
-      rest = r7.1;
-    }
+reply_back : (fields : AnswerFields) (call at unused : ℕ) (rest : List ℕ) → ReplyFits fields call at unused
+    → answer_at (1 ∷ (reply_bytes fields call at unused ++ rest)) ≡ fields
+reply_back fields call at unused rest fits =
+    let code : fields.code % 256 ≡ fields.code = omega (arith, fits.code) in
+    let size : fields.size % 256 ≡ fields.size = omega (arith, fits.size) in
+    let rights : fields.rights % 256 ≡ fields.rights = omega (arith, fits.rights) in
+    let value = from_be_bytes-to_be_bytes_8 fields.value fits.value in
+    λ i. record { code = code i; size = size i; rights = rights i; value = value i }
+
+pub one_reply : (bytes : List ℕ) (call at unused c a : ℕ) (fields others : AnswerFields) (rest : List ℕ)
+    → bytes ≡ reply_bytes fields call at unused ++ rest → ReplyFits fields call at unused → ReplyFits others c a 0
+    → 1 ∷ bytes ≡ 1 ∷ reply_bytes others c a 0 → fields ≡ others
+one_reply bytes call at unused c a fields others rest parts fits also spelled =
+    sym (reply_back fields call at unused rest fits) ∙ ap (λ (l : List ℕ). answer_at (1 ∷ l)) (sym parts) ∙ ap answer_at spelled
+    ∙ reply_back others c a 0 [] also
 
 pub call_fits : (version : Version) (layout : Layout) (replica thread : ℕ) (request : Query) → IsWide layout
     → IsEvent version layout (Call replica thread request)
@@ -149,55 +145,53 @@ reply_fits version layout call at answer h =
       value = fits.value;
     }
 
-tags_differ : (us vs : List ℕ) → to_be_bytes w8 0 ++ us ≡ to_be_bytes w8 1 ++ vs → ⊥
-tags_differ us vs e =
-    let r = number_8 0 1 us vs (omega arith) (omega arith) e in
-    let h : zero ≡ suc zero = r.0 in
-    omega arith
+-- of kind 5, a touch
+abbrev pub touch_by : ℕ → ℕ → Query → Event
+touch_by replica thread (Access address mode access) = Touch replica thread address mode access
+touch_by replica thread request = Call replica thread request
 
--- no request has the fields of a touch
-no_touch : (depth : Depth) (request : Query) (address : ℕ) (mode : Mode) (access : accesses.Access) → IsQuery depth request
-    → request_fields request ≡ touch_fields address mode access → ⊥
-no_touch depth request address mode access is e =
-    let fits = request_fits depth request is in
-    let kind : (request_fields request).kind ≡ 5 = ap (λ (f : RequestFields). f.kind) e in
-    omega (arith, fits.kind, kind)
+abbrev pub event_by : ℕ → List ℕ → Event
+event_by zero bytes =
+    let request = request_from (request_at bytes) in
+    if get_or bytes 4 0 == 5 then touch_by (get_or bytes 1 0) (from_be_bytes w16 (drop 2 bytes)) request
+    else Call (get_or bytes 1 0) (from_be_bytes w16 (drop 2 bytes)) request
+event_by (suc tag) bytes = Reply (from_be_bytes w32 (drop 4 bytes)) (from_be_bytes w32 (drop 8 bytes)) (answer_from (answer_at bytes))
 
--- the touch of an access
-abbrev touch_as : ℕ → ℕ → Query → Event
-touch_as replica thread (Access address mode access) = Touch replica thread address mode access
-touch_as replica thread request = Call replica thread request
+abbrev pub event_from : List ℕ → Event
+event_from bytes = event_by (get_or bytes 0 0) bytes
+
+pub event_back : (version : Version) (layout : Layout) → IsWide layout → (recorded : Event) → IsEvent version layout recorded
+    → event_from (event recorded) ≡ recorded
+event_back version layout l (Call r t q) h =
+    let fits = call_fits version layout r t q l h in
+    let fields = request_fields q in
+    let replica : r % 256 ≡ r = omega (arith, fits.replica_fits) in
+    let thread = from_be_bytes-to_be_bytes_2 t fits.thread_fits in
+    let kind : fields.kind % 256 ≡ fields.kind = omega (arith, fits.kind) in
+    let same : request_at (event (Call r t q)) ≡ fields = call_back r t 0 fields [] fits in
+    let request = ap request_from same ∙ request_back q in
+    let asked : ℕ → Query → Event = λ kind made. if kind == 5 then touch_by (r % 256) (from_be_bytes w16 (drop 2 (event (Call r t q)))) made
+    else Call (r % 256) (from_be_bytes w16 (drop 2 (event (Call r t q)))) made in
+    let few = (request_fits layout.depth q h.2).kind in
+    let other : (fields.kind == 5) ≡ false = ne_eqb _ _ (λ e. omega (arith, few, e)) in
+    ap (λ (n : ℕ). asked n (request_from (request_at (event (Call r t q))))) kind
+    ∙ ap (λ b. if b then touch_by (r % 256) (from_be_bytes w16 (drop 2 (event (Call r t q)))) (request_from (request_at (event (Call r t q))))
+    else Call (r % 256) (from_be_bytes w16 (drop 2 (event (Call r t q)))) (request_from (request_at (event (Call r t q))))) other
+    ∙ (λ i. Call (replica i) (thread i) (request i))
+event_back version layout l (Touch r t a m c) h =
+    let fits = touch_fits version layout r t a m c l h in
+    let replica : r % 256 ≡ r = omega (arith, fits.replica_fits) in
+    let thread = from_be_bytes-to_be_bytes_2 t fits.thread_fits in
+    let same : request_at (event (Touch r t a m c)) ≡ touch_fields a m c = call_back r t 0 (touch_fields a m c) [] fits in
+    let request = ap request_from same ∙ touch_back a m c in
+    λ i. touch_by (replica i) (thread i) (request i)
+event_back version layout l (Reply c a x) h =
+    let fits = reply_fits version layout c a x h in
+    let call = from_be_bytes-to_be_bytes_4 c fits.call_fits in
+    let at = from_be_bytes-to_be_bytes_4 a fits.at_fits in
+    let same : answer_at (event (Reply c a x)) ≡ answer_fields x = reply_back (answer_fields x) c a 0 [] fits in
+    let answer = ap answer_from same ∙ answer_back x in
+    λ i. Reply (call i) (at i) (answer i)
 
 pub events_apart : (version : Version) (layout : Layout) → IsWide layout → ToldApart (IsEvent version layout) event
-events_apart version layout l (Call r t q) (Call s u p) us vs h k e =
-    let rest = number_8 0 0 (call_bytes r t (request_fields q) 0 ++ us) (call_bytes s u (request_fields p) 0 ++ vs) (omega arith) (omega arith) e in
-    let same = calls_apart r s t u (request_fields q) (request_fields p) 0 0 us vs (call_fits version layout r t q l h)
-    (call_fits version layout s u p l k) rest.1 in
-    let request = request_apart q p same.fields in
-    (λ i. Call (same.replica i) (same.thread i) (request i), same.rest)
-events_apart version layout l (Call r t q) (Touch s u b n d) us vs h k e =
-    let rest = number_8 0 0 (call_bytes r t (request_fields q) 0 ++ us) (call_bytes s u (touch_fields b n d) 0 ++ vs) (omega arith) (omega arith) e in
-    let same = calls_apart r s t u (request_fields q) (touch_fields b n d) 0 0 us vs (call_fits version layout r t q l h)
-    (touch_fits version layout s u b n d l k) rest.1 in
-    absurd (no_touch layout.depth q b n d h.2 same.fields)
-events_apart version layout l (Touch r t a m c) (Call s u p) us vs h k e =
-    let rest = number_8 0 0 (call_bytes r t (touch_fields a m c) 0 ++ us) (call_bytes s u (request_fields p) 0 ++ vs) (omega arith) (omega arith) e in
-    let same = calls_apart r s t u (touch_fields a m c) (request_fields p) 0 0 us vs (touch_fits version layout r t a m c l h)
-    (call_fits version layout s u p l k) rest.1 in
-    absurd (no_touch layout.depth p a m c k.2 (sym same.fields))
-events_apart version layout l (Touch r t a m c) (Touch s u b n d) us vs h k e =
-    let rest = number_8 0 0 (call_bytes r t (touch_fields a m c) 0 ++ us) (call_bytes s u (touch_fields b n d) 0 ++ vs) (omega arith) (omega arith) e in
-    let same = calls_apart r s t u (touch_fields a m c) (touch_fields b n d) 0 0 us vs (touch_fits version layout r t a m c l h)
-    (touch_fits version layout s u b n d l k) rest.1 in
-    let access = touch_apart a b m n c d same.fields in
-    (λ i. touch_as (same.replica i) (same.thread i) (access i), same.rest)
-events_apart version layout l (Touch r t a m c) (Reply d b y) us vs h k e = absurd (tags_differ _ _ e)
-events_apart version layout l (Reply c a x) (Touch s u b n d) us vs h k e = absurd (tags_differ _ _ (sym e))
-events_apart version layout l (Call r t q) (Reply d b y) us vs h k e = absurd (tags_differ _ _ e)
-events_apart version layout l (Reply c a x) (Call s u p) us vs h k e = absurd (tags_differ _ _ (sym e))
-events_apart version layout l (Reply c a x) (Reply d b y) us vs h k e =
-    let rest = number_8 1 1 (reply_bytes (answer_fields x) c a 0 ++ us) (reply_bytes (answer_fields y) d b 0 ++ vs) (omega arith) (omega arith) e in
-    let same = replies_apart (answer_fields x) (answer_fields y) c d a b 0 0 us vs (reply_fits version layout c a x h)
-    (reply_fits version layout d b y k) rest.1 in
-    let answer = answer_apart x y same.fields in
-    (λ i. Reply (same.call i) (same.at i) (answer i), same.rest)
+events_apart version layout l = apart_by (IsEvent version layout) event event_from (event_back version layout l) 24 length-event

@@ -119,9 +119,8 @@ no_fault : walk_fault Four one_empty_frame 1 ≡ None
 no_fault = ap (first_fault_after one_empty_frame []) visits ∙ fine one_empty_frame [] [] 1 _ frame refl
 
 zero_in : (n k : ℕ) → get_or {A = ℕ} (replicate n 0) k 0 ≡ 0
-zero_in zero k = refl
-zero_in (suc n) zero = refl
 zero_in (suc n) (suc k) = zero_in n k
+zero_in _ _ = refl
 
 zero_word : (k : ℕ) → slice_index no_words k ≡ 0
 unfolding no_words

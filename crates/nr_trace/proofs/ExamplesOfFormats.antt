@@ -3,7 +3,7 @@ use Rattle.std.proofs.Common.{◌≡◌, ◌≢◌, ℕ, [], ◌∷◌, ◌++◌
 use Rattle.nr_trace.specs.Examples.{map_then_resolve}
 use Rattle.std.proofs.lemmas.List.{length-drop}
 use Rattle.nr_trace.specs.declared.version.Version.{Version}
-use Rattle.nr_trace.specs.declared.version.Version.TheVariants.{V1, V2, Segment}
+use Rattle.nr_trace.specs.declared.version.Version.TheVariants.{Segment}
 use Rattle.nr_trace.specs.declared.version.Form.TheVariants as forms
 use Rattle.nr_trace.specs.Versions.{IsVersionOf}
 use Rattle.nr_trace.specs.Spelling.{spelling, version_word, Spells}
@@ -20,9 +20,8 @@ pub magic : HasFormatFault (0x4e ∷ 0x52 ∷ 0x56 ∷ 0x58 ∷ []) BadMagic
 magic = inr (inl (omega arith, refl, λ value fits e. let last : 88 ≡ 84 = ap (λ (bytes : List ℕ). get_or bytes 3 0) e in omega arith))
 
 no_version : (value : Version) → IsVersionOf forms.Trace value → 0 ∷ 3 ∷ [] ≢ version_word value
-no_version V1 fits e = cc
-no_version V2 fits e = cc
 no_version Segment fits e = absurd fits
+no_version _ fits e = cc
 
 pub version : HasFormatFault (0x4e ∷ 0x52 ∷ 0x56 ∷ 0x54 ∷ 0 ∷ 3 ∷ []) BadVersion
 version = inr (inr (tt, 0 ∷ 3 ∷ [], tt, refl, inr (inl (omega arith, refl, no_version))))

@@ -40,15 +40,13 @@ both P p q call e = ⊎_elim (λ (h : call ≡ 0). subst P (sym h) p) (λ (h : c
 module _ (more : List Event) (none_more : (n : ℕ) → IsCall (with_more more) (suc (suc (suc (suc n)))) → ⊥) where
   calls : (call : ℕ) → IsCall (with_more more) call → Either call
   calls zero h = inl refl
-  calls (suc zero) h = absurd cc
   calls (suc (suc zero)) h = inr refl
-  calls (suc (suc (suc zero))) h = absurd cc
   calls (suc (suc (suc (suc n)))) h = absurd (none_more n h)
+  calls _ h = absurd cc
 
   not_answered_before : (index : ℕ) → index < 2 → Answers (with_more more) index 2 → ⊥
-  not_answered_before zero l h = cc
-  not_answered_before (suc zero) l h = cc
   not_answered_before (suc (suc n)) l h = omega arith
+  not_answered_before _ l h = cc
 
   precedes : (first second : ℕ) → Either first → Either second → Precedes (with_more more) first second → Contains (before second order) first
   precedes first second a b = both (λ first. Precedes (with_more more) first second → Contains (before second order) first)

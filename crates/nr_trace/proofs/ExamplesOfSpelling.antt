@@ -18,9 +18,6 @@ len_of_page = finite.len-entries frames_of_page ∙ ap length entries_of_page
 abbrev behind : List ℕ
 behind = flat_map (λ frame. frame_number frame.0 ++ frame_words frame.1) frames
 
-length_behind : length behind ≡ 16416
-length_behind = refl
-
 whole_bytes : spelling map_then_resolve ≡ map_then_resolve_bytes ++ behind
 whole_bytes = rw (len_of_page, entries_of_page) refl
 

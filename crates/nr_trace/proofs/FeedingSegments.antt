@@ -62,10 +62,9 @@ none_so None e = refl
 none_so (Some len) e = absurd cc
 
 says_none : (o : Option ℕ) (answer : Bool) → is_some o ≡ not answer → answer ≡ is_none o
-says_none None true e = refl
 says_none None false e = absurd cc
 says_none (Some len) true e = absurd cc
-says_none (Some len) false e = refl
+says_none _ _ e = refl
 
 pub whole_so : (self : FedSegment) (before : Option Layout) (state : State) (reader : Reader) (begun : Vec ℕ Global) (answer : Bool)
     → seen before state ≡ self → IsFeeding (forms.Segment before) state → state ≡ Open reader begun → is_some (unit_bytes reader) ≡ not answer
@@ -78,10 +77,6 @@ whole_so self before state reader begun answer view feeding is some =
       λ whole. let there : IsWhole (seen before (Open reader begun)) = subst IsWhole (sym same) whole in
           says ∙ not_at_end (forms.Segment before) (unit_bytes reader) reader begun here refl there.0 there.1,
     )
-
-pub stopped_so : (self : FedSegment) (before : Option Layout) (state : State) (fail : Fail Format) → seen before state ≡ self → state ≡ Stopped fail
-    → IsWhole self → ⊥
-stopped_so self before state fail view is whole = subst IsWhole (sym (ap (seen before) (sym is) ∙ view)) whole
 
 -- ---- pieces
 

@@ -12,8 +12,8 @@ use Rattle.std.proofs.lemmas.List.Elements.{All-push, All-nil}
 use Rattle.vs_walk.specs.Memory.{Memory}
 use Rattle.vs_walk.specs.Dump.{Image, OpenImage}
 use Rattle.vs_types.specs.Frame.{IsFrame}
-use Rattle.nr_trace.specs.Versions.{least_frames, most_frames, most_start}
-use Rattle.nr_trace.specs.Recording.{IsImage, IsStart, start_frames}
+use Rattle.nr_trace.specs.Versions.{least_frames, most_frames}
+use Rattle.nr_trace.specs.Recording.{IsImage, start_frames}
 use Rattle.nr_trace.specs.Spelling.{dump, dump_head, event, frame_number, frame_words, frames, log_word, start_units}
 use Rattle.nr_trace.specs.inside.Reading.{HasWords}
 use Rattle.nr_trace.specs.FirstFault.{AtUnit, AtFrames, AtDumps, AtLog, AtStart, IsNext}
@@ -32,7 +32,7 @@ use Rattle.nr_trace.specs.declared.reading.reader.Owner.TheVariants as owners
 use Rattle.nr_trace.specs.declared.event.Event.{Event}
 use Rattle.nr_trace.specs.declared.fields.Counts.{Counts}
 use Rattle.nr_trace.specs.declared.version.Version.{Version}
-use Rattle.nr_trace.specs.declared.version.Version.TheVariants.{V1, V2, Segment}
+use Rattle.nr_trace.specs.declared.version.Version.TheVariants.{V1, Segment}
 use Rattle.vs_walk.proofs.Dumps.{put_last, numbers_push, count_push}
 use Rattle.nr_trace.proofs.Spelled.{front_of, spelling_of, more_dump}
 use Rattle.nr_trace.proofs.Units.{refused, passed, goes_on}
@@ -203,8 +203,7 @@ no_frame own index frames last Behind rest fault none h = subst (λ (n : ℕ). A
 
 least_one : (version : Version) → least_frames version ≤ 1
 least_one V1 = omega arith
-least_one V2 = omega arith
-least_one Segment = omega arith
+least_one _ = omega arith
 
 -- a dump of which no frame is left is whole
 module _ (parts : Parts) (frame : OpenFrame) (is_opened : IsOpened parts (opened_of frame)) (fits : frame.dump.number < 2 ^ 40)
@@ -287,24 +286,6 @@ dump_put parts next held dump is one_more in_range one_left image =
     } in
     subst (λ (p : Parts). HasRead parts.form (opened_spelling parts (whole_of owners.Replica dump)) (BehindDumps parts 1) (Dumps p)) (sym is) made
 
--- the parts with their start are in range
-pub started_in_range : (parts : Parts) (start : Image) → AreInRange parts → IsStart start → finite.len start.frames ≤ most_start parts.version
-    → AreInRange (record parts { start = Some start })
-started_in_range parts start in_range is few = record {
-  of_form = in_range.of_form;
-  follows = in_range.follows;
-  layout = in_range.layout;
-  depth = in_range.depth;
-  start = is;
-  few_start = few;
-  few_places = in_range.few_places;
-  log = in_range.log;
-  few_events = in_range.few_events;
-  events = in_range.events;
-  few_dumps = in_range.few_dumps;
-  dumps = in_range.dumps;
-}
-
 -- nothing has come behind a start
 nothing_behind : (front : List ℕ) (log : List ℕ) (recorded : List Event) (dumps : List Image) → log ≡ [] → recorded ≡ [] → dumps ≡ []
     → spelling_of front log recorded dumps ≡ front
@@ -313,23 +294,6 @@ nothing_behind front log recorded dumps no_log no_events no_dumps =
     ∙ ap (λ (es : List Event). front ++ [] ++ flat_map event es ++ flat_map dump dumps) no_events
     ∙ ap (λ (ds : List Image). front ++ [] ++ [] ++ flat_map dump ds) no_dumps
     ∙ append-nil (front ++ [] ++ []) ∙ append-nil (front ++ []) ∙ append-nil front
-
-pub start_put : (parts : Parts) (start : Image) (places events : ℕ) (reader : Reader) → IsEmpty parts
-    → HasRead parts.form (parts_spelling (length parts.log.items + places) events (record parts { start = Some start }))
-    (AtLog parts.version parts.layout places events) reader
-    → HasRead parts.form (opened_spelling parts (whole_of (owners.Start places events) start)) (AtLog parts.version parts.layout places events) reader
-start_put parts start places events reader empty has =
-    let next : Parts = record parts { start = Some start } in
-    let numbers : ℕ → ℕ → Counts = λ all n. numbers_of all n events parts in
-    let none : length parts.log.items + places ≡ places = omega (arith, ap length empty.no_log) in
-    let all : finite.len start.frames ≡ finite.len start.frames + 0 = omega arith in
-    goes_on parts.form reader _ _ _ _ has
-    (nothing_behind (front_of next (length parts.log.items + places) events) parts.log.items parts.events.items parts.dumps.items
-    empty.no_log empty.no_events empty.no_dumps
-    ∙ ap (λ (n : ℕ). header_units (numbers (finite.len start.frames) n) parts ++ (frame_number start.root ++ frames start)) none
-    ∙ ap (λ (n : ℕ). header_units (numbers n places) parts ++ (frame_number start.root ++ frames start)) all
-    ∙ sym (append_assoc (header_units (numbers (finite.len start.frames + 0) places) parts) (frame_number start.root) (frames start)))
-    (λ rest fault h. h)
 
 -- a start without frames is none
 pub no_start : (parts : Parts) (numbers : Counts) (reader : Reader) → IsEmpty parts → numbers.layout ≡ parts.layout → numbers.start ≡ 0

@@ -18,7 +18,7 @@ use Rattle.vs_types.specs.declared.op.Action.TheVariants.{Map, Unmap, Protect}
 use Rattle.vs_types.specs.declared.request.Query.{Query}
 use Rattle.vs_types.specs.declared.request.Query.TheVariants.{Update, Resolve, Access}
 use Rattle.vs_types.specs.declared.answer.Answer.{Answer}
-use Rattle.vs_types.specs.declared.answer.Answer.TheVariants.{Done, Overlap, Full, Removed, NotMapped, Inside, Changed, Mapped, Allowed, Fault}
+use Rattle.vs_types.specs.declared.answer.Answer.TheVariants.{Overlap, Full, Removed, Inside, Mapped, Allowed, Fault}
 use Rattle.nr_trace.specs.Versions.{KnowsDepth, KnowsQuery, KnowsAnswer, KnowsTouch, IsVersionOf, least_frames, most_frames, most_start, most_tables, most_threads}
 use Rattle.nr_trace.specs.Recording.{IsAnswer, IsEvent}
 use Rattle.nr_trace.specs.FirstFault.{IsCounts, IsDumpHead, IsNext}
@@ -92,52 +92,35 @@ query_known depth (Resolve address) = passes (is_canonical depth address)
 query_known depth (Access address mode access) = passes (is_canonical depth address)
 
 knows_query : (version : Version) (query : Query) → Known (KnowsQuery version query)
-knows_query V1 (Update action) = always
-knows_query V1 (Resolve address) = always
 knows_query V1 (Access address mode access) = never
-knows_query V2 query = always
-knows_query Segment query = always
+knows_query _ _ = always
 
 knows_touch : (version : Version) → Known (KnowsTouch version)
-knows_touch V1 = never
-knows_touch V2 = never
 knows_touch Segment = always
+knows_touch _ = never
 
 answer_known : (answer : Answer) → Known (IsAnswer answer)
-answer_known Done = always
 answer_known (Overlap base) = below base (2 ^ 64)
 answer_known (Full need) = below need (2 ^ 64)
 answer_known (Removed phys size rights) = below phys (2 ^ 64)
-answer_known NotMapped = always
 answer_known (Inside base) = below base (2 ^ 64)
-answer_known (Changed rights) = always
 answer_known (Mapped phys size rights) = below phys (2 ^ 64)
 answer_known (Allowed phys) = below phys (2 ^ 64)
 answer_known (Fault code) = below code (2 ^ 64)
+answer_known _ = always
 
 knows_answer : (version : Version) (answer : Answer) → Known (KnowsAnswer version answer)
-knows_answer V1 Done = always
-knows_answer V1 (Overlap base) = always
-knows_answer V1 (Full need) = always
-knows_answer V1 (Removed phys size rights) = always
-knows_answer V1 NotMapped = always
-knows_answer V1 (Inside base) = always
-knows_answer V1 (Changed rights) = always
-knows_answer V1 (Mapped phys size rights) = always
 knows_answer V1 (Allowed phys) = never
 knows_answer V1 (Fault code) = never
-knows_answer V2 answer = always
-knows_answer Segment answer = always
+knows_answer _ _ = always
 
 -- ---- units
 
 pub version_known : (form : Form) (version : Version) → Known (IsVersionOf form version)
-version_known forms.Trace V1 = always
-version_known forms.Trace V2 = always
 version_known forms.Trace Segment = never
 version_known (forms.Segment before) V1 = never
 version_known (forms.Segment before) V2 = never
-version_known (forms.Segment before) Segment = always
+version_known _ _ = always
 
 pub event_known : (version : Version) (layout : Layout) (recorded : Event) → Known (IsEvent version layout recorded)
 event_known version layout (Call replica thread request) =
@@ -162,10 +145,8 @@ layout_known threads tables layout =
     (both (at_most 1 layout.tables) (at_most layout.tables tables)))
 
 knows_depth : (version : Version) (depth : Depth) → Known (KnowsDepth version depth)
-knows_depth V1 Four = always
 knows_depth V1 Five = never
-knows_depth V2 depth = always
-knows_depth Segment depth = always
+knows_depth _ _ = always
 
 pub counts_known : (version : Version) (numbers : Counts) → Known (IsCounts version numbers)
 counts_known version numbers =
@@ -199,10 +180,9 @@ next_known before number =
 
 -- whether two layouts are one
 same_depth : (d e : Depth) → Known (d ≡ e)
-same_depth Four Four = inl refl
 same_depth Four Five = inr (λ e. absurd cc)
 same_depth Five Four = inr (λ e. absurd cc)
-same_depth Five Five = inl refl
+same_depth _ _ = inl refl
 
 pub same_layout : (a b : Layout) → Known (a ≡ b)
 same_layout a b =

@@ -156,9 +156,8 @@ start_or_fault version numbers (suc n) on is rest from =
     (λ root fits. frames_or_fault BadStart (λ index e. absurd cc) 0 (suc n) None behind log on) rest from)
 
 follows_known : (form : Form) (layout : Layout) → Known (Follows form layout)
-follows_known forms.Trace layout = inl tt
-follows_known (forms.Segment None) layout = inl tt
 follows_known (forms.Segment (Some before)) layout = same_layout before layout
+follows_known _ layout = inl tt
 
 layout_or_fault : (form : Form) (layout : Layout) (Behind : List ℕ → Format → Type 0) (Then : List ℕ → Type 0) → AlwaysEither Then Behind
     → AlwaysEither (λ rest. Follows form layout × Then rest) (AtLayout form layout Behind)

@@ -12,7 +12,7 @@ use Rattle.nr_trace.specs.Calls.{Response, reply_in, reply_of, reply_to, Answers
 use Rattle.nr_trace.specs.Faults.{HasFault, StandsAfter}
 use Rattle.nr_trace.specs.Laws.{HasCleanLog}
 use Rattle.nr_trace.specs.declared.event.Event.{Event}
-use Rattle.nr_trace.specs.declared.event.Event.TheVariants.{Call, Reply, Touch}
+use Rattle.nr_trace.specs.declared.event.Event.TheVariants.{Call}
 use Rattle.nr_trace.specs.declared.fault.Fault.TheVariants.{NoSuchCall}
 use Rattle.nr_trace.proofs.LawsOfLists.{first_given, given_first}
 
@@ -85,10 +85,8 @@ read_or_touch (Some made) h k = by_kind made.touch made.request h k where
 -- only an access is a touch
 touch_or_update : (o : Option Event) → IsSome (option_and_then (λ (made : Invocation). operation_in made.request) (option_and_then made_by o))
     → IsSome (option_and_then (λ (made : Invocation). touch_in made.touch made.request) (option_and_then made_by o)) → ⊥
-touch_or_update None h k = cc
 touch_or_update (Some (Call replica thread request)) h k = cc
-touch_or_update (Some (Touch replica thread address mode access)) h k = cc
-touch_or_update (Some (Reply call at answer)) h k = cc
+touch_or_update _ h k = cc
 
 pub not_both : (trace : Recording) (call : ℕ) → IsUpdate trace call → IsRead trace call → ⊥
 not_both trace call h k = made_both (call_of trace call) h k

@@ -50,10 +50,8 @@ abbrev walk_of : AnswerFields → Walk
 walk_of f = walk_of_code f.code f
 
 walk_back : (w : Walk) → walk_of (fields_of w) ≡ w
-walk_back walks.NotMapped = refl
-walk_back walks.Reserved = refl
-walk_back walks.Missing = refl
 walk_back (walks.Mapped phys size rights) = ap₂ (walks.Mapped phys) (size_back size) (rights_back rights)
+walk_back _ = refl
 
 walk_apart : (a b : Walk) → fields_of a ≡ fields_of b → a ≡ b
 walk_apart a b e = sym (walk_back a) ∙ ap walk_of e ∙ walk_back b

@@ -18,7 +18,7 @@ use Rattle.nr_trace.specs.FirstFault.{HasFormatFault}
 use Rattle.nr_trace.specs.Calls.{Invocation, call_of, Response}
 use Rattle.nr_trace.specs.Orders.{before, space_from, recorded_order}
 use Rattle.vs_walk.specs.Differences.{IsLeast, IsStray, TranslatesOtherwise}
-use Rattle.nr_trace.specs.Faults.{IsReplyWith, HasPlaced, HasDump, IsWrongFrom, HasFaultFrom, rank, Earlier, IsFirst, IsFirstFrom, IsFirstOf}
+use Rattle.nr_trace.specs.Faults.{IsReplyWith, HasDump, IsWrongFrom, HasFaultFrom, rank, Earlier, IsFirst, IsFirstFrom, IsFirstOf}
 use Rattle.nr_trace.specs.Laws.{HasCleanLog, HasRank}
 use Rattle.nr_trace.specs.declared.fault.Format.{Format as FormatFault}
 use Rattle.nr_trace.specs.declared.fault.Fault.{Fault}
@@ -40,7 +40,7 @@ third ns = get_or ns 2 0
 
 -- ---- what a dump's fault names
 
-one_least : (P : ℕ → Type 0) (m n : ℕ) → IsLeast P m → IsLeast P n → m ≡ n
+pub one_least : (P : ℕ → Type 0) (m n : ℕ) → IsLeast P m → IsLeast P n → m ≡ n
 one_least P m n h k = by_order (cases_order m n) where
   by_order : (m ≡ n) ⊎ ((m < n) ⊎ (n < m)) → m ≡ n
   by_order (inl e) = e
@@ -166,9 +166,6 @@ pub reply_within : (trace : Recording) (index : ℕ) (P : Response → Type 0) �
 reply_within trace index P (reply, e, h) =
     let (event, at, is) = reply_in_event (slice_get trace.events index) reply e in
     slice_get_within trace.events index event at
-
-pub placed_within : (trace : Recording) (place : ℕ) (P : ℕ → Type 0) → HasPlaced trace place P → place < length trace.log
-placed_within trace place P (call, e, h) = slice_get_within trace.log place call e
 
 pub dump_within : (trace : Recording) (replica : ℕ) (P : Image → Type 0) → HasDump trace replica P → replica < length trace.dumps
 dump_within trace replica P (dump, e, there, h) = slice_get_within trace.dumps replica dump e

@@ -24,7 +24,7 @@ use Rattle.nr_trace.specs.declared.fault.Format.{Format}
 use Rattle.nr_trace.specs.declared.fault.Format.TheVariants.{BadMagic, BadVersion, BadCount, BadEvent, BadFrame, BadStart}
 use Rattle.nr_trace.specs.declared.event.Event.{Event}
 use Rattle.nr_trace.specs.declared.version.Version.{Version}
-use Rattle.nr_trace.specs.declared.version.Version.TheVariants.{V1, V2, Segment}
+use Rattle.nr_trace.specs.declared.version.Version.TheVariants.{Segment}
 use Rattle.nr_trace.specs.declared.version.Form.{Form}
 use Rattle.nr_trace.specs.declared.version.Form.TheVariants as forms
 use Rattle.nr_trace.specs.declared.fields.Counts.{Counts}
@@ -104,9 +104,8 @@ frames_one own index (suc frames) before Behind one rest f g x y =
     rest f g x y
 
 end_one : (version : Version) → OneBehind (AtEnd version)
-end_one V1 rest f g x y = x.1 ∙ sym y.1
-end_one V2 rest f g x y = x.1 ∙ sym y.1
 end_one Segment rest f g x y = absurd x
+end_one _ rest f g x y = x.1 ∙ sym y.1
 
 dumps_one : (version : Version) (replica dumps : ℕ) → OneBehind (AtDumps version replica dumps)
 unfolding AtDumps
@@ -233,15 +232,13 @@ frames_none own index (f ∷ fs) before Behind more fault fit rise none rest is 
 
 -- nothing is wrong at the end: nothing comes after a trace, and what comes after a segment is not of it
 end_none : (version : Version) (fault : Format) → AtEnd version [] fault → ⊥
-end_none V1 fault x = x.0 refl
-end_none V2 fault x = x.0 refl
 end_none Segment fault x = x
+end_none _ fault x = x.0 refl
 
 end_of_segment : (before : Option Layout) (version : Version) (more : List ℕ) (fault : Format) → IsVersionOf (forms.Segment before) version
     → AtEnd version more fault → ⊥
-end_of_segment before V1 more fault of x = of
-end_of_segment before V2 more fault of x = of
 end_of_segment before Segment more fault of x = x
+end_of_segment before _ more fault of x = of
 
 dumps_none : (version : Version) (replica : ℕ) (images : List Image) (more : List ℕ) (fault : Format) → AllByRecursion (IsImage version) images
     → (AtEnd version more fault → ⊥) → (rest : List ℕ) → rest ≡ flat_map dump images ++ more → AtDumps version replica (length images) rest fault → ⊥

@@ -18,7 +18,7 @@ use Rattle.nr_trace.specs.declared.fault.Format.{Format}
 use Rattle.nr_trace.specs.declared.fault.Format.TheVariants.{Truncated, BadMagic, BadVersion, BadCount, BadEvent, BadFrame, BadStart, Trailing}
 use Rattle.nr_trace.specs.declared.event.Event.{Event}
 use Rattle.nr_trace.specs.declared.version.Version.{Version}
-use Rattle.nr_trace.specs.declared.version.Version.TheVariants.{V1, V2, Segment}
+use Rattle.nr_trace.specs.declared.version.Version.TheVariants.{Segment}
 use Rattle.nr_trace.specs.declared.version.Form.{Form}
 use Rattle.nr_trace.specs.declared.version.Form.TheVariants as forms
 use Rattle.nr_trace.proofs.LawsOfSpelling.{Frame, FrameFits, frame, image_frames_fit, head_fits, frames_of, counts_fit, logs, events, dumps, numbered}
@@ -137,9 +137,8 @@ module _ {form : Form} {Beside : List ℕ → List ℕ → Type 0} {fault : Form
 -- ---- more after a spelling
 
 trailing : (version : Version) (rest : List ℕ) → IsVersionOf forms.Trace version → rest ≢ [] → AtEnd version rest Trailing
-trailing V1 rest of some = (some, refl)
-trailing V2 rest of some = (some, refl)
 trailing Segment rest of some = absurd of
+trailing _ rest of some = (some, refl)
 
 goes_past : (more : List ℕ) → more ≢ [] → GoesAlong forms.Trace (λ rest whole. rest ≡ whole ++ more) Trailing
 goes_past more some = record {

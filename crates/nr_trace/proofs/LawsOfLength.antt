@@ -13,7 +13,7 @@ use Rattle.nr_trace.specs.Spelling.{spelling, start_units, Spells, magic, versio
 use Rattle.nr_trace.proofs.LawsOfUnits.{length-counts, length-head, length-event, length_of_units, length-frame_words}
 use Rattle.nr_trace.proofs.LawsOfSpelling.{Frame, FrameFits, frame, image_frames_fit, frames_of, logs, events, dumps, counted, magic_is, numbered, spelling_is, starts, versioned}
 use Rattle.nr_trace.specs.declared.version.Version.{Version}
-use Rattle.nr_trace.specs.declared.version.Version.TheVariants.{V1, V2, Segment}
+use Rattle.nr_trace.specs.declared.version.Version.TheVariants.{Segment}
 use Rattle.nr_trace.specs.declared.version.Form.TheVariants as forms
 
 -- units of at most so many bytes each
@@ -34,9 +34,8 @@ length-frame f h =
     omega arith
 
 few_of_trace : (version : Version) → IsVersionOf forms.Trace version → (most_frames version ≤ 4096) × (most_start version ≡ 0) × (counts_bytes version ≡ 14)
-few_of_trace V1 of = (omega arith, refl, refl)
-few_of_trace V2 of = (omega arith, refl, refl)
 few_of_trace Segment of = absurd of
+few_of_trace _ of = (omega arith, refl, refl)
 
 -- those of a trace
 length-dump : (version : Version) → IsVersionOf forms.Trace version → (image : Image) → IsImage version image → length (dump image) ≤ 16810000

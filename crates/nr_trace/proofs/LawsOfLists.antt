@@ -1,14 +1,41 @@
 -- Lists of numbers: what is in one, that it is distinct, and what comes before a member.
 use Rattle.std.proofs.Common.{◌≡◌, ℕ, zero, suc, ◌<◌, ◌⊎◌, inl, inr, Bool, true, false, cond, nat_eq, List, [], ◌∷◌, ◌++◌, length, take, slice_get}
 use Rattle.std.proofs.Common.{slice_index_or, filter, Contains, Option, Some, None, option_to_list, option_and_then, refl, ap, sym, ◌∙◌, subst, arith, one-add}
-use Rattle.std.proofs.Common.{eq-eqb, ne_eqb}
+use Rattle.std.proofs.Common.{All, map, set, eq-eqb, ne_eqb}
 use Rattle.std.specs.Prelude.{flat_map, filter_map}
 use Rattle.std.specs.List.{AllByRecursion, IsDistinct, cons_option}
 use Rattle.std.proofs.lemmas.Bool.{eqb-false, cases_eq}
-use Rattle.std.proofs.lemmas.List.{append_assoc, append-nil}
+use Rattle.std.proofs.lemmas.List.{append_assoc, append-nil, get_or-map, length-map}
 use Rattle.std.proofs.lemmas.List.Concat.{flat_map-append}
 use Rattle.std.proofs.lemmas.Option.{same_Some, none-some}
 use Rattle.nr_trace.specs.Orders.{below, before}
+
+-- ---- an element of a list more, or another in its place
+
+pub slice_get-set_same : {X : Type 0} (xs : List X) (i : ℕ) (x : X) → i < length xs → slice_get (set xs i x) i ≡ Some x
+slice_get-set_same [] i x within = absurd (omega arith)
+slice_get-set_same (y ∷ ys) zero x within = refl
+slice_get-set_same (y ∷ ys) (suc i) x within = slice_get-set_same ys i x (omega arith)
+
+pub slice_get-set_other : {X : Type 0} (xs : List X) (i j : ℕ) (x : X) → (j ≡ i → ⊥) → slice_get (set xs i x) j ≡ slice_get xs j
+slice_get-set_other [] i j x out = refl
+slice_get-set_other (y ∷ ys) zero zero x out = absurd (out refl)
+slice_get-set_other (y ∷ ys) zero (suc j) x out = refl
+slice_get-set_other (y ∷ ys) (suc i) zero x out = refl
+slice_get-set_other (y ∷ ys) (suc i) (suc j) x out = slice_get-set_other ys i j x (λ q. out (ap suc q))
+
+-- an image at an index is that of the element there
+pub slice_get-unmap : {X Y : Type 0} (f : X → Y) (xs : List X) (i : ℕ) (y : Y) → slice_get (map f xs) i ≡ Some y
+    → (x : X) × (slice_get xs i ≡ Some x) × (f x ≡ y)
+slice_get-unmap f [] i y e = absurd (none-some y e)
+slice_get-unmap f (x ∷ xs) zero y e = (x, refl, same_Some (f x) y e)
+slice_get-unmap f (x ∷ xs) (suc i) y e = slice_get-unmap f xs i y e
+
+-- what holds of each image holds of each element
+pub All-unmap : {A B : Type 0} (P : B → Type 0) (f : A → B) (xs : List A) → All P (map f xs) → All (λ x. P (f x)) xs
+All-unmap P f xs all k d within = subst P (get_or-map f xs k d (f d) within) (all k (f d) (subst (λ n. k < n) (sym (length-map xs f)) within))
+
+-- ---- elements
 
 -- x is an element of the list, by recursion on it
 abbrev pub In : {X : Type 0} → X → List X → Type 0
@@ -162,12 +189,12 @@ flat_map_distinct f (suc n) each apart =
 
 -- ---- what comes before a member
 
-before_here : (call x : ℕ) (xs : List ℕ) → x ≡ call → before call (x ∷ xs) ≡ []
+pub before_here : (call x : ℕ) (xs : List ℕ) → x ≡ call → before call (x ∷ xs) ≡ []
 before_here call x xs h =
     let e = eq-eqb x call h in
     rw e refl
 
-before_there : (call x : ℕ) (xs : List ℕ) → (x ≡ call → ⊥) → before call (x ∷ xs) ≡ x ∷ before call xs
+pub before_there : (call x : ℕ) (xs : List ℕ) → (x ≡ call → ⊥) → before call (x ∷ xs) ≡ x ∷ before call xs
 before_there call x xs h =
     let e = ne_eqb x call h in
     rw (e, one-add) refl
@@ -268,6 +295,5 @@ given_first h (z ∷ xs) y (suc i) x is gives none =
 -- one place more of a list
 pub take-next : {X : Type 0} (n : ℕ) (xs : List X) → take (suc n) xs ≡ take n xs ++ option_to_list (slice_get xs n)
 take-next zero [] = refl
-take-next (suc n) [] = refl
-take-next zero (x ∷ xs) = refl
 take-next (suc n) (x ∷ xs) = ap (λ ys. x ∷ ys) (take-next n xs)
+take-next _ _ = refl

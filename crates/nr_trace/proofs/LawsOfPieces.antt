@@ -53,9 +53,8 @@ pieces_read pieces fed result h ends = ended (concat pieces) fed result (pieces_
 pub one_reading : (bytes : List ℕ) (first second : Result Recording (Fail Format)) → Reads bytes first → Reads bytes second
     → first ≢ Err Memory → second ≢ Err Memory → first ≡ second
 one_reading bytes (Ok one) (Ok other) h k m n = ap Ok (one_trace bytes one other h k)
-one_reading bytes (Ok one) (Err Memory) h k m n = absurd (n refl)
 one_reading bytes (Ok one) (Err (Refused fault)) h k m n = absurd (no_fault forms.Trace bytes one fault h k)
 one_reading bytes (Err Memory) second h k m n = absurd (m refl)
 one_reading bytes (Err (Refused fault)) (Ok other) h k m n = absurd (no_fault forms.Trace bytes other fault k h)
-one_reading bytes (Err (Refused fault)) (Err Memory) h k m n = absurd (n refl)
 one_reading bytes (Err (Refused fault)) (Err (Refused other)) h k m n = ap (λ f. Err (Refused f)) (one_fault forms.Trace bytes fault other h k)
+one_reading bytes _ (Err Memory) h k m n = absurd (n refl)

@@ -100,19 +100,16 @@ spelling_is trace =
 -- what comes after the version is the same in each version that has these counts
 behind_six : (version : Version) (rest : List ℕ) → drop 6 (magic version ++ (version_word version ++ rest)) ≡ rest
 behind_six V1 rest = refl
-behind_six V2 rest = refl
-behind_six Segment rest = refl
+behind_six _ rest = refl
 
 pub spelling_behind_version : (trace : Recording) → drop 6 (spelling trace) ≡ numbered trace
 spelling_behind_version trace = ap (drop 6) (spelling_is trace) ∙ behind_six trace.version (numbered trace)
 
 pub magic_is : (form : Form) (version : Version) → IsVersionOf form version → magic version ≡ magic_of form
-magic_is forms.Trace V1 h = refl
-magic_is forms.Trace V2 h = refl
 magic_is forms.Trace Segment h = absurd h
-magic_is (forms.Segment before) Segment h = refl
 magic_is (forms.Segment before) V1 h = absurd h
 magic_is (forms.Segment before) V2 h = absurd h
+magic_is _ _ h = refl
 
 -- starts with as many frames
 pub start_apart : (s t : Option Image) (us vs : List ℕ) → IfSome s IsStart → IfSome t IsStart → start_frames s ≡ start_frames t

@@ -1,6 +1,7 @@
--- Each unit's spelling has a fixed length, and what fits is distinguished by its spelling, whatever comes after it.
-use Rattle.std.proofs.Common.{◌≡◌, ℕ, zero, suc, ◌*◌, ◌<◌, ◌≤◌, ◌^◌, ◌%◌, Bool, true, false, List, [], ◌∷◌, ◌++◌, length, refl, ap, ap₂, sym, ◌∙◌, arith}
-use Rattle.std.specs.Prelude.{flat_map}
+-- Each unit's spelling has a fixed length, and what fits is read back from it, so it differs from any other, whatever comes after it.
+use Rattle.std.proofs.Common.{◌≡◌, ◌==◌, ℕ, zero, suc, ◌*◌, ◌<◌, ◌≤◌, ◌^◌, ◌%◌, Bool, true, false, List, [], ◌∷◌, ◌++◌, length, get_or, drop}
+use Rattle.std.proofs.Common.{refl, ap, ap₂, sym, ◌∙◌, arith}
+use Rattle.std.specs.Prelude.{flat_map, if◌then◌else◌}
 use Rattle.std.specs.List.{AllByRecursion}
 use Rattle.std.specs.Int.{w8, w16, w32, w64, to_be_bytes, from_be_bytes}
 use Rattle.std.proofs.lemmas.Nat.{from_be_bytes-to_be_bytes_2, from_be_bytes-to_be_bytes_4, from_be_bytes-to_be_bytes_8}
@@ -31,7 +32,7 @@ use Rattle.vs_types.specs.declared.answer.Answer.TheVariants.{Done, Overlap, Ful
 use Rattle.vs_types.proofs.Pages.{canonical_fits}
 use Rattle.vs_types.proofs.LogWords.{size_code_low, rights_code_low}
 use Rattle.nr_trace.specs.Recording.{IsAnswer}
-use Rattle.nr_trace.specs.Spelling.{answer_fields, touch_fields, version_word, counts, start_count, log_word, event, dump_head, frame_number, frame_words}
+use Rattle.nr_trace.specs.Spelling.{answer_fields, touch_fields, version_word, counts, log_word, event, dump_head, frame_number, frame_words}
 use Rattle.nr_trace.specs.Versions.{IsVersionOf, most_frames, most_start, most_tables, most_threads}
 use Rattle.nr_trace.specs.FirstFault.{IsCounts, IsDumpHead, counts_bytes}
 use Rattle.nr_trace.specs.declared.fields.AnswerFields.{AnswerFields}
@@ -42,7 +43,7 @@ use Rattle.nr_trace.specs.declared.version.Version.TheVariants.{V1, V2, Segment}
 use Rattle.nr_trace.specs.declared.version.Form.{Form}
 use Rattle.nr_trace.specs.declared.version.Form.TheVariants as forms
 use Rattle.nr_trace.specs.declared.event.Event.{Event}
-use Rattle.nr_trace.specs.declared.event.Event.TheVariants.{Call, Reply, Touch}
+use Rattle.nr_trace.specs.declared.event.Event.TheVariants.{Call}
 
 -- two values that fit are one if their spellings begin one list, and then what comes after is one too
 abbrev pub ToldApart : {A : Type 0} → (A → Type 0) → (A → List ℕ) → Type 0
@@ -52,34 +53,31 @@ ToldApart {A} Fits spelled = (a b : A) (us vs : List ℕ) → Fits a → Fits b 
 
 fronts_same : (xs ys us vs : List ℕ) → length xs ≡ length ys → xs ++ us ≡ ys ++ vs → (xs ≡ ys) × (us ≡ vs)
 fronts_same [] [] us vs l e = (refl, e)
-fronts_same [] (y ∷ ys) us vs l e = absurd (omega arith)
-fronts_same (x ∷ xs) [] us vs l e = absurd (omega arith)
 fronts_same (x ∷ xs) (y ∷ ys) us vs l e =
     let h : x ≡ y = cc in
     let t : xs ++ us ≡ ys ++ vs = cc in
     let r = fronts_same xs ys us vs (omega arith) t in
     (ap₂ ◌∷◌ h r.0, r.1)
+fronts_same _ _ us vs l e = absurd (omega arith)
+
+-- spellings of one length differ where each value is read back from its own
+pub apart_by : {A : Type 0} (Fits : A → Type 0) (spelled : A → List ℕ) (from : List ℕ → A) → ((value : A) → Fits value → from (spelled value) ≡ value)
+    → (bytes : ℕ) → ((value : A) → length (spelled value) ≡ bytes) → ToldApart Fits spelled
+apart_by Fits spelled from back bytes long a b us vs h k e =
+    let r = fronts_same (spelled a) (spelled b) us vs (long a ∙ sym (long b)) e in
+    (sym (back a h) ∙ ap from r.0 ∙ back b k, r.1)
 
 pub number_8 : ToldApart (λ n. n < 2 ^ 8) (to_be_bytes w8)
-number_8 a b us vs h k e =
-    let r = fronts_same (to_be_bytes w8 a) (to_be_bytes w8 b) us vs refl e in
-    let first : a % 256 ≡ b % 256 = cc in
-    (omega arith, r.1)
+number_8 = apart_by (λ n. n < 2 ^ 8) (to_be_bytes w8) (λ l. get_or l 0 0) (λ n h. let small : n % 256 ≡ n = omega arith in small) 1 (λ n. refl)
 
 pub number_16 : ToldApart (λ n. n < 2 ^ 16) (to_be_bytes w16)
-number_16 a b us vs h k e =
-    let r = fronts_same (to_be_bytes w16 a) (to_be_bytes w16 b) us vs refl e in
-    (sym (from_be_bytes-to_be_bytes_2 a h) ∙ ap (from_be_bytes w16) r.0 ∙ from_be_bytes-to_be_bytes_2 b k, r.1)
+number_16 = apart_by (λ n. n < 2 ^ 16) (to_be_bytes w16) (from_be_bytes w16) from_be_bytes-to_be_bytes_2 2 (λ n. refl)
 
 pub number_32 : ToldApart (λ n. n < 2 ^ 32) (to_be_bytes w32)
-number_32 a b us vs h k e =
-    let r = fronts_same (to_be_bytes w32 a) (to_be_bytes w32 b) us vs refl e in
-    (sym (from_be_bytes-to_be_bytes_4 a h) ∙ ap (from_be_bytes w32) r.0 ∙ from_be_bytes-to_be_bytes_4 b k, r.1)
+number_32 = apart_by (λ n. n < 2 ^ 32) (to_be_bytes w32) (from_be_bytes w32) from_be_bytes-to_be_bytes_4 4 (λ n. refl)
 
 pub number_64 : ToldApart (λ n. n < 2 ^ 64) (to_be_bytes w64)
-number_64 a b us vs h k e =
-    let r = fronts_same (to_be_bytes w64 a) (to_be_bytes w64 b) us vs refl e in
-    (sym (from_be_bytes-to_be_bytes_8 a h) ∙ ap (from_be_bytes w64) r.0 ∙ from_be_bytes-to_be_bytes_8 b k, r.1)
+number_64 = apart_by (λ n. n < 2 ^ 64) (to_be_bytes w64) (from_be_bytes w64) from_be_bytes-to_be_bytes_8 8 (λ n. refl)
 
 -- ---- codes, and the way back from each
 
@@ -90,8 +88,7 @@ size_from (suc (suc n)) = G1
 
 pub size_back : (size : Size) → size_from (size_code size) ≡ size
 size_back K4 = refl
-size_back M2 = refl
-size_back G1 = refl
+size_back _ = refl
 
 abbrev pub rights_from : ℕ → Rights
 rights_from zero = record { write = false; user = false; exec = false }
@@ -105,14 +102,11 @@ rights_from (suc (suc (suc (suc (suc (suc (suc n))))))) = record { write = true;
 
 rights_back_by : (write user exec : Bool)
     → rights_from (rights_code (record { write = write; user = user; exec = exec })) ≡ record { write = write; user = user; exec = exec }
-rights_back_by false false false = refl
-rights_back_by true false false = refl
-rights_back_by false true false = refl
 rights_back_by true true false = refl
 rights_back_by false false true = refl
 rights_back_by true false true = refl
 rights_back_by false true true = refl
-rights_back_by true true true = refl
+rights_back_by _ _ _ = refl
 
 pub rights_back : (rights : Rights) → rights_from (rights_code rights) ≡ rights
 rights_back rights = rights_back_by rights.write rights.user rights.exec
@@ -136,13 +130,11 @@ access_from (suc (suc n)) = Fetch
 
 access_back : (access : accesses.Access) → access_from (access_code access) ≡ access
 access_back Read = refl
-access_back Write = refl
-access_back Fetch = refl
+access_back _ = refl
 
 access_few : (access : accesses.Access) → access_code access < 3
 access_few Read = omega arith
-access_few Write = omega arith
-access_few Fetch = omega arith
+access_few _ = omega arith
 
 abbrev request_of_kind : ℕ → RequestFields → Query
 request_of_kind zero f = Update (Map (record { base = f.address; size = size_from f.size; phys = f.physical; rights = rights_from f.rights }))
@@ -158,19 +150,15 @@ pub request_back : (request : Query) → request_from (request_fields request) �
 request_back (Update (Map page)) =
     ap₂ (λ (size : Size) (rights : Rights). Update (Map (record { base = page.base; size = size; phys = page.phys; rights = rights }))) (size_back page.size)
     (rights_back page.rights)
-request_back (Update (Unmap base)) = refl
 request_back (Update (Protect base rights)) = ap (λ (rights : Rights). Update (Protect base rights)) (rights_back rights)
-request_back (Resolve address) = refl
 request_back (Access address mode access) = ap₂ (Access address) (mode_back mode) (access_back access)
+request_back _ = refl
 
 pub request_apart : (a b : Query) → request_fields a ≡ request_fields b → a ≡ b
 request_apart a b e = sym (request_back a) ∙ ap request_from e ∙ request_back b
 
 pub touch_back : (address : ℕ) (mode : Mode) (access : accesses.Access) → request_from (touch_fields address mode access) ≡ Access address mode access
 touch_back address mode access = ap₂ (Access address) (mode_back mode) (access_back access)
-
-pub touch_apart : (a b : ℕ) (m n : Mode) (c d : accesses.Access) → touch_fields a m c ≡ touch_fields b n d → Access a m c ≡ Access b n d
-touch_apart a b m n c d e = sym (touch_back a m c) ∙ ap request_from e ∙ touch_back b n d
 
 abbrev answer_of_code : ℕ → AnswerFields → Answer
 answer_of_code zero f = Done
@@ -188,16 +176,10 @@ abbrev pub answer_from : AnswerFields → Answer
 answer_from f = answer_of_code f.code f
 
 pub answer_back : (answer : Answer) → answer_from (answer_fields answer) ≡ answer
-answer_back Done = refl
-answer_back (Overlap base) = refl
-answer_back (Full need) = refl
 answer_back (Removed phys size rights) = ap₂ (Removed phys) (size_back size) (rights_back rights)
-answer_back NotMapped = refl
-answer_back (Inside base) = refl
 answer_back (Changed rights) = ap Changed (rights_back rights)
 answer_back (Mapped phys size rights) = ap₂ (Mapped phys) (size_back size) (rights_back rights)
-answer_back (Allowed phys) = refl
-answer_back (Fault code) = refl
+answer_back _ = refl
 
 pub answer_apart : (a b : Answer) → answer_fields a ≡ answer_fields b → a ≡ b
 answer_apart a b e = sym (answer_back a) ∙ ap answer_from e ∙ answer_back b
@@ -257,15 +239,12 @@ pub record AnswerFits (fields : AnswerFields) : Type 0 where
 
 pub answer_fits : (answer : Answer) → IsAnswer answer → AnswerFits (answer_fields answer)
 answer_fits Done h = record { code = omega arith; size = omega arith; rights = omega arith; value = omega arith }
-answer_fits (Overlap base) h = record { code = omega arith; size = omega arith; rights = omega arith; value = h }
-answer_fits (Full need) h = record { code = omega arith; size = omega arith; rights = omega arith; value = h }
 answer_fits (Removed phys size rights) h = record { code = omega arith; size = size_code_low size; rights = rights_code_low rights; value = h }
 answer_fits NotMapped h = record { code = omega arith; size = omega arith; rights = omega arith; value = omega arith }
-answer_fits (Inside base) h = record { code = omega arith; size = omega arith; rights = omega arith; value = h }
 answer_fits (Changed rights) h = record { code = omega arith; size = omega arith; rights = rights_code_low rights; value = omega arith }
 answer_fits (Mapped phys size rights) h = record { code = omega arith; size = size_code_low size; rights = rights_code_low rights; value = h }
-answer_fits (Allowed phys) h = record { code = omega arith; size = omega arith; rights = omega arith; value = h }
 answer_fits (Fault code) h = record { code = omega arith; size = omega arith; rights = omega arith; value = h }
+answer_fits _ h = record { code = omega arith; size = omega arith; rights = omega arith; value = h }
 
 -- the layout of any version is within these ranges
 abbrev pub IsWide : Layout → Type 0
@@ -273,8 +252,7 @@ IsWide layout = IsLayoutWithin FRAMES FRAMES layout
 
 most_wide : (version : Version) → (most_threads version ≤ FRAMES) × (most_tables version ≤ FRAMES)
 most_wide V1 = (omega arith, omega arith)
-most_wide V2 = (omega arith, omega arith)
-most_wide Segment = (omega arith, omega arith)
+most_wide _ = (omega arith, omega arith)
 
 pub is_wide : (version : Version) (layout : Layout) → IsLayoutWithin (most_threads version) (most_tables version) layout → IsWide layout
 is_wide version layout l =
@@ -290,76 +268,84 @@ is_wide version layout l =
 
 pub length-event : (e : Event) → length (event e) ≡ 24
 length-event (Call replica thread request) = refl
-length-event (Touch replica thread address mode access) = refl
-length-event (Reply call at answer) = refl
+length-event _ = refl
 
 -- ---- versions, counts, places, heads and frames
 
-levels_apart : (d e : Depth) → levels d ≡ levels e → d ≡ e
-levels_apart Four Four h = refl
-levels_apart Four Five h = absurd (omega arith)
-levels_apart Five Four h = absurd (omega arith)
-levels_apart Five Five h = refl
-
-levels_few : (d : Depth) → levels d < 2 ^ 8
-levels_few Four = omega arith
-levels_few Five = omega arith
-
 pub length-counts : (version : Version) (numbers : Counts) → length (counts version numbers) ≡ counts_bytes version
 length-counts V1 numbers = refl
-length-counts V2 numbers = refl
-length-counts Segment numbers = refl
+length-counts _ numbers = refl
 
 pub few_of_start : (version : Version) → most_start version ≤ FRAMES
 few_of_start V1 = omega arith
-few_of_start V2 = omega arith
-few_of_start Segment = omega arith
+few_of_start _ = omega arith
 
 pub few_of : (version : Version) → most_frames version ≤ FRAMES
 few_of V1 = omega arith
-few_of V2 = omega arith
-few_of Segment = omega arith
+few_of _ = omega arith
 
-starts_apart : (version : Version) (m n : ℕ) (us vs : List ℕ) → m ≤ most_start version → n ≤ most_start version
-    → start_count version m ++ us ≡ start_count version n ++ vs → (m ≡ n) × (us ≡ vs)
-starts_apart V1 m n us vs h k e = (omega arith, e)
-starts_apart V2 m n us vs h k e = (omega arith, e)
-starts_apart Segment m n us vs h k e = number_32 m n us vs (omega arith) (omega arith) e
+abbrev pub version_from : Form → List ℕ → Version
+version_from forms.Trace bytes = if from_be_bytes w16 bytes == 1 then V1 else V2
+version_from (forms.Segment before) bytes = Segment
 
-pub counts_apart : (version : Version) → ToldApart (IsCounts version) (counts version)
-counts_apart version a b us vs h k e =
-    let wide = is_wide version a.layout h.layout in
-    let also = is_wide version b.layout k.layout in
-    let r1 = number_8 (levels a.layout.depth) (levels b.layout.depth) _ _ (levels_few a.layout.depth) (levels_few b.layout.depth) e in
-    let r2 = number_8 a.layout.replicas b.layout.replicas _ _ (omega (arith, wide.few_replicas)) (omega (arith, also.few_replicas)) r1.1 in
-    let r3 = number_16 a.layout.threads b.layout.threads _ _ (omega (arith, wide.few_threads)) (omega (arith, also.few_threads)) r2.1 in
-    let r4 = number_16 a.layout.tables b.layout.tables _ _ (omega (arith, wide.few_tables)) (omega (arith, also.few_tables)) r3.1 in
-    let r5 = number_32 a.places b.places _ _ (omega (arith, h.few_places)) (omega (arith, k.few_places)) r4.1 in
-    let r6 = number_32 a.events b.events _ _ (omega (arith, h.few_events)) (omega (arith, k.few_events)) r5.1 in
-    let r7 = starts_apart version a.start b.start us vs h.few_start k.few_start r6.1 in
-    let depth = levels_apart a.layout.depth b.layout.depth r1.0 in (
-      λ i. record {
-        layout = record { depth = depth i; replicas = r2.0 i; threads = r3.0 i; tables = r4.0 i };
-        places = r5.0 i;
-        events = r6.0 i;
-        start = r7.0 i;
-      },
-      r7.1,
-    )
+pub version_back : (form : Form) (version : Version) → IsVersionOf form version → version_from form (version_word version) ≡ version
+version_back forms.Trace Segment h = absurd h
+version_back (forms.Segment before) V1 h = absurd h
+version_back (forms.Segment before) V2 h = absurd h
+version_back _ _ h = refl
 
 pub versions_apart : (form : Form) → ToldApart (IsVersionOf form) version_word
-versions_apart forms.Trace V1 V1 us vs h k e = (refl, (number_16 1 1 us vs (omega arith) (omega arith) e).1)
-versions_apart forms.Trace V1 V2 us vs h k e = absurd (omega (arith, (number_16 1 2 us vs (omega arith) (omega arith) e).0))
-versions_apart forms.Trace V2 V1 us vs h k e = absurd (omega (arith, (number_16 2 1 us vs (omega arith) (omega arith) e).0))
-versions_apart forms.Trace V2 V2 us vs h k e = (refl, (number_16 2 2 us vs (omega arith) (omega arith) e).1)
-versions_apart forms.Trace Segment b us vs h k e = absurd h
-versions_apart forms.Trace V1 Segment us vs h k e = absurd k
-versions_apart forms.Trace V2 Segment us vs h k e = absurd k
-versions_apart (forms.Segment before) Segment Segment us vs h k e = (refl, (number_16 1 1 us vs (omega arith) (omega arith) e).1)
-versions_apart (forms.Segment before) V1 b us vs h k e = absurd h
-versions_apart (forms.Segment before) V2 b us vs h k e = absurd h
-versions_apart (forms.Segment before) Segment V1 us vs h k e = absurd k
-versions_apart (forms.Segment before) Segment V2 us vs h k e = absurd k
+versions_apart form = apart_by (IsVersionOf form) version_word (version_from form) (version_back form) 2 (λ version. refl)
+
+abbrev pub depth_from : ℕ → Depth
+depth_from count = if count == 4 then Four else Five
+
+depth_back : (depth : Depth) → depth_from (levels depth % 256) ≡ depth
+depth_back Four = refl
+depth_back Five = refl
+
+abbrev pub start_from : Version → List ℕ → ℕ
+start_from Segment bytes = from_be_bytes w32 (drop 14 bytes)
+start_from version bytes = 0
+
+abbrev pub counts_from : Version → List ℕ → Counts
+counts_from version bytes = record {
+  layout = record {
+    depth = depth_from (get_or bytes 0 0);
+    replicas = get_or bytes 1 0;
+    threads = from_be_bytes w16 (drop 2 bytes);
+    tables = from_be_bytes w16 (drop 4 bytes);
+  };
+  places = from_be_bytes w32 (drop 6 bytes);
+  events = from_be_bytes w32 (drop 10 bytes);
+  start = start_from version bytes;
+}
+
+start_back : (version : Version) (numbers : Counts) → numbers.start ≤ most_start version → start_from version (counts version numbers) ≡ numbers.start
+start_back Segment numbers few = from_be_bytes-to_be_bytes_4 numbers.start (omega arith)
+start_back _ numbers few = omega arith
+
+pub counts_back : (version : Version) (numbers : Counts) → IsCounts version numbers → counts_from version (counts version numbers) ≡ numbers
+counts_back version numbers h =
+    let layout = numbers.layout in
+    let wide = is_wide version layout h.layout in
+    let depth = depth_back layout.depth in
+    let replicas : layout.replicas % 256 ≡ layout.replicas = omega (arith, wide.few_replicas) in
+    let threads = from_be_bytes-to_be_bytes_2 layout.threads (omega (arith, wide.few_threads)) in
+    let tables = from_be_bytes-to_be_bytes_2 layout.tables (omega (arith, wide.few_tables)) in
+    let places = from_be_bytes-to_be_bytes_4 numbers.places (omega (arith, h.few_places)) in
+    let events = from_be_bytes-to_be_bytes_4 numbers.events (omega (arith, h.few_events)) in
+    let start = start_back version numbers h.few_start in
+    λ i. record {
+      layout = record { depth = depth i; replicas = replicas i; threads = threads i; tables = tables i };
+      places = places i;
+      events = events i;
+      start = start i;
+    }
+
+pub counts_apart : (version : Version) → ToldApart (IsCounts version) (counts version)
+counts_apart version =
+    apart_by (IsCounts version) (counts version) (counts_from version) (counts_back version) (counts_bytes version) (length-counts version)
 
 pub log_words_apart : ToldApart (λ call. call < 2 ^ 32) log_word
 log_words_apart = number_32
@@ -367,13 +353,20 @@ log_words_apart = number_32
 pub length-head : (head : DumpHead) → length (dump_head head) ≡ 16
 length-head head = refl
 
-pub heads_apart : (version : Version) → ToldApart (IsDumpHead version) dump_head
-heads_apart version a b us vs h k e =
+abbrev pub head_from : List ℕ → DumpHead
+head_from bytes =
+    record { applied = from_be_bytes w32 bytes; frames = from_be_bytes w32 (drop 4 bytes); root = from_be_bytes w64 (drop 8 bytes) }
+
+pub head_back : (version : Version) (head : DumpHead) → IsDumpHead version head → head_from (dump_head head) ≡ head
+head_back version head h =
     let few = few_of version in
-    let r1 = number_32 a.applied b.applied _ _ h.applied k.applied e in
-    let r2 = number_32 a.frames b.frames _ _ (omega (arith, h.few_frames, few)) (omega (arith, k.few_frames, few)) r1.1 in
-    let r3 = number_64 a.root b.root us vs h.root k.root r2.1 in
-    (λ i. record { applied = r1.0 i; frames = r2.0 i; root = r3.0 i }, r3.1)
+    let applied = from_be_bytes-to_be_bytes_4 head.applied h.applied in
+    let frames = from_be_bytes-to_be_bytes_4 head.frames (omega (arith, h.few_frames, few)) in
+    let root = from_be_bytes-to_be_bytes_8 head.root h.root in
+    λ i. record { applied = applied i; frames = frames i; root = root i }
+
+pub heads_apart : (version : Version) → ToldApart (IsDumpHead version) dump_head
+heads_apart version = apart_by (IsDumpHead version) dump_head head_from (head_back version) 16 length-head
 
 pub frame_numbers_apart : ToldApart (λ number. number < 2 ^ 40) frame_number
 frame_numbers_apart a b us vs h k e = number_64 a b us vs (omega arith) (omega arith) e
@@ -383,13 +376,12 @@ frame_numbers_apart a b us vs h k e = number_64 a b us vs (omega arith) (omega a
 pub lists_apart : {A : Type 0} (Fits : A → Type 0) (spelled : A → List ℕ) → ToldApart Fits spelled → (xs ys : List A) (us vs : List ℕ)
     → AllByRecursion Fits xs → AllByRecursion Fits ys → length xs ≡ length ys → flat_map spelled xs ++ us ≡ flat_map spelled ys ++ vs → (xs ≡ ys) × (us ≡ vs)
 lists_apart Fits spelled apart [] [] us vs h k l e = (refl, e)
-lists_apart Fits spelled apart [] (y ∷ ys) us vs h k l e = absurd (omega arith)
-lists_apart Fits spelled apart (x ∷ xs) [] us vs h k l e = absurd (omega arith)
 lists_apart Fits spelled apart (x ∷ xs) (y ∷ ys) us vs h k l e =
     let f = sym (append_assoc (spelled x) (flat_map spelled xs) us) ∙ e ∙ append_assoc (spelled y) (flat_map spelled ys) vs in
     let first = apart x y _ _ h.0 k.0 f in
     let rest = lists_apart Fits spelled apart xs ys us vs h.1 k.1 (omega arith) first.1 in
     (ap₂ ◌∷◌ first.0 rest.0, rest.1)
+lists_apart Fits spelled apart _ _ us vs h k l e = absurd (omega arith)
 
 pub length_of_units : {A : Type 0} (spelled : A → List ℕ) (n : ℕ) → ((a : A) → length (spelled a) ≡ n) → (xs : List A)
     → length (flat_map spelled xs) ≡ n * length xs

@@ -41,4 +41,4 @@ pub mod Written
 pub mod Framed
 pub mod Feeding
 pub mod FeedingSegments
-pub mod WholeParts
+pub mod Runs

@@ -4,7 +4,7 @@ use Rattle.std.specs.Global.{Vec}
 use Rattle.std.specs.List.{flat_map}
 use Rattle.std.proofs.lemmas.List.{append-nil, nil_from_length, length-append, flat_map_more}
 use Rattle.std.proofs.lemmas.List.Concat.{flat_map-cons}
-use Rattle.std.proofs.lemmas.List.Elements.{All-head, All-tail, All-push, All-nil, All-append}
+use Rattle.std.proofs.lemmas.List.Elements.{All-head, All-tail, All-push, All-append}
 use Rattle.vs_types.specs.Refusal.{IfRefused}
 use Rattle.vs_types.specs.declared.refusal.Fail.{Fail}
 use Rattle.vs_types.specs.declared.refusal.Fail.TheVariants.{Memory, Refused}
@@ -105,27 +105,6 @@ pub record ArePlacing (before bytes after : List ℕ) (k : ℕ) (rest : List ℕ
   pub added : after ≡ before ++ calls
   pub parts : bytes ≡ flat_map log_word calls ++ rest
   pub left : length rest + 4 * k ≡ length bytes
-
-pub none_placed : (before bytes : List ℕ) → ArePlacing before bytes before 0 bytes
-none_placed before bytes = record {
-  calls = [];
-  fit = All-nil (λ call. call < 2 ^ 32);
-  added = sym (append-nil before);
-  parts = refl;
-  left = omega arith;
-}
-
-pub one_placed : (before bytes after next : List ℕ) (k : ℕ) (rest : List ℕ) (call : ℕ) (behind : List ℕ) → ArePlacing before bytes after k rest
-    → call < 2 ^ 32 → next ≡ after ++ call ∷ [] → rest ≡ log_word call ++ behind → ArePlacing before bytes next (k + 1) behind
-one_placed before bytes after next k rest call behind placing fits grown e = record {
-  calls = placing.calls ++ call ∷ [];
-  fit = All-push (λ call. call < 2 ^ 32) placing.calls call placing.fit fits;
-  added = grown ∙ ap (λ (l : List ℕ). l ++ call ∷ []) placing.added ∙ append_assoc before placing.calls (call ∷ []);
-  parts = placing.parts ∙ ap (λ (l : List ℕ). flat_map log_word placing.calls ++ l) e
-      ∙ sym (append_assoc (flat_map log_word placing.calls) (log_word call) behind)
-      ∙ ap (λ (l : List ℕ). l ++ behind) (flat_map_more log_word [] placing.calls call);
-  left = omega (arith, ap length e, length-append (log_word call) behind, placing.left);
-}
 
 pub all_placed : (before bytes after : List ℕ) (k : ℕ) (rest : List ℕ) → ArePlacing before bytes after k rest → length bytes ≤ 4 * k
     → ArePlaced before bytes after
@@ -253,15 +232,6 @@ pub record AreRecording (version : Version) (layout : Layout) (before : List Eve
   pub parts : bytes ≡ flat_map event recorded ++ rest
   pub left : length rest + 24 * k ≡ length bytes
 
-pub none_recorded : (version : Version) (layout : Layout) (before : List Event) (bytes : List ℕ) → AreRecording version layout before bytes before 0 bytes
-none_recorded version layout before bytes = record {
-  recorded = [];
-  fit = All-nil (IsEvent version layout);
-  added = sym (append-nil before);
-  parts = refl;
-  left = omega arith;
-}
-
 pub one_recorded : (version : Version) (layout : Layout) (before : List Event) (bytes : List ℕ) (after next : List Event) (k : ℕ) (rest : List ℕ)
     (one : Event) (unit behind : List ℕ) → AreRecording version layout before bytes after k rest
     → SpellsEvent version layout unit one → next ≡ after ++ one ∷ [] → rest ≡ unit ++ behind
@@ -289,17 +259,6 @@ recorded_fit version layout before bytes after k rest n are all few =
       length-append (flat_map event are.recorded) rest,
       length-events are.recorded,
     )
-
-pub all_recorded : (version : Version) (layout : Layout) (before : List Event) (bytes : List ℕ) (after : List Event) (k : ℕ) (rest : List ℕ)
-    → AreRecording version layout before bytes after k rest → length bytes ≤ 24 * k → AreRecorded version layout before bytes after
-all_recorded version layout before bytes after k rest are le =
-    let none : rest ≡ [] = nil_from_length rest (omega (arith, are.left)) in
-    record {
-      recorded = are.recorded;
-      fit = are.fit;
-      added = are.added;
-      spelled = are.parts ∙ ap (λ (l : List ℕ). flat_map event are.recorded ++ l) none ∙ append-nil (flat_map event are.recorded);
-    }
 
 pub none_spelled : (version : Version) (layout : Layout) (before : List Event) (bytes : List ℕ) (after : List Event) (k : ℕ) (rest unit behind : List ℕ)
     (index : ℕ) → AreRecording version layout before bytes after k rest → rest ≡ unit ++ behind → length unit ≡ 24

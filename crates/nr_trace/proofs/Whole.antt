@@ -19,7 +19,7 @@ use Rattle.nr_trace.specs.declared.reading.reader.Parts.{Parts}
 use Rattle.nr_trace.specs.declared.reading.reader.Reader.{Reader}
 use Rattle.nr_trace.specs.declared.reading.reader.Reader.TheVariants.{Magic, Version, Header, Root, Log, Events, Dumps, Frame, Words}
 use Rattle.nr_trace.specs.declared.version.Version as versions
-use Rattle.nr_trace.specs.declared.version.Version.TheVariants.{V1, V2, Segment}
+use Rattle.nr_trace.specs.declared.version.Version.TheVariants.{V1, Segment}
 use Rattle.nr_trace.specs.declared.version.Form.{Form}
 use Rattle.nr_trace.specs.declared.version.Form.TheVariants as forms
 use Rattle.nr_trace.proofs.LawsOfUnits.{length_of_units}
@@ -88,9 +88,8 @@ too_short (Words parts frame) len rest ready is short =
 
 behind_end : (form : Form) (version : versions.Version) (rest : List ℕ) → form ≡ forms.Trace → IsVersionOf form version → rest ≢ []
     → AtEnd version rest Trailing
-behind_end form V1 rest is of more = (more, refl)
-behind_end form V2 rest is of more = (more, refl)
 behind_end form Segment rest is of more = absurd (subst (λ (f : Form). IsVersionOf f Segment) is of)
+behind_end form _ rest is of more = (more, refl)
 
 at_end : (version : versions.Version) (replica dumps : ℕ) (rest : List ℕ) → dumps ≡ 0 → AtEnd version rest Trailing
     → AtDumps version replica dumps rest Trailing
@@ -100,34 +99,24 @@ at_end version replica dumps rest none end = subst (λ (n : ℕ). AtDumps versio
 -- a trace has nothing behind its end
 pub too_long : (reader : Reader) (rest : List ℕ) → IsReady reader → form_of reader ≡ forms.Trace → unit_bytes reader ≡ None → rest ≢ []
     → Ahead reader rest Trailing
-too_long (Magic alloc form) rest ready form_is is more = absurd cc
-too_long (Version alloc form) rest ready form_is is more = absurd cc
-too_long (Header alloc form version) rest ready form_is is more = absurd cc
-too_long (Root parts numbers) rest ready form_is is more = absurd cc
-too_long (Log parts places events) rest ready form_is is more = absurd cc
-too_long (Events parts events) rest ready form_is is more = absurd cc
 too_long (Dumps parts) rest ready form_is is more =
     let all : parts.layout.replicas ≤ length parts.dumps.items = ltb-false _ _ (not_chosen (nat_lt (length parts.dumps.items) parts.layout.replicas) 16 is) in
     at_end parts.version (length parts.dumps.items + 0) (parts.layout.replicas - (length parts.dumps.items + 0)) rest (omega arith)
     (behind_end parts.form parts.version rest form_is ready.of_form more)
-too_long (Frame parts opened last) rest ready form_is is more = absurd cc
-too_long (Words parts frame) rest ready form_is is more = absurd cc
+too_long _ rest ready form_is is more = absurd cc
 
 some_count : (version : versions.Version) → 1 ≤ counts_bytes version
 some_count V1 = omega arith
-some_count V2 = omega arith
-some_count Segment = omega arith
+some_count _ = omega arith
 
 pub some_bytes : (reader : Reader) (len : ℕ) → unit_bytes reader ≡ Some len → 1 ≤ len
 some_bytes (Magic alloc form) len is = omega (arith, some_is 4 len is)
 some_bytes (Version alloc form) len is = omega (arith, some_is 2 len is)
 some_bytes (Header alloc form version) len is = subst (λ n. 1 ≤ n) (some_is (counts_bytes version) len is) (some_count version)
-some_bytes (Root parts numbers) len is = omega (arith, some_is 8 len is)
 some_bytes (Log parts places events) len is = omega (arith, some_is 4 len is)
 some_bytes (Events parts events) len is = omega (arith, some_is 24 len is)
 some_bytes (Dumps parts) len is = omega (arith, (chosen (nat_lt (length parts.dumps.items) parts.layout.replicas) 16 len is).1)
-some_bytes (Frame parts opened last) len is = omega (arith, some_is 8 len is)
-some_bytes (Words parts frame) len is = omega (arith, some_is 8 len is)
+some_bytes _ len is = omega (arith, some_is 8 len is)
 
 -- what the parts say
 abbrev pub recording_of : Parts → Recording
@@ -163,15 +152,8 @@ dumps_end parts ready is =
 
 -- a reader of which no unit is left has read a trace, or a segment
 pub ready_to_end : (reader : Reader) → IsReady reader → unit_bytes reader ≡ None → (trace : Recording) × SpellsAs (form_of reader) (said reader) trace
-ready_to_end (Magic alloc form) ready is = absurd cc
-ready_to_end (Version alloc form) ready is = absurd cc
-ready_to_end (Header alloc form version) ready is = absurd cc
-ready_to_end (Root parts numbers) ready is = absurd cc
-ready_to_end (Log parts places events) ready is = absurd cc
-ready_to_end (Events parts events) ready is = absurd cc
 ready_to_end (Dumps parts) ready is = (recording_of parts, dumps_end parts ready is)
-ready_to_end (Frame parts opened last) ready is = absurd cc
-ready_to_end (Words parts frame) ready is = absurd cc
+ready_to_end _ ready is = absurd cc
 
 -- ---- runs
 
@@ -214,12 +196,9 @@ units_some : (unit most bytes : ℕ) → 1 ≤ unit → AreUnits unit most bytes
 units_some unit most bytes some are = omega (arith, are.all, mul-le-mul_left unit are.some)
 
 pub run_some : (reader : Reader) (len : ℕ) → IsRun reader len → 1 ≤ len
-run_some (Magic alloc form) len run = omega (arith, run)
-run_some (Version alloc form) len run = omega (arith, run)
 run_some (Header alloc form version) len run = subst (λ n. 1 ≤ n) (sym run) (some_count version)
-run_some (Root parts numbers) len run = omega (arith, run)
 run_some (Log parts places events) len run = units_some 4 places len (omega arith) run
 run_some (Events parts events) len run = units_some 24 events len (omega arith) run
 run_some (Dumps parts) len run = omega (arith, run.1)
-run_some (Frame parts opened last) len run = omega (arith, run)
 run_some (Words parts frame) len run = units_some 8 (512 - length frame.dump.coming) len (omega arith) run
+run_some _ len run = omega (arith, run)

@@ -1,11 +1,10 @@
 -- Words of 64 bits that are read one after the other.
-use Rattle.std.proofs.Common.{◌≡◌, ℕ, ◌+◌, ◌*◌, ◌^◌, ◌<◌, ◌≤◌, List, [], ◌∷◌, ◌++◌, length, All, refl, sym, ap, subst, ◌∙◌, arith, append_assoc}
+use Rattle.std.proofs.Common.{◌≡◌, ℕ, ◌+◌, ◌*◌, ◌^◌, ◌<◌, List, [], ◌∷◌, ◌++◌, length, All, sym, ap, subst, ◌∙◌, arith, append_assoc}
 use Rattle.std.specs.Int.{w64, to_be_bytes}
-use Rattle.std.proofs.lemmas.List.{length-append, flat_map_more, nil_from_length, append-nil}
+use Rattle.std.proofs.lemmas.List.{length-append, flat_map_more}
 use Rattle.std.proofs.lemmas.List.Elements.{All-push}
 use Rattle.vs_walk.specs.Dump.{OpenImage}
 use Rattle.nr_trace.specs.Spelling.{frame_words}
-use Rattle.nr_trace.specs.inside.Reading.{HasWords}
 
 -- so many words were put after those that had come, and this is left of the run
 pub record IsFilled (before : OpenImage) (run : List ℕ) (dump : OpenImage) (k : ℕ) (rest : List ℕ) : Type 0 where
@@ -14,9 +13,6 @@ pub record IsFilled (before : OpenImage) (run : List ℕ) (dump : OpenImage) (k 
   pub count : length dump.coming ≡ length before.coming + k
   pub left : length rest + 8 * k ≡ length run
   pub fit : All (λ word. word < 2 ^ 64) before.coming → All (λ word. word < 2 ^ 64) dump.coming
-
-pub none_filled : (before : OpenImage) (run : List ℕ) → IsFilled before run before 0 run
-none_filled before run = record { same = refl; parts = refl; count = omega arith; left = omega arith; fit = λ fit. fit }
 
 pub one_more : (before : OpenImage) (run : List ℕ) (dump : OpenImage) (k : ℕ) (rest : List ℕ) (word : ℕ) (behind : List ℕ) (next : OpenImage)
     → IsFilled before run dump k rest → word < 2 ^ 64 → rest ≡ to_be_bytes w64 word ++ behind
@@ -35,14 +31,4 @@ one_more before run dump k rest word behind next filled below e is =
       count = omega (arith, ap length come, length-append dump.coming (word ∷ []), filled.count);
       left = omega (arith, ap length e, length-append (to_be_bytes w64 word) behind, filled.left);
       fit = λ fit. subst (All (λ w. w < 2 ^ 64)) (sym come) (All-push (λ w. w < 2 ^ 64) dump.coming word (filled.fit fit) below);
-    }
-
-pub all_filled : (before : OpenImage) (run : List ℕ) (dump : OpenImage) (k : ℕ) (rest : List ℕ) → IsFilled before run dump k rest
-    → length run ≤ 8 * k → HasWords before run dump
-all_filled before run dump k rest filled le =
-    let none : rest ≡ [] = nil_from_length rest (omega (arith, filled.left)) in
-    record {
-      same = filled.same;
-      spelled = sym (filled.parts ∙ ap (λ (l : List ℕ). frame_words dump.coming ++ l) none ∙ append-nil (frame_words dump.coming));
-      fit = filled.fit;
     }

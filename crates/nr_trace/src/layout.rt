@@ -38,7 +38,7 @@ impl Model for TraceLayout {
 
 impl TraceLayout {
     ghost use Rattle.std.specs.Prelude.{MatchOption};
-    ghost use Rattle.vs_types.specs.Config.{Layout, IsLayoutWithin};
+    ghost use Rattle.vs_types.specs.Config.{Layout, IsLayout, IsLayoutWithin};
     ghost use Rattle.nr_trace.specs.Versions.{most_tables, most_threads};
 
     /// The layout of these numbers. `None` where one of them is out of the ranges of the version.
@@ -75,7 +75,8 @@ impl TraceLayout {
 
     /// The layout of a configuration.
     pub fn of(config: Config) -> TraceLayout
-        ensures { result ≡ config }
+        ensures is { result ≡ config }
+        ensures in_range { IsLayout config }
     {
         TraceLayout {
             depth: config.depth(),

@@ -128,6 +128,19 @@ fn update_of(replica: u8, thread: u16, action: Action) -> Event
 }
 
 #[inline(always)]
+fn touch_of(replica: u8, thread: u16, address: u64, mode: Mode, access: Access) -> Event
+    ensures { result ≡ Event.Touch replica thread address mode access }
+{
+    Event::Touch {
+        replica,
+        thread,
+        address,
+        mode,
+        access,
+    }
+}
+
+#[inline(always)]
 fn reply_of(call: u32, at: u32, answer: Answer) -> Event
     ensures { result ≡ Event.Reply call at answer }
 {
@@ -215,13 +228,9 @@ impl Recorded {
             Kept::Access(replica, thread, mode, access, address) => {
                 call_of(replica, thread, Query::Access(address, mode, access))
             }
-            Kept::Touch(replica, thread, mode, access, address) => Event::Touch {
-                replica,
-                thread,
-                address,
-                mode,
-                access,
-            },
+            Kept::Touch(replica, thread, mode, access, address) => {
+                touch_of(replica, thread, address, mode, access)
+            }
             Kept::Done(call, at) => reply_of(call, at, Answer::Done),
             Kept::Overlap(call, at, base) => reply_of(call, at, Answer::Overlap(base)),
             Kept::Full(call, at, need) => reply_of(call, at, Answer::Full(need)),

@@ -1,12 +1,12 @@
-ghost use Rattle.std.specs.Prelude.{◌≡◌, MatchResult, option_copied};
+ghost use Rattle.std.specs.Prelude.{◌≡◌, ◌↔◌, ◌≤◌, length, All, None, MatchResult, option_copied};
 
 use crate::fault::Format;
 use crate::layout::TraceLayout;
 use crate::ranges::{all_have_frames, first_out_of_range, is_start};
 use crate::recorded::Recorded;
-use crate::version::Version;
+use crate::version::{Form, Version};
 use std::marker::Model;
-use vs_types::{CALLS, LOG_PLACES};
+use vs_types::{CALLS, Config, LOG_PLACES};
 use vs_walk::Dump;
 
 /// A recorded run, within the ranges of its version of the format: its layout, the page table with which it begins where that is answered, the
@@ -73,8 +73,10 @@ impl Model for Trace {
 
 impl Trace {
     ghost use Rattle.vs_types.specs.Config.{Layout};
-    ghost use Rattle.nr_trace.specs.Recording.{Recording, IsRecording};
-    ghost use Rattle.nr_trace.specs.Parts.{IsPartsFault};
+    ghost use Rattle.nr_trace.specs.Recording.{Recording, IsEvent, IsRecording};
+    ghost use Rattle.nr_trace.specs.Parts.{HasFrames, IsPartsFault};
+    ghost use Rattle.nr_trace.specs.Versions.{FitsFirst, IsVersionOf};
+    ghost use Rattle.nr_trace.specs.declared.version.Version.TheVariants.{V1, V2};
 
     /// A trace of these parts.
     ///
@@ -128,6 +130,33 @@ impl Trace {
         Ok(Trace::of(version, layout, start, log, events, dumps))
     }
 
+    /// The trace of a run of this configuration: its log, events and dumps, in the least version that can say it.
+    pub fn of_run(config: Config, log: Vec<u32>, events: Vec<Recorded>, dumps: Vec<Dump>) -> Trace
+        requires log { length log.items ≤ LOG_PLACES }
+        requires events { (length events.items ≤ CALLS) × All (IsEvent V2 config) events.items }
+        requires dumps { (length dumps.items ≡ config.replicas)
+            × All (HasFrames V1) dumps.items }
+        ensures run { result
+            ≡ record {
+              version = result.version;
+              layout = config;
+              start = None;
+              log = log.items;
+              events = events.items;
+              dumps = dumps.items;
+            } }
+        ensures in_range { IsRecording result }
+        ensures of_trace { IsVersionOf Form.Trace result.version }
+        ensures version { (result.version ≡ V1) ↔ FitsFirst config.depth events.items }
+    {
+        let layout = TraceLayout::of(config);
+        let version = Version::least(config.depth(), &events);
+        if !all_have_frames(version, &dumps) {
+            unreachable!()
+        }
+        Trace::of(version, layout, None, log, events, dumps)
+    }
+
     /// A trace of these parts.
     pub(crate) fn of(
         version: Version,
@@ -146,7 +175,7 @@ impl Trace {
               events = events.items;
               dumps = dumps.items;
             }) }
-        ensures { result
+        ensures is { result
             ≡ record {
               version = version;
               layout = layout;
@@ -155,6 +184,7 @@ impl Trace {
               events = events.items;
               dumps = dumps.items;
             } }
+        ensures in_range { IsRecording result }
     {
         Trace {
             version,

@@ -3,27 +3,11 @@ use Rattle.std.specs.Prelude.{◌≡◌, ◌≢◌, ℕ, ◌+◌, ◌<◌, ◌�
 use Rattle.vs_types.specs.Space.{Space}
 use Rattle.vs_plain.specs.Plain.{BoundedSpace}
 use Rattle.vs_walk.specs.Dump.{Image}
-use Rattle.nr_dump.specs.Faults.{IsFirstOfDump, HasNoFault}
 use Rattle.nr_dump.specs.declared.fault.DumpFault.{DumpFault}
-use Rattle.nr_dump.specs.declared.fault.DumpFault.TheVariants as dumps
 use Rattle.nr_trace.specs.Recording.{Recording}
 use Rattle.nr_trace.specs.Orders.{space_from, updates, recorded_order}
-use Rattle.nr_trace.specs.declared.fault.Fault.{Fault}
-use Rattle.nr_trace.specs.declared.fault.Fault.TheVariants.{MissingFrame, SharedFrame, ReservedBit, StrayFrame, Differs}
+use Rattle.nr_audit.specs.Dumps.{IsFoundBeside}
 use Rattle.nr_audit.specs.Verdict.{space_of}
-
--- the fault of a dump, with its replica
-abbrev pub at_replica : ℕ → DumpFault → Fault
-at_replica replica (dumps.MissingFrame number) = MissingFrame replica number
-at_replica replica (dumps.SharedFrame number) = SharedFrame replica number
-at_replica replica (dumps.ReservedBit number index) = ReservedBit replica number index
-at_replica replica (dumps.StrayFrame number) = StrayFrame replica number
-at_replica replica (dumps.Differs address) = Differs replica address
-
--- the first fault of the dump's tables beside the space, or none where nothing is wrong
-abbrev pub IsFoundBeside : Image → BoundedSpace → Option DumpFault → Type 0
-IsFoundBeside dump space None = HasNoFault space.depth dump space.space
-IsFoundBeside dump space (Some fault) = IsFirstOfDump space.depth dump space.space fault
 
 -- the same beside the space after as many entries as the dump has applied
 abbrev pub IsFoundIn : Space → Recording → Image → Option DumpFault → Type 0

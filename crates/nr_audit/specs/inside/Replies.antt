@@ -2,13 +2,8 @@
 use Rattle.std.specs.Prelude.{ℕ, ◌==◌, ◌&&◌, Bool, false, Option, Some, None, is_some, option_map, option_and_then, if◌then◌else◌}
 use Rattle.std.specs.Option.{option_map_or}
 use Rattle.vs_types.specs.declared.answer.Answer.{Answer}
-use Rattle.vs_types.specs.declared.request.Query.{Query}
 use Rattle.nr_trace.specs.Recording.{Recording}
 use Rattle.nr_trace.specs.Calls.{call_of, reply_to, address_of}
-
--- what an update or a read asks
-abbrev pub asked_by : Recording → ℕ → Option Query
-asked_by trace call = option_and_then (λ made. if made.touch then None else Some made.request) (call_of trace call)
 
 -- the position that the reply to a call gives
 abbrev pub position_of : Recording → ℕ → Option ℕ

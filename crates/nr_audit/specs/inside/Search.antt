@@ -27,11 +27,6 @@ IsFirstAmong Among trace fault = IsFirstAmongFrom no_pages Among trace fault
 abbrev pub IsFirstFromAny : Recording → Fault → Type 0
 IsFirstFromAny trace fault = (start : Space) → IsFirstFrom start trace fault
 
--- a number with the property, or none where no number has it
-abbrev pub Finds : (ℕ → Type 0) → Option ℕ → Type 0
-Finds P None = (number : ℕ) → P number → ⊥
-Finds P (Some number) = P number
-
 -- the first call that comes too early, or none below an index
 abbrev pub FindsEarly : Recording → ℕ → Option ℕ → Type 0
 FindsEarly trace index None = (lower : ℕ) → lower < index → HasNone (IsFloorFaultAt lower) trace

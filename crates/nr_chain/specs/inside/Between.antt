@@ -1,5 +1,5 @@
 -- A reader of a chain between two pieces. No public clause cites this file.
-use Rattle.std.specs.Prelude.{◌≡◌, ℕ, List, [], Bool, true, false, Option, Some, None, option_map, IfSome}
+use Rattle.std.specs.Prelude.{◌≡◌, ℕ, List, [], Bool, true, false, Option, option_map, IfSome}
 use Rattle.nr_trace.specs.Feed.{Fed, FedSegment, IsWhole}
 use Rattle.nr_trace.specs.Feed.Fed.{Taken, Stopped}
 use Rattle.nr_trace.specs.FirstFault.{HasFaultAs}

@@ -14,7 +14,7 @@ use Rattle.nr_trace.specs.Calls.{Answers, IsTouch}
 use Rattle.nr_trace.specs.declared.event.Event.{Event}
 use Rattle.nr_trace.specs.declared.event.Event.TheVariants as events
 use Rattle.nr_touch.specs.declared.touch.Touch.{Touch}
-use Rattle.nr_segment.specs.Start.{HoldsOfStart, HasStartFault, rank_in_start}
+use Rattle.nr_segment.specs.Start.{HoldsOfStart, rank_in_start}
 use Rattle.nr_segment.specs.Touches.{HasTouch, IsStale}
 use Rattle.nr_segment.specs.declared.fault.StartFault.{StartFault}
 
@@ -34,14 +34,6 @@ pub record HasRightTables (depth : Depth) (start : Image) : Type 0 where
 
 abbrev pub HasNoStartFault : Depth → Option Space → Image → Type 0
 HasNoStartFault depth before start = (fault : StartFault) → HoldsOfStart depth before start fault → ⊥
-
--- the same of a segment, which may have no start
-pub record BeginsWrong (before : Option Space) (segment : Recording) (fault : StartFault) : Type 0 where
-  pub holds : HasStartFault before segment fault
-  pub none_earlier : (other : StartFault) → HasStartFault before segment other → rank_in_start other < rank_in_start fault → ⊥
-
-abbrev pub BeginsRight : Option Space → Recording → Type 0
-BeginsRight before segment = (fault : StartFault) → HasStartFault before segment fault → ⊥
 
 -- well-formed pages by rising base, no two of which cover one address
 pub record AreApart (depth : Depth) (pages : List Page) : Type 0 where

@@ -1,5 +1,5 @@
 -- The verdict on a segment from the space on with which it begins. No public clause cites this file.
-use Rattle.std.specs.Prelude.{◌≡◌, ℕ, Bool, true, false, ⊤, nat_eq}
+use Rattle.std.specs.Prelude.{◌≡◌, Bool, true, nat_eq}
 use Rattle.vs_types.specs.Space.{Space}
 use Rattle.nr_trace.specs.Recording.{Recording}
 use Rattle.nr_trace.specs.Faults.{HasFaultFrom}

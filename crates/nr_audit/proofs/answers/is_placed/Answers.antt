@@ -1,4 +1,4 @@
-use Rattle.std.proofs.Common.{ℕ, List, ◌<◌, slice_get, ap, ◌∙◌, arith}
+use Rattle.std.proofs.Common.{ℕ, List, slice_get, ap, ◌∙◌, arith}
 use Rattle.std.proofs.lemmas.Option.{slice_get_within}
 use Rattle.nr_audit.proofs.PassedPlaces.{placed_here, placed_nowhere}
 use Rattle.nr_audit.proofs.RecordedOrder.{looked_up}

@@ -9,11 +9,11 @@ use Rattle.nr_trace.specs.Orders.{recorded_order, space_from}
 use Rattle.nr_trace.specs.Faults.{IsWrongFrom}
 use Rattle.nr_trace.specs.declared.fault.Fault.TheVariants.{WrongAnswer}
 use Rattle.nr_audit.specs.inside.LastEvents.{IsLastEvent}
-use Rattle.nr_audit.specs.inside.Replies.{asked_by}
+use Rattle.nr_audit.specs.Served.{asked_by}
 use Rattle.nr_audit.specs.inside.Passes.{IsAnswerFault}
 use Rattle.nr_audit.specs.inside.Search.{IsFirstAmongFrom}
 use Rattle.nr_audit.specs.Verdict.{space_of}
-use Rattle.nr_audit.specs.inside.Steps.{Serves}
+use Rattle.nr_audit.specs.Served.{Serves}
 use Rattle.nr_audit.proofs.AnswerFaults.{space_visits, space_stays, none_wrong, first_wrong, wrong_here, right_here, no_call_is_right, answered, left}
 use Rattle.nr_audit.proofs.AnswerFaults.{operation_by, space_of_order, right_more}
 use Rattle.nr_audit.proofs.LastEvents.{put_more, left_more}

@@ -1,4 +1,4 @@
-use Rattle.std.proofs.Common.{Vec, Global, Option, ◌≡◌, ℕ, ◌+◌, ◌<◌, List, length, max, sym, ap, subst, ◌∙◌, arith, lit<}
+use Rattle.std.proofs.Common.{◌≡◌, ℕ, ◌+◌, ◌<◌, List, length, max, sym, ap, subst, ◌∙◌, arith, lit<}
 use Rattle.vs_types.specs.Space.{no_pages}
 use Rattle.nr_trace.specs.Orders.{floor}
 use Rattle.nr_trace.specs.Calls.{Response, call_of}
@@ -6,6 +6,7 @@ use Rattle.nr_trace.proofs.LawsOfSteps.{floor_after_reply, floor_after_other}
 use Rattle.std.specs.Prelude.{MatchOption}
 use Rattle.nr_trace.specs.Recording.{Recording}
 use Rattle.nr_trace.specs.declared.fault.Fault.TheVariants.{Early}
+use Rattle.nr_audit.specs.declared.reads.Chains.{Chains}
 use Rattle.nr_audit.specs.inside.Search.{FindsEarly, HasNone, IsFirstAmong}
 use Rattle.nr_audit.specs.inside.Passes.{IsFloorFault, IsFloorFaultAt, IsPositionFault, IsPositionFaultAt}
 use Rattle.nr_audit.specs.inside.Prefixes.{AreNeeds, with_known}
@@ -18,7 +19,7 @@ use Rattle.nr_audit.proofs.NeededEntries.{greater_is, needs_stay, no_reply_at, n
 use Rattle.nr_audit.proofs.RecordedOrder.{passed_as, passed_by}
 use Rattle.nr_audit.proofs.RepliesByTable.{no_call_saw_nothing}
 use Rattle.nr_audit.proofs.floors.check_replies.Goals as goal
-use Rattle.nr_audit.proofs.floors.check_replies.Goals.{in-Reply+in_default-position_fault, in_default+in-Some-pass_call, in_default+in_default-pass_call}
+use Rattle.nr_audit.proofs.floors.check_replies.Goals.{in-Reply+in_default-position_fault, in_default+in-Some-pass, in_default+in_default-pass}
 
 pub loop-index-preserved : goal.loop-index-preserved
 loop-index-preserved c =
@@ -27,7 +28,7 @@ loop-index-preserved c =
     let old = c.loop-index.invariant in
     let needed = c.loop-index.needed in
     elim c.match-event.branch [
-      | in_default+in-Some-pass_call w ↦
+      | in_default+in-Some-pass w ↦
           let none = no_reply_there trace index c.event.result
           (read_event trace c.events-event-items.result.now index _ _ c.events-event-items.ensures.reads c.loop-index-test.true
           c.event-item.is (sym c.event.ensures)) (no_reply_unless c.event.result w.in_default.not-Reply) in
@@ -36,13 +37,13 @@ loop-index-preserved c =
             floor = w.floor-is ∙ old.floor ∙ sym (floor_after_other trace index none);
             positions = more_of IsPositionFaultAt trace index old.positions (none_without_reply trace index none);
             early = λ clean. subst (λ o. FindsEarly trace (index + 1) o) (sym w.early-is) (w.early_call-early.ensures clean (old.early clean));
-            passed = passed_as trace (index + 1) _ _ _ _ (ap (λ (v : Vec (Option ℕ) Global). v.items) w.lasts-is)
-                (ap (λ (v : Vec (Option ℕ) Global). v.items) w.rows-is) w.pass_call.ensures.passed;
+            passed = passed_as trace (index + 1) _ _ _ _ (ap (λ (v : Chains). v.lasts.items) w.chains-is)
+                (ap (λ (v : Chains). v.rows.items) w.chains-is) w.pass.ensures.passed;
             needs = subst (λ (needs : List ℕ). AreNeeds trace (index + 1) needs) (sym w.needed-is)
                 (needs_stay trace index needed
                 (λ replica other. no_reply_at trace index replica other none) old.needs);
           }
-      | in_default+in_default-pass_call w ↦
+      | in_default+in_default-pass w ↦
           let none = no_reply_there trace index c.event.result
           (read_event trace c.events-event-items.result.now index _ _ c.events-event-items.ensures.reads c.loop-index-test.true
           c.event-item.is (sym c.event.ensures)) (no_reply_unless c.event.result w.in_default.not-Reply) in
@@ -52,10 +53,10 @@ loop-index-preserved c =
             positions = more_of IsPositionFaultAt trace index old.positions (none_without_reply trace index none);
             early = λ clean. subst (λ o. FindsEarly trace (index + 1) o) (sym w.early-is)
                 (early_at_other trace index c.loop-index.early
-                (none_at_call trace index w.pass_call.result clean w.pass_call.ensures.stands
-                (λ entries there. absurd (w.in_default-pass_call.not-Some entries there))) (old.early clean));
-            passed = passed_as trace (index + 1) _ _ _ _ (ap (λ (v : Vec (Option ℕ) Global). v.items) w.lasts-is)
-                (ap (λ (v : Vec (Option ℕ) Global). v.items) w.rows-is) w.pass_call.ensures.passed;
+                (none_at_call trace index w.pass.result clean w.pass.ensures.stands
+                (λ entries there. absurd (w.in_default-pass.not-Some entries there))) (old.early clean));
+            passed = passed_as trace (index + 1) _ _ _ _ (ap (λ (v : Chains). v.lasts.items) w.chains-is)
+                (ap (λ (v : Chains). v.rows.items) w.chains-is) w.pass.ensures.passed;
             needs = subst (λ (needs : List ℕ). AreNeeds trace (index + 1) needs) (sym w.needed-is)
                 (needs_stay trace index needed
                 (λ replica other. no_reply_at trace index replica other none) old.needs);
@@ -76,9 +77,9 @@ loop-index-preserved c =
                 w.in_default-position_fault.is (w.position_fault.ensures w.in-Reply.answer is));
             early = λ clean. subst (λ o. FindsEarly trace (index + 1) o) (sym w.early-is)
                 (early_at_other trace index c.loop-index.early (none_at_other trace index (no_call_at_reply trace index _ _ _ is)) (old.early clean));
-            passed = passed_as trace (index + 1) _ _ _ _ (ap (λ (v : Vec (Option ℕ) Global). v.items) w.lasts-is)
-                (ap (λ (v : Vec (Option ℕ) Global). v.items) w.rows-is)
-                (passed_by trace index c.loop-index.lasts.items c.loop-index.rows.items
+            passed = passed_as trace (index + 1) _ _ _ _ (ap (λ (v : Chains). v.lasts.items) w.chains-is)
+                (ap (λ (v : Chains). v.rows.items) w.chains-is)
+                (passed_by trace index c.loop-index.chains.lasts.items c.loop-index.chains.rows.items
                 (no_call_saw_nothing trace index (no_call_at_reply trace index _ _ _ is)) old.passed);
             needs = subst (λ (needs : List ℕ). AreNeeds trace (index + 1) needs)
                 (sym (w.needed-is ∙ w.raise_need.ensures.raised ∙ ap (λ n. with_known needed (call_of trace w.in-Reply.call) n) known))

@@ -1,6 +1,5 @@
-use Rattle.std.proofs.Common.{◌≡◌, sym, subst}
+use Rattle.std.proofs.Common.{sym, subst}
 use Rattle.nr_trace.specs.Faults.{IsFirstFrom}
-use Rattle.nr_audit.specs.Verdict.{IsJudgedFrom}
 use Rattle.nr_audit.specs.declared.verdict.Judged.TheVariants.{Right, Wrong}
 use Rattle.nr_audit.proofs.PartsOfVerdicts.{right_from, wrong_from, events_from, members_from, precedence_from, answers_from, dumps_from}
 use Rattle.nr_audit.proofs.judging.judge_from.Goals as goal

@@ -1,14 +1,11 @@
-use Rattle.std.proofs.Common.{◌≡◌, ℕ, ◌-◌, ◌==◌, true, false, List, [], length, take, drop, ap, sym, ◌∙◌, subst, arith, tests, rules}
+use Rattle.std.proofs.Common.{◌≡◌, ℕ, ◌-◌, ◌==◌, true, false, List, length, take, drop, ap, sym, ◌∙◌, subst}
 use Rattle.std.proofs.Math.Seq.{take-length}
-use Rattle.std.proofs.lemmas.Bool.Decides.{nat_tests}
 use Rattle.std.proofs.lemmas.List.{length-drop, nil_from_length}
 use Rattle.nr_chain.specs.Verdict.{FeedsChain}
 use Rattle.nr_chain.proofs.ChainSteps.{leads_end, leads_on, leads_wrong}
 use Rattle.nr_chain.proofs.FoundChains.{right_chain}
+use Rattle.std.proofs.lemmas.Bool.{eqb-true}
 use Rattle.nr_chain.proofs.auditing.audit_chain.Goals as goal
-
-zero_of : (n : ℕ) → (n == 0) ≡ true → n ≡ 0
-zero_of n e = first_of (grind (arith, nat_tests), search (rules, tests))
 
 left_behind : (count : ℕ) (rest : List ℕ) → take (length rest - count) (drop count rest) ≡ drop count rest
 left_behind count rest = ap (λ (n : ℕ). take n (drop count rest)) (sym (length-drop count rest)) ∙ take-length (drop count rest)
@@ -31,7 +28,7 @@ returns-in-Wrong-clause-verdict c =
 pub returns-in-None-clause-verdict : goal.returns-in-None-clause-verdict
 returns-in-None-clause-verdict c =
     leads_end c.args.bytes.now c.segments.chain c.segments.orders.items c.segments.rest.now _ c.segments.invariant
-    (nil_from_length c.segments.rest.now (zero_of (length c.segments.rest.now) (sym c.is_empty.ensures ∙ c.segments-test.false))) c.in-None.ensures
+    (nil_from_length c.segments.rest.now (eqb-true (length c.segments.rest.now) 0 (sym c.is_empty.ensures ∙ c.segments-test.false))) c.in-None.ensures
 
 pub returns-in-None-clause-right : goal.returns-in-None-clause-right
 returns-in-None-clause-right c = right_chain c.args.bytes.now c.segments.orders.items (returns-in-None-clause-verdict c)
@@ -39,4 +36,4 @@ returns-in-None-clause-right c = right_chain c.args.bytes.now c.segments.orders.
 pub returns-in-Some-clause-verdict : goal.returns-in-Some-clause-verdict
 returns-in-Some-clause-verdict c =
     leads_end c.args.bytes.now c.segments.chain c.segments.orders.items c.segments.rest.now _ c.segments.invariant
-    (nil_from_length c.segments.rest.now (zero_of (length c.segments.rest.now) (sym c.is_empty.ensures ∙ c.segments-test.false))) c.in-Some.ensures
+    (nil_from_length c.segments.rest.now (eqb-true (length c.segments.rest.now) 0 (sym c.is_empty.ensures ∙ c.segments-test.false))) c.in-Some.ensures

@@ -1,5 +1,5 @@
 use Rattle.std.proofs.Common.{subst}
-use Rattle.nr_segment.specs.Verdict.{pages_before, FitsLayout, IsVerdictAfter}
+use Rattle.nr_segment.specs.Verdict.{pages_before, IsVerdictAfter}
 use Rattle.nr_segment.specs.declared.verdict.SegmentVerdict.{SegmentVerdict}
 use Rattle.nr_chain.proofs.Betweens.{fresh_between}
 use Rattle.nr_chain.proofs.Pieces.{ended}

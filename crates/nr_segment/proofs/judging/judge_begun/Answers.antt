@@ -1,8 +1,7 @@
-use Rattle.std.proofs.Common.{◌≡◌, Bool, true, false, ap, sym, ◌∙◌, subst}
+use Rattle.std.proofs.Common.{◌≡◌, true, false, ap, sym, subst}
 use Rattle.vs_types.specs.Space.{Space}
 use Rattle.vs_plain.specs.Plain.{BoundedSpace}
 use Rattle.nr_segment.specs.Touches.{HasRightTouches}
-use Rattle.nr_segment.specs.declared.verdict.SegmentVerdict.{SegmentVerdict}
 use Rattle.nr_segment.specs.inside.Begun.{IsFirstStale}
 use Rattle.nr_segment.specs.inside.Judged.{has_answers, IsVerdictFrom}
 use Rattle.nr_segment.proofs.Judgements.{answered_clean, no_touches, stale_found, verdict_from}

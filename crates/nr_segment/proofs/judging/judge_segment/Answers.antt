@@ -1,5 +1,4 @@
-use Rattle.std.proofs.Common.{◌≡◌, Result, Ok, Err, ap, sym, subst}
-use Rattle.std.specs.Prelude.{IfOk}
+use Rattle.std.proofs.Common.{◌≡◌, ap, sym, subst}
 use Rattle.vs_types.specs.Space.{Space}
 use Rattle.vs_plain.specs.Plain.{BoundedSpace}
 use Rattle.nr_trace.specs.Orders.{recorded_order}
@@ -7,24 +6,20 @@ use Rattle.nr_audit.specs.Verdict.{space_of}
 use Rattle.nr_segment.specs.Verdict.{last_space, pages_before, IfRight, IsRightAfter, IsVerdictAfter}
 use Rattle.nr_segment.specs.declared.fault.StartFault.{StartFault}
 use Rattle.nr_segment.specs.declared.fault.SegmentFault.TheVariants.{Start}
-use Rattle.nr_segment.specs.declared.verdict.SegmentVerdict.{SegmentVerdict}
 use Rattle.nr_segment.specs.declared.verdict.SegmentVerdict.TheVariants.{Right}
-use Rattle.nr_segment.specs.inside.Begun.{BeginsWrong}
+use Rattle.nr_segment.specs.Start.{BeginsWrong}
 use Rattle.nr_segment.specs.inside.Judged.{IsVerdictFrom}
 use Rattle.nr_segment.proofs.Judgements.{after_right, after_wrong, right_after}
 use Rattle.nr_segment.proofs.RightSegments.{parts_after}
+use Rattle.std.proofs.lemmas.Result.{IfOk-weaker}
 use Rattle.nr_segment.proofs.judging.judge_segment.Goals as goal
-
-if_ok : {A E : Type 0} (P Q : A → Type 0) (result : Result A E) → ((a : A) → P a → Q a) → IfOk result P → IfOk result Q
-if_ok P Q (Ok a) widen h = widen a h
-if_ok P Q (Err e) widen h = tt
 
 pub returns-in-Ok-clause-verdict : goal.returns-in-Ok-clause-verdict
 returns-in-Ok-clause-verdict c =
     let before = pages_before c.args.before in
     let segment = c.args.segment.now in
     let space = ap (λ (s : BoundedSpace). s.space) c.in-Ok.ensures.space in
-    if_ok (IsVerdictFrom c.in-Ok.start.space segment) (IsVerdictAfter before segment) c.judge_begun.result
+    IfOk-weaker c.judge_begun.result (IsVerdictFrom c.in-Ok.start.space segment) (IsVerdictAfter before segment)
     (λ verdict is. after_right before segment verdict c.in-Ok.ensures.right (subst (λ (s : Space). IsVerdictFrom s segment verdict) space is))
     c.judge_begun.ensures
 
@@ -32,14 +27,15 @@ pub returns-in-Ok-clause-right : goal.returns-in-Ok-clause-right
 returns-in-Ok-clause-right c = λ none.
     let before = pages_before c.args.before in
     let segment = c.args.segment.now in
-    if_ok (IsVerdictAfter before segment) (λ verdict. verdict ≡ Right (recorded_order segment) (space_of segment.layout (last_space before segment)))
-    c.judge_begun.result (λ verdict is. right_after before segment verdict is none) (returns-in-Ok-clause-verdict c)
+    IfOk-weaker c.judge_begun.result (IsVerdictAfter before segment)
+    (λ verdict. verdict ≡ Right (recorded_order segment) (space_of segment.layout (last_space before segment)))
+    (λ verdict is. right_after before segment verdict is none) (returns-in-Ok-clause-verdict c)
 
 pub returns-in-Ok-clause-is_right : goal.returns-in-Ok-clause-is_right
 returns-in-Ok-clause-is_right c =
     let before = pages_before c.args.before in
     let segment = c.args.segment.now in
-    if_ok (IsVerdictAfter before segment) (IfRight (IsRightAfter before segment)) c.judge_begun.result
+    IfOk-weaker c.judge_begun.result (IsVerdictAfter before segment) (IfRight (IsRightAfter before segment))
     (λ verdict is. parts_after before segment verdict is) (returns-in-Ok-clause-verdict c)
 
 pub returns-in-Err-Refused-clause-verdict : goal.returns-in-Err-Refused-clause-verdict

@@ -2,10 +2,10 @@ use Rattle.std.proofs.Common.{◌≡◌, Option, Some, None, ap, sym, ◌∙◌,
 use Rattle.std.specs.Prelude.{IfErr, OnOk}
 use Rattle.vs_types.specs.Config.{Layout}
 use Rattle.vs_types.specs.Refusal.{IfRefused}
-use Rattle.vs_types.specs.declared.depth.Depth.{Depth}
 use Rattle.vs_plain.specs.Plain.{BoundedSpace}
 use Rattle.nr_segment.specs.Verdict.{pages_before, FitsLayout}
-use Rattle.nr_segment.specs.inside.Begun.{BeginsRight, BeginsWrong, HasNoStartFault, IsFirstOfStart}
+use Rattle.nr_segment.specs.Start.{BeginsRight, BeginsWrong}
+use Rattle.nr_segment.specs.inside.Begun.{HasNoStartFault, IsFirstOfStart}
 use Rattle.nr_segment.proofs.Starts.{begins_right, begins_wrong, if_refused, on_ok}
 use Rattle.nr_segment.proofs.start.begin.Goals as goal
 

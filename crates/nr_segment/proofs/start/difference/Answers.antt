@@ -1,4 +1,4 @@
-use Rattle.std.proofs.Common.{◌≡◌, sym, subst, lit≤}
+use Rattle.std.proofs.Common.{sym, subst, lit≤}
 use Rattle.nr_dump.specs.Faults.{IsFirstOfDump}
 use Rattle.nr_dump.specs.declared.fault.DumpFault.{DumpFault}
 use Rattle.nr_segment.proofs.Starts.{faultless_tables, right_tables, stray_first}

@@ -1,10 +1,9 @@
-use Rattle.std.proofs.Common.{◌≡◌, ◌+◌, false, take, get_or, ap, sym, ◌∙◌, subst, arith}
+use Rattle.std.proofs.Common.{false, get_or, ap, sym, ◌∙◌, arith}
 use Rattle.std.specs.FinMap as finite
 use Rattle.vs_types.specs.Space.{Space}
 use Rattle.vs_types.specs.declared.page.Page.{Page}
 use Rattle.vs_types.specs.declared.page.Size.TheVariants.{K4}
 use Rattle.vs_plain.specs.Plain.{BoundedSpace}
-use Rattle.nr_segment.specs.Start.{space_of_pages}
 use Rattle.nr_segment.proofs.FilledSpaces.{free_next, filled_more}
 use Rattle.nr_segment.proofs.start.fill.Goals as goal
 

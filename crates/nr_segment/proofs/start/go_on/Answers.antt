@@ -1,4 +1,4 @@
-use Rattle.std.proofs.Common.{◌≡◌, List, Some, refl, sym, subst}
+use Rattle.std.proofs.Common.{List, Some, refl, subst}
 use Rattle.std.specs.Prelude.{All}
 use Rattle.vs_types.specs.Page.{IsPage}
 use Rattle.vs_types.specs.declared.page.Page.{Page}

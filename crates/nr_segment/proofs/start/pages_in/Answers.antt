@@ -1,4 +1,4 @@
-use Rattle.std.proofs.Common.{◌≡◌, ℕ, List, ap, sym, ◌∙◌, subst}
+use Rattle.std.proofs.Common.{◌≡◌, List, ap, sym, ◌∙◌, subst}
 use Rattle.vs_types.specs.declared.page.Page.{Page}
 use Rattle.vs_walk.specs.Traversal.{traversal, found}
 use Rattle.vs_walk.proofs.LawsOfDumps.{dump_is_whole}

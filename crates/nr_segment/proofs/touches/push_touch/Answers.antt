@@ -1,4 +1,4 @@
-use Rattle.std.proofs.Common.{◌≡◌, ◌+◌, sym, ◌∙◌, subst}
+use Rattle.std.proofs.Common.{◌+◌, sym, ◌∙◌, subst}
 use Rattle.nr_segment.specs.inside.Begun.{AreTouchesBelow}
 use Rattle.nr_segment.proofs.TouchLists.{added_none, added_some}
 use Rattle.nr_segment.proofs.touches.push_touch.Goals as goal

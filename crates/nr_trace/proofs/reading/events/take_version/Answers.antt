@@ -6,7 +6,7 @@ use Rattle.nr_trace.specs.Spelling.{version_word}
 use Rattle.nr_trace.specs.FirstFault.{AtCounts, magic_of}
 use Rattle.nr_trace.specs.declared.fault.Format.TheVariants.{BadVersion}
 use Rattle.nr_trace.specs.declared.version.Version.{Version}
-use Rattle.nr_trace.specs.declared.version.Version.TheVariants.{V1, V2, Segment}
+use Rattle.nr_trace.specs.declared.version.Version.TheVariants.{V1}
 use Rattle.nr_trace.proofs.LawsOfSpelling.{magic_is}
 use Rattle.nr_trace.proofs.LawsOfUnits.{number_16}
 use Rattle.nr_trace.proofs.Taken.{only_front}
@@ -30,8 +30,7 @@ returns-in-Some c =
 
 code_fits : (version : Version) → version_code version < 2 ^ 16
 code_fits V1 = omega arith
-code_fits V2 = omega arith
-code_fits Segment = omega arith
+code_fits _ = omega arith
 
 pub returns-in-None : goal.returns-in-None
 returns-in-None c = λ rest.

@@ -17,4 +17,4 @@ returns c =
     let ready = subst IsReady c.in-Dumps.is c.requires.ready in
     let ended = subst (λ (r : Reader). unit_bytes r ≡ None) c.in-Dumps.is c.requires.ended in
     subst (λ (r : Reader). SpellsAs (form_of r) (said r) c.of.result) (sym c.in-Dumps.is)
-    (subst (SpellsAs parts.form (whole_spelling parts)) (sym c.of.ensures) (dumps_end parts ready ended))
+    (subst (SpellsAs parts.form (whole_spelling parts)) (sym c.of.ensures.is) (dumps_end parts ready ended))
