@@ -165,33 +165,36 @@ fn numbers_of(rt: &impl Abort, alloc: Global, shown: &Evidence) -> Vec<u64> {
     numbers
 }
 
-/// Explains the trace of this name, and holds the numbers of the evidence against what is expected.
-fn holds(rt: &impl Abort, alloc: Global, cases: &[Case], name: &str, wanted: &[u64]) {
-    for case in cases {
-        if case.name != name {
-            continue;
+/// Whether the trace of the case has its fault, and these numbers show it.
+fn is_shown(rt: &impl Abort, alloc: Global, case: &Case, wanted: &[u64]) -> bool {
+    let bytes = trace_of(rt, alloc, case);
+    let read = feed_in_units(alloc, &bytes, 4096);
+    match explain_read(alloc, read).expect(rt, "memory") {
+        Explanation::Yes(_, _) => false,
+        Explanation::No(fault, shown) => {
+            Err(fault) == case.verdict && numbers_of(rt, alloc, &shown).as_slice() == wanted
         }
-        let bytes = trace_of(rt, alloc, case);
-        let read = feed_in_units(alloc, &bytes, 4096);
-        match explain_read(alloc, read).expect(rt, "memory") {
-            Explanation::Yes(_, _) => panic!(rt; "{name}: yes"),
-            Explanation::No(fault, shown) => {
-                assert_eq!(rt; Err(fault), case.verdict, "{name}");
-                let numbers = numbers_of(rt, alloc, &shown);
-                assert_eq!(rt; numbers.as_slice(), wanted, "{name}");
-            }
-        }
-        return;
     }
-    panic!(rt; "{name}: no such case");
+}
+
+/// The case of this name.
+fn case_of<'a>(cases: &'a [Case], name: &str) -> Option<&'a Case> {
+    for case in cases {
+        if case.name == name {
+            return Some(case);
+        }
+    }
+    None
 }
 
 /// The name of a case, and the numbers that show its fault.
 type Numbers = (&'static str, &'static [u64]);
 
+/// Explains the traces of these names, and holds the numbers of the evidence against what is expected.
 fn hold_all(rt: &impl Abort, alloc: Global, cases: &[Case], numbers: &[Numbers]) {
     for (name, wanted) in numbers {
-        holds(rt, alloc, cases, *name, *wanted);
+        let case = case_of(cases, *name).expect(rt, "a case of this name");
+        assert!(rt; is_shown(rt, alloc, case, *wanted), "{name}");
     }
 }
 

@@ -51,31 +51,35 @@ fn push_dump(bytes: &mut Vec<u8>, frames: u32) -> Result<(), AllocError> {
 /// An unmap or a resolve of an address that is not mapped, and its answer.
 fn push_call(bytes: &mut Vec<u8>, index: u32, is_update: bool) -> Result<(), AllocError> {
     let thread = (index % 64) as u8;
-    let kind = if is_update { 1 } else { 3 };
-    let address = index as u64 * 4096;
+    let (kind, at) = if is_update { (1, index) } else { (3, UPDATES) };
+    let call = u64::from(index) * 2 + (0x0104_0000 << 32);
+    let address = u64::from(index) * 4096;
     bytes.extend_from_slice(&[0, thread % 2, 0, thread, kind, 0, 0, 0])?;
     bytes.extend_from_slice(&address.to_be_bytes())?;
     bytes.extend_from_slice(&[0; 8])?;
-    let at = if is_update { index } else { UPDATES };
-    bytes.extend_from_slice(&[1, 4, 0, 0])?;
-    bytes.extend_from_slice(&(index as u64 * 2).to_be_bytes()[4..])?;
+    bytes.extend_from_slice(&call.to_be_bytes())?;
     bytes.extend_from_slice(&at.to_be_bytes())?;
     bytes.extend_from_slice(&[0; 12])
 }
 
-fn large_trace(alloc: Global) -> Result<Vec<u8>, AllocError> {
-    let mut bytes = vec![in alloc; 0x4e, 0x52, 0x56, 0x54, 0, 2, 5, 2, 0, 64, 16, 0]?;
+fn push_trace(bytes: &mut Vec<u8>) -> Result<(), AllocError> {
+    bytes.extend_from_slice(&[0x4e, 0x52, 0x56, 0x54, 0, 2, 5, 2, 0, 64, 16, 0])?;
     bytes.extend_from_slice(&UPDATES.to_be_bytes())?;
     bytes.extend_from_slice(&(2 * (UPDATES + READS)).to_be_bytes())?;
     for place in 0..UPDATES {
         bytes.extend_from_slice(&(2 * place).to_be_bytes())?;
     }
     for index in 0..UPDATES + READS {
-        push_call(&mut bytes, index, index < UPDATES)?;
+        push_call(bytes, index, index < UPDATES)?;
     }
-    push_dump(&mut bytes, FRAMES)?;
-    push_dump(&mut bytes, 1)?;
-    Ok(bytes)
+    push_dump(bytes, FRAMES)?;
+    push_dump(bytes, 1)
+}
+
+fn large_trace(rt: &impl Abort, alloc: Global) -> Vec<u8> {
+    let mut bytes = Vec::new(alloc);
+    push_trace(&mut bytes).expect(rt, "memory");
+    bytes
 }
 
 /// How many calls of the order there are, where these are the calls of the trace as they were made; or the fault.
@@ -113,11 +117,8 @@ fn gathered(alloc: Global, dump: &Dump) -> Option<(usize, usize)> {
 #[test]
 fn read_and_written(rt: HostRuntime) {
     let alloc = rt.alloc();
-    let bytes = large_trace(alloc).expect(&rt, "memory");
-    assert_eq!(rt;
-        bytes.len(),
-        20 + 80_000 + 60_000 * 24 + 2 * 16 + 4_090 * 4_104
-    );
+    let bytes = large_trace(&rt, alloc);
+    assert!(rt; bytes.len() == 20 + 80_000 + 60_000 * 24 + 2 * 16 + 4_090 * 4_104);
     let trace = read(alloc, &bytes).expect(&rt, "a trace");
     assert!(rt; is_spelled(&rt, alloc, &trace, &bytes));
     assert!(rt; is_read_in_pieces(&rt, alloc, &bytes, 1_000_003));
@@ -126,14 +127,14 @@ fn read_and_written(rt: HostRuntime) {
 #[test]
 fn judged(rt: HostRuntime) {
     let alloc = rt.alloc();
-    let mut bytes = large_trace(alloc).expect(&rt, "memory");
-    assert_eq!(rt; audited(&rt, alloc, &bytes), Ok(30_000));
+    let mut bytes = large_trace(&rt, alloc);
+    assert!(rt; audited(&rt, alloc, &bytes) == Ok(30_000));
     let trace = read(alloc, &bytes).expect(&rt, "a trace");
     let verdict = judge(alloc, &trace).expect(&rt, "memory");
-    assert_eq!(rt; told(&verdict), Ok(30_000));
+    assert!(rt; told(&verdict) == Ok(30_000));
     let dump = trace.dumps().first().expect(&rt, "a dump");
-    assert_eq!(rt; gathered(alloc, dump), Some((4_089, 0)));
+    assert!(rt; gathered(alloc, dump) == Some((4_089, 0)));
     bytes.push(0).expect(&rt, "memory");
     let trailing = Fault::Format(Format::Trailing);
-    assert_eq!(rt; audited(&rt, alloc, &bytes), Err(Some(trailing)));
+    assert!(rt; audited(&rt, alloc, &bytes) == Err(Some(trailing)));
 }

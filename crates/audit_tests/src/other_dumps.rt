@@ -46,7 +46,7 @@ fn each_other_dump_is_told(rt: HostRuntime) {
         for case in &DUMPS {
             if case.name == *name {
                 let told = other_dumps(&rt, rt.alloc(), case);
-                assert_eq!(rt; told.as_slice(), *wanted, "{name}");
+                assert!(rt; told.as_slice() == *wanted, "{name}");
             }
         }
     }

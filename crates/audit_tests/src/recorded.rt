@@ -1,6 +1,5 @@
 use nr_trace::{Event, Recorded};
-use std::test::Fail;
-use vs_types::{Access, Answer, Depth, Mode, Op, Page, Request, Rights, Size};
+use vs_types::{Access, Answer, BadOp, Depth, Mode, Op, Page, Request, Rights, Size};
 
 const SIZES: [Size; 3] = [Size::K4, Size::M2, Size::G1];
 
@@ -32,6 +31,22 @@ fn is_kept(request: Request) -> bool {
     Recorded::of(event).event() == event
 }
 
+// The same of a request, if there is one.
+fn is_request_kept(request: Result<Request, BadOp>) -> bool {
+    match request {
+        Ok(request) => is_kept(request),
+        Err(_) => false,
+    }
+}
+
+// The same of an update.
+fn is_update_kept(op: Result<Op, BadOp>) -> bool {
+    match op {
+        Ok(op) => is_kept(Request::update(op)),
+        Err(_) => false,
+    }
+}
+
 // Whether a reply with this answer, and greatest numbers, comes back as it was.
 fn is_told(answer: Answer) -> bool {
     let event = Event::Reply {
@@ -43,30 +58,29 @@ fn is_told(answer: Answer) -> bool {
 }
 
 #[test]
-fn calls_come_back(rt: HostRuntime) -> Result<(), Fail> {
+fn calls_come_back(rt: HostRuntime) {
     let last = u64::MAX << 12;
     for rights in RIGHTS {
         for size in SIZES {
             let bytes = size.bytes();
             let base = u64::MAX - bytes + 1;
-            let map = Op::map(Depth::Five, base, size, Page::PHYS_END - bytes, rights)?;
-            assert!(rt; is_kept(Request::update(map)));
+            let map = Op::map(Depth::Five, base, size, Page::PHYS_END - bytes, rights);
+            assert!(rt; is_update_kept(map));
         }
-        let protect = Op::protect(Depth::Five, last, rights)?;
-        assert!(rt; is_kept(Request::update(protect)));
+        assert!(rt; is_update_kept(Op::protect(Depth::Five, last, rights)));
     }
-    assert!(rt; is_kept(Request::update(Op::unmap(Depth::Five, last)?)));
-    assert!(rt; is_kept(Request::resolve(Depth::Five, u64::MAX)?));
+    assert!(rt; is_update_kept(Op::unmap(Depth::Five, last)));
+    assert!(rt; is_request_kept(Request::resolve(Depth::Five, u64::MAX)));
     for mode in [Mode::Supervisor, Mode::User] {
         for access in [Access::Read, Access::Write, Access::Fetch] {
-            assert!(rt; is_kept(Request::access(Depth::Five, u64::MAX, mode, access)?));
+            let request = Request::access(Depth::Five, u64::MAX, mode, access);
+            assert!(rt; is_request_kept(request));
         }
     }
-    Ok(())
 }
 
 #[test]
-fn replies_come_back(rt: HostRuntime) -> Result<(), Fail> {
+fn replies_come_back(rt: HostRuntime) {
     for rights in RIGHTS {
         for size in SIZES {
             assert!(rt; is_told(Answer::Removed(u64::MAX, size, rights)));
@@ -85,5 +99,4 @@ fn replies_come_back(rt: HostRuntime) -> Result<(), Fail> {
     ] {
         assert!(rt; is_told(answer));
     }
-    Ok(())
 }

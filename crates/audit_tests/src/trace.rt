@@ -174,7 +174,7 @@ static CHANGES_OF_ACCESS: [(Changes, Format); 9] = [
 /// The bytes are refused with the fault.
 pub fn assert_refused(rt: &impl Abort, alloc: Global, bytes: &[u8], fault: Format) {
     let told = read(alloc, bytes).err();
-    assert_eq!(rt; told, Some(vs_types::Fail::Refused(fault)));
+    assert!(rt; told == Some(vs_types::Fail::Refused(fault)), "{fault:?}");
 }
 
 /// The bytes with each of these changes are refused with its fault.

@@ -3,7 +3,7 @@
 ghost use Rattle.std.specs.Prelude.{◌<◌};
 
 use crate::bytes::{changed, map_then_resolve};
-use nr_explain::{BadField, BadUnit, EventField, FieldFault, TraceUnit, UnitFeed, Unread};
+use nr_explain::{BadField, BadUnit, EventField, FieldFault, Numbers, TraceUnit, UnitFeed, Unread};
 use nr_trace::{Format, Trace};
 use std::alloc::Global;
 use std::process::Abort;
@@ -159,6 +159,24 @@ fn what_stands_behind_the_last_unit(rt: HostRuntime) {
         (Format::Trailing, TraceUnit::Behind),
         (16552, 1),
     );
+}
+
+#[test]
+fn what_comes_behind_the_counts(rt: HostRuntime) {
+    let bytes = map_then_resolve(&rt, rt.alloc());
+    let header = &bytes[..bytes.len().min(20)];
+    let counts = &header[header.len().min(6)..];
+    let numbers = Numbers::none().after(TraceUnit::Counts, counts);
+    let wanted = Numbers {
+        places: 1,
+        events: 4,
+        replicas: 1,
+        frames: 0,
+    };
+    assert!(rt; numbers == wanted);
+    assert!(rt; numbers.unit_after(TraceUnit::Counts) == TraceUnit::Place(0));
+    assert!(rt; numbers.place_unit(1) == TraceUnit::Event(0));
+    assert!(rt; Numbers::none().place_unit(0) == TraceUnit::Behind);
 }
 
 /// Where a byte of a trace of version 1 is another: the index, the byte, the field that is named, its value and what is wrong with it.

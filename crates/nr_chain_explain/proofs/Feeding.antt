@@ -15,9 +15,8 @@ use Rattle.nr_trace.specs.declared.fault.Format.TheVariants.{Truncated}
 use Rattle.nr_trace.specs.declared.fault.Fault.TheVariants as faults
 use Rattle.nr_trace.specs.declared.version.Form.TheVariants as forms
 use Rattle.nr_segment.specs.declared.fault.SegmentFault.{SegmentFault}
-use Rattle.nr_segment.specs.declared.fault.SegmentFault.TheVariants.{Start, Within, Stale}
-use Rattle.nr_chain.specs.Bytes.{BeginsWith, EndsWith, HasFirstNext, IsFirstNext}
-use Rattle.nr_chain.specs.Fed.{Kept}
+use Rattle.nr_segment.specs.declared.fault.SegmentFault.TheVariants.{Within}
+use Rattle.nr_chain.specs.Bytes.{BeginsWith, EndsWith}
 use Rattle.nr_chain.specs.inside.Between.{bytes_in}
 use Rattle.nr_chain.proofs.Ends.{ends_first, none_is_short}
 use Rattle.nr_chain.proofs.OneChain.{not_empty}
@@ -35,10 +34,8 @@ use Rattle.nr_chain_explain.specs.declared.explanation.ChainExplanation.{ChainEx
 use Rattle.nr_chain_explain.specs.declared.explanation.ChainExplanation.TheVariants.{Yes, No}
 use Rattle.nr_chain_explain.specs.declared.reader.Step.{Step}
 use Rattle.nr_chain_explain.specs.declared.reader.Step.TheVariants.{More, Right, Wrong}
-
-pub if_ok : {A E : Type 0} (P Q : A → Type 0) (result : Result A E) → ((a : A) → P a → Q a) → IfOk result P → IfOk result Q
-if_ok P Q (Ok a) widen h = widen a h
-if_ok P Q (Err e) widen h = tt
+use Rattle.nr_chain.proofs.Judged.{first_next}
+use Rattle.std.proofs.lemmas.Result.{IfOk-weaker}
 
 -- ---- between two pieces
 
@@ -63,13 +60,6 @@ took_here feed new bytes piece count taken feeds =
     subst (λ (bs : List ℕ). Took feed.before bs piece new count) (ap bytes_in taken) (took feed new piece count feeds)
 
 -- ---- what is said of a segment
-
--- the first fault of a segment that is spelled is none of the format
-first_next : (kept : Option Kept) (bytes : List ℕ) (fault : SegmentFault) → HasFirstNext kept bytes fault → IsFirstNext kept bytes fault
-first_next kept bytes (Start fault) h = h
-first_next kept bytes (Within (faults.Format fault)) (segment, rest, begins, first) = absurd first.holds
-first_next kept bytes (Within fault) h = h
-first_next kept bytes (Stale call) h = h
 
 shown_next : (last : Option CameTo) (bytes : List ℕ) (fault : SegmentFault) (shown : SegmentEvidence) → IsShownOf last bytes fault shown
     → IsShownNext last bytes fault shown
@@ -105,6 +95,10 @@ refusal_lasts came bytes rest fault (No number found (evidence.Format bad)) (num
 )
 refusal_lasts came bytes rest fault (No number found shown) is lasts = is
 
+front_none : (front rest : List ℕ) → front ++ rest ≡ [] → front ≡ []
+front_none [] rest e = refl
+front_none (x ∷ front) rest e = absurd cc
+
 -- a segment that is spelled and has a fault
 pub wrong_explains : (came : Option CameTo) (bytes rest : List ℕ) (segment : Recording) (explanation : ChainExplanation)
     → SpellsSegment (layout_in came) bytes segment → IsWrongOf came segment explanation → IsExplanationFrom came (bytes ++ rest) explanation
@@ -116,13 +110,10 @@ wrong_explains came bytes rest segment (No number fault shown) spelled (number_i
       bytes ++ rest,
       (refl, refl),
       number_is,
-      ends_first (kept_in came) (bytes ++ rest) fault (λ kept none. not_empty (layout_in came) bytes segment spelled (front_none bytes none))
+      ends_first (kept_in came) (bytes ++ rest) fault (λ kept none. not_empty (layout_in came) bytes segment spelled (front_none bytes rest none))
           (first_next (kept_in came) (bytes ++ rest) fault (segment, rest, begins, first)),
       shown_next came (bytes ++ rest) fault shown (record { segment = segment; behind = rest; begins = begins; first = first; shows = shows }),
-    ) where
-      front_none : (front : List ℕ) → front ++ rest ≡ [] → front ≡ []
-      front_none [] e = refl
-      front_none (x ∷ front) e = absurd cc
+    )
 
 -- what is judged of a segment, of its bytes
 pub judged_whole : (came : Option CameTo) (bytes : List ℕ) (segment : Recording) (count : ℕ) (step : Step) → SpellsSegment (layout_in came) bytes segment
@@ -160,7 +151,7 @@ module _ (last : Option Came) (bytes : List ℕ) (feed new : FedSegment) (self :
       let is = took_here feed new bytes piece count old.taken feeds in
       let some = some_taken feed new piece count (old.taken ∙ ap Taken (sym (ap bytes_in old.taken))) old.not_whole whole (took feed new piece count feeds) in
       subst (λ (fed : Seen). IfOk result (StepsTo fed piece)) view
-      (if_ok (JudgesTo (all_seen last) taken count) (StepsTo (record { came = all_seen last; bytes = bytes }) piece) result
+      (IfOk-weaker result (JudgesTo (all_seen last) taken count) (StepsTo (record { came = all_seen last; bytes = bytes }) piece)
       (λ step h. judged_step (all_seen last) bytes piece count step some is.within
       (subst (λ (bs : List ℕ). JudgesTo (all_seen last) bs count step) same h)) h)
 
@@ -213,10 +204,7 @@ module _ (last : Option Came) (bytes : List ℕ) (feed new : FedSegment) (self :
       (subst (λ (bs : List ℕ). IsExplanationFrom (all_seen last) bs explanation) (append_assoc bytes piece rest)
       (refusal_explains (all_seen last) ((bytes ++ piece) ++ rest) fault explanation
       (refusal_lasts (all_seen last) (bytes ++ piece) rest fault explanation refusal_here lasts) (lasts rest)
-      (λ kept none. there (front_none piece rest (none_of_two bytes (piece ++ rest) (sym (append_assoc bytes piece rest) ∙ none)))))) where
-        front_none : (front rest : List ℕ) → front ++ rest ≡ [] → front ≡ []
-        front_none [] rest e = refl
-        front_none (x ∷ front) rest e = absurd cc
+      (λ kept none. there (front_none piece rest (none_of_two bytes (piece ++ rest) (sym (append_assoc bytes piece rest) ∙ none))))))
 
 -- ---- a whole piece
 
@@ -262,15 +250,6 @@ explains_behind self reader piece rest behind explanation (segments, goes) h =
     (explains_on self.came reader.came ((self.bytes ++ piece) ++ behind) ((reader.bytes ++ rest) ++ behind) segments explanation
     (goes_with self.came reader.came (self.bytes ++ piece) (reader.bytes ++ rest) behind segments goes)
     (subst (λ (bs : List ℕ). IsExplanationFrom reader.came bs explanation) (sym (append_assoc reader.bytes rest behind)) h))
-
--- the same where the whole piece is taken
-pub explains_taken : (self reader : Seen) (piece behind : List ℕ) (explanation : ChainExplanation)
-    → (segments : List Recording) × GoesOnTo self.came (self.bytes ++ piece) segments reader.came reader.bytes
-    → Explains reader behind explanation → Explains self (piece ++ behind) explanation
-explains_taken self reader piece behind explanation (segments, goes) h =
-    subst (λ (bs : List ℕ). IsExplanationFrom self.came bs explanation) (append_assoc self.bytes piece behind)
-    (explains_on self.came reader.came ((self.bytes ++ piece) ++ behind) (reader.bytes ++ behind) segments explanation
-    (goes_with self.came reader.came (self.bytes ++ piece) reader.bytes behind segments goes) h)
 
 -- a segment more
 one_on : (old new : Seen) (piece : List ℕ) (count : ℕ) → StepsTo old piece (Right count new)

@@ -10,7 +10,7 @@ use Rattle.nr_trace.specs.Faults.{Earlier, HasFault, HasFaultFrom, IsFirst, IsFi
 use Rattle.nr_trace.specs.Laws.{HasCleanLog}
 use Rattle.nr_trace.specs.declared.fault.Format.{Format as FormatFault}
 use Rattle.nr_trace.specs.declared.fault.Fault.{Fault}
-use Rattle.nr_trace.specs.declared.fault.Fault.TheVariants.{Format, ThreadOpen, NoSuchCall, AnsweredTwice, NotAnUpdate, PlacedTwice, NotPlaced, PastLog, Early}
+use Rattle.nr_trace.specs.declared.fault.Fault.TheVariants.{Format, ThreadOpen, NoSuchCall, AnsweredTwice, NotAnUpdate, PlacedTwice, NotPlaced, PastLog}
 use Rattle.nr_trace.specs.declared.fault.Fault.TheVariants.{WrongAnswer, PrefixPastLog, PrefixShort, MissingFrame, SharedFrame, ReservedBit, StrayFrame}
 use Rattle.nr_trace.specs.declared.fault.Fault.TheVariants.{Differs}
 use Rattle.nr_trace.proofs.LawsOfFaults.{IsBelow, below_from_less}
@@ -18,19 +18,11 @@ use Rattle.nr_segment.specs.Start.{first_space, HasStartFault}
 use Rattle.nr_segment.specs.Faults.{part_of, IsFirstAfter}
 use Rattle.nr_segment.specs.declared.fault.StartFault.{StartFault}
 use Rattle.nr_segment.specs.declared.fault.SegmentFault.TheVariants.{Start, Within, Stale}
-use Rattle.nr_segment.proofs.FirstFaults.{within_before}
 use Rattle.nr_segment.proofs.Order.{comes_by_part}
 use Rattle.nr_explain.specs.Dumps.{IsFirstOfItsDump, replica_of}
 use Rattle.nr_chain_explain.specs.Evidence.{IsOfItself}
 
 -- ---- of a segment and of a trace
-
-pub first_within : (before : Option Space) (segment : Recording) (fault : Fault) → IsFirstAfter before segment (Within fault)
-    → IsFirstFrom (first_space before segment) segment fault
-first_within before segment fault first = record {
-  holds = first.holds;
-  none_earlier = λ other h less. first.none_earlier (Within other) h (within_before segment other fault less);
-}
 
 -- where the first fault is none of the start, nothing is wrong with that
 pub well_within : (before : Option Space) (segment : Recording) (fault : Fault) → IsFirstAfter before segment (Within fault)
@@ -48,24 +40,10 @@ well_within before segment fault first other h = elim (cases_order (part_of faul
 
   no_part_below : (fault : Fault) → part_of fault < 1 → ⊥
   no_part_below (Format fault) low = omega arith
-  no_part_below (PrefixPastLog replica) low = omega arith
-  no_part_below (PrefixShort replica) low = omega arith
-  no_part_below (MissingFrame replica number) low = omega arith
-  no_part_below (SharedFrame replica number) low = omega arith
-  no_part_below (ReservedBit replica number index) low = omega arith
-  no_part_below (StrayFrame replica number) low = omega arith
-  no_part_below (Differs replica address) low = omega arith
   no_part_below fault low = omega arith
 
   above : (fault : Fault) → 1 < part_of fault → 2 < part_of fault
   above (Format fault) high = absurd (omega arith)
-  above (PrefixPastLog replica) high = lit< tt
-  above (PrefixShort replica) high = lit< tt
-  above (MissingFrame replica number) high = lit< tt
-  above (SharedFrame replica number) high = lit< tt
-  above (ReservedBit replica number index) high = lit< tt
-  above (StrayFrame replica number) high = lit< tt
-  above (Differs replica address) high = lit< tt
   above fault high = lit< tt
 
 pub well_stale : (before : Option Space) (segment : Recording) (call : ℕ) → IsFirstAfter before segment (Stale call)
@@ -91,34 +69,12 @@ clean_stale before segment call first = record {
 
 pub from_anywhere : (start other : Space) (trace : Recording) (fault : Fault) → IsOfItself fault → HasFaultFrom start trace fault
     → HasFaultFrom other trace fault
-from_anywhere start other trace (Format fault) own h = h
-from_anywhere start other trace (ThreadOpen index) own h = h
-from_anywhere start other trace (NoSuchCall index) own h = h
-from_anywhere start other trace (AnsweredTwice index) own h = h
-from_anywhere start other trace (NotAnUpdate place) own h = h
-from_anywhere start other trace (PlacedTwice place) own h = h
-from_anywhere start other trace (NotPlaced index) own h = h
-from_anywhere start other trace (PastLog index) own h = h
-from_anywhere start other trace (Early call) own h = h
 from_anywhere start other trace (WrongAnswer call) own h = absurd own
-from_anywhere start other trace (PrefixPastLog replica) own h = h
-from_anywhere start other trace (PrefixShort replica) own h = h
-from_anywhere start other trace (MissingFrame replica number) own h = h
-from_anywhere start other trace (SharedFrame replica number) own h = h
-from_anywhere start other trace (ReservedBit replica number index) own h = h
-from_anywhere start other trace (StrayFrame replica number) own h = h
 from_anywhere start other trace (Differs replica address) own h = absurd own
+from_anywhere start other trace _ own h = h
 
 -- a wrong answer and a dump that differs come after the faults of the events, the log and the replies
 wrong_late : (trace : Recording) (call : ℕ) (fault : Fault) → IsOfItself fault → replica_of fault ≡ None → Earlier trace (WrongAnswer call) fault → ⊥
-wrong_late trace call (ThreadOpen index) own none less = let e : Greater ≡ Less = less in cc
-wrong_late trace call (NoSuchCall index) own none less = let e : Greater ≡ Less = less in cc
-wrong_late trace call (AnsweredTwice index) own none less = let e : Greater ≡ Less = less in cc
-wrong_late trace call (NotAnUpdate place) own none less = let e : Greater ≡ Less = less in cc
-wrong_late trace call (PlacedTwice place) own none less = let e : Greater ≡ Less = less in cc
-wrong_late trace call (NotPlaced index) own none less = let e : Greater ≡ Less = less in cc
-wrong_late trace call (PastLog index) own none less = let e : Greater ≡ Less = less in cc
-wrong_late trace call (Early early) own none less = let e : Greater ≡ Less = less in cc
 wrong_late trace call (PrefixPastLog replica) own none less = cc
 wrong_late trace call (PrefixShort replica) own none less = cc
 wrong_late trace call (MissingFrame replica number) own none less = cc
@@ -128,16 +84,9 @@ wrong_late trace call (StrayFrame replica number) own none less = cc
 wrong_late trace call (Format fault) own none less = own
 wrong_late trace call (WrongAnswer other) own none less = own
 wrong_late trace call (Differs replica address) own none less = own
+wrong_late trace call _ own none less = let e : Greater ≡ Less = less in cc
 
 differs_late : (trace : Recording) (at address : ℕ) (fault : Fault) → IsOfItself fault → replica_of fault ≡ None → Earlier trace (Differs at address) fault → ⊥
-differs_late trace at address (ThreadOpen index) own none less = let e : Greater ≡ Less = less in cc
-differs_late trace at address (NoSuchCall index) own none less = let e : Greater ≡ Less = less in cc
-differs_late trace at address (AnsweredTwice index) own none less = let e : Greater ≡ Less = less in cc
-differs_late trace at address (NotAnUpdate place) own none less = let e : Greater ≡ Less = less in cc
-differs_late trace at address (PlacedTwice place) own none less = let e : Greater ≡ Less = less in cc
-differs_late trace at address (NotPlaced index) own none less = let e : Greater ≡ Less = less in cc
-differs_late trace at address (PastLog index) own none less = let e : Greater ≡ Less = less in cc
-differs_late trace at address (Early early) own none less = let e : Greater ≡ Less = less in cc
 differs_late trace at address (PrefixPastLog replica) own none less = cc
 differs_late trace at address (PrefixShort replica) own none less = cc
 differs_late trace at address (MissingFrame replica number) own none less = cc
@@ -147,6 +96,7 @@ differs_late trace at address (StrayFrame replica number) own none less = cc
 differs_late trace at address (Format fault) own none less = own
 differs_late trace at address (WrongAnswer other) own none less = own
 differs_late trace at address (Differs replica other) own none less = own
+differs_late trace at address _ own none less = let e : Greater ≡ Less = less in cc
 
 -- the first of these is the first of the trace
 pub first_of_calls : (start : Space) (trace : Recording) (fault : Fault) → IsOfItself fault → replica_of fault ≡ None → IsFirstFrom start trace fault
@@ -158,21 +108,7 @@ first_of_calls start trace fault own none first = record {
   back : (other : Fault) → HasFault trace other → Earlier trace other fault → HasFaultFrom start trace other
   back (WrongAnswer call) h less = absurd (wrong_late trace call fault own none less)
   back (Differs at address) h less = absurd (differs_late trace at address fault own none less)
-  back (Format format) h less = h
-  back (ThreadOpen index) h less = h
-  back (NoSuchCall index) h less = h
-  back (AnsweredTwice index) h less = h
-  back (NotAnUpdate place) h less = h
-  back (PlacedTwice place) h less = h
-  back (NotPlaced index) h less = h
-  back (PastLog index) h less = h
-  back (Early early) h less = h
-  back (PrefixPastLog replica) h less = h
-  back (PrefixShort replica) h less = h
-  back (MissingFrame replica number) h less = h
-  back (SharedFrame replica number) h less = h
-  back (ReservedBit replica number index) h less = h
-  back (StrayFrame replica number) h less = h
+  back _ h less = h
 
 -- a dump that differs comes after the other faults of a dump
 no_later : (at replica n : ℕ) → n < 17 → at ≡ replica → IsBelow 7 at 17 7 replica n → ⊥
@@ -198,17 +134,10 @@ differs_last trace at address (ReservedBit replica number index) own same less =
     no_later at replica 15 (lit< tt) (same_Some at replica same) (below_from_less 7 at 17 7 replica 15 less)
 differs_last trace at address (StrayFrame replica number) own same less =
     no_later at replica 16 (lit< tt) (same_Some at replica same) (below_from_less 7 at 17 7 replica 16 less)
-differs_last trace at address (ThreadOpen index) own same less = cc
-differs_last trace at address (NoSuchCall index) own same less = cc
-differs_last trace at address (AnsweredTwice index) own same less = cc
-differs_last trace at address (NotAnUpdate place) own same less = cc
-differs_last trace at address (PlacedTwice place) own same less = cc
-differs_last trace at address (NotPlaced index) own same less = cc
-differs_last trace at address (PastLog index) own same less = cc
-differs_last trace at address (Early early) own same less = cc
 differs_last trace at address (Format fault) own same less = own
 differs_last trace at address (WrongAnswer other) own same less = own
 differs_last trace at address (Differs replica other) own same less = own
+differs_last trace at address _ own same less = cc
 
 pub first_of_dump : (start : Space) (trace : Recording) (fault : Fault) → IsOfItself fault → IsSome (replica_of fault) → IsFirstFrom start trace fault
     → IsFirstOfItsDump trace fault
@@ -223,21 +152,7 @@ first_of_dump start trace fault own some first = record {
     nowhere None some e = let wrong : false ≡ true = some in cc
     nowhere (Some n) some e = cc
   back (Differs at address) same h less = absurd (differs_last trace at address fault own same less)
-  back (Format format) same h less = h
-  back (ThreadOpen index) same h less = h
-  back (NoSuchCall index) same h less = h
-  back (AnsweredTwice index) same h less = h
-  back (NotAnUpdate place) same h less = h
-  back (PlacedTwice place) same h less = h
-  back (NotPlaced index) same h less = h
-  back (PastLog index) same h less = h
-  back (Early early) same h less = h
-  back (PrefixPastLog replica) same h less = h
-  back (PrefixShort replica) same h less = h
-  back (MissingFrame replica number) same h less = h
-  back (SharedFrame replica number) same h less = h
-  back (ReservedBit replica number index) same h less = h
-  back (StrayFrame replica number) same h less = h
+  back _ same h less = h
 
 pub none_from_false : (o : Option ℕ) → is_some o ≡ false → o ≡ None
 none_from_false None none = refl
@@ -249,20 +164,7 @@ pub own_from : (fault : Fault) → ((format : FormatFault) → fault ≡ Format 
 own_from (Format format) no_format no_wrong no_difference = no_format format refl
 own_from (WrongAnswer call) no_format no_wrong no_difference = no_wrong call refl
 own_from (Differs replica address) no_format no_wrong no_difference = no_difference replica address refl
-own_from (ThreadOpen index) no_format no_wrong no_difference = tt
-own_from (NoSuchCall index) no_format no_wrong no_difference = tt
-own_from (AnsweredTwice index) no_format no_wrong no_difference = tt
-own_from (NotAnUpdate place) no_format no_wrong no_difference = tt
-own_from (PlacedTwice place) no_format no_wrong no_difference = tt
-own_from (NotPlaced index) no_format no_wrong no_difference = tt
-own_from (PastLog index) no_format no_wrong no_difference = tt
-own_from (Early call) no_format no_wrong no_difference = tt
-own_from (PrefixPastLog replica) no_format no_wrong no_difference = tt
-own_from (PrefixShort replica) no_format no_wrong no_difference = tt
-own_from (MissingFrame replica number) no_format no_wrong no_difference = tt
-own_from (SharedFrame replica number) no_format no_wrong no_difference = tt
-own_from (ReservedBit replica number index) no_format no_wrong no_difference = tt
-own_from (StrayFrame replica number) no_format no_wrong no_difference = tt
+own_from _ no_format no_wrong no_difference = tt
 
 pub no_format : (before : Option Space) (segment : Recording) (format : FormatFault) → IsFirstAfter before segment (Within (Format format)) → ⊥
 no_format before segment format first = first.holds

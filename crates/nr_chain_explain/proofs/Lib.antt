@@ -2,7 +2,6 @@ pub mod Cuts
 pub mod Walking
 pub mod Firsts
 pub mod Feeding
-pub mod Startings
 pub mod Changes
 pub mod WrongAnswers
 pub mod Differing

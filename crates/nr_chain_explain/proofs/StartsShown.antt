@@ -4,7 +4,6 @@ use Rattle.std.specs.Prelude.{IfOk}
 use Rattle.std.proofs.lemmas.Option.{same_Some}
 use Rattle.vs_types.specs.Space.{Space}
 use Rattle.vs_types.specs.declared.depth.Depth.{Depth}
-use Rattle.vs_walk.specs.Differences.{HasDifference}
 use Rattle.vs_walk.specs.Dump.{Image}
 use Rattle.nr_trace.specs.Recording.{Recording}
 use Rattle.nr_trace.specs.declared.fault.Fault.{Fault}
@@ -14,7 +13,6 @@ use Rattle.nr_segment.specs.declared.fault.StartFault.{StartFault}
 use Rattle.nr_segment.specs.declared.fault.StartFault.TheVariants.{Missing, Shared, Reserved, Stray, Beyond, Differs}
 use Rattle.nr_segment.specs.declared.fault.SegmentFault.TheVariants.{Start, Within}
 use Rattle.nr_segment.proofs.Starts.{none_walked}
-use Rattle.nr_chain_explain.specs.Came.{space_in}
 use Rattle.nr_chain_explain.specs.Evidence.{IsOfItself, IsStartDiffers}
 use Rattle.nr_chain_explain.specs.inside.Itself.{IsShownByItself}
 use Rattle.nr_chain_explain.specs.Explanation.{IsShownBehind}
@@ -68,20 +66,6 @@ shown_in_start last segment start depth fault shown is same shows =
       of (evidence.StartStray frame) (fault_is, facts) = (ap Start fault_is, (start, is, facts))
       of (evidence.StartBeyond wrong) (fault_is, facts) = (ap Start fault_is, (start, is, facts))
       of e shows = absurd shows
-
--- a start that differs from the space before
-pub difference_of : (came : Came) (segment : Recording) (start : Image) (depth : Depth) (address : ℕ) → segment.start ≡ Some start
-    → depth ≡ segment.layout.depth → IsFirstAfter (space_in (Some (seen_of came))) segment (Start (Differs address))
-    → HasDifference depth start came.space.space address
-difference_of came segment start depth address is same first =
-    let holds = holds_of (space_in (Some (seen_of came))) segment start (Differs address) is first in
-    subst (λ (d : Depth). HasDifference d start came.space.space address) (sym same)
-    (subst (λ (s : Space). HasDifference segment.layout.depth start s address) (same_Some holds.0 came.space.space (sym holds.1)) holds.2)
-
-pub first_differs_not : (segment : Recording) (address : ℕ) → IsFirstAfter None segment (Start (Differs address)) → ⊥
-first_differs_not segment address first =
-    let holds : HasStartFault None segment (Differs address) = first.holds in
-    let wrong : None ≡ Some holds.2.0 = holds.2.1 in cc
 
 pub shown_differs : (came : Came) (segment : Recording) (start : Image) (depth : Depth) (wrong : StartDiffers) (address : ℕ) → segment.start ≡ Some start
     → depth ≡ segment.layout.depth → wrong.address ≡ address

@@ -13,7 +13,6 @@ use Rattle.nr_trace.specs.declared.fault.Format.TheVariants.{Truncated}
 use Rattle.nr_trace.specs.declared.version.Form.TheVariants as forms
 use Rattle.nr_trace.proofs.LawsOfFormat.{no_fault_of_segment, one_fault}
 use Rattle.nr_chain.specs.inside.Between.{bytes_in}
-use Rattle.nr_chain.proofs.Ends.{none_is_short}
 use Rattle.nr_chain.proofs.Pieces.{Took, refused, spelled_whole, took, took_all}
 use Rattle.nr_explain.specs.Fields.{field_fault}
 use Rattle.nr_chain_explain.proofs.Cuts.{cut_so}
@@ -21,9 +20,9 @@ use Rattle.nr_chain_explain.specs.Units.{after, first_unit, size, GoesOn, IsBadU
 use Rattle.nr_chain_explain.specs.inside.Walked.{IsUnitOf, IsWalked, IsWithin, StepsOver}
 use Rattle.nr_chain_explain.specs.declared.evidence.BadSegment.{BadSegment}
 use Rattle.nr_chain_explain.specs.declared.units.Next.{Next}
-use Rattle.nr_explain.specs.declared.units.TraceUnit.TheVariants.{Magic, Version as VersionWord, Counts, Place, Event, DumpHead, FrameNumber, FrameWords, Behind}
+use Rattle.nr_explain.specs.declared.units.TraceUnit.TheVariants.{Magic}
 use Rattle.nr_chain_explain.specs.declared.units.SegmentUnit.{SegmentUnit}
-use Rattle.nr_chain_explain.specs.declared.units.SegmentUnit.TheVariants.{Shared, StartRoot, StartNumber, StartWords}
+use Rattle.nr_chain_explain.specs.declared.units.SegmentUnit.TheVariants.{Shared}
 
 -- ---- lists of units
 
@@ -46,17 +45,6 @@ goes_further front bytes next goes long = record {
 }
 
 -- ---- the walk
-
-pub walk_begins : (before : Option Layout) (bytes : List ℕ) (feed : FedSegment) (next : Next)
-    → feed ≡ record { before = before; pieces = Taken [] } → next ≡ first_unit → IsWalked before bytes feed next bytes
-walk_begins before bytes feed next fresh first = record {
-  front = [];
-  parts = refl;
-  fed = fresh;
-  goes_on = record { units = []; parts = refl; lead = sym first };
-  no_fault_yet = λ fault h. one_fault (forms.Segment before) [] fault Truncated h (none_is_short (forms.Segment before));
-  within = subst (λ (n : Next). IsWithin n.unit n.numbers) (sym first) tt;
-}
 
 module _ (before : Option Layout) (bytes : List ℕ) (fault : Format) (feed new : FedSegment) (next : Next) (rest own behind : List ℕ)
     (cut : rest ≡ own ++ behind) (walked : IsWalked before bytes feed next rest) (has : HasSegmentFault before bytes fault) where
@@ -190,14 +178,4 @@ bad_unit_lasts before begins bytes rest bad is lasts = record {
 
 pub some_size : (unit : SegmentUnit) → 1 ≤ size unit
 some_size (Shared Magic) = omega arith
-some_size (Shared VersionWord) = omega arith
-some_size (Shared Counts) = omega arith
-some_size (Shared (Place place)) = omega arith
-some_size (Shared (Event index)) = omega arith
-some_size (Shared (DumpHead replica)) = omega arith
-some_size (Shared (FrameNumber replica index)) = omega arith
-some_size (Shared (FrameWords replica index)) = omega arith
-some_size (Shared Behind) = omega arith
-some_size StartRoot = omega arith
-some_size (StartNumber index) = omega arith
-some_size (StartWords index) = omega arith
+some_size _ = omega arith

@@ -24,7 +24,8 @@ use Rattle.nr_chain_explain.specs.inside.Steps.{JudgedTo, JudgesTo}
 use Rattle.nr_chain_explain.specs.declared.came.Came.{Came}
 use Rattle.nr_chain_explain.specs.declared.reader.Step.{Step}
 use Rattle.nr_chain_explain.specs.declared.reader.Step.TheVariants.{Right}
-use Rattle.nr_chain_explain.proofs.Feeding.{if_ok, judged_whole}
+use Rattle.nr_chain_explain.proofs.Feeding.{judged_whole}
+use Rattle.std.proofs.lemmas.Result.{IfOk-weaker}
 
 -- the space after the last segment fits the next one, which is laid out as that
 fits_next : (last : Option Came) (segment : Recording) → IfSome last FitsCame → Follows (forms.Segment (layout_in (all_seen last))) segment.layout
@@ -48,7 +49,7 @@ whole_judged last bytes feed segment count result taken behind whole ends h =
     let spelled : SpellsSegment (layout_in (all_seen last)) bytes segment =
     subst (λ (b : Option Layout). SpellsSegment b bytes segment) behind
     (subst (λ (bs : List ℕ). SpellsSegment feed.before bs segment) (ap bytes_in taken) (ended feed segment whole ends)) in
-    if_ok (JudgedTo (all_seen last) segment (length bytes) count) (JudgesTo (all_seen last) bytes count) result
+    IfOk-weaker result (JudgedTo (all_seen last) segment (length bytes) count) (JudgesTo (all_seen last) bytes count)
     (λ step is. judged_whole (all_seen last) bytes segment count step spelled is) h
 
 -- the space before, as the judge wants it

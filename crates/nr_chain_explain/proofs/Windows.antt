@@ -9,9 +9,7 @@ use Rattle.vs_types.specs.Space.{Space, IsSpace, page_at}
 use Rattle.vs_types.specs.Step.{look, look_in_page}
 use Rattle.vs_types.specs.declared.depth.Depth.{Depth}
 use Rattle.vs_types.specs.declared.page.Page.{Page}
-use Rattle.vs_types.specs.declared.page.Size.{Size}
-use Rattle.vs_types.specs.declared.page.Size.TheVariants.{K4, M2, G1}
-use Rattle.vs_types.proofs.Pages.{covers_means}
+use Rattle.vs_types.proofs.Pages.{covers_means, same_aligned}
 use Rattle.vs_types.proofs.Spaces.{page_at_means}
 use Rattle.nr_trace.specs.Recording.{Recording}
 use Rattle.nr_touch.specs.Touches.{ChangesLook, IsAllowedPrefix, IsAnsweredBefore, IsMadeAfter}
@@ -142,19 +140,6 @@ module _ (start : Space) (segment : Recording) (address made answered : ℕ) whe
 
 -- ---- looks and pages
 
-same_base : (m b c a : ℕ) → (m ≡ 4096) ⊎ ((m ≡ 2097152) ⊎ (m ≡ 1073741824)) → b % m ≡ 0 → c % m ≡ 0 → b ≤ a → a < b + m → c ≤ a → a < c + m → b ≡ c
-same_base m b c a (inl e) x y lb hb lc hc =
-    let p : b % 4096 ≡ 0 = subst (λ (n : ℕ). b % n ≡ 0) e x in let q : c % 4096 ≡ 0 = subst (λ (n : ℕ). c % n ≡ 0) e y in omega arith
-same_base m b c a (inr (inl e)) x y lb hb lc hc =
-    let p : b % 2097152 ≡ 0 = subst (λ (n : ℕ). b % n ≡ 0) e x in let q : c % 2097152 ≡ 0 = subst (λ (n : ℕ). c % n ≡ 0) e y in omega arith
-same_base m b c a (inr (inr e)) x y lb hb lc hc =
-    let p : b % 1073741824 ≡ 0 = subst (λ (n : ℕ). b % n ≡ 0) e x in let q : c % 1073741824 ≡ 0 = subst (λ (n : ℕ). c % n ≡ 0) e y in omega arith
-
-size_bytes : (s : Size) → (bytes_of s ≡ 4096) ⊎ ((bytes_of s ≡ 2097152) ⊎ (bytes_of s ≡ 1073741824))
-size_bytes K4 = inl refl
-size_bytes M2 = inr (inl refl)
-size_bytes G1 = inr (inr refl)
-
 -- pages that cover an address and look the same there are one
 one_look : (depth : Depth) (p q : Page) (a : ℕ) → IsPage depth p → IsPage depth q → IsTrue (covers p a) → IsTrue (covers q a)
     → look_in_page a (Some p) ≡ look_in_page a (Some q) → p ≡ q
@@ -163,12 +148,14 @@ one_look depth p q a fits also over under same =
     let size : p.size ≡ q.size = cc in
     let rights : p.rights ≡ q.rights = cc in
     let bytes = ap bytes_of size in
-    let p_covers = (covers_means p a).0 over in
-    let q_covers = (covers_means q a).0 under in
-    let base : p.base ≡ q.base = same_base (bytes_of p.size) p.base q.base a (size_bytes p.size) fits.aligned
-    (subst (λ (n : ℕ). q.base % n ≡ 0) (sym bytes) also.aligned) p_covers.0 p_covers.1 q_covers.0
-    (let high = q_covers.1 in omega (arith, bytes)) in
-    let phys : p.phys ≡ q.phys = (let low = p_covers.0 in omega (arith, sum, base)) in
+    let aligned : q.base % bytes_of p.size ≡ 0 = subst (λ (n : ℕ). q.base % n ≡ 0) (sym bytes) also.aligned in
+    let (p_low, p_high) = (covers_means p a).0 over in
+    let (q_low, q_high) = (covers_means q a).0 under in
+    let base : p.base ≡ q.base = elim (cases_lt p.base q.base) [
+      | inl less ↦ same_aligned p.size q.base p.base aligned fits.aligned (omega arith) (omega arith)
+      | inr more ↦ sym (same_aligned p.size p.base q.base fits.aligned aligned more (omega (arith, bytes)))
+    ] in
+    let phys : p.phys ≡ q.phys = omega (arith, sum, base) in
     λ i. record { base = base i; size = size i; phys = phys i; rights = rights i }
 
 pub same_page : (depth : Depth) (s t : Space) (a : ℕ) → IsSpace depth s → IsSpace depth t → look s a ≡ look t a → page_at s a ≡ page_at t a

@@ -6,9 +6,9 @@ use Rattle.nr_trace.specs.Feed.{IsFaultlessYet, LastsAs}
 use Rattle.nr_trace.specs.FirstFault.{HasSegmentFault}
 use Rattle.nr_trace.specs.declared.fault.Format.TheVariants.{Truncated}
 use Rattle.nr_trace.specs.declared.version.Form.TheVariants as forms
-use Rattle.nr_explain.specs.Fields.{field_fault, number_8, number_32}
-use Rattle.nr_explain.specs.Units.{size as size_in_trace}
-use Rattle.nr_explain.specs.declared.units.TraceUnit.TheVariants.{Magic, Version as VersionWord, Counts, Place, Event, DumpHead, FrameNumber, FrameWords, Behind}
+use Rattle.nr_explain.specs.Fields.{field_fault, number_32}
+use Rattle.nr_explain.specs.Units.{no_numbers as none_in_trace, numbers_after as numbers_in_trace, place_unit, size as size_in_trace, unit_after as after_in_trace}
+use Rattle.nr_explain.specs.declared.units.TraceUnit.TheVariants.{Magic, Counts}
 use Rattle.nr_chain_explain.specs.Came.{sum_up}
 use Rattle.nr_chain_explain.specs.declared.evidence.BadSegment.{BadSegment}
 use Rattle.nr_chain_explain.specs.declared.units.Next.{Next}
@@ -26,59 +26,32 @@ size (StartWords index) = 4096
 
 -- ---- which unit comes next
 
--- the dump of a replica, where there is one; an event, else the dumps; a place of the log, else the events; a frame of the start, else the log
-abbrev pub dump_unit : Numbers → ℕ → SegmentUnit
-dump_unit numbers replica = if nat_lt replica numbers.replicas then Shared (DumpHead replica) else Shared Behind
-
-abbrev pub event_unit : Numbers → ℕ → SegmentUnit
-event_unit numbers index = if nat_lt index numbers.events then Shared (Event index) else dump_unit numbers 0
-
-abbrev pub place_unit : Numbers → ℕ → SegmentUnit
-place_unit numbers place = if nat_lt place numbers.places then Shared (Place place) else event_unit numbers 0
-
+-- a frame of the start, else a place of the log, or what comes behind the log
 abbrev pub start_unit : Numbers → ℕ → SegmentUnit
-start_unit numbers index = if nat_lt index numbers.start then StartNumber index else place_unit numbers 0
+start_unit numbers index = if nat_lt index numbers.start then StartNumber index else Shared (place_unit numbers.shared 0)
 
 -- the root of the start, where that has frames
 abbrev pub root_unit : Numbers → SegmentUnit
-root_unit numbers = if nat_lt 0 numbers.start then StartRoot else place_unit numbers 0
+root_unit numbers = if nat_lt 0 numbers.start then StartRoot else Shared (place_unit numbers.shared 0)
 
--- a frame of the dump of a replica, else the next dump
-abbrev pub frame_unit : Numbers → ℕ → ℕ → SegmentUnit
-frame_unit numbers replica index =
-    if nat_lt index numbers.frames then Shared (FrameNumber replica index) else dump_unit numbers (replica + 1)
-
--- the numbers that are known behind a unit of these bytes: the counts and the heads of dumps say them
+-- the numbers that are known behind a unit of these bytes: as of a trace, and the counts say how many frames the start has
 abbrev pub numbers_after : SegmentUnit → Numbers → List ℕ → Numbers
-numbers_after (Shared Counts) numbers bytes = record {
-  places = number_32 bytes 6;
-  events = number_32 bytes 10;
-  replicas = number_8 bytes 1;
-  start = number_32 bytes 14;
-  frames = 0;
-}
-numbers_after (Shared (DumpHead replica)) numbers bytes = record numbers { frames = number_32 bytes 4 }
+numbers_after (Shared Counts) numbers bytes = record { shared = numbers_in_trace Counts numbers.shared bytes; start = number_32 bytes 14 }
+numbers_after (Shared unit) numbers bytes = record numbers { shared = numbers_in_trace unit numbers.shared bytes }
 numbers_after unit numbers bytes = numbers
 
--- the unit behind one of which the numbers are known
+-- the unit behind one of which the numbers are known: as of a trace, and the start behind the counts
 abbrev pub unit_after : SegmentUnit → Numbers → SegmentUnit
-unit_after (Shared Magic) numbers = Shared VersionWord
-unit_after (Shared VersionWord) numbers = Shared Counts
 unit_after (Shared Counts) numbers = root_unit numbers
+unit_after (Shared unit) numbers = Shared (after_in_trace unit numbers.shared)
 unit_after StartRoot numbers = StartNumber 0
 unit_after (StartNumber index) numbers = StartWords index
 unit_after (StartWords index) numbers = start_unit numbers (index + 1)
-unit_after (Shared (Place place)) numbers = place_unit numbers (place + 1)
-unit_after (Shared (Event index)) numbers = event_unit numbers (index + 1)
-unit_after (Shared (DumpHead replica)) numbers = frame_unit numbers replica 0
-unit_after (Shared (FrameNumber replica index)) numbers = Shared (FrameWords replica index)
-unit_after (Shared (FrameWords replica index)) numbers = frame_unit numbers replica (index + 1)
-unit_after (Shared Behind) numbers = Shared Behind
 
 -- ---- the units of a segment
 
 abbrev pub no_numbers : Numbers
-no_numbers = record { places = 0; events = 0; replicas = 0; start = 0; frames = 0 }
+no_numbers = record { shared = none_in_trace; start = 0 }
 
 abbrev pub first_unit : Next
 first_unit = record { unit = Shared Magic; numbers = no_numbers }

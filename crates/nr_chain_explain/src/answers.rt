@@ -7,8 +7,8 @@ ghost use Rattle.nr_audit.specs.Verdict.{space_of};
 ghost use Rattle.nr_chain_explain.specs.Evidence.{IsOtherAnswerFrom};
 
 use crate::replay::{answer_after, last_look};
-use crate::spaces::copy;
 use nr_explain::{OtherAnswer, address_about, call_at, reply_to};
+use nr_segment::copy;
 use nr_trace::Trace;
 use std::alloc::Global;
 use vs_plain::PlainSpace;

@@ -7,8 +7,8 @@ ghost use Rattle.nr_audit.specs.Verdict.{space_of};
 ghost use Rattle.nr_chain_explain.specs.Evidence.{IsDifferenceFrom};
 
 use crate::replay::last_look;
-use crate::spaces::copy;
 use nr_explain::{Difference, entries_read};
+use nr_segment::copy;
 use nr_trace::Trace;
 use std::alloc::Global;
 use vs_plain::PlainSpace;

@@ -1,44 +1,20 @@
 //! The space after the first places of a segment's log, and the last of these that changed how an address looks.
 
-ghost use Rattle.std.specs.Prelude.{◌≡◌, ◌+◌, ◌<◌, ◌≤◌, length, take, slice_get, Some, IfOk, IfSome, OnOk};
+ghost use Rattle.std.specs.Prelude.{◌≡◌, ◌+◌, ◌<◌, ◌≤◌, length, take, slice_get, Some, IfOk, OnOk};
 ghost use Rattle.vs_types.specs.Query.{IsQuery};
 ghost use Rattle.vs_types.specs.Space.{Space};
 ghost use Rattle.nr_trace.specs.Orders.{answer_in, space_from};
 ghost use Rattle.nr_audit.specs.Verdict.{space_of};
-ghost use Rattle.nr_audit.specs.inside.Replies.{asked_by};
-ghost use Rattle.nr_audit.specs.inside.Steps.{Serves};
 ghost use Rattle.nr_explain.specs.Facts.{IsCallOf};
 ghost use Rattle.nr_explain.specs.inside.Searches.{HasCallAt};
 ghost use Rattle.nr_chain_explain.specs.Facts.{IsLastChangeFrom, looks_from};
 
 use crate::origins::is_same;
+use nr_audit::{request_of, serve};
 use nr_explain::{PlacedUpdate, call_at};
-use nr_trace::{Event, Trace};
+use nr_trace::Trace;
 use vs_plain::PlainSpace;
-use vs_types::{Answer, Memory, Query, Request};
-
-/// What the update or the read of this number asks, if there is one.
-fn request_of(segment: &Trace, call: u32) -> Option<Request>
-    ensures asks { result ≡ asked_by segment.now call }
-    ensures well_formed { IfSome result (IsQuery segment.now.layout.depth) }
-{
-    match segment.events().get(call as usize)?.event() {
-        Event::Call { request, .. } => Some(request),
-        Event::Touch { .. } | Event::Reply { .. } => None,
-    }
-}
-
-/// Serves a request on a space.
-fn serve(space: &mut PlainSpace, request: Request) -> Result<Answer, Memory>
-    requires { IsQuery space.old.depth request }
-    ensures { IfOk result (λ answer. Serves space.old request answer space.new) }
-{
-    match request.query() {
-        Query::Update(op) => space.apply(op),
-        Query::Resolve(address) => Ok(space.resolve(address)),
-        Query::Access(address, mode, access) => Ok(space.access(address, mode, access)),
-    }
-}
+use vs_types::{Answer, Memory, Request};
 
 /// Applies the update of a place to the space before it.
 pub(crate) fn apply_place(segment: &Trace, space: &mut PlainSpace, place: u32) -> Result<(), Memory>

@@ -13,11 +13,12 @@ ghost use Rattle.nr_chain_explain.specs.inside.Windows.{IsWindowBelow, Narrows};
 use crate::evidence::{Moment, StaleTouch};
 use crate::origins::is_same;
 use crate::replay::apply_place;
-use crate::spaces::copy;
 use nr_explain::{asked_address, call_at, reply_to};
+use nr_segment::copy;
 use nr_trace::Trace;
 use std::alloc::Global;
 use vs_plain::PlainSpace;
+use vs_plain::laws::pages_are_a_space;
 use vs_types::{Answer, Memory};
 
 /// From how many entries of the log to how many a touch may be answered.
@@ -63,8 +64,7 @@ fn look_of(space: &PlainSpace, address: u64) -> Answer
     ensures looks { result ≡ look space.now.space address }
     ensures is_space { IsSpace space.now.depth space.now.space }
 {
-    // This reads nothing of use, but says that the space is one of pages.
-    let _pages = space.iter();
+    pages_are_a_space(space);
     space.resolve(address)
 }
 

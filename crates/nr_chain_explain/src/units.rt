@@ -2,11 +2,10 @@
 
 ghost use Rattle.std.specs.Prelude.{◌≡◌, ◌+◌, ◌<◌, length};
 ghost use Rattle.nr_explain.specs.Fields.{number_32};
-ghost use Rattle.nr_chain_explain.specs.Units.{after, dump_unit, event_unit, first_unit, frame_unit, no_numbers, numbers_after, place_unit};
-ghost use Rattle.nr_chain_explain.specs.Units.{root_unit, size, start_unit, unit_after};
+ghost use Rattle.nr_chain_explain.specs.Units.{after, first_unit, no_numbers, numbers_after, root_unit, size, start_unit, unit_after};
 ghost use Rattle.nr_chain_explain.specs.inside.Walked.{IsWithin};
 
-use nr_explain::TraceUnit;
+use nr_explain::{Numbers as TraceNumbers, TraceUnit};
 
 /// A unit of a segment. Frames of the start are counted from 0.
 #[derive(Clone, Copy, Debug, PartialEq, Eq)]
@@ -35,14 +34,13 @@ impl SegmentUnit {
     }
 }
 
-/// How many places, events and replicas a segment has, and frames its start, and the dump that has begun.
+/// What a segment says of itself.
 #[derive(Clone, Copy)]
 pub(crate) struct Numbers {
-    pub(crate) places: u32,
-    pub(crate) events: u32,
-    pub(crate) replicas: u8,
+    /// What a trace says too.
+    pub(crate) shared: TraceNumbers,
+    /// How many frames its start has.
     pub(crate) start: u32,
-    pub(crate) frames: u32,
 }
 
 /// The number of four bytes, from this one on.
@@ -58,11 +56,8 @@ impl Numbers {
         ensures { result ≡ no_numbers }
     {
         Numbers {
-            places: 0,
-            events: 0,
-            replicas: 0,
+            shared: TraceNumbers::none(),
             start: 0,
-            frames: 0,
         }
     }
 
@@ -75,50 +70,14 @@ impl Numbers {
     {
         match unit {
             SegmentUnit::Shared(TraceUnit::Counts) => Numbers {
-                places: number_at(bytes, 6),
-                events: number_at(bytes, 10),
-                replicas: bytes[1],
+                shared: self.shared.after(TraceUnit::Counts, bytes),
                 start: number_at(bytes, 14),
-                frames: 0,
             },
-            SegmentUnit::Shared(TraceUnit::DumpHead(_)) => Numbers {
-                frames: number_at(bytes, 4),
+            SegmentUnit::Shared(unit) => Numbers {
+                shared: self.shared.after(unit, bytes),
                 ..self
             },
             _ => self,
-        }
-    }
-
-    fn dump_unit(self, replica: u8) -> SegmentUnit
-        ensures unit { result ≡ dump_unit self replica }
-        ensures within { IsWithin result self }
-    {
-        if replica < self.replicas {
-            SegmentUnit::Shared(TraceUnit::DumpHead(replica))
-        } else {
-            SegmentUnit::Shared(TraceUnit::Behind)
-        }
-    }
-
-    fn event_unit(self, index: u32) -> SegmentUnit
-        ensures unit { result ≡ event_unit self index }
-        ensures within { IsWithin result self }
-    {
-        if index < self.events {
-            SegmentUnit::Shared(TraceUnit::Event(index))
-        } else {
-            self.dump_unit(0)
-        }
-    }
-
-    fn place_unit(self, place: u32) -> SegmentUnit
-        ensures unit { result ≡ place_unit self place }
-        ensures within { IsWithin result self }
-    {
-        if place < self.places {
-            SegmentUnit::Shared(TraceUnit::Place(place))
-        } else {
-            self.event_unit(0)
         }
     }
 
@@ -129,7 +88,7 @@ impl Numbers {
         if index < self.start {
             SegmentUnit::StartNumber(index)
         } else {
-            self.place_unit(0)
+            SegmentUnit::Shared(self.shared.place_unit(0))
         }
     }
 
@@ -140,40 +99,7 @@ impl Numbers {
         if self.start > 0 {
             SegmentUnit::StartRoot
         } else {
-            self.place_unit(0)
-        }
-    }
-
-    fn frame_unit(self, replica: u8, index: u32) -> SegmentUnit
-        requires { replica < self.replicas }
-        ensures unit { result ≡ frame_unit self replica index }
-        ensures within { IsWithin result self }
-    {
-        if index < self.frames {
-            SegmentUnit::Shared(TraceUnit::FrameNumber(replica, index))
-        } else {
-            self.dump_unit(replica + 1)
-        }
-    }
-
-    /// The unit behind one that a trace has too.
-    fn behind_shared(self, unit: TraceUnit) -> SegmentUnit
-        requires { IsWithin (SegmentUnit.Shared unit) self }
-        ensures unit { result ≡ unit_after (SegmentUnit.Shared unit) self }
-        ensures within { IsWithin result self }
-    {
-        match unit {
-            TraceUnit::Magic => SegmentUnit::Shared(TraceUnit::Version),
-            TraceUnit::Version => SegmentUnit::Shared(TraceUnit::Counts),
-            TraceUnit::Counts => self.root_unit(),
-            TraceUnit::Place(place) => self.place_unit(place + 1),
-            TraceUnit::Event(index) => self.event_unit(index + 1),
-            TraceUnit::DumpHead(replica) => self.frame_unit(replica, 0),
-            TraceUnit::FrameNumber(replica, index) => {
-                SegmentUnit::Shared(TraceUnit::FrameWords(replica, index))
-            }
-            TraceUnit::FrameWords(replica, index) => self.frame_unit(replica, index + 1),
-            TraceUnit::Behind => SegmentUnit::Shared(TraceUnit::Behind),
+            SegmentUnit::Shared(self.shared.place_unit(0))
         }
     }
 
@@ -184,7 +110,8 @@ impl Numbers {
         ensures within { IsWithin result self }
     {
         match unit {
-            SegmentUnit::Shared(unit) => self.behind_shared(unit),
+            SegmentUnit::Shared(TraceUnit::Counts) => self.root_unit(),
+            SegmentUnit::Shared(unit) => SegmentUnit::Shared(self.shared.unit_after(unit)),
             SegmentUnit::StartRoot => SegmentUnit::StartNumber(0),
             SegmentUnit::StartNumber(index) => SegmentUnit::StartWords(index),
             SegmentUnit::StartWords(index) => self.start_unit(index + 1),

@@ -9,7 +9,6 @@ use Rattle.std.specs.List.{AllByRecursion}
 use Rattle.std.proofs.lemmas.List.{nil_from_length}
 use Rattle.std.proofs.lemmas.List.Elements.{recursion_from_All}
 use Rattle.vs_types.specs.Config.{Layout}
-use Rattle.vs_types.specs.declared.answer.Answer.{Answer}
 use Rattle.vs_types.specs.declared.depth.Depth.{Depth}
 use Rattle.vs_types.specs.declared.fields.RequestFields.{RequestFields}
 use Rattle.nr_trace.specs.FirstFault.{IsCounts}
@@ -19,14 +18,13 @@ use Rattle.nr_trace.specs.declared.event.Event.{Event}
 use Rattle.nr_trace.specs.declared.event.Event.TheVariants.{Call, Reply, Touch}
 use Rattle.nr_trace.specs.declared.fields.Counts.{Counts}
 use Rattle.nr_trace.specs.declared.version.Version.{Version}
-use Rattle.nr_trace.specs.declared.version.Version.TheVariants.{V1, V2, Segment}
+use Rattle.nr_trace.specs.declared.version.Version.TheVariants.{Segment}
 use Rattle.nr_explain.specs.Fields.{address_fault, answers_of, call_fault, event_fault, kinds_of, limited, number_8}
 use Rattle.nr_explain.specs.Fields.{number_16, number_32, number_64, physical_fault, reply_fault, rights_fault, rights_of, size_fault, size_of}
 use Rattle.nr_explain.specs.Fields.{sizes_of}
-use Rattle.nr_explain.specs.Units.{Numbers, HasHeader}
 use Rattle.nr_explain.specs.declared.fields.BadField.{BadField}
 use Rattle.nr_explain.specs.declared.fields.EventField.TheVariants as fields
-use Rattle.nr_explain.proofs.RightFields.{both, below, kinds, answers_known, Says, says, segment_bytes, segment_says, request_there, touch_there, knows_touch, answer_there}
+use Rattle.nr_explain.proofs.RightFields.{both, below, kinds, answers_known, Says, says, header_bytes, request_there, touch_there, knows_touch, answer_there}
 
 -- ---- bytes
 
@@ -141,9 +139,8 @@ call_spelled unit long fits tag unused =
     all_items 24 unit long ∙ sym same
 
 below_six : (version : Version) (kind : ℕ) → kind < kinds version → kind ≢ 5 → kind < 5
-below_six V1 kind few not = omega arith
-below_six V2 kind few not = omega arith
 below_six Segment kind few not = grind arith
+below_six _ kind few not = omega arith
 
 SomeEvent : Version → Layout → List ℕ → Type 0
 SomeEvent version layout unit = (one : Event) × IsEvent version layout one × (unit ≡ event one)
@@ -256,18 +253,10 @@ by_tag version layout header unit said long fits none =
           ])
     ]
 
-pub spelled_unless_wrong : (version : Version) (numbers : Numbers) (header behind unit : List ℕ) → HasHeader version numbers header behind
-    → length unit ≡ 24 → All (λ byte. byte < 256) unit → event_fault header unit ≡ None
+pub spelled_unless_wrong : (version : Version) (numbers : Counts) (header behind unit : List ℕ) → IsCounts version numbers
+    → header ≡ header_bytes version numbers behind → length unit ≡ 24 → All (λ byte. byte < 256) unit → event_fault header unit ≡ None
     → (one : Event) × IsEvent version numbers.layout one × (unit ≡ event one)
 unfolding SomeEvent
-spelled_unless_wrong version numbers header behind unit h long all none =
-    by_tag version numbers.layout header unit (says version numbers header behind h) long
-    (bytes_from unit (recursion_from_All (λ byte. byte < 256) unit all)) none
-
-pub touched_unless_wrong : (numbers : Counts) (header behind unit : List ℕ) → IsCounts Segment numbers → header ≡ segment_bytes numbers behind
-    → length unit ≡ 24 → All (λ byte. byte < 256) unit → event_fault header unit ≡ None
-    → (one : Event) × IsEvent Segment numbers.layout one × (unit ≡ event one)
-unfolding SomeEvent
-touched_unless_wrong numbers header behind unit in_range spelled long all none =
-    by_tag Segment numbers.layout header unit (segment_says numbers header behind in_range spelled) long
+spelled_unless_wrong version numbers header behind unit in_range spelled long all none =
+    by_tag version numbers.layout header unit (says version numbers header behind in_range spelled) long
     (bytes_from unit (recursion_from_All (λ byte. byte < 256) unit all)) none

@@ -10,13 +10,13 @@ use Rattle.nr_trace.specs.Recording.{IsEvent, IsRecording, IsThere, Recording}
 use Rattle.nr_trace.specs.Calls.{Invocation, Response, call_of, made_by, reply_of}
 use Rattle.nr_trace.specs.Orders.{known_by, space_after}
 use Rattle.nr_trace.specs.declared.event.Event.{Event}
-use Rattle.nr_trace.specs.declared.event.Event.TheVariants.{Call, Reply, Touch}
+use Rattle.nr_trace.specs.declared.event.Event.TheVariants.{Reply}
 use Rattle.nr_trace.specs.declared.fault.Fault.{Fault}
 use Rattle.nr_trace.specs.declared.fault.Fault.TheVariants.{PrefixPastLog, PrefixShort, MissingFrame, SharedFrame, ReservedBit, StrayFrame, Differs}
 use Rattle.nr_trace.proofs.LawsOfCalls.{reply_in_event}
 use Rattle.nr_dump.specs.Faults.{HasNoFault, IsFirstOfDump}
 use Rattle.nr_dump.specs.declared.fault.DumpFault.{DumpFault}
-use Rattle.nr_audit.specs.inside.Dumps.{at_replica}
+use Rattle.nr_audit.specs.Dumps.{at_replica}
 use Rattle.nr_audit.specs.inside.Passes.{IsDumpFaultAt}
 use Rattle.nr_audit.specs.inside.Prefixes.{AreNeeds, with_known}
 use Rattle.nr_audit.specs.inside.Search.{HasNoneFrom, IsFirstAmongFrom}
@@ -76,9 +76,8 @@ made_within trace call ranged = by_event (slice_get trace.events call) refl wher
         few = ranged.layout.few_replicas
 
         within : (event : Event) → IsEvent trace.version trace.layout event → IfSome (made_by event) (λ (made : Invocation). made.replica < 4)
-        within (Call replica thread request) fits = let low = fits.0 in omega arith
-        within (Touch replica thread address mode access) fits = let low = fits.0 in omega arith
         within (Reply of at answer) fits = tt
+        within _ fits = let low = fits.0 in omega arith
 
 needs_below : (trace : Recording) → IsRecording trace → (end : ℕ) → (needs : List ℕ) × AreNeeds trace end needs
 needs_below trace ranged zero = (replicate 4 0, needs_at_start trace (replicate 4 0) refl)

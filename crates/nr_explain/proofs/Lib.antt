@@ -12,13 +12,11 @@ pub mod WrongAnswers
 pub mod Explanations
 pub mod TwoWays
 pub mod Counting
-pub mod Passing
-pub mod NextUnits
+pub mod Leads
+pub mod Shown
+pub mod Bounds
 pub mod Runs
-pub mod BadUnits
-pub mod After
 pub mod Fed
-pub mod UnitsApart
 pub mod OneBadUnit
 pub mod Walked
 pub mod ReservedBits

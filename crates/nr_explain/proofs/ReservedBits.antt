@@ -67,8 +67,5 @@ low_reserved (suc (suc (suc (suc level)))) word part few is same = absurd (omega
 
 -- the bytes of an entry, as they are shifted
 pub shift_is : (level : ℕ) → level ≤ 3 → 1 * 2 ^ (3 + 9 * level) % 18446744073709551616 ≡ entry_bytes level
-shift_is zero few = refl
-shift_is (suc zero) few = refl
-shift_is (suc (suc zero)) few = refl
-shift_is (suc (suc (suc zero))) few = refl
 shift_is (suc (suc (suc (suc level)))) few = absurd (omega arith)
+shift_is _ few = refl

@@ -1,7 +1,8 @@
 -- What fields that are not wrong say: a request, and an answer.
 use Rattle.std.proofs.Common.{◌≡◌, ℕ, zero, suc, ◌+◌, ◌%◌, ◌<◌, ◌≤◌, ◌^◌, Bool, true, false, List, ◌++◌, Option, Some, None}
-use Rattle.std.proofs.Common.{refl, sym, subst, arith}
+use Rattle.std.proofs.Common.{refl, sym, ◌∙◌, subst, arith}
 use Rattle.std.specs.Prelude.{if◌then◌else◌, nat_lt, ◌==◌}
+use Rattle.std.specs.Int.{w16, from_be_bytes, to_be_bytes}
 use Rattle.std.specs.Option.{option_or}
 use Rattle.std.proofs.lemmas.Nat.{from_be_bytes-to_be_bytes_2}
 use Rattle.std.proofs.lemmas.Bool.{ltb-true, ltb-false, eqb-true}
@@ -29,19 +30,17 @@ use Rattle.vs_types.specs.declared.page.Size.TheVariants.{K4}
 use Rattle.vs_types.specs.declared.page.TheConstants.Page.{PHYS_END}
 use Rattle.vs_types.specs.declared.request.Query.{Query}
 use Rattle.vs_types.specs.declared.request.Query.TheVariants.{Update, Resolve, Access as AccessQuery}
-use Rattle.nr_trace.specs.FirstFault.{magic_of, IsCounts}
-use Rattle.nr_trace.specs.Versions.{IsVersionOf, KnowsQuery, KnowsAnswer, KnowsTouch}
+use Rattle.nr_trace.specs.FirstFault.{IsCounts}
+use Rattle.nr_trace.specs.Versions.{KnowsQuery, KnowsAnswer, KnowsTouch}
 use Rattle.nr_trace.specs.Recording.{IsAnswer}
 use Rattle.nr_trace.specs.Spelling.{answer_fields, magic, touch_fields, version_word, counts}
 use Rattle.nr_trace.specs.declared.fields.Counts.{Counts}
 use Rattle.nr_trace.specs.declared.version.Version.{Version}
 use Rattle.nr_trace.specs.declared.version.Version.TheVariants.{V1, V2, Segment}
-use Rattle.nr_trace.specs.declared.version.Form.TheVariants as forms
 use Rattle.nr_trace.proofs.LawsOfUnits.{is_wide, rights_from}
 use Rattle.nr_explain.specs.Fields.{address_fault, answers_of, canonical, depth_of, kinds_of, limited, multiple, number_8}
 use Rattle.nr_explain.specs.Fields.{number_16, physical_fault, rights_fault, rights_of, size_fault, size_of}
 use Rattle.nr_explain.specs.Fields.{sizes_of, value_fault, within}
-use Rattle.nr_explain.specs.Units.{as_counts, Numbers, HasHeader}
 use Rattle.nr_explain.specs.declared.fields.BadField.{BadField}
 use Rattle.nr_explain.specs.declared.fields.EventField.{EventField}
 use Rattle.nr_explain.specs.declared.fields.EventField.TheVariants as fields
@@ -80,21 +79,12 @@ is_within physical size h = ltb-false PHYS_END (physical + bytes_of size) (when 
 
 size_back : (code : ℕ) → code < 3 → code ≡ size_code (size_of code)
 unfolding size_of
-size_back zero few = refl
-size_back (suc zero) few = refl
-size_back (suc (suc zero)) few = refl
 size_back (suc (suc (suc n))) few = absurd (omega arith)
+size_back _ few = refl
 
 rights_back : (code : ℕ) → code < 8 → code ≡ rights_code (rights_from code)
-rights_back zero few = refl
-rights_back (suc zero) few = refl
-rights_back (suc (suc zero)) few = refl
-rights_back (suc (suc (suc zero))) few = refl
-rights_back (suc (suc (suc (suc zero)))) few = refl
-rights_back (suc (suc (suc (suc (suc zero))))) few = refl
-rights_back (suc (suc (suc (suc (suc (suc zero)))))) few = refl
-rights_back (suc (suc (suc (suc (suc (suc (suc zero))))))) few = refl
 rights_back (suc (suc (suc (suc (suc (suc (suc (suc n)))))))) few = absurd (omega arith)
+rights_back _ few = refl
 
 -- ---- what a header says
 
@@ -105,8 +95,7 @@ kinds Segment = 6
 
 abbrev pub answers_known : Version → ℕ
 answers_known V1 = 8
-answers_known V2 = 10
-answers_known Segment = 10
+answers_known _ = 10
 
 pub record Says (header : List ℕ) (version : Version) (layout : Layout) : Type 0 where
   pub depth : depth_of header ≡ layout.depth
@@ -115,72 +104,49 @@ pub record Says (header : List ℕ) (version : Version) (layout : Layout) : Type
   pub kinds_are : kinds_of header ≡ kinds version
   pub answers_are : answers_of header ≡ answers_known version
 
-abbrev header_bytes : Version → Numbers → List ℕ → List ℕ
-header_bytes version numbers behind = magic_of forms.Trace ++ (version_word version ++ (counts version (as_counts numbers) ++ behind))
+abbrev pub header_bytes : Version → Counts → List ℕ → List ℕ
+header_bytes version numbers behind = magic version ++ (version_word version ++ (counts version numbers ++ behind))
 
 depth_back : (depth : Depth) → (if levels depth % 256 == 4 then Four else Five) ≡ depth
 depth_back Four = refl
 depth_back Five = refl
 
-depth_said : (version : Version) (numbers : Numbers) (behind : List ℕ) → depth_of (header_bytes version numbers behind) ≡ numbers.layout.depth
+depth_said : (version : Version) (numbers : Counts) (behind : List ℕ) → depth_of (header_bytes version numbers behind) ≡ numbers.layout.depth
 unfolding depth_of
-depth_said version numbers behind = depth_back numbers.layout.depth
+depth_said V1 numbers behind = depth_back numbers.layout.depth
+depth_said _ numbers behind = depth_back numbers.layout.depth
 
-kinds_said : (version : Version) (numbers : Numbers) (behind : List ℕ) → IsVersionOf forms.Trace version
-    → kinds_of (header_bytes version numbers behind) ≡ kinds version
+replicas_said : (version : Version) (numbers : Counts) (behind : List ℕ) → number_8 (header_bytes version numbers behind) 7 ≡ numbers.layout.replicas % 256
+replicas_said V1 numbers behind = refl
+replicas_said _ numbers behind = refl
+
+threads_said : (version : Version) (numbers : Counts) (behind : List ℕ)
+    → number_16 (header_bytes version numbers behind) 8 ≡ from_be_bytes w16 (to_be_bytes w16 numbers.layout.threads)
+threads_said V1 numbers behind = refl
+threads_said _ numbers behind = refl
+
+kinds_said : (version : Version) (numbers : Counts) (behind : List ℕ) → kinds_of (header_bytes version numbers behind) ≡ kinds version
 unfolding kinds_of
-kinds_said V1 numbers behind of = refl
-kinds_said V2 numbers behind of = refl
-kinds_said Segment numbers behind of = absurd of
+kinds_said V1 numbers behind = refl
+kinds_said _ numbers behind = refl
 
-answers_said : (version : Version) (numbers : Numbers) (behind : List ℕ) → IsVersionOf forms.Trace version
-    → answers_of (header_bytes version numbers behind) ≡ answers_known version
+answers_said : (version : Version) (numbers : Counts) (behind : List ℕ) → answers_of (header_bytes version numbers behind) ≡ answers_known version
 unfolding answers_of
-answers_said V1 numbers behind of = refl
-answers_said V2 numbers behind of = refl
-answers_said Segment numbers behind of = absurd of
+answers_said V1 numbers behind = refl
+answers_said _ numbers behind = refl
 
-pub says : (version : Version) (numbers : Numbers) (header behind : List ℕ) → HasHeader version numbers header behind → Says header version numbers.layout
-says version numbers header behind h =
-    let wide = is_wide version numbers.layout h.in_range.layout in
-    let few : numbers.layout.replicas % 256 ≡ numbers.layout.replicas = omega (arith, wide.few_replicas) in
+pub says : (version : Version) (numbers : Counts) (header behind : List ℕ) → IsCounts version numbers → header ≡ header_bytes version numbers behind
+    → Says header version numbers.layout
+says version numbers header behind in_range spelled =
+    let wide = is_wide version numbers.layout in_range.layout in
     let there : Says (header_bytes version numbers behind) version numbers.layout = record {
       depth = depth_said version numbers behind;
-      replicas = few;
-      threads = from_be_bytes-to_be_bytes_2 numbers.layout.threads (omega (arith, wide.few_threads));
-      kinds_are = kinds_said version numbers behind h.of_trace;
-      answers_are = answers_said version numbers behind h.of_trace;
+      replicas = omega (arith, wide.few_replicas, replicas_said version numbers behind);
+      threads = threads_said version numbers behind ∙ from_be_bytes-to_be_bytes_2 numbers.layout.threads (omega (arith, wide.few_threads));
+      kinds_are = kinds_said version numbers behind;
+      answers_are = answers_said version numbers behind;
     } in
-    subst (λ (l : List ℕ). Says l version numbers.layout) (sym h.spelled) there
-
-abbrev pub segment_bytes : Counts → List ℕ → List ℕ
-segment_bytes numbers behind = magic Segment ++ (version_word Segment ++ (counts Segment numbers ++ behind))
-
-depth_said_there : (numbers : Counts) (behind : List ℕ) → depth_of (segment_bytes numbers behind) ≡ numbers.layout.depth
-unfolding depth_of
-depth_said_there numbers behind = depth_back numbers.layout.depth
-
-kinds_said_there : (numbers : Counts) (behind : List ℕ) → kinds_of (segment_bytes numbers behind) ≡ 6
-unfolding kinds_of
-kinds_said_there numbers behind = refl
-
-answers_said_there : (numbers : Counts) (behind : List ℕ) → answers_of (segment_bytes numbers behind) ≡ 10
-unfolding answers_of
-answers_said_there numbers behind = refl
-
-pub segment_says : (numbers : Counts) (header behind : List ℕ) → IsCounts Segment numbers → header ≡ segment_bytes numbers behind
-    → Says header Segment numbers.layout
-segment_says numbers header behind in_range spelled =
-    let wide = is_wide Segment numbers.layout in_range.layout in
-    let few : numbers.layout.replicas % 256 ≡ numbers.layout.replicas = omega (arith, wide.few_replicas) in
-    let there : Says (segment_bytes numbers behind) Segment numbers.layout = record {
-      depth = depth_said_there numbers behind;
-      replicas = few;
-      threads = from_be_bytes-to_be_bytes_2 numbers.layout.threads (omega (arith, wide.few_threads));
-      kinds_are = kinds_said_there numbers behind;
-      answers_are = answers_said_there numbers behind;
-    } in
-    subst (λ (l : List ℕ). Says l Segment numbers.layout) (sym spelled) there
+    subst (λ (l : List ℕ). Says l version numbers.layout) (sym spelled) there
 
 -- ---- requests
 
@@ -189,13 +155,11 @@ SomeRequest version depth of = (request : Query) × IsQuery depth request × Kno
 
 knows_update : (version : Version) (action : Action) → KnowsQuery version (Update action)
 knows_update V1 action = tt
-knows_update V2 action = tt
-knows_update Segment action = tt
+knows_update _ action = tt
 
 knows_resolve : (version : Version) (address : ℕ) → KnowsQuery version (Resolve address)
 knows_resolve V1 address = tt
-knows_resolve V2 address = tt
-knows_resolve Segment address = tt
+knows_resolve _ address = tt
 
 map_there : (version : Version) (depth : Depth) (size rights address physical : ℕ) → size_fault 0 size ≡ None → rights_fault 0 rights ≡ None
     → address_fault depth 0 (size_of size) address ≡ None → physical_fault 0 (size_of size) physical ≡ None
@@ -278,8 +242,7 @@ access_back size (suc (suc n)) s r = absurd (omega arith)
 
 knows_access : (version : Version) (address : ℕ) (mode : Mode) (access : Access) → 4 < kinds version → KnowsQuery version (AccessQuery address mode access)
 knows_access V1 address mode access few = absurd (omega arith)
-knows_access V2 address mode access few = tt
-knows_access Segment address mode access few = tt
+knows_access _ address mode access few = tt
 
 access_there : (version : Version) (depth : Depth) (size rights address physical : ℕ) → 4 < kinds version → size < 3 → rights < 2
     → IsCanonical depth address → physical ≡ 0
@@ -327,9 +290,8 @@ touch_there depth kind size rights address physical is s r a p =
     )
 
 pub knows_touch : (version : Version) (kind : ℕ) → kind < kinds version → kind ≡ 5 → KnowsTouch version
-knows_touch V1 kind few is = absurd (omega arith)
-knows_touch V2 kind few is = absurd (omega arith)
 knows_touch Segment kind few is = tt
+knows_touch _ kind few is = absurd (omega arith)
 
 -- ---- answers
 
@@ -344,22 +306,12 @@ pub record SomeAnswer (version : Version) (code size rights value : ℕ) : Type 
 
 few_answers : (version : Version) → answers_known version ≤ 10
 few_answers V1 = omega arith
-few_answers V2 = omega arith
-few_answers Segment = omega arith
+few_answers _ = omega arith
 
 knows_below : (version : Version) (answer : Answer) → answer_code answer < answers_known version → KnowsAnswer version answer
-knows_below V1 answers.Done few = tt
-knows_below V1 (answers.Overlap base) few = tt
-knows_below V1 (answers.Full need) few = tt
-knows_below V1 (answers.Removed phys size rights) few = tt
-knows_below V1 answers.NotMapped few = tt
-knows_below V1 (answers.Inside base) few = tt
-knows_below V1 (answers.Changed rights) few = tt
-knows_below V1 (answers.Mapped phys size rights) few = tt
 knows_below V1 (answers.Allowed phys) few = absurd (omega arith)
 knows_below V1 (answers.Fault code) few = absurd (omega arith)
-knows_below V2 answer few = tt
-knows_below Segment answer few = tt
+knows_below _ _ few = tt
 
 pub answer_there : (version : Version) (code size rights value : ℕ) → code < answers_known version → size < sizes_of code → rights < rights_of code
     → value_fault code value ≡ None → value < 2 ^ 64 → SomeAnswer version code size rights value

@@ -186,10 +186,6 @@ twice_below : (depth : Depth) (memory : Memory) (level : ℕ) (table : ReachedTa
     → Twice (OfFrame target) (entry_visits depth (suc level) table index (λ next. table_visits depth memory level next) means)
     → HasTwoWays memory (suc level) table.number target
 twice_below depth memory level table words index target entry.Absent two is within says met = absurd met
-twice_below depth memory level table words index target entry.Reserved two is within says (inl met) = absurd (not_in_nil (OfFrame target) met.1)
-twice_below depth memory level table words index target entry.Reserved two is within says (inr met) = absurd met
-twice_below depth memory level table words index target (entry.Leaf phys own) two is within says (inl met) = absurd (not_in_nil (OfFrame target) met.1)
-twice_below depth memory level table words index target (entry.Leaf phys own) two is within says (inr met) = absurd met
 twice_below depth memory level table words index target (entry.Table number own) two is within says met =
     let below = two (record { number = number; start = table.start + index * entry_bytes (suc level); rights = intersection table.rights own }) met in
     let step : Step = entry_of (suc level) table.number words index in
@@ -218,6 +214,8 @@ twice_below depth memory level table words index target (entry.Table number own)
       );
       apart = λ same. below.apart (ap rest_of same);
     }
+twice_below depth memory level table words index target _ two is within says (inl met) = absurd (not_in_nil (OfFrame target) met.1)
+twice_below depth memory level table words index target _ two is within says (inr met) = absurd met
 
 at_some : (depth : Depth) (memory : Memory) (level : ℕ) (table : ReachedTable) (target : ℕ) (words : List ℕ) → LowerTwo depth memory level target
     → finite.get memory table.number ≡ Some words → AtWords (at_word_met depth memory level table) (OfFrame target) words 0

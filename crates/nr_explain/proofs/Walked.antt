@@ -53,10 +53,8 @@ read_at memory (suc below) number index word address words found some is place r
 
 -- nothing is read behind an entry that leads to no table
 nothing_behind : (below : ℕ → List Step) (found : Meaning) → ((next : ℕ) (own : Rights) → found ≡ entry.Table next own → ⊥) → behind below found ≡ []
-nothing_behind below entry.Absent none = refl
-nothing_behind below entry.Reserved none = refl
-nothing_behind below (entry.Leaf phys own) none = refl
 nothing_behind below (entry.Table next own) none = absurd (none next own refl)
+nothing_behind below _ none = refl
 
 pub read_last : (memory : Memory) (level number index word address : ℕ) (words : List ℕ) (found : Meaning) (read : List Step) → 0 < level
     → finite.get memory number ≡ Some words → index ≡ index_at level address → word ≡ slice_index words index → found ≡ meaning level word

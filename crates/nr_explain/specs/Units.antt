@@ -1,19 +1,16 @@
--- The unit that shows a fault of the format: where it begins, and what was read of it.
-use Rattle.std.specs.Prelude.{◌≡◌, ◌⊎◌, ℕ, ◌+◌, ◌*◌, ◌<◌, ◌++◌, List, [], length, take, All, Result, MatchResult, ⊤}
+-- The units of a trace, one behind the other, as many as its own numbers say; and the one that shows a fault of the format.
+use Rattle.std.specs.Prelude.{◌≡◌, ◌⊎◌, ℕ, ◌+◌, ◌<◌, ◌++◌, nat_lt, List, [], ◌∷◌, length, take, Option, Some, None, Result, MatchResult, if◌then◌else◌, ⊤}
 use Rattle.std.specs.List.{concat}
-use Rattle.vs_types.specs.Config.{Layout}
 use Rattle.nr_trace.specs.Recording.{Recording}
-use Rattle.nr_trace.specs.Spelling.{version_word, counts, dump_head, Spells}
-use Rattle.nr_trace.specs.FirstFault.{magic_of, HasFormatFault, IsCounts, IsDumpHead}
+use Rattle.nr_trace.specs.Spelling.{Spells}
+use Rattle.nr_trace.specs.FirstFault.{HasFormatFault}
 use Rattle.nr_trace.specs.Feed.{HasNoFaultYet, HasLastingFault}
-use Rattle.nr_trace.specs.Versions.{IsVersionOf}
-use Rattle.nr_trace.specs.declared.fields.Counts.{Counts as TraceCounts}
-use Rattle.nr_trace.specs.declared.version.Form.TheVariants as forms
-use Rattle.nr_trace.specs.declared.version.Version.{Version}
-use Rattle.nr_trace.specs.declared.version.Version.TheVariants.{V1}
-use Rattle.nr_trace.specs.declared.fault.Format.TheVariants.{Truncated}
-use Rattle.nr_explain.specs.Fields.{field_fault}
-use Rattle.nr_explain.specs.declared.positions.TheConstants.{HEADER_BYTES}
+use Rattle.nr_trace.specs.declared.fault.Format.{Format}
+use Rattle.nr_trace.specs.declared.fault.Format.TheVariants.{Truncated, BadMagic, BadVersion, BadCount, BadEvent, BadFrame, Trailing}
+use Rattle.nr_explain.specs.Fields.{field_fault, number_8, number_32}
+use Rattle.nr_explain.specs.declared.next_unit.Next.{Next}
+use Rattle.nr_explain.specs.declared.next_unit.Numbers.{Numbers}
+use Rattle.nr_explain.specs.declared.next_unit.TheConstants.{HEADER_BYTES}
 use Rattle.nr_explain.specs.declared.units.TraceUnit.{TraceUnit}
 use Rattle.nr_explain.specs.declared.units.TraceUnit.TheVariants.{Magic, Version as VersionWord, Counts, Place, Event, DumpHead, FrameNumber, FrameWords, Behind}
 use Rattle.nr_explain.specs.declared.units.BadUnit.{BadUnit}
@@ -32,81 +29,97 @@ size (FrameNumber replica index) = 8
 size (FrameWords replica index) = 4096
 size Behind = 1
 
--- what the counts say
-pub record Numbers : Type 0 where
-  pub layout : Layout
-  pub places : ℕ
-  pub events : ℕ
+-- the fault of a unit that spells nothing that fits there; any bytes are a place, and the words of a frame
+abbrev pub own_fault : TraceUnit → Option Format
+own_fault Magic = Some BadMagic
+own_fault VersionWord = Some BadVersion
+own_fault Counts = Some BadCount
+own_fault (Place place) = None
+own_fault (Event index) = Some (BadEvent index)
+own_fault (DumpHead replica) = Some BadCount
+own_fault (FrameNumber replica index) = Some (BadFrame replica index)
+own_fault (FrameWords replica index) = None
+own_fault Behind = Some Trailing
 
--- the numbers of the counts unit of a trace, which has no start
-abbrev pub as_counts : Numbers → TraceCounts
-as_counts numbers = record { layout = numbers.layout; places = numbers.places; events = numbers.events; start = 0 }
+-- ---- which unit comes next
 
--- the bytes begin with the header of a trace of these counts, and this comes after it
-pub record HasHeader (version : Version) (numbers : Numbers) (bytes behind : List ℕ) : Type 0 where
-  pub of_trace : IsVersionOf forms.Trace version
-  pub in_range : IsCounts version (as_counts numbers)
-  pub spelled : bytes ≡ magic_of forms.Trace ++ (version_word version ++ (counts version (as_counts numbers) ++ behind))
+-- the dump of a replica, where there is one; an event, else the dumps; a place of the log, else the events
+abbrev pub dump_unit : Numbers → ℕ → TraceUnit
+dump_unit numbers replica = if nat_lt replica numbers.replicas then DumpHead replica else Behind
 
--- the bytes are the head of a dump of this many frames, which are as many in both versions of traces
-pub record IsHeadOf (many : ℕ) (bytes : List ℕ) : Type 0 where
-  pub applied : ℕ
-  pub root : ℕ
-  pub in_range : IsDumpHead V1 (record { applied = applied; frames = many; root = root })
-  pub spelled : bytes ≡ dump_head (record { applied = applied; frames = many; root = root })
+abbrev pub event_unit : Numbers → ℕ → TraceUnit
+event_unit numbers index = if nat_lt index numbers.events then Event index else dump_unit numbers 0
 
--- the bytes are a dump: a head, and as many frames as it says
-pub record SpellsDump (bytes : List ℕ) : Type 0 where
-  pub many : ℕ
-  pub head : List ℕ
-  pub is_head : IsHeadOf many head
-  pub frames : List ℕ
-  pub parts : bytes ≡ head ++ frames
-  pub all_frames : length frames ≡ 4104 * many
+abbrev pub place_unit : Numbers → ℕ → TraceUnit
+place_unit numbers place = if nat_lt place numbers.places then Place place else event_unit numbers 0
 
--- behind the header are all places and events, and then this many dumps and no more than this
-pub record HasDumps (numbers : Numbers) (behind : List ℕ) (replicas : ℕ) (more : List ℕ) : Type 0 where
-  pub log_and_events : List ℕ
-  pub dumps : List (List ℕ)
-  pub parts : behind ≡ log_and_events ++ (concat dumps ++ more)
-  pub all_events : length log_and_events ≡ 4 * numbers.places + 24 * numbers.events
-  pub are_dumps : All SpellsDump dumps
-  pub one_each : length dumps ≡ replicas
+-- a frame of the dump of a replica, else the next dump
+abbrev pub frame_unit : Numbers → ℕ → ℕ → TraceUnit
+frame_unit numbers replica index = if nat_lt index numbers.frames then FrameNumber replica index else dump_unit numbers (replica + 1)
 
--- the dump of the replica has begun, and has this frame: the frames before it are there, and this many bytes of it
-pub record HasFrames (numbers : Numbers) (behind : List ℕ) (replica index come : ℕ) : Type 0 where
-  pub many : ℕ
-  pub head : List ℕ
-  pub is_head : IsHeadOf many head
-  pub within : index < many
-  pub frames : List ℕ
-  pub dumps : HasDumps numbers behind replica (head ++ frames)
-  pub long : length frames ≡ 4104 * index + come
+-- the numbers that are known behind a unit of these bytes: the counts and the heads of dumps say them
+abbrev pub numbers_after : TraceUnit → Numbers → List ℕ → Numbers
+numbers_after Counts numbers bytes = record {
+  places = number_32 bytes 6;
+  events = number_32 bytes 10;
+  replicas = number_8 bytes 1;
+  frames = 0;
+}
+numbers_after (DumpHead replica) numbers bytes = record numbers { frames = number_32 bytes 4 }
+numbers_after unit numbers bytes = numbers
 
--- behind the header the unit comes next
-abbrev pub GoesOnBehind : Numbers → List ℕ → TraceUnit → Type 0
-GoesOnBehind numbers behind Magic = ⊥
-GoesOnBehind numbers behind VersionWord = ⊥
-GoesOnBehind numbers behind Counts = ⊥
-GoesOnBehind numbers behind (Place place) = (place < numbers.places) × (length behind ≡ 4 * place)
-GoesOnBehind numbers behind (Event index) = (index < numbers.events) × (length behind ≡ 4 * numbers.places + 24 * index)
-GoesOnBehind numbers behind (DumpHead replica) = (replica < numbers.layout.replicas) × HasDumps numbers behind replica []
-GoesOnBehind numbers behind (FrameNumber replica index) = (replica < numbers.layout.replicas) × HasFrames numbers behind replica index 0
-GoesOnBehind numbers behind (FrameWords replica index) = (replica < numbers.layout.replicas) × HasFrames numbers behind replica index 8
-GoesOnBehind numbers behind Behind = HasDumps numbers behind numbers.layout.replicas []
+-- the unit behind one of which the numbers are known
+abbrev pub unit_after : TraceUnit → Numbers → TraceUnit
+unit_after Magic numbers = VersionWord
+unit_after VersionWord numbers = Counts
+unit_after Counts numbers = place_unit numbers 0
+unit_after (Place place) numbers = place_unit numbers (place + 1)
+unit_after (Event index) numbers = event_unit numbers (index + 1)
+unit_after (DumpHead replica) numbers = frame_unit numbers replica 0
+unit_after (FrameNumber replica index) numbers = FrameWords replica index
+unit_after (FrameWords replica index) numbers = frame_unit numbers replica (index + 1)
+unit_after Behind numbers = Behind
 
--- after the front the unit comes next
-abbrev pub GoesOn : List ℕ → TraceUnit → Type 0
-GoesOn front Magic = front ≡ []
-GoesOn front VersionWord = length front ≡ 4
-GoesOn front Counts = length front ≡ 6
-GoesOn front unit = (version : Version) × (numbers : Numbers) × (behind : List ℕ) × HasHeader version numbers front behind × GoesOnBehind numbers behind unit
+-- the numbers have room for the unit
+abbrev pub IsWithin : TraceUnit → Numbers → Type 0
+IsWithin (Place place) numbers = place < numbers.places
+IsWithin (Event index) numbers = index < numbers.events
+IsWithin (DumpHead replica) numbers = replica < numbers.replicas
+IsWithin (FrameNumber replica index) numbers = (replica < numbers.replicas) × (index < numbers.frames)
+IsWithin (FrameWords replica index) numbers = (replica < numbers.replicas) × (index < numbers.frames)
+IsWithin unit numbers = ⊤
 
--- the unit is cut off by the end; or it is whole, and the bytes have the fault by now, whatever comes after it
+-- ---- the units of a trace
+
+abbrev pub no_numbers : Numbers
+no_numbers = record { places = 0; events = 0; replicas = 0; frames = 0 }
+
+abbrev pub first_unit : Next
+first_unit = record { unit = Magic; numbers = no_numbers }
+
+-- what comes behind a unit of these bytes
+abbrev pub after : Next → List ℕ → Next
+after next bytes =
+    let numbers = numbers_after next.unit next.numbers bytes in record { unit = unit_after next.unit numbers; numbers = numbers }
+
+-- whole units of these bytes, one behind the other, lead from one to another
+abbrev pub LeadOn : Next → List (List ℕ) → Next → Type 0
+LeadOn next [] last = next ≡ last
+LeadOn next (bytes ∷ more) last = (length bytes ≡ size next.unit) × LeadOn (after next bytes) more last
+
+-- the front is whole units of a trace, and the unit comes next
+pub record GoesOn (front : List ℕ) (next : Next) : Type 0 where
+  pub units : List (List ℕ)
+  pub parts : front ≡ concat units
+  pub lead : LeadOn first_unit units next
+
+-- ---- the unit that is bad
+
+-- the unit is cut off by the end; or it is whole, and the bytes have the unit's own fault by now, whatever comes after it
 abbrev pub Shows : BadUnit → List ℕ → List ℕ → Type 0
 Shows bad front behind =
     ((length bad.read.items < size bad.unit) × (behind ≡ []) × (bad.fault ≡ Truncated))
-    ⊎ ((length bad.read.items ≡ size bad.unit) × HasLastingFault (front ++ bad.read.items) bad.fault)
+    ⊎ ((length bad.read.items ≡ size bad.unit) × (own_fault bad.unit ≡ Some bad.fault) × HasLastingFault (front ++ bad.read.items) bad.fault)
 
 -- the bytes have the fault, nothing is wrong with what comes before the unit, and the unit shows the fault; of an event the field is the
 -- first that isn't what it may be after this header
@@ -116,7 +129,9 @@ pub record IsBadUnit (bytes : List ℕ) (bad : BadUnit) : Type 0 where
   pub behind : List ℕ
   pub parts : bytes ≡ front ++ (bad.read.items ++ behind)
   pub begins : bad.offset ≡ length front
-  pub unit : GoesOn front bad.unit
+  pub next : Next
+  pub goes_on : GoesOn front next
+  pub unit : bad.unit ≡ next.unit
   pub no_fault_yet : HasNoFaultYet front
   pub shows : Shows bad front behind
   pub field : bad.field ≡ field_fault bad.fault (take HEADER_BYTES front) bad.read.items

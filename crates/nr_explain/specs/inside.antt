@@ -1,5 +1,5 @@
 -- What the searches of this crate find. Of these public clauses cite `Ways` alone.
 pub mod Explained
-pub mod Positions
+pub mod UnitsFed
 pub mod Searches
 pub mod Ways

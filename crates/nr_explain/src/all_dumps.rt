@@ -2,7 +2,6 @@
 
 ghost use Rattle.std.specs.Prelude.{◌≡◌, ◌<◌, ℕ, IfOk, List, length};
 ghost use Rattle.nr_trace.specs.Spelling.{Spells};
-ghost use Rattle.nr_audit.specs.inside.Dumps.{at_replica, IsFoundBeside};
 ghost use Rattle.nr_explain.specs.Dumps.{replica_of, told_replica, is_other, AreToldOfDumps, IsFullExplanationOf, IsToldOfDump};
 ghost use Rattle.nr_explain.specs.Units.{ReadsUnits};
 ghost use Rattle.nr_explain.specs.inside.Searches.{IsFoundOfDump};
@@ -14,12 +13,10 @@ use crate::log::places;
 use crate::replay::space_at;
 use crate::searching::first_resting;
 use crate::units::Unread;
-use nr_dump::{DumpFault, check};
+use nr_audit::{fault_at, table_fault};
 use nr_trace::{Fault, Trace};
 use std::alloc::Global;
-use vs_plain::PlainSpace;
-use vs_types::{Fail, Memory};
-use vs_walk::Dump;
+use vs_types::Memory;
 
 /// What is found wrong with the dump of a replica.
 #[derive(Debug, Drop)]
@@ -37,30 +34,6 @@ pub struct FullExplanation {
     /// Each dump but the one that the first fault is of, in the order of the replicas; none where there is no fault, or one of the
     /// format.
     pub dumps: Vec<DumpExplanation>,
-}
-
-/// The fault of a dump as that of its replica.
-fn fault_at(replica: u8, fault: DumpFault) -> Fault
-    ensures { result ≡ at_replica replica fault }
-{
-    match fault {
-        DumpFault::MissingFrame(number) => Fault::MissingFrame(replica, number),
-        DumpFault::SharedFrame(number) => Fault::SharedFrame(replica, number),
-        DumpFault::ReservedBit(number, index) => Fault::ReservedBit(replica, number, index),
-        DumpFault::StrayFrame(number) => Fault::StrayFrame(replica, number),
-        DumpFault::Differs(address) => Fault::Differs(replica, address),
-    }
-}
-
-/// What is wrong with the tables of a dump beside a space, or `None`. Allocates the memory of the check.
-fn table_fault(alloc: Global, dump: &Dump, space: &PlainSpace) -> Result<Option<DumpFault>, Memory>
-    ensures { IfOk result (IsFoundBeside dump.now space.now) }
-{
-    match check(alloc, dump, space) {
-        Ok(()) => Ok(None),
-        Err(Fail::Memory) => Err(Memory),
-        Err(Fail::Refused(fault)) => Ok(Some(fault)),
-    }
 }
 
 /// The first fault of the dump of a replica, or `None` where nothing is wrong with it. Allocates memory for a space, and that of

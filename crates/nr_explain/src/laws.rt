@@ -7,9 +7,8 @@ ghost use Rattle.nr_trace.specs.Spelling.{counts, event, magic, version_word};
 ghost use Rattle.nr_trace.specs.declared.event.Event.{Event};
 ghost use Rattle.nr_trace.specs.declared.fields.Counts.{Counts};
 ghost use Rattle.nr_trace.specs.declared.version.Version.{Version};
-ghost use Rattle.nr_trace.specs.declared.version.Version.TheVariants.{Segment};
 ghost use Rattle.nr_explain.specs.Fields.{event_fault};
-ghost use Rattle.nr_explain.specs.Units.{HasHeader, IsBadUnit, Numbers};
+ghost use Rattle.nr_explain.specs.Units.{IsBadUnit};
 ghost use Rattle.nr_explain.specs.declared.units.BadUnit.{BadUnit};
 
 /// Bytes have at most one bad unit: what it is, where it begins, what was read of it, which fault it shows and which field
@@ -30,12 +29,9 @@ pub fn one_bad_unit()
 /// Where no field of 24 bytes is wrong, they spell an event of a trace, or of a segment, with this header: what is refused has such a
 /// field.
 pub fn refused_events_have_a_bad_field()
-    ensures trace { (version : Version) (numbers : Numbers) (header behind unit : List ℕ)
-        → HasHeader version numbers header behind → length unit ≡ 24 → All (λ byte. byte < 256) unit
-        → event_fault header unit ≡ None
-        → (one : Event) × IsEvent version numbers.layout one × (unit ≡ event one) }
-    ensures segment { (numbers : Counts) (header behind unit : List ℕ) → IsCounts Segment numbers
-        → header ≡ magic Segment ++ (version_word Segment ++ (counts Segment numbers ++ behind))
+    ensures { (version : Version) (numbers : Counts) (header behind unit : List ℕ)
+        → IsCounts version numbers
+        → header ≡ magic version ++ (version_word version ++ (counts version numbers ++ behind))
         → length unit ≡ 24 → All (λ byte. byte < 256) unit → event_fault header unit ≡ None
-        → (one : Event) × IsEvent Segment numbers.layout one × (unit ≡ event one) }
+        → (one : Event) × IsEvent version numbers.layout one × (unit ≡ event one) }
 {}

@@ -13,12 +13,11 @@ mod floors;
 pub mod laws;
 mod log;
 mod lookup;
+mod next_unit;
 mod paths;
-mod positions;
 mod replay;
 mod searching;
 mod unit_feed;
-mod unit_numbers;
 mod units;
 
 pub use all_dumps::{DumpExplanation, FullExplanation, explain_all_read};
@@ -33,6 +32,7 @@ pub use evidence::{
 pub use explaining::{Explanation, explain, explain_read};
 pub use fields::{BadField, EventField, FieldFault, field_fault};
 pub use lookup::call_at;
+pub use next_unit::Numbers;
 pub use paths::{Target, another_way, entries_read, entry_at, find_way, reserved_bit};
 pub use searching::reply_to;
 pub use unit_feed::UnitFeed;

@@ -4,11 +4,11 @@ ghost use Rattle.std.specs.Prelude.{◌≡◌, ◌<◌, ◌↔◌, ◌+◌, Matc
 ghost use Rattle.vs_types.specs.Query.{IsQuery};
 ghost use Rattle.nr_trace.specs.Calls.{call_of, operation_of, reply_of, touch_of, IsCall};
 ghost use Rattle.nr_trace.specs.Orders.{known_by};
-ghost use Rattle.nr_audit.specs.inside.Replies.{asked_by};
 ghost use Rattle.nr_explain.specs.Facts.{response, IsCallOf, IsReplyOf};
 ghost use Rattle.nr_explain.specs.inside.Searches.{IsReply};
 
 use crate::evidence::{RecordedCall, RecordedReply};
+use nr_audit::request_of;
 use nr_trace::{Event, Trace};
 use vs_types::{Query, Request};
 
@@ -92,17 +92,6 @@ pub(crate) fn reply_at(trace: &Trace, index: u32) -> RecordedReply
     match find_reply(trace, index) {
         Some(reply) => reply,
         None => unreachable!(),
-    }
-}
-
-/// What the update or the read of this number asks, if there is one.
-pub(crate) fn request_of(trace: &Trace, call: u32) -> Option<Request>
-    ensures asks { result ≡ asked_by trace.now call }
-    ensures well_formed { IfSome result (IsQuery trace.now.layout.depth) }
-{
-    match trace.events().get(call as usize)?.event() {
-        Event::Call { request, .. } => Some(request),
-        Event::Touch { .. } | Event::Reply { .. } => None,
     }
 }
 

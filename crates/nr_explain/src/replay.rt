@@ -4,28 +4,16 @@ ghost use Rattle.std.specs.Prelude.{◌≡◌, ◌+◌, ◌<◌, ◌≤◌, ◌�
 ghost use Rattle.vs_types.specs.Query.{IsQuery};
 ghost use Rattle.nr_trace.specs.Orders.{answer_in, space_after};
 ghost use Rattle.nr_audit.specs.Verdict.{space_of};
-ghost use Rattle.nr_audit.specs.inside.Steps.{Serves};
 ghost use Rattle.nr_explain.specs.Facts.{IsCallOf, IsLastChange, looks_after};
 ghost use Rattle.nr_explain.specs.inside.Searches.{HasCallAt};
 
 use crate::evidence::PlacedUpdate;
-use crate::lookup::{call_at, request_of};
+use crate::lookup::call_at;
+use nr_audit::{request_of, serve};
 use nr_trace::Trace;
 use std::alloc::Global;
 use vs_plain::PlainSpace;
-use vs_types::{Answer, Memory, Query, Request};
-
-/// Serves a request on a space.
-fn serve(space: &mut PlainSpace, request: Request) -> Result<Answer, Memory>
-    requires { IsQuery space.old.depth request }
-    ensures { IfOk result (λ answer. Serves space.old request answer space.new) }
-{
-    match request.query() {
-        Query::Update(op) => space.apply(op),
-        Query::Resolve(address) => Ok(space.resolve(address)),
-        Query::Access(address, mode, access) => Ok(space.access(address, mode, access)),
-    }
-}
+use vs_types::{Answer, Memory, Request};
 
 /// Applies the update of a place to the space before it.
 fn apply_place(trace: &Trace, space: &mut PlainSpace, place: u32) -> Result<(), Memory>

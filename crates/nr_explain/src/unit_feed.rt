@@ -1,34 +1,33 @@
 //! A trace that comes in pieces, of which each unit is known: where it begins, and what was read of it.
 
-ghost use Rattle.std.specs.Prelude.{◌≡◌, ◌≢◌, ◌≤◌, ◌<◌, ◌+◌, ◌-◌, ◌^◌, ◌++◌, ℕ, List, [], length, min, take, IfErr, MatchResult, OnOk};
+ghost use Rattle.std.specs.Prelude.{◌≡◌, ◌≢◌, ◌≤◌, ◌<◌, ◌-◌, ◌^◌, ◌++◌, ℕ, List, [], length, min, take, IfErr, MatchResult, OnOk};
 ghost use Rattle.nr_trace.specs.Feed.{HasNoFaultYet};
-ghost use Rattle.nr_explain.specs.Units.{size, IfBad, IsBadFor, ReadsUnits};
-ghost use Rattle.nr_explain.specs.inside.Positions.{bytes_fed, taken, HasBegunUnit, HasFed, IsRefused, IsRun, IsSound};
+ghost use Rattle.nr_explain.specs.Units.{IfBad, IsBadFor, ReadsUnits};
+ghost use Rattle.nr_explain.specs.inside.UnitsFed.{bad_unit, taken, HasBegun, IsFed, IsPart, IsRefused, IsRun};
 ghost use Rattle.nr_explain.specs.declared.units.Unread.TheVariants as reasons;
 
 use crate::fields::field_fault;
-use crate::positions::{HEADER_BYTES, Lengths, after, bad_unit, run_len};
+use crate::next_unit::{HEADER_BYTES, Next};
 use crate::units::{BadUnit, TraceUnit, Unread};
 use nr_trace::{Feed, Format, Trace};
 use std::alloc::{AllocError, Global};
 use std::marker::Model;
 use vs_types::Fail;
 
-/// A reader of whole units.
+/// A reader that knows its units.
 #[derive(Drop)]
-pub(crate) struct Units {
+pub(crate) struct Walk {
     pub(crate) alloc: Global,
     pub(crate) feed: Feed,
-    /// The unit that comes next.
-    pub(crate) next: TraceUnit,
-    pub(crate) lengths: Lengths,
-    /// How many bytes were read.
+    /// The unit that has begun, or comes next.
+    pub(crate) next: Next,
+    /// How many bytes come before it.
     pub(crate) offset: u64,
-    /// The first of them, no more than a header has.
+    /// The first of these, no more than a header has.
     pub(crate) header: Vec<u8>,
 }
 
-/// Puts the first bytes of a run that was taken behind the header's that are there.
+/// Puts the first bytes of a run behind the header's that are there.
 fn keep_header(header: &mut Vec<u8>, run: &[u8]) -> Result<(), AllocError>
     requires { length header.old.items ≤ HEADER_BYTES }
     ensures { OnOk result (header.new.items
@@ -38,106 +37,105 @@ fn keep_header(header: &mut Vec<u8>, run: &[u8]) -> Result<(), AllocError>
     header.extend_from_slice(&run[..missing])
 }
 
+/// The bad unit of a refused run that begins with this one, and how many bytes of the run come before it.
+fn bad_unit(unit: TraceUnit, fault: Format) -> (TraceUnit, usize)
+    ensures unit { result ≡ bad_unit unit fault }
+    ensures few { result.1 < 2 ^ 40 }
+{
+    match (unit, fault) {
+        (TraceUnit::Event(first), Format::BadEvent(bad)) => (
+            TraceUnit::Event(bad),
+            24 * bad.saturating_sub(first) as usize,
+        ),
+        _ => (unit, 0),
+    }
+}
+
 /// Why a run is refused: the bad unit, or that no memory was there for its bytes.
-fn refused(units: &Units, run: &[u8], fault: Format) -> Unread
-    requires run { IsRun units.now.next units.now.lengths (length run.now) }
-    requires fits { units.now.offset + length run.now < 2 ^ 64 }
-    requires bad { (front : List ℕ) × IsRefused units.now front run.now fault }
-    ensures { (front : List ℕ) → IsRefused units.now front run.now fault
+fn refused(walk: &Walk, run: &[u8], fault: Format) -> Unread
+    requires { (front : List ℕ) × IsRefused walk.now front run.now fault }
+    ensures { (front : List ℕ) → IsRefused walk.now front run.now fault
         → IfBad (IsBadFor (front ++ run.now)) result }
 {
-    let (unit, before) = bad_unit(units.next, units.lengths, run, fault);
-    let Ok(read) = Vec::from_slice(units.alloc, &run[before..before + unit.size()]) else {
+    let (unit, before) = bad_unit(walk.next.unit, fault);
+    let Ok(read) = Vec::from_slice(walk.alloc, &run[before..before + unit.size()]) else {
         return Unread::Memory;
     };
-    let field = field_fault(fault, &units.header, &read);
+    let field = field_fault(fault, &walk.header, &read);
     Unread::Bad(BadUnit {
         fault,
         unit,
-        offset: units.offset + before as u64,
+        offset: walk.offset + before as u64,
         read,
         field,
     })
 }
 
-/// Takes the next run.
-fn take_run(units: &mut Units, run: &[u8]) -> Result<(), Unread>
-    requires sound { IsSound units.old }
-    requires run { IsRun units.old.next units.old.lengths (length run.now) }
-    ensures { MatchResult result
-        (λ _. IsSound units.new × (taken units.new.feed ≡ taken units.old.feed ++ run.now))
-        (IfBad (IsBadFor (taken units.old.feed ++ run.now))) }
+/// Feeds the end of what has come behind the walked bytes: of a unit, or of some that are whole.
+fn feed_end(walk: &mut Walk, run: &[u8], end: &[u8]) -> Result<(), Unread>
+    requires part { IsPart walk.old.next (length run.now) }
+    requires fed { (front : List ℕ) × (begun : List ℕ) × IsFed walk.old front begun
+        × (run.now ≡ begun ++ end.now) }
+    ensures next { walk.new.next ≡ walk.old.next }
+    ensures fed { (front begun : List ℕ) → IsFed walk.old front begun → run.now ≡ begun ++ end.now
+        → MatchResult result (λ _. IsFed walk.new front run.now)
+        (IfBad (IsBadFor (front ++ run.now))) }
 {
-    match units.feed.feed(run) {
-        Ok(()) => {
-            keep_header(&mut units.header, run)?;
-            let (next, lengths) = after(units.next, units.lengths, run);
-            units.next = next;
-            units.lengths = lengths;
-            units.offset += run.len() as u64;
-            Ok(())
-        }
+    match walk.feed.feed(end) {
+        Ok(()) => Ok(()),
         Err(Fail::Memory) => Err(Unread::Memory),
-        Err(Fail::Refused(fault)) => Err(refused(units, run, fault)),
+        Err(Fail::Refused(fault)) => Err(refused(walk, run, fault)),
     }
 }
 
-/// Takes all whole units at the front of the bytes, by runs, and gives what is left.
-fn take_units<'a>(units: &mut Units, bytes: &'a [u8]) -> Result<&'a [u8], Unread>
-    requires { IsSound units.old }
-    ensures { MatchResult result
-        (λ left. IsSound units.new × (taken units.new.feed ++ left.now ≡ taken units.old.feed ++ bytes.now)
-        × (length left.now < size units.new.next))
-        (IfBad (IsBadFor (taken units.old.feed ++ bytes.now))) }
+/// Walks over a run that was fed.
+fn walk_over(walk: &mut Walk, run: &[u8]) -> Result<(), AllocError>
+    requires run { IsRun walk.old.next.unit walk.old.next.numbers (length run.now) }
+    requires fed { (front : List ℕ) × IsFed walk.old front run.now }
+    ensures { (front : List ℕ) → IsFed walk.old front run.now
+        → OnOk result (IsFed walk.new (front ++ run.now) []) }
 {
-    let mut rest = bytes;
-    while let Some(len) = run_len(units.next, units.lengths, rest.len()) {
-        let (run, behind) = rest.split_at(len);
-        take_run(units, run)?;
-        rest = behind;
-    }
-    Ok(rest)
-}
-
-/// Takes all whole units at the front of the bytes, and keeps the beginning of the next one.
-fn take_bytes(units: &mut Units, begun: &mut Vec<u8>, bytes: &[u8]) -> Result<(), Unread>
-    requires sound { IsSound units.old }
-    requires between { begun.old.items ≡ [] }
-    ensures { MatchResult result (λ _. HasFed units.new begun.new.items (taken units.old.feed ++ bytes.now))
-        (IfBad (IsBadFor (taken units.old.feed ++ bytes.now))) }
-{
-    let rest = take_units(units, bytes)?;
-    begun.extend_from_slice(rest)?;
+    keep_header(&mut walk.header, run)?;
+    walk.next = walk.next.after(run);
+    walk.offset += run.len() as u64;
     Ok(())
 }
 
-/// Takes the next piece, of which the beginning may complete a unit.
-fn take_piece(units: &mut Units, begun: &mut Vec<u8>, piece: &[u8]) -> Result<(), Unread>
-    requires { HasBegunUnit units.old begun.old.items }
+/// Feeds bytes at the front of these, and gives what is left: the end of a unit that has begun, a run of whole units, or all, which are
+/// too few for a unit.
+fn step<'a>(walk: &mut Walk, begun: &mut Vec<u8>, bytes: &'a [u8]) -> Result<&'a [u8], Unread>
+    requires some { 1 ≤ length bytes.now }
+    requires fed { HasBegun walk.old begun.old.items }
     ensures { MatchResult result
-        (λ _. HasFed units.new begun.new.items (bytes_fed units.old begun.old.items ++ piece.now))
-        (IfBad (IsBadFor (bytes_fed units.old begun.old.items ++ piece.now))) }
+        (λ left. HasBegun walk.new begun.new.items × (length left.now < length bytes.now)
+        × (taken walk.new.feed ++ left.now ≡ taken walk.old.feed ++ bytes.now))
+        (IfBad (IsBadFor (taken walk.old.feed ++ bytes.now))) }
 {
     if begun.is_empty() {
-        return take_bytes(units, begun, piece);
+        if let Some(len) = walk.next.run_len(bytes.len()) {
+            let (run, behind) = bytes.split_at(len);
+            feed_end(walk, run, run)?;
+            walk_over(walk, run)?;
+            return Ok(behind);
+        }
     }
-    let missing = units.next.size() - begun.len();
-    if piece.len() < missing {
-        begun.extend_from_slice(piece)?;
-        return Ok(());
+    let size = walk.next.unit.size();
+    let (end, behind) = bytes.split_at((size - begun.len()).min(bytes.len()));
+    begun.extend_from_slice(end)?;
+    feed_end(walk, begun, end)?;
+    if begun.len() < size {
+        return Ok(behind);
     }
-    let (front, behind) = piece.split_at(missing);
-    begun.extend_from_slice(front)?;
-    take_run(units, begun)?;
+    walk_over(walk, begun)?;
     begun.clear();
-    take_bytes(units, begun, behind)
+    Ok(behind)
 }
 
 /// A reader of a trace that comes in pieces, cut anywhere, which knows the unit that a refusal is about. Contracts see the bytes
 /// that it was fed.
 #[derive(Drop)]
 pub struct UnitFeed {
-    units: Units,
+    walk: Walk,
     /// The beginning of the next unit.
     begun: Vec<u8>,
 }
@@ -147,11 +145,11 @@ impl Model for UnitFeed {
 
     ghost Value = { List ℕ };
 
-    ghost use Rattle.nr_explain.specs.inside.Positions.{bytes_fed, HasBegunUnit};
+    ghost use Rattle.nr_explain.specs.inside.UnitsFed.{taken, HasBegun};
 
-    ghost view = { λ f. bytes_fed f.units f.begun.items };
+    ghost view = { λ f. taken f.walk.feed };
 
-    ghost invariant = { λ f. HasBegunUnit f.units f.begun.items };
+    ghost invariant = { λ f. HasBegun f.walk f.begun.items };
 }
 
 impl UnitFeed {
@@ -159,20 +157,20 @@ impl UnitFeed {
     pub fn new(alloc: Global) -> UnitFeed
         ensures { result ≡ [] }
     {
+        let walk = Walk {
+            alloc,
+            feed: Feed::new(alloc),
+            next: Next::first(),
+            offset: 0,
+            header: Vec::new(alloc),
+        };
         UnitFeed {
-            units: Units {
-                alloc,
-                feed: Feed::new(alloc),
-                next: TraceUnit::Magic,
-                lengths: Lengths::none(),
-                offset: 0,
-                header: Vec::new(alloc),
-            },
+            walk,
             begun: Vec::new(alloc),
         }
     }
 
-    /// Takes the next piece. It allocates the memory that `nr_trace::Feed` takes, and for the beginning of one unit, fewer than 4,096
+    /// Takes the next piece. It allocates the memory that `nr_trace::Feed` takes, and for the beginning of one unit, at most 4,096
     /// bytes.
     ///
     /// # Errors
@@ -184,13 +182,14 @@ impl UnitFeed {
             (IfBad (IsBadFor (self ++ piece.now))) }
     {
         let UnitFeed {
-            mut units,
+            mut walk,
             mut begun,
         } = self;
-        match take_piece(&mut units, &mut begun, piece) {
-            Ok(()) => Ok(UnitFeed { units, begun }),
-            Err(unread) => Err(unread),
+        let mut rest = piece;
+        'units: while !rest.is_empty() {
+            rest = step(&mut walk, &mut begun, rest)?;
         }
+        Ok(UnitFeed { walk, begun })
     }
 
     /// The trace that the pieces spell one after the other. It allocates no memory.
@@ -202,14 +201,14 @@ impl UnitFeed {
         ensures reads { ReadsUnits self result }
         ensures memory { IfErr result (λ unread. unread ≢ reasons.Memory) }
     {
-        let UnitFeed { units, begun } = self;
-        match units.feed.end() {
+        let UnitFeed { walk, begun } = self;
+        match walk.feed.end() {
             Ok(trace) => Ok(trace),
             Err(Fail::Memory) => Err(Unread::Memory),
             Err(Fail::Refused(fault)) => Err(Unread::Bad(BadUnit {
                 fault,
-                unit: units.next,
-                offset: units.offset,
+                unit: walk.next.unit,
+                offset: walk.offset,
                 read: begun,
                 field: None,
             })),

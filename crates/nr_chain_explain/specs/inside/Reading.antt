@@ -7,9 +7,8 @@ use Rattle.nr_trace.specs.Feed.Fed.{Taken}
 use Rattle.nr_trace.specs.FirstFault.{HasFaultAs}
 use Rattle.nr_trace.specs.declared.fault.Format.TheVariants.{Truncated}
 use Rattle.nr_trace.specs.declared.version.Form.TheVariants as forms
-use Rattle.nr_segment.specs.Start.{HasStartFault}
+use Rattle.nr_segment.specs.Start.{BeginsRight}
 use Rattle.nr_segment.specs.Verdict.{FitsLayout}
-use Rattle.nr_segment.specs.declared.fault.StartFault.{StartFault}
 use Rattle.nr_chain_explain.specs.Came.{CameTo, layout_in, space_in}
 use Rattle.nr_chain_explain.specs.declared.came.Came.{Came}
 
@@ -34,7 +33,7 @@ FitsSegment segment came = FitsLayout segment.layout came.space
 
 -- nothing is wrong with the start of a segment, if it has one
 abbrev pub BeginsWell : Option Came → Recording → Type 0
-BeginsWell last segment = (fault : StartFault) → HasStartFault (space_in (all_seen last)) segment fault → ⊥
+BeginsWell last segment = BeginsRight (space_in (all_seen last)) segment
 
 -- the next segment is not whole, but may become so; it comes behind the last one
 pub record IsReading (last : Option Came) (bytes : List ℕ) (feed : FedSegment) : Type 0 where

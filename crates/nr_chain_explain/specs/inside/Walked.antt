@@ -1,5 +1,5 @@
 -- The units of a segment, as they are walked to find the one that is bad. No public clause cites this file.
-use Rattle.std.specs.Prelude.{◌≡◌, ◌⊎◌, ℕ, ◌<◌, ◌++◌, List, length, min, take, Option, Some, None, Ok, Err, ⊤}
+use Rattle.std.specs.Prelude.{◌≡◌, ◌⊎◌, ℕ, ◌<◌, ◌++◌, List, length, min, take, Option, Some, None, Ok, Err}
 use Rattle.vs_types.specs.Config.{Layout}
 use Rattle.vs_types.specs.declared.refusal.Fail.TheVariants.{Refused}
 use Rattle.nr_trace.specs.Feed.{FedSegment, FeedsSegment, IsFaultlessYet}
@@ -7,7 +7,7 @@ use Rattle.nr_trace.specs.Feed.Fed.{Taken}
 use Rattle.nr_trace.specs.declared.fault.Format.{Format}
 use Rattle.nr_trace.specs.declared.version.Form.TheVariants as forms
 use Rattle.nr_explain.specs.Fields.{field_fault}
-use Rattle.nr_explain.specs.declared.units.TraceUnit.TheVariants.{Place, Event, DumpHead, FrameNumber, FrameWords}
+use Rattle.nr_explain.specs.Units.{IsWithin as IsWithinTrace}
 use Rattle.nr_chain_explain.specs.Came.{sum_up}
 use Rattle.nr_chain_explain.specs.Units.{after, size, GoesOn}
 use Rattle.nr_chain_explain.specs.declared.evidence.BadSegment.{BadSegment}
@@ -18,12 +18,7 @@ use Rattle.nr_chain_explain.specs.declared.units.SegmentUnit.TheVariants.{Shared
 
 -- the numbers have room for the unit
 abbrev pub IsWithin : SegmentUnit → Numbers → Type 0
-IsWithin (Shared (Place place)) numbers = place < numbers.places
-IsWithin (Shared (Event index)) numbers = index < numbers.events
-IsWithin (Shared (DumpHead replica)) numbers = replica < numbers.replicas
-IsWithin (Shared (FrameNumber replica index)) numbers = (replica < numbers.replicas) × (index < numbers.frames)
-IsWithin (Shared (FrameWords replica index)) numbers = (replica < numbers.replicas) × (index < numbers.frames)
-IsWithin (Shared unit) numbers = ⊤
+IsWithin (Shared unit) numbers = IsWithinTrace unit numbers.shared
 IsWithin StartRoot numbers = 0 < numbers.start
 IsWithin (StartNumber index) numbers = index < numbers.start
 IsWithin (StartWords index) numbers = index < numbers.start

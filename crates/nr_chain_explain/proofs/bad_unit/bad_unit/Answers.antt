@@ -5,8 +5,8 @@ use Rattle.nr_chain_explain.specs.Units.{size, IsBadUnit}
 use Rattle.nr_chain_explain.specs.inside.Reading.{all_seen}
 use Rattle.nr_chain_explain.specs.inside.Walked.{IsUnitOf, StepsOver}
 use Rattle.nr_chain_explain.specs.declared.came.Sums.{Sums}
-use Rattle.nr_chain_explain.proofs.Feeding.{if_ok}
 use Rattle.nr_chain_explain.proofs.Walking.{bad_there, some_size, walk_goes_on}
+use Rattle.std.proofs.lemmas.Result.{IfOk-weaker}
 use Rattle.nr_chain_explain.proofs.bad_unit.bad_unit.Goals as goal
 
 pub units-smaller : goal.units-smaller
@@ -44,7 +44,7 @@ returns-in-None-clause-bad c =
     let none : length own < size next.unit → behind ≡ [] =
     λ short. nil_from_length behind (omega (arith, c.split_at.ensures.front_len, c.split_at.ensures.back_len, middle)) in
     let steps = subst (StepsOver c.units.feed next own c.take_unit.new.feed) c.in-None.is c.in_ok-passed.ensures in
-    if_ok (IsUnitOf begins c.args.fault front rest next.unit) (IsBadUnit before (sums_in (all_seen c.args.last.now)).bytes bytes) c.unit_at.result
+    IfOk-weaker c.unit_at.result (IsUnitOf begins c.args.fault front rest next.unit) (IsBadUnit before (sums_in (all_seen c.args.last.now)).bytes bytes)
     (λ bad is. subst (λ (n : ℕ). IsBadUnit before n bytes bad) (ap (λ (sums : Sums). sums.bytes) c.sums_of-begins.ensures)
     (bad_there before bytes c.args.fault c.units.feed c.take_unit.new.feed next rest own behind cut c.units.invariant c.requires begins bad steps few none is
     (is.read ∙ sym own_is)))

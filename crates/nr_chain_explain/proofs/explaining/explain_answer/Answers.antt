@@ -9,7 +9,8 @@ use Rattle.nr_chain_explain.specs.Came.{began_with, space_in}
 use Rattle.nr_chain_explain.specs.Evidence.{IsOtherAnswerFrom}
 use Rattle.nr_chain_explain.specs.Facts.{IsOrigin}
 use Rattle.nr_chain_explain.specs.inside.Reading.{all_seen}
-use Rattle.nr_chain_explain.proofs.Firsts.{first_within, well_within}
+use Rattle.nr_chain_explain.proofs.Firsts.{well_within}
+use Rattle.nr_segment.proofs.FirstFaults.{first_within}
 use Rattle.nr_chain_explain.proofs.explaining.explain_answer.Goals as goal
 
 pub begin-requires-clause-well : goal.begin-requires-clause-well

@@ -5,8 +5,9 @@ use Rattle.nr_segment.specs.Start.{first_space}
 use Rattle.nr_segment.specs.declared.fault.SegmentFault.TheVariants.{Within}
 use Rattle.nr_chain_explain.specs.Came.{space_in}
 use Rattle.nr_chain_explain.specs.inside.Reading.{all_seen}
-use Rattle.nr_chain_explain.proofs.Firsts.{first_within, no_format, own_from}
+use Rattle.nr_chain_explain.proofs.Firsts.{no_format, own_from}
 use Rattle.nr_chain_explain.proofs.StartsShown.{itself_shown}
+use Rattle.nr_segment.proofs.FirstFaults.{first_within}
 use Rattle.nr_chain_explain.proofs.explaining.explain_within.Goals as goal
 
 pub explain_itself-requires : goal.explain_itself-requires

@@ -1,5 +1,4 @@
-use Rattle.std.proofs.Common.{◌≡◌, ℕ, ◌==◌, [], true, false, Option, None, is_some, length, sym, ap, ◌∙◌, arith, tests, rules}
-use Rattle.std.proofs.lemmas.Bool.Decides.{nat_tests}
+use Rattle.std.proofs.Common.{◌≡◌, ℕ, ◌==◌, [], true, false, Option, None, is_some, length, sym, ap, ◌∙◌}
 use Rattle.std.proofs.lemmas.List.{nil_from_length}
 use Rattle.nr_trace.specs.declared.fault.Format.TheVariants.{Truncated}
 use Rattle.nr_chain_explain.specs.Came.{kept_in}
@@ -7,12 +6,11 @@ use Rattle.nr_chain_explain.specs.inside.Reading.{all_seen, seen_of}
 use Rattle.nr_chain_explain.specs.declared.came.Came.{Came}
 use Rattle.nr_chain_explain.specs.Explanation.{IsExplanationFrom}
 use Rattle.nr_chain_explain.specs.inside.Steps.{IsRefusalOf}
-use Rattle.nr_chain_explain.proofs.Feeding.{if_ok, refusal_explains}
+use Rattle.nr_chain_explain.proofs.Feeding.{refusal_explains}
+use Rattle.std.proofs.lemmas.Bool.{eqb-true}
+use Rattle.std.proofs.lemmas.Result.{IfOk-weaker}
 use Rattle.nr_chain_explain.proofs.refusing.ended.Goals as goal
 use Rattle.nr_chain_explain.proofs.refusing.ended.Goals.{then-is_empty+in_default, else-is_empty}
-
-zero_of : (n : ℕ) → (n == 0) ≡ true → n ≡ 0
-zero_of n e = first_of (grind (arith, nat_tests), search (rules, tests))
 
 none_kept : (last : Option Came) → last ≡ None → is_some (kept_in (all_seen last)) ≡ true → ⊥
 none_kept last none some =
@@ -20,14 +18,14 @@ none_kept last none some =
 
 pub returns-in-Some : goal.returns-in-Some
 returns-in-Some c =
-    let none = nil_from_length c.args.bytes.now (zero_of (length c.args.bytes.now) (sym c.is_empty.ensures ∙ c.if-is_empty.true)) in
+    let none = nil_from_length c.args.bytes.now (eqb-true (length c.args.bytes.now) 0 (sym c.is_empty.ensures ∙ c.if-is_empty.true)) in
     ([], seen_of c.in-Some.came, (sym (ap all_seen c.in-Some.is), sym none), c.in_ok-counts.ensures)
 
 pub returns : goal.returns
 returns c =
     let bytes = c.args.bytes.now in
     let came = all_seen c.args.last.now in
-    if_ok (IsRefusalOf came bytes Truncated) (IsExplanationFrom came bytes) c.refusal.result
+    IfOk-weaker c.refusal.result (IsRefusalOf came bytes Truncated) (IsExplanationFrom came bytes)
     (λ explanation is. refusal_explains came bytes Truncated explanation is c.requires (λ some none.
     elim c.if-is_empty.branch [
       | then-is_empty+in_default w ↦ none_kept c.args.last.now w.in_default.is some

@@ -3,5 +3,5 @@ use Rattle.nr_chain_explain.specs.inside.Reading.{BeginsWell}
 use Rattle.nr_chain_explain.specs.declared.came.Came.{Came}
 use Rattle.nr_chain_explain.proofs.spaces.begin.Goals as goal
 
-pub start_space-requires : goal.start_space-requires
-start_space-requires c = subst (λ (last : Option Came). BeginsWell last c.args.segment.now) c.in_default.is c.requires.well
+pub begin_first-requires : goal.begin_first-requires
+begin_first-requires c = subst (λ (last : Option Came). BeginsWell last c.args.segment.now) c.in-None.is c.requires.well

@@ -9,8 +9,8 @@ use Rattle.nr_chain_explain.specs.inside.Reading.{all_seen}
 use Rattle.nr_chain_explain.specs.inside.Starts.{IsShownInStart}
 use Rattle.nr_chain_explain.specs.declared.came.Came.{Came}
 use Rattle.nr_chain_explain.specs.declared.evidence.SegmentEvidence.TheVariants as evidence
-use Rattle.nr_chain_explain.proofs.Feeding.{if_ok}
 use Rattle.nr_chain_explain.proofs.StartsShown.{shown_differs, shown_in_start, tables_first}
+use Rattle.std.proofs.lemmas.Result.{IfOk-weaker}
 use Rattle.nr_chain_explain.proofs.starts.explain_start.Goals as goal
 
 pub explain_tables-requires : goal.explain_tables-requires
@@ -34,6 +34,6 @@ returns-in_default-fault c =
     let segment = c.args.segment.now in
     let start = c.in-Some.start.now in
     let depth = c.depth-depth.result in
-    if_ok (IsShownInStart depth start c.args.fault) (IsShownBehind (all_seen c.args.last.now) segment (Start c.args.fault)) c.explain_tables.result
+    IfOk-weaker c.explain_tables.result (IsShownInStart depth start c.args.fault) (IsShownBehind (all_seen c.args.last.now) segment (Start c.args.fault))
     (λ shown is. shown_in_start c.args.last.now segment start depth c.args.fault shown (sym c.in-Some.ensures.reads)
     (c.depth-depth.ensures ∙ ap (λ (l : Layout). l.depth) c.layout.ensures.reads) is) c.explain_tables.ensures

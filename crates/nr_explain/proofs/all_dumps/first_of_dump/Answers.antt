@@ -6,7 +6,7 @@ use Rattle.nr_trace.specs.Orders.{space_after}
 use Rattle.nr_trace.specs.declared.fault.Fault.{Fault}
 use Rattle.nr_dump.specs.declared.fault.DumpFault.{DumpFault}
 use Rattle.nr_audit.specs.Verdict.{space_of}
-use Rattle.nr_audit.specs.inside.Dumps.{IsFoundBeside}
+use Rattle.nr_audit.specs.Dumps.{IsFoundBeside}
 use Rattle.nr_audit.proofs.DumpFaults.{read_dump}
 use Rattle.nr_explain.specs.inside.Searches.{IsFoundOfDump, IsResting, RestsNowhere}
 use Rattle.nr_explain.proofs.DumpsFound.{found_absent, found_past_log, found_short, found_sound, found_in_tables}

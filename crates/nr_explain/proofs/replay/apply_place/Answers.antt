@@ -4,8 +4,8 @@ use Rattle.vs_types.specs.Space.{no_pages}
 use Rattle.vs_plain.specs.Plain.{BoundedSpace}
 use Rattle.nr_trace.specs.Orders.{space_after}
 use Rattle.nr_audit.specs.Verdict.{space_of}
-use Rattle.nr_audit.specs.inside.Replies.{asked_by}
-use Rattle.nr_audit.specs.inside.Steps.{Serves}
+use Rattle.nr_audit.specs.Served.{asked_by}
+use Rattle.nr_audit.specs.Served.{Serves}
 use Rattle.nr_audit.proofs.AnswerFaults.{space_visits, space_stays, left}
 use Rattle.nr_explain.proofs.replay.apply_place.Goals as goal
 

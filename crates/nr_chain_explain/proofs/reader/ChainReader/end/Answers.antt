@@ -6,7 +6,8 @@ use Rattle.nr_trace.specs.declared.fault.Format.TheVariants.{Truncated}
 use Rattle.nr_chain_explain.specs.Came.{layout_in}
 use Rattle.nr_chain_explain.specs.Explanation.{Explains, IsExplanationFrom}
 use Rattle.nr_chain_explain.specs.inside.Reading.{all_seen}
-use Rattle.nr_chain_explain.proofs.Feeding.{explains_all, if_ok}
+use Rattle.nr_chain_explain.proofs.Feeding.{explains_all}
+use Rattle.std.proofs.lemmas.Result.{IfOk-weaker}
 use Rattle.nr_chain_explain.proofs.reader.ChainReader.end.Goals as goal
 
 pub ended-requires : goal.ended-requires
@@ -18,6 +19,6 @@ ended-requires c =
 pub returns : goal.returns
 returns c =
     let inside = c.self.inside in
-    if_ok (IsExplanationFrom (all_seen inside.last) inside.bytes.items) (Explains c.args.self []) c.ended.result
+    IfOk-weaker c.ended.result (IsExplanationFrom (all_seen inside.last) inside.bytes.items) (Explains c.args.self [])
     (λ explanation is. explains_all inside.last inside.bytes.items c.args.self explanation c.self.view_is is)
     (subst (λ (bs : List ℕ). IfOk c.ended.result (IsExplanationFrom (all_seen inside.last) bs)) c.deref.ensures.value c.ended.ensures)

@@ -1,13 +1,10 @@
-use Rattle.std.proofs.Common.{◌≡◌, ℕ, ◌-◌, ◌==◌, true, false, List, [], inl, inr, length, take, drop, refl, ap, sym, ◌∙◌, subst, arith, tests, rules}
+use Rattle.std.proofs.Common.{◌≡◌, ℕ, ◌-◌, ◌==◌, true, false, List, [], inl, inr, length, take, drop, refl, ap, sym, ◌∙◌, subst}
 use Rattle.std.proofs.Math.Seq.{take-length}
-use Rattle.std.proofs.lemmas.Bool.Decides.{nat_tests}
 use Rattle.std.proofs.lemmas.List.{length-drop, nil_from_length}
 use Rattle.nr_chain_explain.specs.inside.Steps.{StepsTo}
 use Rattle.nr_chain_explain.proofs.Feeding.{explains_behind, leads_end, leads_more, leads_on, short_after, short_fresh}
+use Rattle.std.proofs.lemmas.Bool.{eqb-true}
 use Rattle.nr_chain_explain.proofs.reader.ChainReader.feed.Goals as goal
-
-zero_of : (n : ℕ) → (n == 0) ≡ true → n ≡ 0
-zero_of n e = first_of (grind (arith, nat_tests), search (rules, tests))
 
 left_behind : (count : ℕ) (rest : List ℕ) → take (length rest - count) (drop count rest) ≡ drop count rest
 left_behind count rest = ap (λ (n : ℕ). take n (drop count rest)) (sym (length-drop count rest)) ∙ take-length (drop count rest)
@@ -42,7 +39,7 @@ returns-in-Wrong c =
 
 pub returns : goal.returns
 returns c =
-    let none = nil_from_length c.segments.rest.now (zero_of (length c.segments.rest.now) (sym c.is_empty.ensures ∙ c.segments-test.false)) in (
+    let none = nil_from_length c.segments.rest.now (eqb-true (length c.segments.rest.now) 0 (sym c.is_empty.ensures ∙ c.segments-test.false)) in (
       leads_end c.args.self c.segments.reader c.args.piece.now c.segments.rest.now c.segments.invariant.leads none,
       λ some. elim c.segments.invariant.short [
         | inl same ↦ absurd (some (sym same ∙ none))
