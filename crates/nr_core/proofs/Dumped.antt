@@ -1,9 +1,7 @@
 -- The dump that is gathered from a page table is one of its space.
-use Rattle.std.proofs.Common.{◌≡◌, ℕ, ◌≤◌, List, Option, Some, None, Contains, IsTrue, is_some, refl, sym, ap, subst, ◌∙◌, arith}
+use Rattle.std.proofs.Common.{◌≡◌, ℕ, ◌≤◌, None, Contains, IsTrue, sym, ap, subst, ◌∙◌, arith}
 use Rattle.std.specs.Prelude.{IsSome}
-use Rattle.std.specs.Cmp.{nat_cmp_total}
 use Rattle.std.specs.FinMap as finite
-use Rattle.std.specs.FinMap.{nat_cmp-IsAntisymmetric}
 use Rattle.vs_types.specs.Space.{Space, table_count}
 use Rattle.vs_types.specs.declared.depth.Depth.{Depth}
 use Rattle.vs_types.specs.declared.limits.TheConstants.{TABLES}
@@ -11,24 +9,13 @@ use Rattle.vs_walk.specs.Dump.{Image}
 use Rattle.vs_walk.specs.Memory.{Memory}
 use Rattle.vs_walk.specs.Traversal.{traversal, reached, walk_fault}
 use Rattle.vs_walk.specs.Walk.{TranslatesAs}
+use Rattle.vs_walk.proofs.SameFrames.{same_frames}
 use Rattle.vs_space.specs.Table.{PageTable, IsTableOf}
 use Rattle.nr_trace.specs.Parts.{HasFrames}
 use Rattle.nr_trace.specs.Recording.{IsThere}
 use Rattle.nr_trace.specs.declared.version.Version.TheVariants.{V1}
 use Rattle.nr_core.specs.State.{Replica}
 use Rattle.nr_core.specs.Run.{IsDumpOfReplica}
-
--- the frames that are reached, where each frame is
-all_gathered : (memory dump : Memory) (reached : List ℕ) → ((number : ℕ) → Contains reached number → IsTrue (finite.contains_key memory number))
-    → ((number : ℕ) → IsTrue (finite.contains_key memory number) → Contains reached number)
-    → ((number : ℕ) → Contains reached number → finite.get dump number ≡ finite.get memory number)
-    → ((number : ℕ) → IsTrue (finite.contains_key dump number) → Contains reached number) → dump ≡ memory
-all_gathered memory dump reached in_use each held only =
-    finite.same_map nat_cmp_total nat_cmp-IsAntisymmetric dump memory (λ q. by_get q (finite.get memory q) (finite.get dump q) refl refl) where
-      by_get : (q : ℕ) (here there : Option (List ℕ)) → finite.get memory q ≡ here → finite.get dump q ≡ there → finite.get dump q ≡ finite.get memory q
-      by_get q (Some words) there e f = held q (each q (let P : Option (List ℕ) → Type 0 = λ o. IsTrue (is_some o) in subst P (sym e) refl))
-      by_get q None None e f = f ∙ sym e
-      by_get q None (Some words) e f = held q (only q (let P : Option (List ℕ) → Type 0 = λ o. IsTrue (is_some o) in subst P (sym f) refl))
 
 -- what is known of a table, and of the dump that is gathered from it
 pub record IsGathered (table : PageTable) (depth : Depth) (root : ℕ) (dump : Image) : Type 0 where
@@ -40,15 +27,9 @@ pub record IsGathered (table : PageTable) (depth : Depth) (root : ℕ) (dump : I
   pub held : (number : ℕ) → Contains (reached (traversal depth table.memory root)) number → finite.get dump.frames number ≡ finite.get table.memory number
   pub only : (number : ℕ) → IsTrue (finite.contains_key dump.frames number) → Contains (reached (traversal depth table.memory root)) number
 
-pub same_reached : (memory : Memory) (depth d : Depth) (root r : ℕ) → d ≡ depth → r ≡ root
-    → reached (traversal d memory r) ≡ reached (traversal depth memory root)
-same_reached memory depth d root r ed er = ap (λ z. reached (traversal z memory r)) ed ∙ ap (λ z. reached (traversal depth memory z)) er
-
-same_frames : (table : PageTable) (depth : Depth) (root : ℕ) (dump : Image) → IsGathered table depth root dump → dump.frames ≡ table.memory
-same_frames table depth root dump is =
-    let same = same_reached table.memory table.depth depth table.root root is.depth_is is.root_is in
-    all_gathered table.memory dump.frames (reached (traversal table.depth table.memory table.root)) is.in_use is.each
-    (λ n h. is.held n (subst (λ l. Contains l n) (sym same) h)) (λ n h. subst (λ l. Contains l n) same (is.only n h))
+frames_are : (table : PageTable) (depth : Depth) (root : ℕ) (dump : Image) → IsGathered table depth root dump → dump.frames ≡ table.memory
+frames_are table depth root dump is =
+    same_frames table.memory dump.frames table.depth depth table.root root is.depth_is is.root_is is.in_use is.each is.held is.only
 
 some_get : (memory : Memory) (number : ℕ) → IsSome (finite.get memory number) → IsTrue (finite.contains_key memory number)
 some_get memory number some = some
@@ -57,7 +38,7 @@ pub is_dump : (table : PageTable) (space : Space) (replica : Replica) (depth : D
     → replica.space ≡ space → IsThere dump → dump.applied ≡ replica.applied → walk_fault table.depth table.memory table.root ≡ None
     → IsGathered table depth root dump → IsDumpOfReplica table.depth replica dump
 is_dump table space replica depth root dump of space_is there applied faultless is =
-    let frames = same_frames table depth root dump is in
+    let frames = frames_are table depth root dump is in
     let root_is = is.dump_root ∙ is.root_is in
     let ByRoot : ℕ → Type 0 = λ r. TranslatesAs table.depth table.memory r replica.space in
     let ByFrames : Memory → Type 0 = λ m. TranslatesAs table.depth m dump.root replica.space in
@@ -79,9 +60,9 @@ is_dump table space replica depth root dump of space_is there applied faultless 
     }
 
 -- and has a frame, as each space has a table, and no more than tables
-pub has_frames : (table : PageTable) (space : Space) (depth : Depth) (root tables : ℕ) (dump : Image) → IsGathered table depth root dump
-    → tables ≡ finite.len table.memory → tables ≡ table_count table.depth space → tables ≤ TABLES → HasFrames V1 dump
-has_frames table space depth root tables dump is reads counts few =
-    let frames = ap (λ (m : Memory). finite.len m) (same_frames table depth root dump is) in
-    let some : 1 ≤ finite.len dump.frames = omega (arith, frames, reads, counts) in
-    (some, omega (arith, frames, reads, few), λ none. absurd (omega (arith, some, none)))
+pub has_frames : (table : PageTable) (space : Space) (depth : Depth) (root : ℕ) (dump : Image) → IsGathered table depth root dump
+    → finite.len table.memory ≡ table_count table.depth space → finite.len table.memory ≤ TABLES → HasFrames V1 dump
+has_frames table space depth root dump is counts few =
+    let frames = ap (λ (m : Memory). finite.len m) (frames_are table depth root dump is) in
+    let some : 1 ≤ finite.len dump.frames = omega (arith, frames, counts) in
+    (some, omega (arith, frames, few), λ none. absurd (omega (arith, some, none)))

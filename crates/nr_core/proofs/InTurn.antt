@@ -8,7 +8,6 @@ use Rattle.nr_trace.specs.Recording.{Recording}
 use Rattle.nr_core.specs.State.{State, start}
 use Rattle.nr_core.specs.Steps.{after_step}
 use Rattle.nr_core.specs.Run.{after_steps, IsRecordingOf, IsStepped}
-use Rattle.nr_core.specs.Faultless.{IsRecordingOfSteps}
 use Rattle.nr_core.specs.declared.step.Step.{Step}
 
 stepped : (old : State) (o : Option State) (done : Bool) (new : State) → IsStepped old o done new → new ≡ unwrap_or o old
@@ -39,11 +38,3 @@ pub is_after_all : (layout : Layout) (scripts : List (List Query)) (steps : List
     → core ≡ after_steps (start layout scripts) (take i steps) → IsRecordingOf core trace → IsRecordingOf (after_steps (start layout scripts) steps) trace
 is_after_all layout scripts steps core trace i past before is =
     subst (λ s. IsRecordingOf s trace) (before ∙ ap (after_steps (start layout scripts)) (take_all i steps past)) is
-
-pub is_of_steps : (layout : Layout) (scripts : List (List Query)) (steps : List Step) (core : State) (trace : Recording) (i : ℕ) → length steps ≤ i
-    → core ≡ after_steps (start layout scripts) (take i steps) → IsRecordingOf core trace → IsRecordingOfSteps trace
-is_of_steps layout scripts steps core trace i past before is = (
-  after_steps (start layout scripts) steps,
-  (layout, scripts, steps, refl),
-  is_after_all layout scripts steps core trace i past before is,
-)

@@ -39,20 +39,20 @@ seen_is f xs i x y is at =
 pub one_of : {A : Type 0} (P : A → Type 0) (xs : List A) (i : ℕ) (x : A) → i < length xs → x ≡ slice_index_or xs i x → All P xs → P x
 one_of P xs i x within is all = subst P (sym is) (All-get_or P xs i x within all)
 
--- another thread in the place of one, with no more events left to record
-pub with_other_thread : {layout : Layout} {events : List Event} {log : List LogEntry} {replicas : List ReplicaState}
+-- another thread in the place of one, and other events, with no more to record in all
+pub with_other_thread : {layout : Layout} {events later : List Event} {log : List LogEntry} {replicas : List ReplicaState}
     {threads : List ThreadState} (t : ℕ) (x y : ThreadState)
     → AreParts layout events log replicas threads → t < length threads → x ≡ slice_index_or threads t x → IsThread layout.depth y
-    → events_left y ≤ events_left x
-    → AreParts layout events log replicas (slice_set threads t y)
-with_other_thread {layout} {events} {log} {replicas} {threads} t x y parts within is good fewer = record {
+    → All (IsEvent V2 layout) later → length later + events_left y ≤ length events + events_left x
+    → AreParts layout later log replicas (slice_set threads t y)
+with_other_thread {layout} {threads = threads} t x y parts within is good recorded fewer = record {
   each_thread = All-set (IsThread layout.depth) threads t y good parts.each_thread;
   each_replica = parts.each_replica;
   one_replica_each = parts.one_replica_each;
   one_thread_each = length-set threads t y ∙ parts.one_thread_each;
   entries = parts.entries;
   few_entries = parts.few_entries;
-  recorded = parts.recorded;
+  recorded = recorded;
   few_events =
       let sums = sum_by-set events_left threads t y x within in
       let same : events_left (slice_index_or threads t x) ≡ events_left x = ap events_left (sym is) in
@@ -78,6 +78,33 @@ with_other_replica {layout} {events} {log} {replicas} {threads} r y parts good =
 -- the state of the fields of a core
 abbrev pub seen : Inside → State
 seen core = state_in core.config core.events.items core.log.items core.completed core.replicas.items core.threads.items
+
+-- what is stored where the state has a thread or replica: it is there, is seen as that, and what holds of each holds of it
+pub record IsSeen {A B : Type 0} (f : A → B) (P : A → Type 0) (xs : List A) (i : ℕ) (x : A) (y : B) : Type 0 where
+  pub within : i < length xs
+  pub is : y ≡ f x
+  pub good : P x
+
+is_seen : {A B : Type 0} (f : A → B) (P : A → Type 0) (xs : List A) (i : ℕ) (x : A) (y : B) → All P xs → slice_get (map f xs) i ≡ Some y
+    → x ≡ slice_index_or xs i x → IsSeen f P xs i x y
+is_seen f P xs i x y all there at =
+    let within = seen_within f xs i y there in
+    record { within = within; is = seen_is f xs i x y there at; good = one_of P xs i x within at all }
+
+abbrev pub AreCoreParts : Inside → Type 0
+AreCoreParts core = AreParts core.config core.events.items core.log.items core.replicas.items core.threads.items
+
+pub thread_seen : {state : State} (core : Inside) (t : ℕ) (x : ThreadState) (y : Thread) → seen core ≡ state → AreCoreParts core
+    → slice_get state.threads t ≡ Some y → x ≡ slice_index_or core.threads.items t x
+    → IsSeen thread_in (IsThread core.config.depth) core.threads.items t x y
+thread_seen core t x y is parts there at =
+    is_seen thread_in (IsThread core.config.depth) core.threads.items t x y parts.each_thread (ap (λ s. slice_get s.threads t) is ∙ there) at
+
+pub replica_seen : {state : State} (core : Inside) (r : ℕ) (x : ReplicaState) (y : Replica) → seen core ≡ state → AreCoreParts core
+    → slice_get state.replicas r ≡ Some y → x ≡ slice_index_or core.replicas.items r x
+    → IsSeen replica_in (IsReplica core.config) core.replicas.items r x y
+replica_seen core r x y is parts there at =
+    is_seen replica_in (IsReplica core.config) core.replicas.items r x y parts.each_replica (ap (λ s. slice_get s.replicas r) is ∙ there) at
 
 -- the state, where one thread or replica is another
 pub set_thread : {state : State} {t k : ℕ} (core : Inside) (y : ThreadState) (after : Thread) → seen core ≡ state → k ≡ t → thread_in y ≡ after
@@ -118,28 +145,6 @@ same_replica state r before is =
   where
     same_element : {A : Type 0} (xs : List A) (i : ℕ) (x : A) → slice_get xs i ≡ Some x → slice_set xs i x ≡ xs
     same_element xs i x is = ap (slice_set xs i) (sym (get_or_from_slice_get xs i x x is)) ∙ set-get_or xs i x
-
--- an event more, and another thread in the place of one, which has one event less to record
-pub with_other_event : {layout : Layout} {events : List Event} {log : List LogEntry} {replicas : List ReplicaState}
-    {threads : List ThreadState} (t : ℕ) (x y : ThreadState) (event : Event)
-    → AreParts layout events log replicas threads → t < length threads → x ≡ slice_index_or threads t x → IsThread layout.depth y
-    → events_left y + 1 ≤ events_left x
-    → IsEvent V2 layout event → AreParts layout (events ++ event ∷ []) log replicas (slice_set threads t y)
-with_other_event {layout} {events} {log} {replicas} {threads} t x y event parts within is good fewer fits = record {
-  each_thread = All-set (IsThread layout.depth) threads t y good parts.each_thread;
-  each_replica = parts.each_replica;
-  one_replica_each = parts.one_replica_each;
-  one_thread_each = length-set threads t y ∙ parts.one_thread_each;
-  entries = parts.entries;
-  few_entries = parts.few_entries;
-  recorded = All-push (IsEvent V2 layout) events event parts.recorded fits;
-  few_events =
-      let sums = sum_by-set events_left threads t y x within in
-      let same : events_left (slice_index_or threads t x) ≡ events_left x = ap events_left (sym is) in
-      let few = parts.few_events in
-      let more = length-append events (event ∷ []) in
-      omega (arith, sums, same, few, fewer, more);
-}
 
 -- the state, where one thread is another, and an event more is recorded
 pub set_recorded : {state : State} {t k : ℕ} {events : List Event} (core : Inside) (y : ThreadState) (after : Thread) (event : Event)

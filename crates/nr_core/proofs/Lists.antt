@@ -3,12 +3,13 @@ use Rattle.std.proofs.Common.{◌≡◌, ℕ, zero, suc, ◌+◌, ◌<◌, Bool,
 use Rattle.std.specs.Prelude.{find, slice_get, All}
 use Rattle.std.proofs.lemmas.List.{map_more}
 use Rattle.std.proofs.lemmas.List.Elements.{All-map}
+use Rattle.std.proofs.lemmas.Slice.Zip.{all_zipped_more}
+use Rattle.std.specs.List.{list_all, AllZip}
 use Rattle.vs_types.specs.Operation.{IsAction}
 use Rattle.vs_types.specs.declared.depth.Depth.{Depth}
 use Rattle.nr_core.specs.Steps.{is_some_left, note}
 use Rattle.nr_core.specs.declared.stage.Answered.{Answered}
 use Rattle.nr_core.specs.declared.stage.Collected.{Collected}
-use Rattle.std.specs.List.{list_all, AllZip}
 
 more : (i : ℕ) → suc i ≡ i + 1
 more i = omega arith
@@ -107,22 +108,8 @@ noted_good depth answered batch all =
     All-map (λ (u : Collected). IsAction depth u.entry.op) (note answered) batch
     (λ k d within. subst (λ e. IsAction depth e.op) (sym (note_entry answered (get_or batch k d))) (all k d within))
 
--- one element more on each side
-pub zipped_push : {A B : Type 0} (R : A → B → Type 0) (xs : List A) (ys : List B) (x : A) (y : B) → AllZip R xs ys → R x y
-    → AllZip R (xs ++ x ∷ []) (ys ++ y ∷ [])
-zipped_push R [] [] x y all here = (here, tt)
-zipped_push R [] (b ∷ ys) x y all here = absurd all
-zipped_push R (a ∷ xs) [] x y all here = absurd all
-zipped_push R (a ∷ xs) (b ∷ ys) x y all here = (all.0, zipped_push R xs ys x y all.1 here)
-
 pub zipped_more : {A B C : Type 0} (R : B → C → Type 0) (f : A → B) (xs : List A) (ys : List C) (i : ℕ) (x : A) (y : C) → i < length xs → get_or xs i x ≡ x
     → AllZip R (map f (take i xs)) ys → R (f x) y → AllZip R (map f (take (i + 1) xs)) (ys ++ y ∷ [])
 zipped_more R f xs ys i x y within is all here =
     subst (λ l. AllZip R l (ys ++ y ∷ [])) (sym (map_more f xs i x within ∙ ap (λ z. map f (take i xs) ++ f z ∷ []) is))
-    (zipped_push R (map f (take i xs)) ys (f x) y all here)
-
-pub zipped_length : {A B : Type 0} (R : A → B → Type 0) (xs : List A) (ys : List B) → AllZip R xs ys → length ys ≡ length xs
-zipped_length R [] [] all = refl
-zipped_length R [] (y ∷ ys) all = absurd all
-zipped_length R (x ∷ xs) [] all = absurd all
-zipped_length R (x ∷ xs) (y ∷ ys) all = ap suc (zipped_length R xs ys all.1)
+    (all_zipped_more R (map f (take i xs)) ys (f x) y all here)

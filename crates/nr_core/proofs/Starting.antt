@@ -9,18 +9,16 @@ use Rattle.vs_types.specs.Config.{Layout}
 use Rattle.vs_types.specs.Query.{IsQuery}
 use Rattle.vs_types.specs.declared.request.Query.{Query}
 use Rattle.vs_types.specs.Query.{AreScripts}
+use Rattle.nr_trace.proofs.LawsOfLists.{All-unmap}
 use Rattle.nr_core.specs.State.{new_thread, new_replica}
 use Rattle.nr_core.specs.declared.parts.ReplicaState.{ReplicaState}
 use Rattle.nr_core.specs.inside.Parts.{thread_in, thread_of, replica_in, events_left, IsThread, IsReplica, AreParts}
-
-all_in : {A B : Type 0} (P : B → Type 0) (f : A → B) (xs : List A) → All P (map f xs) → All (λ x. P (f x)) xs
-all_in P f xs all k d within = subst P (get_or-map f xs k d (f d) within) (all k (f d) (subst (λ n. k < n) (sym (length-map xs f)) within))
 
 pub threads_good : (layout : Layout) (scripts : List (Vec Query)) → AreScripts layout (map (λ script. script.items) scripts)
     → All (IsThread layout.depth) (map thread_of scripts)
 threads_good layout scripts are =
     All-map (IsThread layout.depth) thread_of scripts (λ k d within. record {
-      script = all_in (All (IsQuery layout.depth)) (λ (script : Vec Query). script.items) scripts are.well_formed k d within;
+      script = All-unmap (All (IsQuery layout.depth)) (λ (script : Vec Query). script.items) scripts are.well_formed k d within;
       stage = tt;
     })
 

@@ -2,12 +2,12 @@
 pub mod Places
 pub mod Growth
 pub mod Changes
-pub mod Kept
+pub mod Each
+pub mod Waiting
 pub mod Post
 pub mod Look
 pub mod Read
-pub mod Take
-pub mod Release
+pub mod Locking
 pub mod Collect
 pub mod Append
 pub mod Advance

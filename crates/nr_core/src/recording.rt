@@ -9,7 +9,7 @@ ghost use Rattle.nr_core.specs.inside.Parts.{replica_in, IsReplica};
 
 use crate::parts::ReplicaState;
 use crate::state::Core;
-use nr_trace::{Trace, TraceLayout, Version};
+use nr_trace::Trace;
 use std::alloc::Global;
 use vs_types::{Config, LogEntry, Memory};
 use vs_walk::Dump;
@@ -25,23 +25,11 @@ impl Core {
         ensures recording { IfOk result (IsRecordingOf self.now) }
         ensures in_range { IfOk result IsRecording }
     {
-        let version = Version::least(self.config.depth(), &self.events);
-        let _tables = self.config.tables();
         let log = calls_in(self.alloc, &self.log)?;
         let mut events = Vec::new(self.alloc);
         events.extend_from_slice(&self.events)?;
         let dumps = dumps_of(self.alloc, self.config, &self.replicas)?;
-        match Trace::new(
-            version,
-            TraceLayout::of(self.config),
-            None,
-            log,
-            events,
-            dumps,
-        ) {
-            Ok(trace) => Ok(trace),
-            Err(_) => unreachable!(),
-        }
+        Ok(Trace::of_run(self.config, log, events, dumps))
     }
 }
 
@@ -76,6 +64,5 @@ fn dump_of(alloc: Global, config: Config, replica: &ReplicaState) -> Result<Dump
     ensures is { IfOk result (IsDumpOfReplica config.depth (replica_in replica.now)) }
     ensures frames { IfOk result (HasFrames V1) }
 {
-    let _tables = config.tables();
     replica.table.dump(alloc, replica.marks.applied)
 }

@@ -1,9 +1,11 @@
+ghost use Rattle.std.specs.FinMap as finite;
 ghost use Rattle.std.specs.Prelude.{◌≡◌, ◌+◌, ◌*◌, ◌^◌, ◌<◌, ◌≤◌, IfOk};
 ghost use Rattle.vs_types.specs.Config.{IsLayout};
 ghost use Rattle.vs_types.specs.Depth.{IsCanonical};
 ghost use Rattle.vs_types.specs.Operation.{IsAction};
 ghost use Rattle.vs_types.specs.Query.{IsQuery};
 ghost use Rattle.vs_types.specs.Space as spaces;
+ghost use Rattle.vs_types.specs.Space.{table_count};
 ghost use Rattle.vs_types.specs.Step.{step, look, allow};
 ghost use Rattle.vs_types.specs.declared.limits.TheConstants.{TABLES};
 ghost use Rattle.vs_space.specs.Table.{IsTableOf};
@@ -28,6 +30,7 @@ const FIRST_FRAME: u64 = 1 << 39;
 pub(crate) struct Table {
     pages: Space<VecArena>,
     ghost of: { (space : spaces.Space) × IsTableOf pages space } by { one_space pages },
+    ghost few: { pages.limit ≤ TABLES },
 }
 
 impl Table {
@@ -75,14 +78,22 @@ impl Table {
         self.pages.access(address, mode, access)
     }
 
+    /// As many frames are in use as the space has tables, and no more than a dump may have.
+    fn frames_are_counted(&self)
+        ensures counts { finite.len self.now.pages.memory
+            ≡ table_count self.now.pages.depth self.now.of.0 }
+        ensures few { finite.len self.now.pages.memory ≤ TABLES }
+    {
+        self.pages.tables();
+    }
+
     /// Its frames, after `applied` entries of the log.
     pub(crate) fn dump(&self, alloc: Global, applied: u32) -> Result<Dump, Memory>
-        requires { self.now.pages.limit ≤ TABLES }
         ensures is { (replica : Replica) → replica.applied ≡ applied → replica.space ≡ self.now.of.0
             → IfOk result (IsDumpOfReplica self.now.pages.depth replica) }
         ensures frames { IfOk result (HasFrames V1) }
     {
-        let _tables = self.pages.tables();
+        self.frames_are_counted();
         let root = self.pages.root();
         let depth = self.pages.depth();
         match Dump::gather(alloc, &self.pages, root, depth, applied) {

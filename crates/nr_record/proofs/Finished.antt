@@ -4,7 +4,7 @@ use Rattle.std.specs.Prelude.{Option, None, Some, slice_get, option_and_then, fi
 use Rattle.std.specs.Option.{option_map_or}
 use Rattle.std.specs.List.{flat_map, range_with_len}
 use Rattle.std.proofs.lemmas.List.{map-append, get_or-map, get_or_default, length-map, length-replicate}
-use Rattle.std.proofs.lemmas.List.Elements.{All-cons}
+use Rattle.std.proofs.lemmas.List.Elements.{All-cons, All-contains, All-head, All-tail, Contains-get_or}
 use Rattle.std.proofs.lemmas.List.Concat.{flat_map-cons}
 use Rattle.std.proofs.lemmas.List.FromFn.{get_or-range_with_len, length-range_with_len}
 use Rattle.std.proofs.lemmas.Option.{slice_get_within, slice_get-get_or}
@@ -12,6 +12,7 @@ use Rattle.std.proofs.lemmas.Bool.Decides.{Decides-eqb, nat_tests}
 use mathlib.Core.Logic.{dite}
 use native.Mathlib.Decide.{dec_le, ℕ_discrete}
 use Rattle.vs_types.specs.Config.{Layout}
+use Rattle.nr_trace.proofs.LawsOfLists.{All-unmap}
 use Rattle.nr_trace.specs.Recording.{IsEvent}
 use Rattle.nr_trace.specs.declared.event.Event.{Event}
 use Rattle.nr_trace.specs.declared.event.Event.TheVariants.{Call, Reply, Touch}
@@ -24,7 +25,6 @@ use Rattle.nr_record.specs.inside.Placed.{placed}
 use Rattle.nr_record.specs.declared.stamped.Stamped.{Stamped}
 use Rattle.nr_record.proofs.Draws.{once_some, times_append, times_cons, times_item}
 use Rattle.nr_record.proofs.Placing.{all_flat, length_placed, placed_there}
-use Rattle.nr_record.proofs.Seats.{of_first, of_rest}
 
 abbrev pub all_notes : List PenState → List Stamped
 all_notes pens = flat_map (λ pen. pen.made) pens
@@ -41,7 +41,7 @@ stamps_flat (p ∷ ps) =
 once_at_most : (n stamp : ℕ) → once_below n stamp ≤ 1
 once_at_most n stamp = grind (arith, nat_tests)
 
-once_in : (n stamp : ℕ) → stamp < n → once_below n stamp ≡ suc zero
+pub once_in : (n stamp : ℕ) → stamp < n → once_below n stamp ≡ suc zero
 once_in n stamp lt = grind (arith, nat_tests)
 
 pub stamps_below : (made : List Stamped) (n : ℕ) → AreBelow n (stamps made) → All (λ item. item.stamp < n) made
@@ -68,9 +68,6 @@ run_has_notes n filler pens below =
     (stamps_below (all_notes pens) n below') in
     all_flat (λ (item : Stamped). slice_get events item.stamp ≡ Some item.event) (λ (pen : PenState). pen.made) pens
     (placed_there (replicate n filler) (all_notes pens) (λ stamp. omega (arith, below' stamp, once_at_most n stamp)) inside)
-
-of_contains : {X : Type 0} (P : X → Type 0) (xs : List X) (x : X) → All P xs → Contains xs x → P x
-of_contains P xs x all has = subst P has.2 (all has.0 x has.1)
 
 contains_first : {X : Type 0} (x : X) (xs : List X) → Contains (x ∷ xs) x
 contains_first x xs = (zero, omega arith, refl)
@@ -106,9 +103,9 @@ Fits P k events item = (k ≤ item.stamp) × (slice_get events (item.stamp - k) 
 above_none : (stamp : ℕ) (xs : List ℕ) → All (λ s. stamp < s) xs → times stamp xs ≡ 0
 above_none stamp [] above = refl
 above_none stamp (x ∷ xs) above =
-    let first : stamp < x = of_first (λ (s : ℕ). stamp < s) x xs above in
+    let first : stamp < x = All-head (λ (s : ℕ). stamp < s) x xs above in
     let none = not_here x stamp (λ same. omega arith) in
-    let rest = above_none stamp xs (of_rest (λ (s : ℕ). stamp < s) x xs above) in
+    let rest = above_none stamp xs (All-tail (λ (s : ℕ). stamp < s) x xs above) in
     omega (arith, times_cons stamp x xs, none, rest)
 
 fits_next : (P : Event → Bool) (k : ℕ) (e : Event) (events : List Event) (item : Stamped) → k < item.stamp → Fits P k (e ∷ events) item
@@ -117,14 +114,9 @@ fits_next P k e events item lt fits =
     let less : item.stamp - k ≡ suc (item.stamp - suc k) = omega arith in
     (omega arith, subst (λ (n : ℕ). slice_get (e ∷ events) n ≡ Some item.event) less fits.1, fits.2)
 
-rise_made : (n : ℕ) (made : List Stamped) → All (λ s. n < s) (stamps made) → All (λ item. n < item.stamp) made
-rise_made n made above = λ k d lt.
-    let long = length-map made (λ (item : Stamped). item.stamp) in
-    subst (λ (s : ℕ). n < s) (get_or-map (λ (item : Stamped). item.stamp) made k d 0 lt) (above k 0 (omega arith))
-
 fits_rest : (P : Event → Bool) (k : ℕ) (e : Event) (events : List Event) (made : List Stamped) → All (λ s. k < s) (stamps made)
     → All (Fits P k (e ∷ events)) made → All (Fits P (suc k) events) made
-fits_rest P k e events made above fits = λ i d lt. fits_next P k e events (get_or made i d) (rise_made k made above i d lt) (fits i d lt)
+fits_rest P k e events made above fits = λ i d lt. fits_next P k e events (get_or made i d) (All-unmap (λ n. k < n) (λ (item : Stamped). item.stamp) made above i d lt) (fits i d lt)
 
 not_true : (b : Bool) → (b ≡ true → ⊥) → b ≡ false
 not_true true never = absurd (never refl)
@@ -165,14 +157,14 @@ sieve : (P : Event → Bool) (k : ℕ) (events : List Event) (made : List Stampe
     → Only P k events (stamps made) → filter P events ≡ map (λ item. item.event) made
 sieve P k [] [] rise fits only = refl
 sieve P k [] (x ∷ xs) rise fits only =
-    let first : Fits P k [] x = of_first (Fits P k []) x xs fits in
+    let first : Fits P k [] x = All-head (Fits P k []) x xs fits in
     let never : None ≡ Some x.event = first.1 in absurd cc
 sieve P k (e ∷ es) [] rise fits only =
     skipped P e es [] (none_first P k e es [] (λ i d lt. absurd (omega arith)) only)
     (sieve P (suc k) es [] tt (λ i d lt. absurd (omega arith)) (only_rest P k e es [] only))
 sieve P k (e ∷ es) (x ∷ xs) rise fits only =
-    let first : Fits P k (e ∷ es) x = of_first (Fits P k (e ∷ es)) x xs fits in
-    let rest = of_rest (Fits P k (e ∷ es)) x xs fits in
+    let first : Fits P k (e ∷ es) x = All-head (Fits P k (e ∷ es)) x xs fits in
+    let rest = All-tail (Fits P k (e ∷ es)) x xs fits in
     let after = only_rest P k e es (stamps (x ∷ xs)) only in
     dite (ℕ_discrete x.stamp k)
     (λ same.
@@ -194,7 +186,7 @@ own_is layout thread events made (Call replica who request) own has = ap (λ (n 
 own_is layout thread events made (Touch replica who address mode access) own has = absurd own
 own_is layout thread events made (Reply call at answer) own has =
     ap (λ o. option_and_then caller o)
-    (of_contains (λ (item : Stamped). slice_get events item.stamp ≡ Some item.event) made (stamped call (call_by layout thread own.0)) has own.1)
+    (All-contains (λ (item : Stamped). slice_get events item.stamp ≡ Some item.event) made (stamped call (call_by layout thread own.0)) has own.1)
 
 passes : (thread : ℕ) (events : List Event) (event : Event) → thread_of events event ≡ Some thread → is_of thread events event ≡ true
 passes thread events event who =
@@ -230,9 +222,6 @@ times_of made item has =
     get_or-map (λ (other : Stamped). other.stamp) made has.0 item 0 has.1 ∙ ap (λ (other : Stamped). other.stamp) has.2 in
     subst (λ (s : ℕ). 1 ≤ times s (stamps made)) is (times_item (stamps made) has.0 0 (omega (arith, has.1, long)))
 
-item_at : {X : Type 0} (xs : List X) (k : ℕ) (d : X) → k < length xs → Contains xs (get_or xs k d)
-item_at xs k d lt = (k, lt, get_or_default xs k (get_or xs k d) d lt)
-
 -- who drew the stamp of an event, and that the event is what the pen was given with it
 record IsDrawn (pens : List PenState) (stamp : ℕ) (event : Event) : Type 0 where
   pen : PenState
@@ -250,8 +239,8 @@ drawn_by n filler pens stamp event below at =
     let found = pen_of_stamp pens stamp (omega (arith, below stamp, once_in n stamp lt)) in
     let pen = found.0 in
     let item = found.2.0 in
-    let has = of_contains (HasNotes (run_of n filler pens)) pens pen (run_has_notes n filler pens below) found.1 in
-    let there = of_contains (λ (other : Stamped). slice_get (run_of n filler pens) other.stamp ≡ Some other.event) pen.made item has found.2.1 in
+    let has = All-contains (HasNotes (run_of n filler pens)) pens pen (run_has_notes n filler pens below) found.1 in
+    let there = All-contains (λ (other : Stamped). slice_get (run_of n filler pens) other.stamp ≡ Some other.event) pen.made item has found.2.1 in
     let there' : slice_get (run_of n filler pens) stamp ≡ Some item.event =
     subst (λ (s : ℕ). slice_get (run_of n filler pens) s ≡ Some item.event) found.2.2 there in
     let both : Some event ≡ Some item.event = sym at ∙ there' in
@@ -276,12 +265,12 @@ run_by_thread n filler clock pens below all each = λ i d lt.
     (λ j event at holds.
     let drawn = drawn_by n filler pens j event below at in
     let other = drawn.pen in
-    let other_is = of_contains IsTrueOf pens other each drawn.of_pens in
-    let other_has = of_contains (HasNotes events) pens other noted drawn.of_pens in
-    let own = of_contains (λ (item : Stamped). IsOwn other.clock.layout other.thread other.made item.event) other.made drawn.item other_is.own drawn.of_pen in
+    let other_is = All-contains IsTrueOf pens other each drawn.of_pens in
+    let other_has = All-contains (HasNotes events) pens other noted drawn.of_pens in
+    let own = All-contains (λ (item : Stamped). IsOwn other.clock.layout other.thread other.made item.event) other.made drawn.item other_is.own drawn.of_pen in
     let who = own_is other.clock.layout other.thread events other.made drawn.item.event own other_has in
     let who' : thread_of events event ≡ Some other.thread = ap (λ e. thread_of events e) drawn.event_is ∙ who in
-    let same = same_pen clock pens other pen all drawn.of_pens (item_at pens i d lt) (one_thread pen.thread other.thread events event holds who') in
+    let same = same_pen clock pens other pen all drawn.of_pens (Contains-get_or pens i d lt) (one_thread pen.thread other.thread events event holds who') in
     let mine = subst (λ (p : PenState). Contains p.made drawn.item) same drawn.of_pen in
     subst (λ (s : ℕ). 1 ≤ times s (stamps pen.made)) (drawn.stamp_is ∙ from_zero j) (times_of pen.made drawn.item mine))
 
@@ -291,9 +280,9 @@ run_fits n filler clock pens below all each = λ k d lt.
     let events : List Event = run_of n filler pens in
     let event : Event = get_or events k d in
     let drawn = drawn_by n filler pens k event below (slice_get-get_or events k d lt) in
-    let is = of_contains IsTrueOf pens drawn.pen each drawn.of_pens in
-    let fits = of_contains (λ (item : Stamped). IsEvent V2 drawn.pen.clock.layout item.event) drawn.pen.made drawn.item is.events drawn.of_pen in
-    let clock_is = of_contains (λ (p : PenState). p.clock ≡ clock) pens drawn.pen all.of_clock drawn.of_pens in
+    let is = All-contains IsTrueOf pens drawn.pen each drawn.of_pens in
+    let fits = All-contains (λ (item : Stamped). IsEvent V2 drawn.pen.clock.layout item.event) drawn.pen.made drawn.item is.events drawn.of_pen in
+    let clock_is = All-contains (λ (p : PenState). p.clock ≡ clock) pens drawn.pen all.of_clock drawn.of_pens in
     let here = subst (λ (c : ClockId). IsEvent V2 c.layout drawn.item.event) clock_is fits in
     subst (λ e. IsEvent V2 clock.layout e) (sym drawn.event_is) here
 

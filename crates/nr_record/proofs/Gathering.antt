@@ -6,8 +6,7 @@ use Rattle.std.proofs.lemmas.Grind.{flat_map-append}
 use Rattle.std.proofs.lemmas.List.{append-nil}
 use Rattle.std.proofs.lemmas.List.Concat.{flat_map-cons}
 use Rattle.std.proofs.lemmas.List.Sums.{sum_by-cons, sum_by_push}
-use Rattle.std.proofs.lemmas.List.Elements.{All-push, All-cons, All-nil}
-use Rattle.atomic_table.specs.Seated.{TableId}
+use Rattle.std.proofs.lemmas.List.Elements.{All-push, All-cons, All-nil, All-head}
 use Rattle.nr_record.specs.Pen.{PenState, clock_of, stamps_of}
 use Rattle.nr_record.specs.Rule.{joint_seat}
 use Rattle.nr_record.specs.Stamps.{Rise}
@@ -15,7 +14,7 @@ use Rattle.nr_record.specs.inside.Held.{IsHeld, IsTrueOf}
 use Rattle.nr_record.specs.declared.stamped.Stamped.{Stamped}
 use Rattle.nr_record.specs.declared.view.View.{View}
 use Rattle.nr_record.proofs.Placing.{all_right}
-use Rattle.nr_record.proofs.Seats.{of_first}
+use Rattle.atomic_table.specs.Seated.{TableId}
 
 -- some of all pens are done, and these are the others
 pub record IsGathered (all rest : List PenState) (view : View) (kept : List Stamped) : Type 0 where
@@ -64,7 +63,7 @@ gathered_more all rest view other notes pen before quota stamps is = record {
 pub next_of : (P : PenState → Type 0) (all rest : List PenState) (view : View) (notes : List Stamped) (pen : PenState) → All P all
     → IsGathered all (pen ∷ rest) view notes → P pen
 next_of P all rest view notes pen each before =
-    of_first P pen rest (all_right P before.done (pen ∷ rest) (subst (λ ps. All P ps) before.parts each))
+    All-head P pen rest (all_right P before.done (pen ∷ rest) (subst (λ ps. All P ps) before.parts each))
 
 pub all_done : (all : List PenState) (view : View) (notes : List Stamped) (before : IsGathered all [] view notes) → all ≡ before.done
 all_done all view notes before = before.parts ∙ append-nil before.done

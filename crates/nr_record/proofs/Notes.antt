@@ -5,11 +5,12 @@ use Rattle.std.proofs.Math.ListN.{length-append, length-map}
 use Rattle.std.proofs.Math.Seq.{get_or-append_seam}
 use Rattle.std.proofs.lemmas.List.{map-append, get_or-map}
 use Rattle.std.proofs.lemmas.List.Sums.{sum_by-append, sum_by-drop_more}
-use Rattle.std.proofs.lemmas.List.Elements.{All-push, Contains-append_left}
+use Rattle.std.proofs.lemmas.List.Elements.{All-push, Contains-append_left, Contains-push}
 use Rattle.vs_types.specs.Config.{Layout}
 use Rattle.vs_types.specs.Query.{IsQuery}
 use Rattle.vs_types.specs.declared.answer.Answer.{Answer}
 use Rattle.vs_types.specs.declared.request.Query.{Query}
+use Rattle.nr_trace.proofs.LawsOfLists.{All-unmap}
 use Rattle.nr_trace.specs.Recording.{IsEvent}
 use Rattle.nr_trace.specs.declared.event.Event.{Event}
 use Rattle.nr_trace.specs.declared.event.Event.TheVariants.{Call, Reply, Touch}
@@ -21,9 +22,6 @@ use Rattle.nr_record.specs.inside.Held.{HasMade, IsHeld, IsOwn}
 use Rattle.nr_record.specs.declared.stamped.Stamped.{Stamped}
 use Rattle.nr_record.specs.declared.view.View.{View}
 
-contains_last : {A : Type 0} (xs : List A) (x : A) → Contains (xs ++ x ∷ []) x
-contains_last xs x = (length xs, omega (arith, length-append xs (x ∷ [])), get_or-append_seam xs x [] x)
-
 rise_push : (xs : List ℕ) (x : ℕ) → Rise xs → All (λ s. s < x) xs → Rise (xs ++ x ∷ [])
 rise_push [] x rise below = ((λ k d lt. absurd (omega arith)), tt)
 rise_push (s ∷ ss) x rise below =
@@ -31,19 +29,16 @@ rise_push (s ∷ ss) x rise below =
 
 own_more : (layout : Layout) (thread : ℕ) (made : List Stamped) (item : Stamped) (event : Event) → IsOwn layout thread made event
     → IsOwn layout thread (made ++ item ∷ []) event
-own_more layout thread made item (Call replica caller request) own = own
-own_more layout thread made item (Touch replica caller address mode access) own = own
 own_more layout thread made item (Reply call at answer) own = (own.0, Contains-append_left made (item ∷ []) (stamped call (call_by layout thread own.0)) own.1)
+own_more layout thread made item _ own = own
 
 calls_more : (made : List Stamped) (item : Stamped) → calls_in (made ++ item ∷ []) ≡ calls_in made + cond (is_call item.event) 1 0
 calls_more made item = omega (arith, sum_by-append (λ (other : Stamped). cond (is_call other.event) 1 0) made (item ∷ []))
 
 pub later_made : (made : List Stamped) (stamps : List ℕ) (stamp : ℕ) → map (λ item. item.stamp) made ≡ stamps → All (λ s. s < stamp) stamps
     → All (λ item. item.stamp < stamp) made
-later_made made stamps stamp same below = λ k d lt.
-    let is = get_or-map (λ (item : Stamped). item.stamp) made k d 0 lt in
-    let all : All (λ s. s < stamp) (map (λ (item : Stamped). item.stamp) made) = subst (λ (xs : List ℕ). All (λ s. s < stamp) xs) (sym same) below in
-    subst (λ (n : ℕ). n < stamp) is (all k 0 (omega (arith, length-map made (λ (item : Stamped). item.stamp))))
+later_made made stamps stamp same below =
+    All-unmap (λ s. s < stamp) (λ (item : Stamped). item.stamp) made (subst (λ (xs : List ℕ). All (λ s. s < stamp) xs) (sym same) below)
 
 -- a pen that holds its notes has drawn one more stamp, for a call of its thread
 pub held_call : (view after : View) (replica thread stamp room room' : ℕ) (made : List Stamped) (request : Query)
@@ -69,7 +64,7 @@ held_call view after replica thread stamp room room' made request is drawn left 
       events = All-push (λ (other : Stamped). IsEvent V2 layout other.event) made item is.events (is.is_replica, is.is_thread, fits, tt);
       own = All-push (λ (other : Stamped). IsOwn layout thread (made ++ item ∷ []) other.event) made item
           (λ k d lt. own_more layout thread made item (get_or made k d).event (is.own k d lt)) (is.replica_is, refl);
-      is_waiting = (request, subst (λ (n : ℕ). Contains (made ++ item ∷ []) (stamped stamp (Call n thread request))) is.replica_is (contains_last made item));
+      is_waiting = (request, subst (λ (n : ℕ). Contains (made ++ item ∷ []) (stamped stamp (Call n thread request))) is.replica_is (Contains-push made item));
     })
 
 -- and one for the reply to its call

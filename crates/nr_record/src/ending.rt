@@ -14,7 +14,7 @@ use crate::clock::Clock;
 use crate::order::in_order;
 use crate::pen::Pen;
 use crate::stamped::Stamped;
-use nr_trace::{Form, Trace, TraceLayout, Version};
+use nr_trace::{Form, Trace};
 use std::alloc::Global;
 use vs_types::{Config, Memory};
 use vs_walk::Dump;
@@ -87,10 +87,5 @@ pub fn finish(
 {
     let (count, notes) = gather(alloc, clock, pens)?;
     let events = in_order(alloc, count as usize, &notes)?;
-    let version = Version::least(config.depth(), &events);
-    let _tables = config.tables();
-    match Trace::new(version, TraceLayout::of(config), None, log, events, dumps) {
-        Ok(trace) => Ok(trace),
-        Err(_) => unreachable!(),
-    }
+    Ok(Trace::of_run(config, log, events, dumps))
 }

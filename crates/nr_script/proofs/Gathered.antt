@@ -25,7 +25,7 @@ use Rattle.std.specs.declared.vec.Vec.{Vec}
 use Rattle.std.specs.declared.alloc.Global.{Global}
 use Rattle.std.proofs.lemmas.List.Splits.{length-slice_split}
 use Rattle.std.proofs.lemmas.List.Sums.{count_by-le-length}
-use Rattle.std.proofs.lemmas.Slice.Zip.{AllZip-long}
+use Rattle.std.proofs.lemmas.Slice.Zip.{AllZip-long, all_zipped_more}
 use Rattle.std.proofs.Common.{◌==◌, ◌≢◌, append_assoc, filter, get_or, map, set, take}
 use Rattle.std.specs.List.{range_with_len}
 use Rattle.std.proofs.lemmas.Bool.Decides.{nat_tests}
@@ -163,13 +163,6 @@ pub past_steps : (said : List Line) (old : Reading) (step : Step) (it : Line) �
 past_steps said old step it is kept full within =
     omega (arith, ap length (steps_more said it), ap length is, ap length kept.steps_are, within.steps, length-append {A = Step})
 
-pub zip_more : {A B : Type 0} (R : A → B → Type 0) (xs : List A) (ys : List B) (x : A) (y : B) → AllZip R xs ys → R x y
-    → AllZip R (xs ++ x ∷ []) (ys ++ y ∷ [])
-zip_more R [] [] x y all last = (last, tt)
-zip_more R [] (y' ∷ ys) x y all last = absurd all
-zip_more R (x' ∷ xs) [] x y all last = absurd all
-zip_more R (x' ∷ xs) (y' ∷ ys) x y all last = (all.0, zip_more R xs ys x y all.1 last)
-
 few_steps_kept : (said : List Line) (reading : Reading) → IsReadSoFar said reading → length reading.steps.items ≤ SCRIPT_STEPS
 few_steps_kept said reading kept = subst (λ (them : List Step). length them ≤ SCRIPT_STEPS) (sym kept.steps_are) kept.within_limits.steps
 
@@ -229,7 +222,7 @@ line_more depth bytes line left rest number old new up cut it said kept = record
   lines_are = up.lines_are ∙ ap (λ (them : List (List ℕ)). up.done ++ them) cut ∙ moved up.done line (parts_left 10 rest);
   number_is = omega (arith, up.number_is, length-append {A = List ℕ});
   said = up.said ++ it ∷ [];
-  each_says = zip_more (Says depth) up.done up.said line it up.each_says said;
+  each_says = all_zipped_more (Says depth) up.done up.said line it up.each_says said;
   kept = kept;
 }
 

@@ -61,17 +61,7 @@ no_request depth first them rest same other none (says.Step step) said =
 -- no line that says something has more than six words
 few_acts : (act : Act) → length (act_words act) < 3
 few_acts Call = omega arith
-few_acts Post = omega arith
-few_acts (Take replica) = omega arith
-few_acts (Collect from) = omega arith
-few_acts Append = omega arith
-few_acts Advance = omega arith
-few_acts Apply = omega arith
-few_acts (Answer to) = omega arith
-few_acts Release = omega arith
-few_acts Look = omega arith
-few_acts Read = omega arith
-few_acts Reply = omega arith
+few_acts _ = omega arith
 
 few_words : (depth : Depth) (them : List (List ℕ)) (it : Line) → SaysInWords depth them it → length them < 7
 few_words depth them says.PassedOver said = absurd said
@@ -92,13 +82,11 @@ InWords depth line it = SaysInWords depth (words line) it
 by_words : (depth : Depth) (line : List ℕ) (it : Line) → 0 < length line → (get_or line 0 0 ≡ 35 → ⊥) → Says depth line it → InWords depth line it
 by_words depth line says.PassedOver some other (inl empty) = absurd (omega (arith, ap length empty))
 by_words depth line says.PassedOver some other (inr comment) = absurd (other (ap (λ (text : List ℕ). get_or text 0 0) comment.1))
-by_words depth line (says.Request thread query) some other said = said
-by_words depth line (says.Step step) some other said = said
+by_words depth line _ some other said = said
 
 from_words : (depth : Depth) (line : List ℕ) (it : Line) → InWords depth line it → Says depth line it
 from_words depth line says.PassedOver said = absurd said
-from_words depth line (says.Request thread query) said = said
-from_words depth line (says.Step step) said = said
+from_words depth line _ said = said
 
 -- what the first seven words say
 pub found_in_words : (depth : Depth) (line : List ℕ) (kept : List (List ℕ)) → kept ≡ take 7 (words line) → 0 < length line → (get_or line 0 0 ≡ 35 → ⊥)

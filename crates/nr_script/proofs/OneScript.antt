@@ -1,18 +1,22 @@
--- A line says one thing at most, and so a text is one script at most.
-use Rattle.std.proofs.Common.{◌≡◌, ℕ, ◌<◌, ◌==◌, List, [], ◌∷◌, decimal, drop, get_or, refl, sym, ap, ap₂, subst, ◌∙◌, arith}
+-- A line says one thing at most, and so a text is one script at most, or has a bad line.
+use Rattle.std.proofs.Common.{◌≡◌, ℕ, ◌<◌, ◌==◌, ◌++◌, List, [], ◌∷◌, decimal, drop, get_or, inl, inr, length, refl, sym, ap, ap₂, subst, ◌∙◌, arith, append_assoc}
+use Rattle.std.proofs.Common.{length-append}
 use Rattle.std.specs.Prelude.{if◌then◌else◌}
 use Rattle.std.specs.List.{AllZip}
 use Rattle.std.proofs.lemmas.Fmt.{decimal_injective}
+use Rattle.std.proofs.lemmas.Grind.{flat_map-append}
 use Rattle.vs_types.specs.declared.depth.Depth.{Depth}
 use Rattle.vs_types.specs.declared.request.Query.{Query}
+use Rattle.vs_text.specs.Requests.{SpellsQuery}
+use Rattle.vs_text.proofs.OneRequest.{one_request, word_number}
 use Rattle.nr_core.specs.declared.step.Act.{Act}
 use Rattle.nr_core.specs.declared.step.Act.TheVariants.{Call, Post, Take, Collect, Append, Advance, Apply, Answer, Release, Look, Read, Reply}
 use Rattle.nr_core.specs.declared.step.Step.{Step}
 use Rattle.nr_script.specs.Lines.{act_number, act_words, Says, SpellsRequest, SpellsStep}
-use Rattle.vs_text.specs.Requests.{SpellsQuery}
+use Rattle.nr_script.specs.Script.{request_in, step_in, IsBadLine, IsScript, IsWithinLimits}
 use Rattle.nr_script.specs.declared.line.Line.{Line}
 use Rattle.nr_script.specs.declared.line.Line.TheVariants as says
-use Rattle.vs_text.proofs.OneRequest.{one_request, word_number}
+use Rattle.nr_script.specs.declared.script.Script.{Script}
 use Rattle.nr_script.proofs.OneReading.{not_both, not_request, not_step}
 
 -- the letters of its first word say acts apart
@@ -33,31 +37,11 @@ act_at word number =
 
 found_act : (act : Act) → act_at (word_number (get_or (act_words act) 0 [])) (act_number act) ≡ act
 found_act Call = refl
-found_act Post = refl
-found_act (Take replica) = refl
-found_act (Collect from) = refl
-found_act Append = refl
-found_act Advance = refl
-found_act Apply = refl
-found_act (Answer to) = refl
-found_act Release = refl
-found_act Look = refl
-found_act Read = refl
-found_act Reply = refl
+found_act _ = refl
 
 found_number : (act : Act) → get_or (act_words act) 1 (decimal 0) ≡ decimal (act_number act)
 found_number Call = refl
-found_number Post = refl
-found_number (Take replica) = refl
-found_number (Collect from) = refl
-found_number Append = refl
-found_number Advance = refl
-found_number Apply = refl
-found_number (Answer to) = refl
-found_number Release = refl
-found_number Look = refl
-found_number Read = refl
-found_number Reply = refl
+found_number _ = refl
 
 same_number : (n m : ℕ) → n < 64 → m < 64 → decimal n ≡ decimal m → n ≡ m
 same_number n m p q same = decimal_injective n m (omega arith) (omega arith) same
@@ -100,9 +84,57 @@ same_line depth line (says.Step step) (says.Step other) p q = same_step _ step o
 
 pub same_lines : (depth : Depth) (texts : List (List ℕ)) (a b : List Line) → AllZip (Says depth) texts a → AllZip (Says depth) texts b → a ≡ b
 same_lines depth [] [] [] p q = refl
-same_lines depth [] [] (y ∷ b) p q = absurd q
 same_lines depth [] (x ∷ a) b p q = absurd p
 same_lines depth (line ∷ texts) [] b p q = absurd p
-same_lines depth (line ∷ texts) (x ∷ a) [] p q = absurd q
 same_lines depth (line ∷ texts) (x ∷ a) (y ∷ b) p q =
     ap₂ (λ (it : Line) (others : List Line). it ∷ others) (same_line depth line x y p.0 q.0) (same_lines depth texts a b p.1 q.1)
+same_lines depth _ _ _ p q = absurd q
+
+-- ---- so a text of which a line is bad is no script
+
+-- what the lines before one say, what it says, and what those after it say
+record Parted (depth : Depth) (before : List (List ℕ)) (line : List ℕ) (said : List Line) : Type 0 where
+  first : List Line
+  it : Line
+  more : List Line
+  said_is : said ≡ first ++ it ∷ more
+  each_says : AllZip (Says depth) before first
+  says_it : Says depth line it
+
+parted : (depth : Depth) (before : List (List ℕ)) (line : List ℕ) (rest : List (List ℕ)) (said : List Line) → AllZip (Says depth) (before ++ line ∷ rest) said
+    → Parted depth before line said
+parted depth [] line rest [] all = absurd all
+parted depth [] line rest (it ∷ more) all = record { first = []; it = it; more = more; said_is = refl; each_says = tt; says_it = all.0 }
+parted depth (text ∷ before) line rest [] all = absurd all
+parted depth (text ∷ before) line rest (x ∷ said) all =
+    let them = parted depth before line rest said all.1 in
+    record {
+      first = x ∷ them.first;
+      it = them.it;
+      more = them.more;
+      said_is = ap (λ (ys : List Line). x ∷ ys) them.said_is;
+      each_says = (all.0, them.each_says);
+      says_it = them.says_it;
+    }
+
+-- a beginning of what is within the limits is
+shorter : (said first : List Line) (it : Line) (more : List Line) → said ≡ first ++ it ∷ more → IsWithinLimits said → IsWithinLimits (first ++ it ∷ [])
+shorter said first it more is within =
+    let split : first ++ it ∷ more ≡ (first ++ it ∷ []) ++ more = simp append_assoc in
+    let whole : said ≡ (first ++ it ∷ []) ++ more = is ∙ split in
+    let here = subst IsWithinLimits whole within in
+    record {
+      requests = omega (arith, here.requests, ap length (flat_map-append request_in (first ++ it ∷ []) more), length-append {A = ℕ × Query});
+      steps = omega (arith, here.steps, ap length (flat_map-append step_in (first ++ it ∷ []) more), length-append {A = Step});
+    }
+
+pub not_bad : (depth : Depth) (bytes : List ℕ) (script : Script) (number : ℕ) → IsScript depth bytes script → IsBadLine depth bytes number → ⊥
+not_bad depth bytes script number is bad =
+    let them = parted depth bad.before bad.line bad.rest is.said (subst (λ (ls : List (List ℕ)). AllZip (Says depth) ls is.said) bad.lines_are is.each_says) in
+    let same = same_lines depth bad.before them.first bad.said them.each_says bad.each_says in
+    elim bad.is_bad [
+      | inl none ↦ none them.it them.says_it
+      | inr past ↦ past.2 (subst IsWithinLimits
+          (ap₂ (λ (first : List Line) (it : Line). first ++ it ∷ []) same (same_line depth bad.line them.it past.0 them.says_it past.1))
+          (shorter is.said them.first them.it them.more them.said_is is.within_limits))
+    ]

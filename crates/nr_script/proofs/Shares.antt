@@ -23,11 +23,10 @@ IsAsked depth it = (it.0 < 64) × IsQuery depth it.1
 
 all_asked : (depth : Depth) (texts : List (List ℕ)) (said : List Line) → AllZip (Says depth) texts said → AllByRecursion (IsAsked depth) (asked said)
 all_asked depth [] [] all = tt
-all_asked depth [] (it ∷ said) all = absurd all
-all_asked depth (text ∷ texts) [] all = absurd all
 all_asked depth (text ∷ texts) (says.PassedOver ∷ said) all = all_asked depth texts said all.1
 all_asked depth (text ∷ texts) (says.Step step ∷ said) all = all_asked depth texts said all.1
 all_asked depth (text ∷ texts) (says.Request thread query ∷ said) all = ((all.0.thread_fits, all.0.query_is.well_formed), all_asked depth texts said all.1)
+all_asked depth _ _ all = absurd all
 
 highest : (depth : Depth) (them : List (ℕ × Query)) (most : ℕ) → AllByRecursion (IsAsked depth) them → 1 ≤ most → most ≤ 64
     → (1 ≤ fold (λ most it. max most (it.0 + 1)) most them) × (fold (λ most it. max most (it.0 + 1)) most them ≤ 64)

@@ -4,6 +4,7 @@ use Rattle.std.specs.Prelude.{slice_get}
 use Rattle.std.specs.List.{AllZip}
 use Rattle.std.proofs.lemmas.List.{append_assoc, map-append}
 use Rattle.std.proofs.lemmas.Option.{none-some}
+use Rattle.std.proofs.lemmas.Slice.Zip.{AllZip-long}
 use Rattle.vs_types.specs.Query.{IsQuery}
 use Rattle.vs_types.specs.declared.request.Query.{Query}
 use Rattle.nr_ring.specs.Pass.{Known, TableId}
@@ -13,19 +14,6 @@ use Rattle.nr_serve.specs.inside.Calls.{AreServed, IsServed, WorkerState}
 use Rattle.nr_serve.specs.inside.Working.{IsDone, IsReadyJob, JobState, jobs_from}
 
 -- ---- two lists, place by place
-
-pub zipped_push : {A B : Type 0} (R : A → B → Type 0) (xs : List A) (ys : List B) (x : A) (y : B) → AllZip R xs ys → R x y
-    → AllZip R (xs ++ x ∷ []) (ys ++ y ∷ [])
-zipped_push R [] [] x y each here = (here, tt)
-zipped_push R (a ∷ xs) (b ∷ ys) x y each here = (each.0, zipped_push R xs ys x y each.1 here)
-zipped_push R [] (b ∷ ys) x y each here = absurd each
-zipped_push R (a ∷ xs) [] x y each here = absurd each
-
-pub zipped_length : {A B : Type 0} (R : A → B → Type 0) (xs : List A) (ys : List B) → AllZip R xs ys → length ys ≡ length xs
-zipped_length R [] [] each = refl
-zipped_length R (a ∷ xs) (b ∷ ys) each = omega (arith, zipped_length R xs ys each.1)
-zipped_length R [] (b ∷ ys) each = absurd each
-zipped_length R (a ∷ xs) [] each = absurd each
 
 -- one handle is taken from the front, and what it represents put at the end
 pub one_joined : {H : Type 0} (f : H → JobState) (joined : List JobState) (before rest all : List H) (h : H) → before ≡ h ∷ rest
@@ -52,14 +40,9 @@ done_by_clock clock log (j ∷ jobs) (w ∷ workers) ready each = (
   subst (λ (c : ClockId). IsDone c log j w) (ap (λ (p : PenState). p.clock) (ready 0 j (omega arith)).pen_is) each.0,
   done_by_clock clock log jobs workers (λ k d lt. ready (suc k) d (omega (arith, lt))) each.1,
 )
-done_by_clock clock log [] (w ∷ workers) ready each = absurd each
-done_by_clock clock log (j ∷ jobs) [] ready each = absurd each
+done_by_clock clock log _ _ ready each = absurd each
 
 -- ---- jobs
-
-pub map_twice : {A B C : Type 0} (f : B → C) (g : A → B) (xs : List A) → map f (map g xs) ≡ map (λ x. f (g x)) xs
-map_twice f g [] = refl
-map_twice f g (x ∷ xs) = ap (λ l. f (g x) ∷ l) (map_twice f g xs)
 
 pub pens_count : (clock : ClockId) (thread : ℕ) (quotas : List ℕ) → length (new_pens clock thread quotas) ≡ length quotas
 pens_count clock thread [] = refl
@@ -69,13 +52,12 @@ pens_count clock thread (q ∷ quotas) = omega (arith, pens_count clock (thread 
 pub jobs_ready : (clock : ClockId) (log : TableId) (thread : ℕ) (scripts : List (List Query)) (passes : List Known)
     → All (All (IsQuery clock.layout.depth)) scripts → All (λ pass. pass.log ≡ log) passes → thread + length scripts ≤ clock.layout.threads
     → All (IsReadyJob clock log) (jobs_from thread scripts (new_pens clock thread (map (λ script. length script) scripts)) passes)
-jobs_ready clock log thread [] passes fit of few k d lt = absurd (omega (arith, lt))
-jobs_ready clock log thread (s ∷ scripts) [] fit of few k d lt = absurd (omega (arith, lt))
 jobs_ready clock log thread (s ∷ scripts) (p ∷ passes) fit of few zero d lt =
     record { pen_is = refl; of_log = of 0 p (omega arith); is_thread = omega (arith, few); well_formed = fit 0 s (omega arith) }
 jobs_ready clock log thread (s ∷ scripts) (p ∷ passes) fit of few (suc k) d lt =
     jobs_ready clock log (thread + 1) scripts passes (λ i e l. fit (suc i) e (omega (arith, l))) (λ i e l. of (suc i) e (omega (arith, l)))
     (omega (arith, few)) k d (omega (arith, lt))
+jobs_ready clock log thread _ _ fit of few k d lt = absurd (omega (arith, lt))
 
 pub jobs_count : (thread : ℕ) (scripts : List (List Query)) (pens : List PenState) (passes : List Known) → length pens ≡ length scripts
     → length passes ≡ length scripts → length (jobs_from thread scripts pens passes) ≡ length scripts
@@ -109,7 +91,7 @@ pub all_served : (clock : ClockId) (log : TableId) (scripts : List (List Query))
     → length pens ≡ length scripts → length passes ≡ length scripts → AllZip (IsDone clock log) (jobs_from 0 scripts pens passes) workers
     → AreServed clock log scripts workers
 all_served clock log scripts pens passes workers p q each = record {
-  one_each = zipped_length (IsDone clock log) (jobs_from 0 scripts pens passes) workers each ∙ jobs_count 0 scripts pens passes p q;
+  one_each = AllZip-long (IsDone clock log) (jobs_from 0 scripts pens passes) workers each ∙ jobs_count 0 scripts pens passes p q;
   each = λ index script worker here there.
       let n : 0 + index ≡ index = omega arith in
       subst (λ (t : ℕ). IsServed clock log t script worker) n

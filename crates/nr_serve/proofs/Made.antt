@@ -1,10 +1,12 @@
 -- The calls of a trace are those of the threads whose pens it was made of.
+use Rattle.std.proofs.lemmas.Bool.{false≢true}
+use Rattle.std.proofs.lemmas.Simd.{map-map}
 use Rattle.std.proofs.Common.{◌≡◌, ℕ, zero, suc, ◌<◌, ◌≤◌, Bool, true, false, List, [], ◌∷◌, All, Contains, length, get_or, map, eqb, eq-eqb, refl, ap, sym, ◌∙◌, subst, arith}
-use Rattle.std.specs.Prelude.{Option, None, Some, IsSome, slice_get, option_and_then, take, if◌then◌else◌}
+use Rattle.std.specs.Prelude.{Option, None, Some, IsSome, slice_get, option_and_then, take, if◌then◌else◌, option_map}
 use Rattle.std.specs.Option.{option_map_or}
 use Rattle.std.proofs.lemmas.List.{get_or-map, length-map}
 use Rattle.std.proofs.lemmas.List.Elements.{All-contains, All-head, All-map, All-tail}
-use Rattle.std.proofs.lemmas.Option.{get_or_from_slice_get, slice_get-get_or, slice_get_within}
+use Rattle.std.proofs.lemmas.Option.{get_or_from_slice_get, slice_get-get_or, slice_get_within, slice_get-map}
 use Rattle.std.proofs.lemmas.Bool.Decides.{Decides-eqb, nat_tests}
 use Rattle.vs_types.specs.Config.{Layout}
 use Rattle.vs_types.specs.declared.op.Action.{Action}
@@ -12,6 +14,7 @@ use Rattle.vs_types.specs.declared.request.Query.{Query}
 use Rattle.vs_types.specs.declared.request.Query.TheVariants.{Update, Resolve, Access}
 use Rattle.nr_ring.specs.LogHistory.{Log, log_after}
 use Rattle.nr_ring.specs.Pass.{Known, TableId}
+use Rattle.nr_trace.proofs.LawsOfLists.{slice_get-unmap}
 use Rattle.nr_trace.specs.Calls.{Invocation, Response, read_address, call_of, made_by, operation_in, reply_to}
 use Rattle.nr_trace.specs.Recording.{Recording}
 use Rattle.nr_trace.specs.declared.event.Event.{Event}
@@ -20,7 +23,7 @@ use Rattle.nr_record.specs.Events.{HasNotes, caller, events_of}
 use Rattle.nr_record.specs.Pen.{ClockId, PenState, call_by, stamps_of}
 use Rattle.nr_record.specs.Stamps.{Rise, once_below}
 use Rattle.nr_record.specs.declared.stamped.Stamped.{Stamped}
-use Rattle.nr_record.proofs.Finished.{pen_of_stamp}
+use Rattle.nr_record.proofs.Finished.{pen_of_stamp, once_in}
 use Rattle.nr_serve.specs.inside.Calls.{AreServed, IsServed, IsTrueOf, MadeCall, WorkerState}
 use Rattle.nr_serve.specs.Run.{AreCallsOf, HasAllOrStopped, HasSeenAnswers, StopsLast, asked_by, calls_of, said_of}
 use Rattle.nr_serve.specs.inside.Ending.{AreRecorded, pens_of}
@@ -28,11 +31,6 @@ use Rattle.nr_serve.specs.declared.said.Said.{Said}
 use Rattle.nr_serve.specs.declared.said.Said.TheVariants.{Answer, Stopped}
 use Rattle.nr_serve.proofs.Notes.{AreNoted, answers_are, made_calls, note_is_call, numbers, response, rise_numbers, spoken, stamps}
 use Rattle.nr_serve.proofs.Numbers.{passes_below}
-
-pub unmapped : {X Y : Type 0} (f : X → Y) (xs : List X) (k : ℕ) (y : Y) → slice_get (map f xs) k ≡ Some y → (x : X) × (slice_get xs k ≡ Some x) × (f x ≡ y)
-unmapped f [] k y at = absurd cc
-unmapped f (x ∷ xs) zero y at = (x, refl, cc)
-unmapped f (x ∷ xs) (suc k) y at = unmapped f xs k y at
 
 pub present : {X : Type 0} (xs : List X) (k : ℕ) → k < length xs → (x : X) × (slice_get xs k ≡ Some x)
 present [] k lt = absurd (omega arith)
@@ -42,11 +40,6 @@ present (x ∷ xs) (suc k) lt = present xs k (omega arith)
 all_at : {X : Type 0} (P : X → Type 0) (xs : List X) (k : ℕ) (x : X) → All P xs → slice_get xs k ≡ Some x → P x
 all_at P xs k x all at = subst P (get_or_from_slice_get xs k x x at) (all k x (slice_get_within xs k x at))
 
-mapped : {X Y : Type 0} (f : X → Y) (xs : List X) (k : ℕ) (x : X) → slice_get xs k ≡ Some x → slice_get (map f xs) k ≡ Some (f x)
-mapped f [] k x at = absurd cc
-mapped f (y ∷ ys) zero x at = let same : y ≡ x = cc in ap (λ z. Some (f z)) same
-mapped f (y ∷ ys) (suc k) x at = mapped f ys k x at
-
 -- a thread's calls are in the events as its notes say
 noted_of : (clock : ClockId) (log : TableId) (thread : ℕ) (script : List Query) (worker : WorkerState) (workers : List WorkerState) (events : List Event)
     → AreRecorded events (pens_of workers) → slice_get workers thread ≡ Some worker → (served : IsServed clock log thread script worker)
@@ -54,7 +47,7 @@ noted_of : (clock : ClockId) (log : TableId) (thread : ℕ) (script : List Query
 noted_of clock log thread script worker workers events are at served =
     let pens = pens_of workers in
     let pen = worker.pen in
-    let here : slice_get pens thread ≡ Some pen = mapped (λ (w : WorkerState). w.pen) workers thread worker at in
+    let here : slice_get pens thread ≡ Some pen = slice_get-map (λ (w : WorkerState). w.pen) workers thread ∙ ap (option_map (λ (w : WorkerState). w.pen)) at in
     record {
       rising = subst (λ (made : List Stamped). Rise (stamps made)) served.notes (all_at (λ (p : PenState). Rise (stamps_of p)) pens thread pen are.rising here);
       noted = subst (λ (made : List Stamped). All (λ (item : Stamped). slice_get events item.stamp ≡ Some item.event) made) served.notes
@@ -71,17 +64,12 @@ makes thread events call = option_map_or (λ made. eqb made.thread thread) (opti
 abbrev tested : ℕ → Option Event → Bool
 tested thread event = option_map_or (λ (made : Invocation). eqb made.thread thread) (option_and_then made_by event) false
 
-false_true : false ≡ true → ⊥
-false_true e = cc
-
 record IsCallAt (events : List Event) (thread i : ℕ) : Type 0 where
   event : Event
   at : slice_get events i ≡ Some event
   made : caller event ≡ Some thread
 
 called_by : (events : List Event) (thread i : ℕ) → makes thread events i ≡ true → (o : Option Event) → slice_get events i ≡ o → IsCallAt events thread i
-called_by events thread i holds None at = absurd (false_true (sym (ap (tested thread) at) ∙ holds))
-called_by events thread i holds (Some (Reply call place answer)) at = absurd (false_true (sym (ap (tested thread) at) ∙ holds))
 called_by events thread i holds (Some (Call replica who request)) at =
     let test : eqb who thread ≡ true = sym (ap (tested thread) at) ∙ holds in
     let same : who ≡ thread = (Decides-eqb who thread).0 test in
@@ -90,6 +78,7 @@ called_by events thread i holds (Some (Touch replica who address mode access)) a
     let test : eqb who thread ≡ true = sym (ap (tested thread) at) ∙ holds in
     let same : who ≡ thread = (Decides-eqb who thread).0 test in
     record { event = Touch replica who address mode access; at = at; made = ap (λ (t : ℕ). Some t) same }
+called_by events thread i holds _ at = absurd (false≢true (sym (ap (tested thread) at) ∙ holds))
 
 called : (events : List Event) (thread i : ℕ) → makes thread events i ≡ true → IsCallAt events thread i
 called events thread i holds = called_by events thread i holds (slice_get events i) refl
@@ -106,9 +95,6 @@ all_within events layout thread calls are =
     All-map (λ (i : ℕ). i < length events) (λ (call : MadeCall). call.number) calls
     (λ k d lt. slice_get_within events (get_or calls k d).number (call_by layout thread (get_or calls k d).request)
     (made_calls events layout thread calls are k d lt))
-
-once_in : (n stamp : ℕ) → stamp < n → once_below n stamp ≡ suc zero
-once_in n stamp lt = grind (arith, nat_tests)
 
 -- an event that is a call of the thread is one of the calls that its notes say
 only_own : (clock : ClockId) (log : TableId) (scripts : List (List Query)) (workers : List WorkerState) (events : List Event)
@@ -162,10 +148,6 @@ map_both f g (c ∷ cs) all =
     ap (λ y. y ∷ map f (numbers cs)) (All-head (λ (d : MadeCall). f d.number ≡ g d) c cs all)
     ∙ ap (λ ys. g c ∷ ys) (map_both f g cs (All-tail (λ (d : MadeCall). f d.number ≡ g d) c cs all))
 
-map_requests : {Y : Type 0} (f : Query → Y) (calls : List MadeCall) → map (λ c. f c.request) calls ≡ map f (map (λ c. c.request) calls)
-map_requests f [] = refl
-map_requests f (c ∷ cs) = ap (λ ys. f c.request ∷ ys) (map_requests f cs)
-
 said_back : (number : ℕ) (said : Said) → option_map_or (λ reply. Answer reply.at reply.answer) (response number said) Stopped ≡ said
 said_back number (Answer at answer) = refl
 said_back number Stopped = refl
@@ -176,7 +158,7 @@ pub are_calls : (clock : ClockId) (log : TableId) (scripts : List (List Query)) 
     → (thread : ℕ) (script : List Query) (said : List Said) → slice_get scripts thread ≡ Some script
     → slice_get (map (λ w. w.said) workers) thread ≡ Some said → AreCallsOf trace thread script said
 are_calls clock log scripts workers trace all are layout thread script said at_script at_said =
-    let there = unmapped (λ (w : WorkerState). w.said) workers thread said at_said in
+    let there = slice_get-unmap (λ (w : WorkerState). w.said) workers thread said at_said in
     let worker = there.0 in
     let served = all.each thread script worker at_script there.1 in
     let calls = served.calls in
@@ -191,7 +173,7 @@ are_calls clock log scripts workers trace all are layout thread script said at_s
           (λ k d lt.
           ap (λ o. option_and_then made_by o) (made_calls trace.events clock.layout thread calls noted k d lt)
           ∙ ap (λ (l : Layout). Some (asked_by l thread (get_or calls k d).request)) (sym layout))
-          ∙ map_requests asked calls ∙ ap (λ (rs : List Query). map asked rs) served.requests
+          ∙ sym (map-map asked (λ (c : MadeCall). c.request) calls) ∙ ap (λ (rs : List Query). map asked rs) served.requests
           ∙ ap (λ (n : ℕ). map asked (take n script)) long;
       said = sym there.2 ∙ served.said
           ∙ sym (ap (λ (xs : List ℕ). map (said_of trace) xs) is ∙ map_both (said_of trace) (λ (c : MadeCall). c.said) calls
@@ -222,24 +204,17 @@ stands layout log number (Update act) (Answer at answer) is action reply op rep 
     let reply_is : r ≡ reply = cc in
     subst (λ (p : ℕ). slice_get log.entries p ≡ Some (record { call = number; op = action })) (ap (λ (x : Response). x.at) reply_is)
     (is.stands ∙ ap (λ (a : Action). Some (record { call = number; op = a })) same)
-stands layout log number (Update act) Stopped is action reply op rep = absurd cc
-stands layout log number (Resolve address) said is action reply op rep = absurd cc
-stands layout log number (Access address mode access) said is action reply op rep = absurd cc
+stands layout log number _ _ is action reply op rep = absurd cc
 
 -- and an answered read saw no more entries than there are
 known : (layout : Layout) (log : Log) (number : ℕ) (request : Query) (said : Said) → IsTrueOf layout log number request said
     → (reply : Response) → IsSome (read_address request) → response number said ≡ Some reply → reply.at ≤ length log.entries
-known layout log number (Update act) said is reply read rep = absurd (false_true read)
-known layout log number (Resolve address) (Answer at answer) is reply read rep =
+known layout log number (Update act) said is reply read rep = absurd (false≢true read)
+known layout log number _ Stopped is reply read rep = absurd cc
+known layout log number _ (Answer at answer) is reply read rep =
     let r : Response = record { call = number; at = at; answer = answer } in
     let reply_is : r ≡ reply = cc in
     subst (λ (p : ℕ). p ≤ length log.entries) (ap (λ (x : Response). x.at) reply_is) is.known
-known layout log number (Resolve address) Stopped is reply read rep = absurd cc
-known layout log number (Access address mode access) (Answer at answer) is reply read rep =
-    let r : Response = record { call = number; at = at; answer = answer } in
-    let reply_is : r ≡ reply = cc in
-    subst (λ (p : ℕ). p ≤ length log.entries) (ap (λ (x : Response). x.at) reply_is) is.known
-known layout log number (Access address mode access) Stopped is reply read rep = absurd cc
 
 -- a call of the thread, with what is known of it
 record IsKnownCall (trace : Recording) (layout : Layout) (log : Log) (thread call : ℕ) : Type 0 where
@@ -281,7 +256,7 @@ pub have_seen : (clock : ClockId) (log : TableId) (scripts : List (List Query)) 
     → AreServed clock log scripts workers → AreRecorded trace.events (pens_of workers) → trace.layout ≡ clock.layout
     → (thread : ℕ) (pass : Known) → slice_get (map (λ w. w.pass) workers) thread ≡ Some pass → HasSeenAnswers trace thread pass
 have_seen clock log scripts workers trace all are layout thread pass at_pass =
-    let there = unmapped (λ (w : WorkerState). w.pass) workers thread pass at_pass in
+    let there = slice_get-unmap (λ (w : WorkerState). w.pass) workers thread pass at_pass in
     let worker = there.0 in
     let here : log_after clock.layout.replicas worker.pass.view.seen ≡ log_after trace.layout.replicas pass.view.seen =
     ap (λ (l : Layout). log_after l.replicas worker.pass.view.seen) (sym layout)

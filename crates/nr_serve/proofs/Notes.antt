@@ -1,4 +1,5 @@
 -- What the notes of a thread's calls say of the events in which they are.
+use Rattle.std.proofs.lemmas.Bool.{false≢true}
 use Rattle.std.proofs.Common.{◌≡◌, ℕ, zero, suc, ◌<◌, Bool, true, false, List, [], ◌∷◌, ◌++◌, All, Contains, length, get_or, map, cond, eqb, eq-eqb, refl, ap, sym, ◌∙◌, subst, arith, ⊎_elim}
 use Rattle.std.specs.Prelude.{Option, None, Some, slice_get, option_and_then, filter, filter_map, ◌==◌, if◌then◌else◌}
 use Rattle.std.specs.Option.{option_map_or}
@@ -153,21 +154,17 @@ sifted : (is : Event → Bool) (G : Event → Option Response) (events : List Ev
 sifted is G [] silent = refl
 sifted is G (e ∷ es) silent = sifted_step is G e es (silent e) (sifted is G es silent) (is e) refl
 
-false_true : false ≡ true → ⊥
-false_true e = cc
-
 -- no event of another thread answers a call of this one
 others_silent : (events : List Event) (layout : Layout) (thread number : ℕ) (request : Query)
     → slice_get events number ≡ Some (call_by layout thread request) → (e : Event) → is_of thread events e ≡ false → answering number e ≡ None
-others_silent events layout thread number request at (Call replica who asked) fails = refl
-others_silent events layout thread number request at (Touch replica who address mode access) fails = refl
 others_silent events layout thread number request at (Reply call place answer) fails =
     dite (ℕ_discrete call number)
     (λ same.
     let here = ap (λ (k : ℕ). option_map_or (λ (other : ℕ). eqb other thread) (option_and_then caller (slice_get events k)) false) same
     ∙ ap (λ o. option_map_or (λ (other : ℕ). eqb other thread) (option_and_then caller o) false) at ∙ eq-eqb thread thread refl in
-    absurd (false_true (sym fails ∙ here)))
+    absurd (false≢true (sym fails ∙ here)))
     (λ differ. other_call number call place answer differ)
+others_silent events layout thread number request at _ fails = refl
 
 skip_reply : (n number replied : ℕ) (said : Said) (xs : List Stamped) → (number ≡ n → ⊥)
     → filter_map (answering n) (spoken (reply_notes number replied said ++ xs)) ≡ filter_map (answering n) (spoken xs)

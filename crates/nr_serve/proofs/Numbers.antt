@@ -1,5 +1,6 @@
 -- Numbers in a rising list are those below a bound that pass its test.
 use Rattle.std.proofs.Common.{◌≡◌, ℕ, zero, suc, ◌<◌, ◌≤◌, Bool, true, false, List, [], ◌∷◌, ◌++◌, All, Contains, length, get_or, cond, ltb, refl, ap, sym, ◌∙◌, arith}
+use Rattle.std.proofs.lemmas.Bool.{false≢true}
 use Rattle.std.specs.Prelude.{filter}
 use Rattle.std.proofs.lemmas.List.{append-nil}
 use Rattle.std.proofs.lemmas.List.Elements.{filter-append, All-head, All-tail, All-contains}
@@ -70,9 +71,6 @@ item_of [] k d n lt is = absurd (omega arith)
 item_of (x ∷ xs) zero d n lt is = (zero, omega arith, is)
 item_of (x ∷ xs) (suc k) d n lt is = let r = item_of xs k d n (omega arith) is in (suc r.0, omega (arith, r.1), r.2)
 
-false_true : false ≡ true → ⊥
-false_true e = cc
-
 -- what passes a test below n is a rising list cut at n, where just its numbers pass
 filter_cut : (p : ℕ → Bool) (xs : List ℕ) → Rise xs → ((i : ℕ) → p i ≡ true → Contains xs i) → ((i : ℕ) → Contains xs i → p i ≡ true) → (n : ℕ)
     → filter p (below n) ≡ cut n xs
@@ -84,7 +82,7 @@ filter_cut p xs rise only all (suc n) =
       cases before true holds =
           before ∙ ap (λ b. cut n xs ++ cond b (n ∷ []) []) holds ∙ sym (cut_more n xs rise (only n holds))
       cases before false fails =
-          let none : All (λ x. x ≡ n → ⊥) xs = λ k d lt same. absurd (false_true (sym fails ∙ all n (item_of xs k d n lt same))) in
+          let none : All (λ x. x ≡ n → ⊥) xs = λ k d lt same. absurd (false≢true (sym fails ∙ all n (item_of xs k d n lt same))) in
           before ∙ ap (λ b. cut n xs ++ cond b (n ∷ []) []) fails ∙ append-nil (cut n xs) ∙ sym (cut_same n xs none)
 
 -- where just the numbers of a rising list pass a test, and all are below n, these are what passes below n

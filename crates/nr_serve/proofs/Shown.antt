@@ -66,21 +66,19 @@ verified_with (Ok (Verified a t o p)) layout scripts shown answers bytes back pa
       order_is = spelled_with t trace (λ trace. o ≡ recorded_order trace) spelled verdict.3;
       right = right;
     }
-verified_with (Ok (Refused t f)) layout scripts shown answers bytes back passes of_shown of_back same_answers same_bytes same_passes verdict right is = tt
-verified_with (Err e) layout scripts shown answers bytes back passes of_shown of_back same_answers same_bytes same_passes verdict right is = tt
+verified_with _ layout scripts shown answers bytes back passes of_shown of_back same_answers same_bytes same_passes verdict right is = tt
 
 -- and whose bytes are refused
 pub refused_with : {J E : Type 0} (r : Result (Outcome J) E) (layout : Layout) (scripts : List (List Query)) (answers : List (List Said))
     (bytes : List ℕ) (passes : List Known) → IfOk r (IfRunRefused (λ t f. t ≡ bytes)) → IfOk r (IfRunRefused IsFirstOf)
     → IsTraceOf layout scripts answers passes bytes → IfOk r (IfRunRefused (IsRefusedRun layout scripts))
-refused_with (Ok (Verified a t o p)) layout scripts answers bytes passes same_bytes first is = tt
 refused_with (Ok (Refused t f)) layout scripts answers bytes passes same_bytes first is = record {
   answers = answers;
   passes = passes;
   trace_of = subst (λ (x : List ℕ). IsTraceOf layout scripts answers passes x) (sym same_bytes) is;
   first = first;
 }
-refused_with (Err e) layout scripts answers bytes passes same_bytes first is = tt
+refused_with _ layout scripts answers bytes passes same_bytes first is = tt
 
 -- a vector whose elements are written back as they were has them still
 pub back_is : {X Z : Type 0} (v : Vec X Z) (ws : List X) → ws ≡ v.items → (with_items v ws).items ≡ v.items

@@ -1,4 +1,5 @@
 -- The pens and passes that all threads hand back.
+use Rattle.std.proofs.lemmas.Simd.{map-map}
 use Rattle.std.proofs.Common.{◌≡◌, ℕ, ◌+◌, ◌<◌, ◌≤◌, List, [], ◌∷◌, All, length, get_or, map, sum, refl, ap, sym, ◌∙◌, arith}
 use Rattle.std.specs.Prelude.{Some, slice_get}
 use Rattle.std.specs.List.{range_with_len, sum_by}
@@ -82,14 +83,10 @@ all_pens clock log scripts workers all each calls = record {
 }
 
 -- the lengths of the scripts, by the lists that they are seen as
-pub map_items : {V X Y : Type 0} (f : V → X) (h : X → Y) (xs : List V) → map h (map f xs) ≡ map (λ x. h (f x)) xs
-map_items f h [] = refl
-map_items f h (x ∷ xs) = ap (λ ys. h (f x) ∷ ys) (map_items f h xs)
-
 pub sum_lengths : {V : Type 0} (f : V → List Query) (xs : List V) → sum_by (λ script. length script) (map f xs) ≡ sum (map (λ x. length (f x)) xs)
 sum_lengths f xs =
     let length_of = λ (script : List Query). length script in
-    sym (sum-map length_of (map f xs)) ∙ ap (λ (ns : List ℕ). sum ns) (map_items f length_of xs)
+    sym (sum-map length_of (map f xs)) ∙ ap (λ (ns : List ℕ). sum ns) (map-map length_of f xs)
 
 pub all_few : {V : Type 0} (f : V → List Query) (xs : List V) (n : ℕ) → sum_by (λ script. length script) (map f xs) ≤ n → All (λ x. length (f x) ≤ n) xs
 all_few f xs n few = λ k d lt.

@@ -1,12 +1,10 @@
 -- Advance.
-use Rattle.std.proofs.Common.{ℕ, ◌≤◌, nat_lt, ◌&&◌, length, arith}
-use Rattle.nr_core.specs.State.{State, Replica, tail, has_applied_all, with_replica}
-use Rattle.nr_core.specs.Steps.{advance, when}
+use Rattle.std.proofs.Common.{ℕ, ◌≤◌, length, arith}
+use Rattle.nr_core.specs.State.{State, Replica, tail, with_replica}
 use Rattle.nr_core.specs.inside.Reached.{At, IsReached}
 use Rattle.nr_core.proofs.reached.Changes.{completed_rises, replica_changes, still_collected}
-use Rattle.nr_core.proofs.reached.Kept.{Keeps, keeps_by_holder, keeps_when}
 
-advanced : (state : State) (r : ℕ) (replica : Replica) → IsReached state → At state.replicas r replica
+pub advanced : (state : State) (r : ℕ) (replica : Replica) → IsReached state → At state.replicas r replica
     → IsReached (with_replica (record state { completed = tail state }) r (record replica { local = tail state }))
 advanced state r replica reached there =
     let later : Replica = record replica { local = tail state } in
@@ -21,10 +19,3 @@ advanced state r replica reached there =
     (reached.batches r replica there) where
       within : replica.applied ≤ replica.local → replica.local ≤ state.completed → state.completed ≤ length state.log → replica.applied ≤ length state.log
       within a b c = omega arith
-
-pub advance_keeps : (state : State) (t : ℕ) → IsReached state → Keeps (advance state t)
-advance_keeps state t reached =
-    keeps_by_holder state t (λ thread r replica. when (has_applied_all replica && nat_lt replica.local (tail state))
-    (with_replica (record state { completed = tail state }) r (record replica { local = tail state })))
-    (λ thread r replica at there. keeps_when (has_applied_all replica && nat_lt replica.local (tail state)) _
-    (λ test. advanced state r replica reached there))

@@ -1,33 +1,22 @@
 -- Answer.
-use Rattle.std.proofs.Common.{◌≡◌, ℕ, ◌<◌, inl, inr, slice_get, Bool, true, false, cond, nat_eq, ◌==◌, ◌&&◌, not, List, [], ◌∷◌, length, map, filter, Some, option_and_then, refl, ap, sym, ◌∙◌, subst, arith, eqb-true, eq-eqb}
-use Rattle.std.specs.Prelude.{slice_set, ◌%◌, find}
+use Rattle.std.proofs.Common.{◌≡◌, ℕ, ◌<◌, inl, inr, slice_get, Bool, true, false, cond, nat_eq, ◌==◌, ◌&&◌, not, List, [], ◌∷◌, length, map, filter, Some, refl, ap, sym, ◌∙◌, subst, arith, eq-eqb}
+use Rattle.std.specs.Prelude.{slice_set, ◌%◌}
 use Rattle.std.specs.List.{IsDistinct}
 use Rattle.std.proofs.lemmas.Bool.{false≢true}
 use Rattle.std.proofs.lemmas.Option.{same_Some, none-some}
 use Rattle.vs_types.specs.declared.request.Query.TheVariants.{Update}
+use Rattle.nr_trace.specs.Calls.{made_by}
 use Rattle.nr_trace.proofs.LawsOfLists.{In, in_filter, absent_from, absent_not_in}
 use Rattle.nr_core.specs.State.{State, Thread, Replica, with_thread, with_replica}
-use Rattle.nr_core.specs.Steps.{answer, by_thread, noted_for, with_answer, without, is_some_left}
+use Rattle.nr_core.specs.Steps.{without, is_some_left}
 use Rattle.nr_core.specs.declared.stage.Answered.{Answered}
 use Rattle.nr_core.specs.declared.stage.Collected.{Collected}
-use Rattle.nr_core.specs.declared.stage.Stage.{Stage}
 use Rattle.nr_core.specs.declared.stage.Stage.TheVariants.{Taken, Ready}
 use Rattle.nr_core.specs.Laws.{IsTaken}
 use Rattle.nr_core.specs.inside.Reached.{At, call_at, made_of, shared_in, FitsStage, open_in, IsRight, IsCollected, AreCollected, IsReached}
 use Rattle.nr_core.proofs.reached.Places.{each_set, in_map, in_mapped}
-use Rattle.nr_core.proofs.reached.Growth.{call_within, replies_have_calls, right_stays, then_parts}
+use Rattle.nr_core.proofs.reached.Growth.{read_within, replies_have_calls, right_stays}
 use Rattle.nr_core.proofs.reached.Changes.{thread_changes, replica_changes, replica_grows, nothing_grows, still_collected, collected_stays, taken_keeps}
-use Rattle.nr_core.proofs.reached.Kept.{Keeps, keeps_by_holder, keeps_then}
-
-pub found_in : (p : Collected → Bool) (batch : List Collected) (u : Collected) → find p batch ≡ Some u → In u batch × (p u ≡ true)
-found_in p [] u e = absurd (none-some u e)
-found_in p (v ∷ batch) u e = by_test (λ f. found_in p batch u f) (p v) refl e where
-  by_test : (find p batch ≡ Some u → In u batch × (p u ≡ true)) → (b : Bool) → p v ≡ b → cond b (Some v) (find p batch) ≡ Some u
-      → In u (v ∷ batch) × (p u ≡ true)
-  by_test more true h f =
-      let one : v ≡ u = same_Some v u f in
-      (inl one, subst (λ (x : Collected). p x ≡ true) one h)
-  by_test more false h f = let k = more f in (inr k.0, k.1)
 
 distinct_left : (p : Collected → Bool) (batch : List Collected) → IsDistinct nat_eq (map (λ (u : Collected). u.entry.call) batch)
     → IsDistinct nat_eq (map (λ (u : Collected). u.entry.call) (filter p batch))
@@ -53,10 +42,10 @@ unplaced_before false (v ∷ left) u i e = refl
 other_thread : (n s : ℕ) → not (n == s) ≡ true → n ≡ s → ⊥
 other_thread n s e f = false≢true (sym (ap not (eq-eqb n s f)) ∙ e)
 
-answered : (state : State) (r s call : ℕ) (replica : Replica) (other : Thread) (u : Collected) (a : Answered) → IsReached state → At state.replicas r replica
+pub answered : (state : State) (s r call : ℕ) (replica : Replica) (other : Thread) (u : Collected) (a : Answered) → IsReached state → At state.replicas r replica
     → At state.threads s other → In u replica.batch → u.thread ≡ s → u.noted ≡ Some a → other.stage ≡ Taken call
     → IsReached (with_replica (with_thread state s (record other { stage = Ready a })) r (without s replica))
-answered state r s call replica other u a reached there here i of_s noted is =
+answered state s r call replica other u a reached there here i of_s noted is =
     thread_changes (with_replica state r later) s other next first here same fits (λ c e. absurd (none-some c e)) left where
       later : Replica
       later = without s replica
@@ -102,7 +91,7 @@ answered state r s call replica other u a reached there here i of_s noted is =
             (made_of state.layout u.thread (Update u.entry.op)) a.call a.at a.answer
             (replica_grows state r replica later there (omega arith))
             (replies_have_calls state.layout (shared_in state) reached.replies) reached.completed
-            (subst (λ (n : ℕ). n < length state.events) (sym noted_call.0) (call_within state.events u.entry.call _ item.asks)) noted_call.1),
+            (subst (λ (n : ℕ). n < length state.events) (sym noted_call.0) (read_within made_by state.events u.entry.call _ item.asks)) noted_call.1),
       )
 
       not_of_s : (q : ℕ) (x : Replica) (v : Collected) → At (slice_set state.replicas r later) q x → In v x.batch → v.thread ≡ s → ⊥
@@ -116,20 +105,3 @@ answered state r s call replica other u a reached there here i of_s noted is =
           (replies_have_calls state.layout (shared_in (with_replica state r later)) first.replies) first.completed
           (taken_keeps state.threads s v.thread v.entry.call other next here (λ e f. absurd (not_of_s q x v at j e))) (λ h. h)
           (first.collected q x v at j)
-
-pub answer_keeps : (state : State) (t s : ℕ) → IsReached state → Keeps (answer state t s)
-answer_keeps state t s reached =
-    keeps_by_holder state t (λ thread r replica. by_thread state s (λ other.
-    option_and_then (λ a. with_answer state r replica s other a other.stage) (noted_for s replica)))
-    (λ thread r replica at there. keeps_then (slice_get state.threads s)
-    (λ other. option_and_then (λ a. with_answer state r replica s other a other.stage) (noted_for s replica))
-    (λ other here. keeps_then (noted_for s replica) (λ a. with_answer state r replica s other a other.stage)
-    (λ a e. by_stage r replica other a there here
-    (then_parts (λ (u : Collected). u.noted) (find (λ (u : Collected). u.thread == s) replica.batch) a e) other.stage refl))) where
-      by_stage : (r : ℕ) (replica : Replica) (other : Thread) (a : Answered) → At state.replicas r replica → At state.threads s other
-          → (u : Collected) × (find (λ (v : Collected). v.thread == s) replica.batch ≡ Some u) × (u.noted ≡ Some a) → (stage : Stage) → other.stage ≡ stage
-          → Keeps (with_answer state r replica s other a stage)
-      by_stage r replica other a there here (u, found, noted) (Taken call) is =
-          let (i, test) = found_in (λ (v : Collected). v.thread == s) replica.batch u found in
-          answered state r s call replica other u a reached there here i (eqb-true u.thread s test) noted is
-      by_stage r replica other a there here h stage is = tt

@@ -1,19 +1,18 @@
 -- Append.
-use Rattle.std.proofs.Common.{◌≡◌, ℕ, true, false, nat_eq, nat_lt, ◌&&◌, not, List, [], ◌∷◌, ◌++◌, length, map, Some, refl, ap, sym, ◌∙◌, subst, arith}
+use Rattle.std.proofs.Common.{◌≡◌, ℕ, true, false, nat_eq, List, [], ◌∷◌, ◌++◌, length, map, Some, refl, ap, sym, ◌∙◌, subst, arith}
 use Rattle.std.specs.Prelude.{◌%◌}
 use Rattle.std.specs.List.{IsDistinct}
-use Rattle.std.proofs.lemmas.Bool.{and_parts, false≢true, not-true}
+use Rattle.std.proofs.lemmas.Bool.{false≢true}
 use Rattle.vs_types.specs.declared.log_entry.LogEntry.{LogEntry}
 use Rattle.vs_types.specs.declared.request.Query.TheVariants.{Update}
 use Rattle.nr_trace.specs.Calls.{Invocation}
 use Rattle.nr_trace.proofs.LawsOfLists.{In}
 use Rattle.nr_core.specs.State.{State, Thread, Replica, with_replica}
-use Rattle.nr_core.specs.Steps.{append, has_room, when}
 use Rattle.nr_core.specs.declared.stage.Collected.{Collected}
 use Rattle.nr_core.specs.inside.Reached.{At, call_at, made_of, calls_of, waiting_in, IsFresh, IsReached}
 use Rattle.nr_core.proofs.reached.Places.{each_set, in_map}
 use Rattle.nr_core.proofs.reached.Changes.{replica_changes, still_collected, log_grows}
-use Rattle.nr_core.proofs.reached.Kept.{Keeps, keeps_by_holder, keeps_when, waiting_not_collected, same_thread}
+use Rattle.nr_core.proofs.reached.Waiting.{waiting_not_collected, same_thread}
 
 calls_of_entries : (batch : List Collected) → calls_of (map (λ (u : Collected). u.entry) batch) ≡ map (λ (u : Collected). u.entry.call) batch
 calls_of_entries [] = refl
@@ -23,7 +22,7 @@ in_batch : (batch : List Collected) (call : ℕ) → In call (calls_of (map (λ 
     → (u : Collected) × In u batch × (u.entry.call ≡ call)
 in_batch batch call i = in_map (λ (u : Collected). u.entry.call) batch call (subst (In call) (calls_of_entries batch) i)
 
-appended : (state : State) (r : ℕ) (replica : Replica) → IsReached state → At state.replicas r replica → replica.placed ≡ false
+pub appended : (state : State) (r : ℕ) (replica : Replica) → IsReached state → At state.replicas r replica → replica.placed ≡ false
     → IsReached (with_replica (record state { log = state.log ++ map (λ update. update.entry) replica.batch }) r (record replica { placed = true }))
 appended state r replica reached there unplaced = log_grows (with_replica state r later) (map (λ (u : Collected). u.entry) replica.batch) first (record {
   asked = λ entry i. asked entry (in_map (λ (u : Collected). u.entry) replica.batch entry i);
@@ -69,12 +68,3 @@ appended state r replica reached there unplaced = log_grows (with_replica state 
       let same = same_thread state u.entry.call v.entry.call u.thread v.thread (made_of state.layout u.thread (Update u.entry.op)) e refl
       (made_of state.layout v.thread (Update v.entry.op)) refl of_r.asks of_q.asks in
       out (sym of_q.home ∙ ap (λ n. n % state.layout.replicas) (sym same) ∙ of_r.home)
-
-pub append_keeps : (state : State) (t : ℕ) → IsReached state → Keeps (append state t)
-append_keeps state t reached =
-    keeps_by_holder state t (λ thread r replica.
-    when (nat_lt 0 (length replica.batch) && not replica.placed && has_room state (length replica.batch))
-    (with_replica (record state { log = state.log ++ map (λ update. update.entry) replica.batch }) r (record replica { placed = true })))
-    (λ thread r replica at there. keeps_when (nat_lt 0 (length replica.batch) && not replica.placed && has_room state (length replica.batch)) _
-    (λ test. appended state r replica reached there (not-true replica.placed ((and_parts (nat_lt 0 (length replica.batch)) (not replica.placed)
-    ((and_parts (nat_lt 0 (length replica.batch) && not replica.placed) (has_room state (length replica.batch)) test).0)).1))))

@@ -1,43 +1,35 @@
 -- Apply.
-use Rattle.std.proofs.Common.{◌≡◌, ℕ, ◌+◌, ◌<◌, ◌≤◌, slice_get, Bool, true, false, nat_eq, nat_lt, ◌==◌, List, [], ◌∷◌, ◌++◌, map, take, Option, Some, option_to_list, option_and_then, refl, ap, ap₂, sym, ◌∙◌, subst, arith, add-one, eqb-true}
+use Rattle.std.proofs.Common.{◌≡◌, ℕ, ◌+◌, ◌<◌, ◌≤◌, slice_get, Bool, true, false, nat_eq, ◌==◌, List, [], ◌∷◌, ◌++◌, map, take, Some, refl, ap, ap₂, sym, ◌∙◌, subst, arith, eqb-true}
 use Rattle.std.specs.Prelude.{slice_set, if◌then◌else◌}
 use Rattle.std.specs.List.{IsDistinct}
-use Rattle.std.proofs.lemmas.Bool.{ltb-true}
-use Rattle.std.proofs.lemmas.List.{map-append}
+use Rattle.std.proofs.lemmas.List.{take-map}
 use Rattle.std.proofs.lemmas.Option.{same_Some}
+use Rattle.vs_types.proofs.Afterwards.{after_next}
 use Rattle.vs_types.specs.Config.{Layout}
 use Rattle.vs_types.specs.Space.{Space, no_pages}
 use Rattle.vs_types.specs.Step.{step, after_all}
-use Rattle.vs_types.specs.declared.depth.Depth.{Depth}
 use Rattle.vs_types.specs.declared.log_entry.LogEntry.{LogEntry}
 use Rattle.vs_types.specs.declared.op.Action.{Action}
 use Rattle.vs_types.specs.declared.request.Query.TheVariants.{Update}
 use Rattle.nr_trace.specs.Calls.{Invocation, operation_in}
-use Rattle.nr_trace.proofs.LawsOfLists.{In, take-next}
+use Rattle.nr_trace.proofs.LawsOfLists.{In}
 use Rattle.nr_core.specs.State.{State, Replica, with_replica}
-use Rattle.nr_core.specs.Steps.{apply, when, note, with_entry}
+use Rattle.nr_core.specs.Steps.{note, with_entry}
 use Rattle.nr_core.specs.declared.stage.Answered.{Answered}
 use Rattle.nr_core.specs.declared.stage.Collected.{Collected}
 use Rattle.nr_core.specs.inside.Reached.{At, call_at, made_of, space_at, shared_in, IsRight, IsCollected, IsReplicaOf, IsReached}
-use Rattle.nr_core.proofs.reached.Places.{at_set, in_map}
+use Rattle.nr_core.proofs.reached.Places.{at_set, in_map, at_mapped}
 use Rattle.nr_core.proofs.reached.Changes.{replica_changes, still_collected}
-use Rattle.nr_core.proofs.reached.Kept.{Keeps, keeps_by_holder, keeps_then, keeps_when}
 
 -- ---- the space after one entry more
-
-after_more : (depth : Depth) (limit : ℕ) (space : Space) (first more : List Action)
-    → after_all depth limit space (first ++ more) ≡ after_all depth limit (after_all depth limit space first) more
-after_more depth limit space [] more = refl
-after_more depth limit space (action ∷ first) more = after_more depth limit (step depth limit space action).space first more
 
 space_goes_on : (layout : Layout) (log : List LogEntry) (n : ℕ) (entry : LogEntry) → At log n entry
     → space_at layout log (n + 1) ≡ (step layout.depth layout.tables (space_at layout log n) entry.op).space
 space_goes_on layout log n entry e =
-    ap (space_at layout log) (add-one n)
-    ∙ ap (λ (entries : List LogEntry). after_all layout.depth layout.tables no_pages (map (λ (x : LogEntry). x.op) entries))
-    (take-next n log ∙ ap (λ (o : Option LogEntry). take n log ++ option_to_list o) e)
-    ∙ ap (after_all layout.depth layout.tables no_pages) (map-append (λ (x : LogEntry). x.op) (take n log) (entry ∷ []))
-    ∙ after_more layout.depth layout.tables no_pages (map (λ (x : LogEntry). x.op) (take n log)) (entry.op ∷ [])
+    let op : LogEntry → Action = λ x. x.op in
+    ap (after_all layout.depth layout.tables no_pages) (sym (take-map op (n + 1) log))
+    ∙ after_next layout.depth layout.tables n (map op log) entry.op (at_mapped op log n entry e)
+    ∙ ap (λ actions. (step layout.depth layout.tables (after_all layout.depth layout.tables no_pages actions) entry.op).space) (take-map op n log)
 
 -- ---- notes
 
@@ -51,7 +43,7 @@ noted_calls : (a : Answered) (batch : List Collected) → map (λ (u : Collected
 noted_calls a [] = refl
 noted_calls a (u ∷ batch) = ap₂ ◌∷◌ (note_call a u) (noted_calls a batch)
 
-applied : (state : State) (r : ℕ) (replica : Replica) (entry : LogEntry) → IsReached state → At state.replicas r replica
+pub applied : (state : State) (r : ℕ) (replica : Replica) (entry : LogEntry) → IsReached state → At state.replicas r replica
     → At state.log replica.applied entry → replica.applied < replica.local
     → IsReached (with_replica state r (with_entry state replica entry))
 applied state r replica entry reached there stands less =
@@ -131,12 +123,3 @@ applied state r replica entry reached there stands less =
       each v (u, i, e) = subst (λ (x : Collected).
           IsCollected state.layout (shared_in (with_replica state r later)) state.threads r replica.placed x) e
           (noted u i (u.entry.call == a.call) refl)
-
-pub apply_keeps : (state : State) (t : ℕ) → IsReached state → Keeps (apply state t)
-apply_keeps state t reached =
-    keeps_by_holder state t (λ thread r replica. option_and_then (go r replica) (slice_get state.log replica.applied))
-    (λ thread r replica at there. keeps_then (slice_get state.log replica.applied) (go r replica)
-    (λ entry stands. keeps_when (nat_lt replica.applied replica.local) _
-    (λ test. applied state r replica entry reached there stands (ltb-true replica.applied replica.local test)))) where
-      go : ℕ → Replica → LogEntry → Option State
-      go r replica entry = when (nat_lt replica.applied replica.local) (with_replica state r (with_entry state replica entry))

@@ -8,7 +8,7 @@ use Rattle.std.proofs.lemmas.Option.{same_Some}
 use Rattle.vs_types.specs.Config.{Layout}
 use Rattle.vs_types.specs.declared.log_entry.LogEntry.{LogEntry}
 use Rattle.vs_types.specs.declared.request.Query.TheVariants.{Update}
-use Rattle.nr_trace.specs.Calls.{Invocation}
+use Rattle.nr_trace.specs.Calls.{made_by, Invocation}
 use Rattle.nr_trace.specs.declared.event.Event.{Event}
 use Rattle.nr_trace.proofs.LawsOfLists.{In, in_either, distinct_append}
 use Rattle.nr_core.specs.State.{State, Thread, Replica, with_thread, with_replica}
@@ -19,7 +19,7 @@ use Rattle.nr_core.specs.Laws.{IsTaken}
 use Rattle.nr_core.specs.inside.Reached.{At, call_at, RepliesTo, made_of, Behind, calls_of, Shared, shared_in, IsRight, FitsStage, open_in, waiting_in}
 use Rattle.nr_core.specs.inside.Reached.{IsUnanswered, HasOpen, IsFresh, IsCollected, IsReplicaOf, AreCalls, AreCollected, IsReached}
 use Rattle.nr_core.proofs.reached.Places.{each_set, at_set, at_other, at_front, at_either}
-use Rattle.nr_core.proofs.reached.Growth.{Longer, Grows, HaveCalls, call_within, call_stays, replies_have_calls, behind_completed, behind_more, space_stays, right_stays}
+use Rattle.nr_core.proofs.reached.Growth.{Longer, Grows, HaveCalls, read_within, read_stays, replies_have_calls, behind_completed, behind_more, space_stays, right_stays}
 use Rattle.nr_core.proofs.reached.Growth.{stage_fits, replies_stay}
 
 pub same_events : (events : List Event) → Longer events events
@@ -75,7 +75,7 @@ pub collected_stays : (layout : Layout) (before after : Shared) (threads threads
 collected_stays layout before after threads threads' r placed placed' update grows have l taken fresh h = record {
   home = h.home;
   taken = taken h.taken;
-  asks = call_stays before.events after.events update.entry.call _ grows.longer h.asks;
+  asks = read_stays made_by before.events after.events update.entry.call _ grows.longer h.asks;
   noted = λ a e. later a (h.noted a e);
   fresh = fresh h.fresh;
 } where
@@ -84,7 +84,7 @@ collected_stays layout before after threads threads' r placed placed' update gro
   later a (is, right) = (
     is,
     right_stays layout before after (made_of layout update.thread (Update update.entry.op)) a.call a.at a.answer grows have l
-        (subst (λ (n : ℕ). n < length before.events) (sym is) (call_within before.events update.entry.call _ h.asks)) right,
+        (subst (λ (n : ℕ). n < length before.events) (sym is) (read_within made_by before.events update.entry.call _ h.asks)) right,
   )
 
 -- nothing goes on but one thread

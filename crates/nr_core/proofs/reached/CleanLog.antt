@@ -11,10 +11,11 @@ use Rattle.nr_trace.specs.Laws.{HasCleanLog}
 use Rattle.nr_trace.specs.declared.version.Version.{Version}
 use Rattle.nr_trace.specs.declared.fault.Fault.TheVariants.{ThreadOpen, NotPlaced, PastLog}
 use Rattle.nr_trace.proofs.LawsOfCalls.{is_some_from, the_some}
+use Rattle.nr_core.proofs.reached.Places.{at_mapped}
 use Rattle.nr_core.specs.State.{State}
 use Rattle.nr_core.specs.inside.Reached.{At, call_at, calls_of, IsReached}
 use Rattle.nr_core.proofs.reached.Growth.{then_parts, then_from, at_within_reach}
-use Rattle.nr_core.proofs.reached.Recorded.{recording, answered_to, answers_to, at_map, at_mapped, distinct_apart}
+use Rattle.nr_core.proofs.reached.Recorded.{recording, answered_to, answers_to, at_map, distinct_apart}
 
 -- the operation of an update among the calls
 pub operation_at : (state : State) (version : Version) (dumps : List Image) (call : ℕ) (made : Invocation) (action : Action)
@@ -22,8 +23,8 @@ pub operation_at : (state : State) (version : Version) (dumps : List Image) (cal
     → operation_of (recording state version dumps) call ≡ Some action
 operation_at state version dumps call made action e f = then_from (λ (m : Invocation). operation_in m.request) (call_at state.events call) made action e f
 
-clean : (state : State) (version : Version) (dumps : List Image) → IsReached state → HasCleanLog (recording state version dumps)
-clean state version dumps reached = record {
+pub clean_log : (state : State) (version : Version) (dumps : List Image) → IsReached state → HasCleanLog (recording state version dumps)
+clean_log state version dumps reached = record {
   no_thread_open = thread_open;
   no_such_call = λ index h. let (made, before, is, right) = reached.replies index h.0 h.1 in h.2 (before, is_some_from (call_at state.events h.0.call) made is);
   none_twice = λ index h. reached.calls.once h.2.0 index h.0.call h.2.1 (answered_to state version dumps h.2.0 h.0.call h.2.2) (h.0, h.1, refl);
@@ -60,6 +61,3 @@ clean state version dumps reached = record {
         beyond : {r : ℕ} → reply.at ≤ r → r ≤ state.completed → state.completed ≤ length state.log → length (calls_of state.log) ≡ length state.log
             → length (calls_of state.log) < reply.at → ⊥
         beyond a b c d f = omega arith
-
-pub clean_log : (state : State) (version : Version) (dumps : List Image) → IsReached state → HasCleanLog (recording state version dumps)
-clean_log = clean

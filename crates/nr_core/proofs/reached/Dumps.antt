@@ -12,18 +12,19 @@ use Rattle.vs_walk.specs.Dump.{Image}
 use Rattle.vs_walk.specs.Walk.{as_walk}
 use Rattle.vs_walk.specs.Traversal.{walk_fault}
 use Rattle.vs_walk.specs.declared.walk.WalkFault.{WalkFault}
+use Rattle.nr_trace.specs.Recording.{IsThere}
 use Rattle.nr_trace.specs.Calls.{Invocation}
 use Rattle.nr_trace.specs.Orders.{space_after}
 use Rattle.nr_trace.specs.Faults.{HasFault}
 use Rattle.nr_trace.specs.declared.version.Version.{Version}
-use Rattle.nr_trace.specs.declared.fault.Fault.TheVariants.{PrefixPastLog, PrefixShort, MissingFrame, SharedFrame, ReservedBit, StrayFrame, Differs}
+use Rattle.nr_trace.specs.declared.fault.Fault.TheVariants.{PrefixPastLog, PrefixShort, StrayFrame, Differs}
 use Rattle.nr_core.specs.State.{State, Replica}
 use Rattle.nr_core.specs.Run.{IsDumpOfReplica}
 use Rattle.nr_core.specs.inside.Reached.{At, calls_of, IsReached}
 use Rattle.nr_core.proofs.reached.Recorded.{recording, known_is_reach}
 use Rattle.nr_core.proofs.reached.RightAnswers.{space_of_log}
 
-abbrev AreDumps : State → List Image → Type 0
+abbrev pub AreDumps : State → List Image → Type 0
 AreDumps state dumps = AllZip (IsDumpOfReplica state.layout.depth) state.replicas dumps
 
 pub the_replica : (state : State) (dumps : List Image) (r : ℕ) (dump : Image) → AreDumps state dumps → At dumps r dump
@@ -61,27 +62,12 @@ none_short state version dumps r reached are (dump, at, is_there, rests) =
     let more = rests.more in
     absurd (omega arith)
 
-no_fault : (dump : Image) (replica : Replica) (state : State) (fault : WalkFault) → IsDumpOfReplica state.layout.depth replica dump
-    → walk_fault state.layout.depth dump.frames dump.root ≡ Some fault → ⊥
-no_fault dump replica state fault is e = none-some fault (sym is.faultless ∙ e)
-
-pub none_missing : (state : State) (version : Version) (dumps : List Image) (r number : ℕ) → AreDumps state dumps
-    → HasFault (recording state version dumps) (MissingFrame r number) → ⊥
-none_missing state version dumps r number are (dump, at, is_there, h) =
+-- of the faults that a walk meets
+pub none_in_walk : (state : State) (dumps : List Image) (r : ℕ) (fault : WalkFault) → AreDumps state dumps
+    → (dump : Image) × At dumps r dump × IsThere dump × (walk_fault state.layout.depth dump.frames dump.root ≡ Some fault) → ⊥
+none_in_walk state dumps r fault are (dump, at, is_there, h) =
     let (replica, there, is) = the_replica state dumps r dump are at in
-    no_fault dump replica state _ is h
-
-pub none_shared : (state : State) (version : Version) (dumps : List Image) (r number : ℕ) → AreDumps state dumps
-    → HasFault (recording state version dumps) (SharedFrame r number) → ⊥
-none_shared state version dumps r number are (dump, at, is_there, h) =
-    let (replica, there, is) = the_replica state dumps r dump are at in
-    no_fault dump replica state _ is h
-
-pub none_reserved : (state : State) (version : Version) (dumps : List Image) (r number index : ℕ) → AreDumps state dumps
-    → HasFault (recording state version dumps) (ReservedBit r number index) → ⊥
-none_reserved state version dumps r number index are (dump, at, is_there, h) =
-    let (replica, there, is) = the_replica state dumps r dump are at in
-    no_fault dump replica state _ is h
+    none-some fault (sym is.faultless ∙ h)
 
 pub none_stray : (state : State) (version : Version) (dumps : List Image) (r number : ℕ) → AreDumps state dumps
     → HasFault (recording state version dumps) (StrayFrame r number) → ⊥

@@ -27,50 +27,35 @@ then_parts f (Some x) y e = (x, refl, e)
 pub then_from : {A B : Type 0} (f : A → Option B) (o : Option A) (x : A) (y : B) → o ≡ Some x → f x ≡ Some y → option_and_then f o ≡ Some y
 then_from f o x y e h = ap (option_and_then f) e ∙ h
 
-pub call_within : (events : List Event) (call : ℕ) (made : Invocation) → call_at events call ≡ Some made → call < length events
-call_within events call made e =
-    let (event, at, is) = then_parts made_by (slice_get events call) made e in
-    slice_get_within events call event at
+-- what a function of events gives of the one at an index: a call, or a reply
+abbrev pub read_at : {B : Type 0} → (Event → Option B) → List Event → ℕ → Option B
+read_at f events i = option_and_then f (slice_get events i)
 
-pub reply_within : (events : List Event) (index : ℕ) (reply : Response) → reply_at events index ≡ Some reply → index < length events
-reply_within events index reply e =
-    let (event, at, is) = then_parts reply_in (slice_get events index) reply e in
-    slice_get_within events index event at
+pub read_within : {B : Type 0} (f : Event → Option B) (events : List Event) (i : ℕ) (y : B) → read_at f events i ≡ Some y → i < length events
+read_within f events i y e = let (event, at, is) = then_parts f (slice_get events i) y e in slice_get_within events i event at
 
 pub record Longer (events later : List Event) : Type 0 where
   pub stays : (i : ℕ) (event : Event) → At events i event → At later i event
   pub stood : (i : ℕ) (event : Event) → i < length events → At later i event → At events i event
 
-pub call_stays : (events later : List Event) (call : ℕ) (made : Invocation) → Longer events later → call_at events call ≡ Some made
-    → call_at later call ≡ Some made
-call_stays events later call made longer e =
-    let (event, at, is) = then_parts made_by (slice_get events call) made e in
-    then_from made_by (slice_get later call) event made (longer.stays call event at) is
+pub read_stays : {B : Type 0} (f : Event → Option B) (events later : List Event) (i : ℕ) (y : B) → Longer events later → read_at f events i ≡ Some y
+    → read_at f later i ≡ Some y
+read_stays f events later i y longer e =
+    let (event, at, is) = then_parts f (slice_get events i) y e in
+    then_from f (slice_get later i) event y (longer.stays i event at) is
 
-pub call_stood : (events later : List Event) (call : ℕ) (made : Invocation) → Longer events later → call < length events → call_at later call ≡ Some made
-    → call_at events call ≡ Some made
-call_stood events later call made longer l e =
-    let (event, at, is) = then_parts made_by (slice_get later call) made e in
-    then_from made_by (slice_get events call) event made (longer.stood call event l at) is
-
-pub reply_stays : (events later : List Event) (index : ℕ) (reply : Response) → Longer events later → reply_at events index ≡ Some reply
-    → reply_at later index ≡ Some reply
-reply_stays events later index reply longer e =
-    let (event, at, is) = then_parts reply_in (slice_get events index) reply e in
-    then_from reply_in (slice_get later index) event reply (longer.stays index event at) is
-
-pub reply_stood : (events later : List Event) (index : ℕ) (reply : Response) → Longer events later → index < length events → reply_at later index ≡ Some reply
-    → reply_at events index ≡ Some reply
-reply_stood events later index reply longer l e =
-    let (event, at, is) = then_parts reply_in (slice_get later index) reply e in
-    then_from reply_in (slice_get events index) event reply (longer.stood index event l at) is
+pub read_stood : {B : Type 0} (f : Event → Option B) (events later : List Event) (i : ℕ) (y : B) → Longer events later → i < length events
+    → read_at f later i ≡ Some y → read_at f events i ≡ Some y
+read_stood f events later i y longer l e =
+    let (event, at, is) = then_parts f (slice_get later i) y e in
+    then_from f (slice_get events i) event y (longer.stood i event l at) is
 
 pub answer_stays : (events later : List Event) (index call : ℕ) → Longer events later → RepliesTo events index call → RepliesTo later index call
-answer_stays events later index call longer h = (h.0, reply_stays events later index h.0 longer h.1, h.2)
+answer_stays events later index call longer h = (h.0, read_stays reply_in events later index h.0 longer h.1, h.2)
 
 pub answer_stood : (events later : List Event) (index call : ℕ) → Longer events later → index < length events → RepliesTo later index call
     → RepliesTo events index call
-answer_stood events later index call longer l h = (h.0, reply_stood events later index h.0 longer l h.1, h.2)
+answer_stood events later index call longer l h = (h.0, read_stood reply_in events later index h.0 longer l h.1, h.2)
 
 -- each reply is to a call
 abbrev pub HaveCalls : List Event → Type 0
@@ -84,9 +69,9 @@ replies_have_calls layout shared replies index reply e =
 pub behind_stays : (events later : List Event) (call n : ℕ) → Longer events later → HaveCalls events → call ≤ length events → Behind events call n
     → Behind later call n
 behind_stays events later call n longer have l h index reply made less e f =
-    let g = reply_stood events later index reply longer (omega arith) e in
+    let g = read_stood reply_in events later index reply longer (omega arith) e in
     let (first, is) = have index reply g in
-    let same : first ≡ made = same_Some first made (sym (call_stays events later reply.call first longer is) ∙ f) in
+    let same : first ≡ made = same_Some first made (sym (read_stays made_by events later reply.call first longer is) ∙ f) in
     subst (λ (m : Invocation). reach m.request reply.at ≤ n) same (h index reply first less g is)
 
 pub behind_more : (events : List Event) (call m n : ℕ) → m ≤ n → Behind events call m → Behind events call n
@@ -151,27 +136,26 @@ right_stays layout before after made call n answer grows have l within right = r
 
 pub stage_fits : (layout : Layout) (before after : Shared) (t : ℕ) (stage : Stage) → Grows before after → HaveCalls before.events
     → before.completed ≤ length before.log → FitsStage layout before t stage → FitsStage layout after t stage
-stage_fits layout before after t Idle grows have l fits = fits
-stage_fits layout before after t (Called call request) grows have l fits = call_stays before.events after.events call _ grows.longer fits
-stage_fits layout before after t (Posted call action) grows have l fits = call_stays before.events after.events call _ grows.longer fits
-stage_fits layout before after t (Taken call) grows have l fits = fits
+stage_fits layout before after t (Called call request) grows have l fits = read_stays made_by before.events after.events call _ grows.longer fits
+stage_fits layout before after t (Posted call action) grows have l fits = read_stays made_by before.events after.events call _ grows.longer fits
 stage_fits layout before after t (Ready a) grows have l (request, asks, right) = (
   request,
-  call_stays before.events after.events a.call _ grows.longer asks,
-  right_stays layout before after (made_of layout t request) a.call a.at a.answer grows have l (call_within before.events a.call _ asks) right,
+  read_stays made_by before.events after.events a.call _ grows.longer asks,
+  right_stays layout before after (made_of layout t request) a.call a.at a.answer grows have l (read_within made_by before.events a.call _ asks) right,
 )
 stage_fits layout before after t (Looked call request noted) grows have l (asks, reads, behind) = (
-  call_stays before.events after.events call _ grows.longer asks,
+  read_stays made_by before.events after.events call _ grows.longer asks,
   reads,
-  behind_stays before.events after.events call noted grows.longer have (weak (call_within before.events call _ asks)) behind,
+  behind_stays before.events after.events call noted grows.longer have (weak (read_within made_by before.events call _ asks)) behind,
 ) where
   weak : call < length before.events → call ≤ length before.events
   weak h = omega arith
 stage_fits layout before after t (HasRead a) grows have l (request, asks, right) = (
   request,
-  call_stays before.events after.events a.call _ grows.longer asks,
-  right_stays layout before after (made_of layout t request) a.call a.at a.answer grows have l (call_within before.events a.call _ asks) right,
+  read_stays made_by before.events after.events a.call _ grows.longer asks,
+  right_stays layout before after (made_of layout t request) a.call a.at a.answer grows have l (read_within made_by before.events a.call _ asks) right,
 )
+stage_fits layout before after t _ grows have l fits = fits
 
 -- ---- replies
 
@@ -181,7 +165,7 @@ replies_stay layout before after same grows l replies index reply e =
     let (made, earlier, is, right) = replies index reply (ap (λ events. reply_at events index) same ∙ e) in (
       made,
       earlier,
-      call_stays before.events after.events reply.call made grows.longer is,
+      read_stays made_by before.events after.events reply.call made grows.longer is,
       right_stays layout before after made reply.call reply.at reply.answer grows (replies_have_calls layout before replies) l
-          (call_within before.events reply.call made is) right,
+          (read_within made_by before.events reply.call made is) right,
     )

@@ -1,28 +1,18 @@
 -- A thread holds a replica's lock exactly where the replica says that this thread does.
-use Rattle.std.proofs.Common.{◌≡◌, ℕ, zero, suc, ◌⊎◌, inl, inr, List, [], ◌∷◌, ◌++◌, length, map, replicate, slice_get, ◌&&◌, nat_lt, nat_le, true, Option, Some, None, option_and_then, refl, ap, sym, ◌∙◌, subst}
-use Rattle.std.specs.Prelude.{slice_set, ◌==◌, is_none}
-use Rattle.std.proofs.lemmas.Bool.{and_parts, cases_eq, false≢true}
+use Rattle.std.proofs.Common.{◌≡◌, ℕ, zero, suc, ◌⊎◌, inl, inr, List, [], ◌∷◌, ◌++◌, length, map, replicate, slice_get, true, Option, Some, None, option_and_then, refl, ap, sym, ◌∙◌, subst}
+use Rattle.std.specs.Prelude.{slice_set, is_none}
+use Rattle.std.proofs.lemmas.Bool.{cases_eq, false≢true}
 use Rattle.std.proofs.lemmas.Option.{same_Some, none-some}
 use Rattle.vs_types.specs.Config.{Layout}
-use Rattle.vs_types.specs.declared.log_entry.LogEntry.{LogEntry}
 use Rattle.vs_types.specs.declared.request.Query.{Query}
-use Rattle.vs_types.specs.declared.request.Query.TheVariants.{Update, Resolve, Access}
-use Rattle.nr_trace.specs.Orders.{answer_in}
+use Rattle.nr_trace.proofs.LawsOfLists.{slice_get-set_other}
 use Rattle.nr_core.specs.Laws.{HasHolder, HoldsLockOf}
 use Rattle.nr_core.specs.Run.{IsReachable}
-use Rattle.nr_core.specs.State.{State, Thread, Replica, home, tail, has_applied_all, new_thread, new_replica, start, with_thread, with_replica}
-use Rattle.nr_core.specs.Steps.{act, when, by_thread, call, with_call, post, with_post, take_lock, collect, has_place, with_collected, append, may_append, advance, apply}
-use Rattle.nr_core.specs.Steps.{with_update, with_entry, answer, noted_for, with_answer, without, release, look, with_look, read, with_read, reply, reply_at, with_reply}
-use Rattle.nr_core.specs.declared.stage.Answered.{Answered}
-use Rattle.nr_core.specs.declared.stage.Collected.{Collected}
-use Rattle.nr_core.specs.declared.stage.Stage.{Stage}
-use Rattle.nr_core.specs.declared.stage.Stage.TheVariants.{Idle, Called, Posted, Taken, Ready, Looked, HasRead}
-use Rattle.nr_core.specs.declared.step.Act.{Act}
-use Rattle.nr_core.specs.declared.step.Act.TheVariants.{Call, Post, Take, Collect, Append, Advance, Apply, Answer, Release, Look, Read, Reply}
+use Rattle.nr_core.specs.State.{State, Thread, Replica, new_thread, new_replica, start, with_thread, with_replica}
 use Rattle.nr_core.specs.inside.Reached.{At}
+use Rattle.nr_core.proofs.reached.Each.{AfterEach, after_all}
 use Rattle.nr_core.proofs.reached.Growth.{then_parts, then_from}
-use Rattle.nr_core.proofs.reached.Kept.{After, then_after, when_after, holder_after, after_all}
-use Rattle.nr_core.proofs.reached.Places.{at_set, get_other}
+use Rattle.nr_core.proofs.reached.Places.{at_set}
 
 -- the replica whose lock a thread holds; the thread that holds a replica's lock
 abbrev lock_at : List Thread → ℕ → Option ℕ
@@ -35,15 +25,15 @@ holder_at replicas r = option_and_then (λ (replica : Replica). replica.holder) 
 abbrev NamesBack : (ℕ → Option ℕ) → (ℕ → Option ℕ) → Type 0
 NamesBack f g = (i j : ℕ) → f i ≡ Some j → g j ≡ Some i
 
-record AgreesOnLocks (state : State) : Type 0 where
-  held : NamesBack (lock_at state.threads) (holder_at state.replicas)
-  holds : NamesBack (holder_at state.replicas) (lock_at state.threads)
+-- of the threads and replicas of a state
+record Agree (threads : List Thread) (replicas : List Replica) : Type 0 where
+  held : NamesBack (lock_at threads) (holder_at replicas)
+  holds : NamesBack (holder_at replicas) (lock_at threads)
+
+abbrev AgreesOnLocks : State → Type 0
+AgreesOnLocks state = Agree state.threads state.replicas
 
 -- ---- a step that changes no lock
-
-record KeepsLocks (before after : State) : Type 0 where
-  of_threads : (t : ℕ) → lock_at after.threads t ≡ lock_at before.threads t
-  of_replicas : (r : ℕ) → holder_at after.replicas r ≡ holder_at before.replicas r
 
 -- an element that has the same lock as the one in whose place it is
 same_lock : {X : Type 0} (f : X → Option ℕ) (xs : List X) (i : ℕ) (x y : X) → At xs i x → f y ≡ f x → (j : ℕ)
@@ -52,140 +42,27 @@ same_lock f xs i x y at same j = by_index (cases_eq j i) where
   by_index : (j ≡ i) ⊎ (j ≡ i → ⊥) → option_and_then f (slice_get (slice_set xs i y) j) ≡ option_and_then f (slice_get xs j)
   by_index (inl e) = subst (λ n. option_and_then f (slice_get (slice_set xs i y) n) ≡ option_and_then f (slice_get xs n)) (sym e)
       (ap (option_and_then f) (at_set xs i x y at) ∙ same ∙ sym (ap (option_and_then f) at))
-  by_index (inr out) = ap (option_and_then f) (get_other xs i j y out)
+  by_index (inr out) = ap (option_and_then f) (slice_get-set_other xs i j y out)
 
-same_thread : (state : State) (t : ℕ) (thread next : Thread) → At state.threads t thread → next.holds ≡ thread.holds → (u : ℕ)
-    → lock_at (slice_set state.threads t next) u ≡ lock_at state.threads u
-same_thread state t thread next at same u = same_lock (λ (x : Thread). x.holds) state.threads t thread next at same u
+thread_keeps : (threads : List Thread) (replicas : List Replica) (t : ℕ) (thread next : Thread) → At threads t thread → next.holds ≡ thread.holds
+    → Agree threads replicas → Agree (slice_set threads t next) replicas
+thread_keeps threads replicas t thread next at same agree = record {
+  held = λ u r e. agree.held u r (sym (lock u) ∙ e);
+  holds = λ r u e. lock u ∙ agree.holds r u e;
+} where
+  lock : (u : ℕ) → lock_at (slice_set threads t next) u ≡ lock_at threads u
+  lock u = same_lock (λ (x : Thread). x.holds) threads t thread next at same u
 
-same_replica : (state : State) (r : ℕ) (replica next : Replica) → At state.replicas r replica → next.holder ≡ replica.holder → (q : ℕ)
-    → holder_at (slice_set state.replicas r next) q ≡ holder_at state.replicas q
-same_replica state r replica next at same q = same_lock (λ (x : Replica). x.holder) state.replicas r replica next at same q
+replica_keeps : (threads : List Thread) (replicas : List Replica) (r : ℕ) (replica next : Replica) → At replicas r replica → next.holder ≡ replica.holder
+    → Agree threads replicas → Agree threads (slice_set replicas r next)
+replica_keeps threads replicas r replica next at same agree = record {
+  held = λ t q e. holder q ∙ agree.held t q e;
+  holds = λ q t e. agree.holds q t (sym (holder q) ∙ e);
+} where
+  holder : (q : ℕ) → holder_at (slice_set replicas r next) q ≡ holder_at replicas q
+  holder q = same_lock (λ (x : Replica). x.holder) replicas r replica next at same q
 
-call_keeps : (state : State) (t : ℕ) → After (KeepsLocks state) (call state t)
-call_keeps state t =
-    then_after (KeepsLocks state) (slice_get state.threads t) (λ thread. with_call state t thread thread.script thread.stage)
-    (λ thread at. by_stage thread at thread.script thread.stage) where
-      by_stage : (thread : Thread) → At state.threads t thread → (script : List Query) (stage : Stage)
-          → After (KeepsLocks state) (with_call state t thread script stage)
-      by_stage thread at (request ∷ left) Idle =
-          let next : Thread = record thread { script = left; stage = Called (length state.events) request } in
-          record { of_threads = same_thread state t thread next at refl; of_replicas = λ r. refl }
-      by_stage thread at script stage = tt
-
-post_keeps : (state : State) (t : ℕ) → After (KeepsLocks state) (post state t)
-post_keeps state t =
-    then_after (KeepsLocks state) (slice_get state.threads t) (λ thread. with_post state t thread thread.stage)
-    (λ thread at. by_stage thread at thread.stage) where
-      by_stage : (thread : Thread) → At state.threads t thread → (stage : Stage) → After (KeepsLocks state) (with_post state t thread stage)
-      by_stage thread at (Called call (Update action)) =
-          let next : Thread = record thread { stage = Posted call action } in
-          record { of_threads = same_thread state t thread next at refl; of_replicas = λ r. refl }
-      by_stage thread at stage = tt
-
-collect_keeps : (state : State) (t s : ℕ) → After (KeepsLocks state) (collect state t s)
-collect_keeps state t s =
-    holder_after (KeepsLocks state) state t (λ thread r replica. by_thread state s (λ other. with_collected state r replica s other other.stage))
-    (λ thread r replica at e there. then_after (KeepsLocks state) (slice_get state.threads s) (λ other. with_collected state r replica s other other.stage)
-    (λ other here. by_stage r replica other there here other.stage)) where
-      by_stage : (r : ℕ) (replica : Replica) (other : Thread) → At state.replicas r replica → At state.threads s other → (stage : Stage)
-          → After (KeepsLocks state) (with_collected state r replica s other stage)
-      by_stage r replica other there here (Posted call action) =
-          let update : Collected = record { thread = s; entry = record { call = call; op = action }; noted = None } in
-          let next : Thread = record other { stage = Taken call } in
-          when_after (KeepsLocks state) ((home state s == r) && has_place replica) (with_replica (with_thread state s next) r (with_update replica update))
-          (λ test. record {
-            of_threads = same_thread state s other next here refl;
-            of_replicas = same_replica state r replica (with_update replica update) there refl;
-          })
-      by_stage r replica other there here stage = tt
-
-append_keeps : (state : State) (t : ℕ) → After (KeepsLocks state) (append state t)
-append_keeps state t =
-    holder_after (KeepsLocks state) state t (λ thread r replica. when (may_append state replica) (after r replica))
-    (λ thread r replica at e there. when_after (KeepsLocks state) (may_append state replica) (after r replica)
-    (λ test. record { of_threads = λ u. refl; of_replicas = same_replica state r replica (record replica { placed = true }) there refl })) where
-      after : ℕ → Replica → State
-      after r replica = with_replica (record state { log = state.log ++ map (λ update. update.entry) replica.batch }) r (record replica { placed = true })
-
-advance_keeps : (state : State) (t : ℕ) → After (KeepsLocks state) (advance state t)
-advance_keeps state t =
-    holder_after (KeepsLocks state) state t
-    (λ thread r replica. when (has_applied_all replica && nat_lt replica.local (tail state)) (after r replica))
-    (λ thread r replica at e there. when_after (KeepsLocks state) (has_applied_all replica && nat_lt replica.local (tail state)) (after r replica)
-    (λ test. record { of_threads = λ u. refl; of_replicas = same_replica state r replica (record replica { local = tail state }) there refl })) where
-      after : ℕ → Replica → State
-      after r replica = with_replica (record state { completed = tail state }) r (record replica { local = tail state })
-
-apply_keeps : (state : State) (t : ℕ) → After (KeepsLocks state) (apply state t)
-apply_keeps state t =
-    holder_after (KeepsLocks state) state t (λ thread r replica. option_and_then (λ entry. go r replica entry) (slice_get state.log replica.applied))
-    (λ thread r replica at e there. then_after (KeepsLocks state) (slice_get state.log replica.applied) (λ entry. go r replica entry)
-    (λ entry found. when_after (KeepsLocks state) (nat_lt replica.applied replica.local) (with_replica state r (with_entry state replica entry))
-    (λ test. record { of_threads = λ u. refl; of_replicas = same_replica state r replica (with_entry state replica entry) there refl }))) where
-      go : ℕ → Replica → LogEntry → Option State
-      go r replica entry = when (nat_lt replica.applied replica.local) (with_replica state r (with_entry state replica entry))
-
-answer_keeps : (state : State) (t s : ℕ) → After (KeepsLocks state) (answer state t s)
-answer_keeps state t s =
-    holder_after (KeepsLocks state) state t (λ thread r replica. by_thread state s (λ other.
-    option_and_then (λ a. with_answer state r replica s other a other.stage) (noted_for s replica)))
-    (λ thread r replica at e there. then_after (KeepsLocks state) (slice_get state.threads s)
-    (λ other. option_and_then (λ a. with_answer state r replica s other a other.stage) (noted_for s replica))
-    (λ other here. then_after (KeepsLocks state) (noted_for s replica) (λ a. with_answer state r replica s other a other.stage)
-    (λ a found. by_stage r replica other a there here other.stage))) where
-      by_stage : (r : ℕ) (replica : Replica) (other : Thread) (a : Answered) → At state.replicas r replica → At state.threads s other → (stage : Stage)
-          → After (KeepsLocks state) (with_answer state r replica s other a stage)
-      by_stage r replica other a there here (Taken call) =
-          let next : Thread = record other { stage = Ready a } in
-          record { of_threads = same_thread state s other next here refl; of_replicas = same_replica state r replica (without s replica) there refl }
-      by_stage r replica other a there here stage = tt
-
-look_keeps : (state : State) (t : ℕ) → After (KeepsLocks state) (look state t)
-look_keeps state t =
-    then_after (KeepsLocks state) (slice_get state.threads t) (λ thread. with_look state t thread thread.stage)
-    (λ thread at. by_stage thread at thread.stage) where
-      looked : (thread : Thread) (call : ℕ) (request : Query) → At state.threads t thread
-          → KeepsLocks state (with_thread state t (record thread { stage = Looked call request state.completed }))
-      looked thread call request at =
-          let next : Thread = record thread { stage = Looked call request state.completed } in
-          record { of_threads = same_thread state t thread next at refl; of_replicas = λ r. refl }
-
-      by_stage : (thread : Thread) → At state.threads t thread → (stage : Stage) → After (KeepsLocks state) (with_look state t thread stage)
-      by_stage thread at (Called call (Resolve address)) = looked thread call (Resolve address) at
-      by_stage thread at (Called call (Access address mode access)) = looked thread call (Access address mode access) at
-      by_stage thread at stage = tt
-
-read_keeps : (state : State) (t : ℕ) → After (KeepsLocks state) (read state t)
-read_keeps state t =
-    then_after (KeepsLocks state) (slice_get state.threads t)
-    (λ thread. option_and_then (λ replica. with_read state t thread replica thread.stage) (slice_get state.replicas (home state t)))
-    (λ thread at. then_after (KeepsLocks state) (slice_get state.replicas (home state t)) (λ replica. with_read state t thread replica thread.stage)
-    (λ replica there. by_stage thread replica at thread.stage)) where
-      by_stage : (thread : Thread) (replica : Replica) → At state.threads t thread → (stage : Stage)
-          → After (KeepsLocks state) (with_read state t thread replica stage)
-      by_stage thread replica at (Looked call request completed) =
-          let a : Answered = record { call = call; at = replica.applied; answer = answer_in state.layout replica.space request } in
-          let next : Thread = record thread { stage = HasRead a } in
-          when_after (KeepsLocks state) (is_none replica.holder && nat_le completed replica.applied) (with_thread state t next)
-          (λ test. record { of_threads = same_thread state t thread next at refl; of_replicas = λ r. refl })
-      by_stage thread replica at stage = tt
-
-reply_keeps : (state : State) (t : ℕ) → After (KeepsLocks state) (reply state t)
-reply_keeps state t =
-    then_after (KeepsLocks state) (slice_get state.threads t) (λ thread. reply_at state t thread thread.stage)
-    (λ thread at. by_stage thread at thread.stage) where
-      replied : (thread : Thread) (a : Answered) → At state.threads t thread → After (KeepsLocks state) (with_reply state t thread a)
-      replied thread a at =
-          let next : Thread = record thread { stage = Idle } in
-          record { of_threads = same_thread state t thread next at refl; of_replicas = λ r. refl }
-
-      by_stage : (thread : Thread) → At state.threads t thread → (stage : Stage) → After (KeepsLocks state) (reply_at state t thread stage)
-      by_stage thread at (Ready a) = replied thread a at
-      by_stage thread at (HasRead a) = replied thread a at
-      by_stage thread at stage = tt
-
--- ---- Take and Release
+-- ---- locks that are taken and released
 
 -- f at i and g at j name each other from now on, of which g at j named none before
 taken : (f g f' g' : ℕ → Option ℕ) (i j : ℕ) → NamesBack f g → f' i ≡ Some j → g' j ≡ Some i → ((k : ℕ) → (k ≡ i → ⊥) → f' k ≡ f k)
@@ -223,10 +100,10 @@ module _ (state : State) (t r : ℕ) (thread : Thread) (replica : Replica) (at :
   holder_is = ap (option_and_then (λ (x : Replica). x.holder)) (at_set state.replicas r replica (record replica { holder = holder }) there)
 
   lock_else : (u : ℕ) → (u ≡ t → ⊥) → lock_at changed.threads u ≡ lock_at state.threads u
-  lock_else u out = ap (option_and_then (λ (x : Thread). x.holds)) (get_other state.threads t u (record thread { holds = holds }) out)
+  lock_else u out = ap (option_and_then (λ (x : Thread). x.holds)) (slice_get-set_other state.threads t u (record thread { holds = holds }) out)
 
   holder_else : (q : ℕ) → (q ≡ r → ⊥) → holder_at changed.replicas q ≡ holder_at state.replicas q
-  holder_else q out = ap (option_and_then (λ (x : Replica). x.holder)) (get_other state.replicas r q (record replica { holder = holder }) out)
+  holder_else q out = ap (option_and_then (λ (x : Replica). x.holder)) (slice_get-set_other state.replicas r q (record replica { holder = holder }) out)
 
   agree_taken : AgreesOnLocks state → lock_at state.threads t ≡ None → holder_at state.replicas r ≡ None → holds ≡ Some r → holder ≡ Some t
       → AgreesOnLocks changed
@@ -245,65 +122,36 @@ module _ (state : State) (t r : ℕ) (thread : Thread) (replica : Replica) (at :
         holder_else lock_else lock;
   }
 
-take_agrees : (state : State) (t r : ℕ) → AgreesOnLocks state → After AgreesOnLocks (take_lock state t r)
-take_agrees state t r agrees =
-    then_after AgreesOnLocks (slice_get state.threads t) (λ thread. option_and_then (λ replica. go thread replica) (slice_get state.replicas r))
-    (λ thread at. then_after AgreesOnLocks (slice_get state.replicas r) (λ replica. go thread replica)
-    (λ replica there. when_after AgreesOnLocks (is_none thread.holds && is_none replica.holder) (after thread replica)
-    (λ test. agree thread replica at there (and_parts (is_none thread.holds) (is_none replica.holder) test)))) where
-      after : Thread → Replica → State
-      after thread replica = with_replica (with_thread state t (record thread { holds = Some r })) r (record replica { holder = Some t })
-
-      go : Thread → Replica → Option State
-      go thread replica = when (is_none thread.holds && is_none replica.holder) (after thread replica)
-
-      agree : (thread : Thread) (replica : Replica) → At state.threads t thread → At state.replicas r replica
-          → (is_none thread.holds ≡ true) × (is_none replica.holder ≡ true)
-          → AgreesOnLocks (after thread replica)
-      agree thread replica at there (no_lock, no_holder) = agree_taken state t r thread replica at there (Some r) (Some t) agrees
-          (ap (option_and_then (λ (x : Thread). x.holds)) at ∙ none_is thread.holds no_lock)
-          (ap (option_and_then (λ (x : Replica). x.holder)) there ∙ none_is replica.holder no_holder) refl refl
-
-release_agrees : (state : State) (t : ℕ) → AgreesOnLocks state → After AgreesOnLocks (release state t)
-release_agrees state t agrees =
-    holder_after AgreesOnLocks state t (λ thread r replica. when (has_applied_all replica) (after thread r replica))
-    (λ thread r replica at e there. when_after AgreesOnLocks (has_applied_all replica) (after thread r replica)
-    (λ test. agree_freed state t r thread replica at there None None agrees (ap (option_and_then (λ (x : Thread). x.holds)) at ∙ e) refl refl)) where
-      after : Thread → ℕ → Replica → State
-      after thread r replica = with_replica (with_thread state t (record thread { holds = None })) r (record replica { holder = None })
-
 -- ---- all steps
 
-still_agree : (state : State) (o : Option State) → AgreesOnLocks state → After (KeepsLocks state) o → After AgreesOnLocks o
-still_agree state None agrees same = tt
-still_agree state (Some next) agrees same = record {
-  held = λ t r e. same.of_replicas r ∙ agrees.held t r (sym (same.of_threads t) ∙ e);
-  holds = λ r t e. same.of_threads t ∙ agrees.holds r t (sym (same.of_replicas r) ∙ e);
+each_agrees : (state : State) (t : ℕ) → AgreesOnLocks state → AfterEach AgreesOnLocks state t
+each_agrees state t agree = record {
+  call = λ thread request left at is. thread_keeps state.threads state.replicas t thread _ at refl agree;
+  post = λ thread call action at is. thread_keeps state.threads state.replicas t thread _ at refl agree;
+  take = λ r thread replica at there free unheld. agree_taken state t r thread replica at there (Some r) (Some t) agree
+      (ap (option_and_then (λ (x : Thread). x.holds)) at ∙ none_is thread.holds free)
+      (ap (option_and_then (λ (x : Replica). x.holder)) there ∙ none_is replica.holder unheld) refl refl;
+  collect = λ s r call replica other action there here is at_home. replica_keeps _ state.replicas r replica _ there refl
+      (thread_keeps state.threads state.replicas s other _ here refl agree);
+  append = λ r replica there unplaced. replica_keeps state.threads state.replicas r replica _ there refl agree;
+  advance = λ r replica there. replica_keeps state.threads state.replicas r replica _ there refl agree;
+  apply = λ r replica entry there stands less. replica_keeps state.threads state.replicas r replica _ there refl agree;
+  answer = λ s r call replica other u a there here i of_s noted is. replica_keeps _ state.replicas r replica _ there refl
+      (thread_keeps state.threads state.replicas s other _ here refl agree);
+  release = λ r thread replica at holds there. agree_freed state t r thread replica at there None None agree
+      (ap (option_and_then (λ (x : Thread). x.holds)) at ∙ holds) refl refl;
+  look = λ thread call request at is reads. thread_keeps state.threads state.replicas t thread _ at refl agree;
+  read = λ thread replica call request completed at there is less. thread_keeps state.threads state.replicas t thread _ at refl agree;
+  reply = λ thread a at is. thread_keeps state.threads state.replicas t thread _ at refl agree;
 }
 
-act_agrees : (state : State) (t : ℕ) (what : Act) → AgreesOnLocks state → After AgreesOnLocks (act state t what)
-act_agrees state t Call agrees = still_agree state (call state t) agrees (call_keeps state t)
-act_agrees state t Post agrees = still_agree state (post state t) agrees (post_keeps state t)
-act_agrees state t (Take r) agrees = take_agrees state t r agrees
-act_agrees state t (Collect s) agrees = still_agree state (collect state t s) agrees (collect_keeps state t s)
-act_agrees state t Append agrees = still_agree state (append state t) agrees (append_keeps state t)
-act_agrees state t Advance agrees = still_agree state (advance state t) agrees (advance_keeps state t)
-act_agrees state t Apply agrees = still_agree state (apply state t) agrees (apply_keeps state t)
-act_agrees state t (Answer s) agrees = still_agree state (answer state t s) agrees (answer_keeps state t s)
-act_agrees state t Release agrees = release_agrees state t agrees
-act_agrees state t Look agrees = still_agree state (look state t) agrees (look_keeps state t)
-act_agrees state t Read agrees = still_agree state (read state t) agrees (read_keeps state t)
-act_agrees state t Reply agrees = still_agree state (reply state t) agrees (reply_keeps state t)
-
 no_lock : (scripts : List (List Query)) (t : ℕ) → lock_at (map new_thread scripts) t ≡ None
-no_lock [] t = refl
-no_lock (script ∷ scripts) zero = refl
 no_lock (script ∷ scripts) (suc t) = no_lock scripts t
+no_lock _ _ = refl
 
 no_holder : (n r : ℕ) → holder_at (replicate n new_replica) r ≡ None
-no_holder zero r = refl
-no_holder (suc n) zero = refl
 no_holder (suc n) (suc r) = no_holder n r
+no_holder _ _ = refl
 
 start_agrees : (layout : Layout) (scripts : List (List Query)) → AgreesOnLocks (start layout scripts)
 start_agrees layout scripts = record {
@@ -312,8 +160,8 @@ start_agrees layout scripts = record {
 }
 
 agrees_by_steps : (state : State) → IsReachable state → AgreesOnLocks state
-agrees_by_steps state (layout, scripts, steps, is) = subst AgreesOnLocks (sym is)
-    (after_all AgreesOnLocks (λ before step agrees. act_agrees before step.thread step.act agrees) (start layout scripts) steps (start_agrees layout scripts))
+agrees_by_steps state (layout, scripts, steps, is) =
+    subst AgreesOnLocks (sym is) (after_all AgreesOnLocks each_agrees (start layout scripts) steps (start_agrees layout scripts))
 
 -- ---- the law
 

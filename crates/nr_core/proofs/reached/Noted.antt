@@ -9,7 +9,7 @@ use Rattle.nr_core.specs.Steps.{answer, noted_for, with_answer, with_ready}
 use Rattle.nr_core.specs.declared.stage.Answered.{Answered}
 use Rattle.nr_core.specs.declared.stage.Collected.{Collected}
 use Rattle.nr_core.specs.inside.Reached.{At, IsReached}
-use Rattle.nr_core.proofs.reached.Answer.{found_in}
+use Rattle.nr_core.proofs.reached.Places.{found_in}
 use Rattle.nr_core.proofs.reached.Growth.{then_parts}
 use Rattle.nr_core.proofs.reached.Runs.{reached_by_steps}
 

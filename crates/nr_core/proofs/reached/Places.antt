@@ -1,8 +1,8 @@
 -- Elements of a list by their index, where an element is written or more are appended.
-use Rattle.std.proofs.Common.{◌≡◌, ℕ, zero, suc, ◌≤◌, ◌⊎◌, inl, inr, List, [], ◌∷◌, ◌++◌, length, take, map, Some, refl, ap, ap₂, ◌∙◌, subst, arith}
-use Rattle.std.specs.Prelude.{slice_get, slice_set}
-use Rattle.std.proofs.lemmas.Option.{same_Some, none-some}
-use Rattle.nr_trace.proofs.LawsOfLists.{In}
+use Rattle.std.proofs.Common.{◌≡◌, ℕ, zero, suc, ◌≤◌, ◌⊎◌, inl, inr, Bool, true, false, cond, List, [], ◌∷◌, ◌++◌, length, take, map, Some, refl, ap, ap₂, ◌∙◌, subst, arith}
+use Rattle.std.specs.Prelude.{find, option_map, slice_get, slice_set}
+use Rattle.std.proofs.lemmas.Option.{same_Some, none-some, slice_get-map, slice_get_within}
+use Rattle.nr_trace.proofs.LawsOfLists.{In, slice_get-set_other, slice_get-set_same}
 use Rattle.nr_core.specs.inside.Reached.{At}
 
 pub each_set : {X : Type 0} (P : ℕ → X → Type 0) (xs : List X) (i : ℕ) (y : X) → P i y → ((j : ℕ) (x : X) → (j ≡ i → ⊥) → At xs j x → P j x)
@@ -15,19 +15,10 @@ each_set P (z ∷ xs) (suc i) y h k (suc j) x e =
     each_set (λ n a. P (suc n) a) xs i y h (λ n a out at. k (suc n) a (λ q. out (omega arith)) at) j x e
 
 pub at_set : {X : Type 0} (xs : List X) (i : ℕ) (x y : X) → At xs i x → At (slice_set xs i y) i y
-at_set [] i x y e = absurd (none-some x e)
-at_set (z ∷ xs) zero x y e = refl
-at_set (z ∷ xs) (suc i) x y e = at_set xs i x y e
-
-pub get_other : {X : Type 0} (xs : List X) (i j : ℕ) (y : X) → (j ≡ i → ⊥) → slice_get (slice_set xs i y) j ≡ slice_get xs j
-get_other [] i j y out = refl
-get_other (z ∷ xs) zero zero y out = absurd (out refl)
-get_other (z ∷ xs) zero (suc j) y out = refl
-get_other (z ∷ xs) (suc i) zero y out = refl
-get_other (z ∷ xs) (suc i) (suc j) y out = get_other xs i j y (λ q. out (ap suc q))
+at_set xs i x y e = slice_get-set_same xs i y (slice_get_within xs i x e)
 
 pub at_other : {X : Type 0} (xs : List X) (i j : ℕ) (x y : X) → (j ≡ i → ⊥) → At xs j x → At (slice_set xs i y) j x
-at_other xs i j x y out e = get_other xs i j y out ∙ e
+at_other xs i j x y out e = slice_get-set_other xs i j y out ∙ e
 
 pub at_front : {X : Type 0} (xs ys : List X) (i : ℕ) (x : X) → At xs i x → At (xs ++ ys) i x
 at_front [] ys i x e = absurd (none-some x e)
@@ -73,6 +64,16 @@ same_front [] ys (suc n) h l = absurd (omega arith)
 same_front (x ∷ xs) [] (suc n) h l = absurd (none-some x (h 0 x refl))
 same_front (x ∷ xs) (y ∷ ys) (suc n) h l =
     ap₂ ◌∷◌ (same_Some y x (h 0 x refl)) (same_front xs ys n (λ i a e. h (suc i) a e) (omega arith))
+
+pub at_mapped : {X Y : Type 0} (f : X → Y) (xs : List X) (i : ℕ) (x : X) → At xs i x → At (map f xs) i (f x)
+at_mapped f xs i x e = slice_get-map f xs i ∙ ap (option_map f) e
+
+pub found_in : {X : Type 0} (p : X → Bool) (xs : List X) (x : X) → find p xs ≡ Some x → In x xs × (p x ≡ true)
+found_in p [] x e = absurd (none-some x e)
+found_in {X} p (y ∷ xs) x e = by_test (λ f. found_in p xs x f) (p y) refl e where
+  by_test : (find p xs ≡ Some x → In x xs × (p x ≡ true)) → (b : Bool) → p y ≡ b → cond b (Some y) (find p xs) ≡ Some x → In x (y ∷ xs) × (p x ≡ true)
+  by_test more true h f = let one : y ≡ x = same_Some y x f in (inl one, subst (λ (z : X). p z ≡ true) one h)
+  by_test more false h f = let k = more f in (inr k.0, k.1)
 
 pub in_map : {X Y : Type 0} (f : X → Y) (xs : List X) (y : Y) → In y (map f xs) → (x : X) × In x xs × (f x ≡ y)
 in_map f [] y h = absurd h

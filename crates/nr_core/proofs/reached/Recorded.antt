@@ -56,11 +56,6 @@ at_map f [] i y e = absurd (none-some y e)
 at_map f (x ∷ xs) zero y e = (x, refl, same_Some (f x) y e)
 at_map f (x ∷ xs) (suc i) y e = at_map f xs i y e
 
-pub at_mapped : {X Y : Type 0} (f : X → Y) (xs : List X) (i : ℕ) (x : X) → At xs i x → At (map f xs) i (f x)
-at_mapped f [] i x e = absurd (none-some x e)
-at_mapped f (y ∷ xs) zero x e = ap Some (ap f (same_Some y x e))
-at_mapped f (y ∷ xs) (suc i) x e = at_mapped f xs i x e
-
 pub distinct_apart : (xs : List ℕ) (i j x : ℕ) → IsDistinct nat_eq xs → i < j → At xs i x → At xs j x → ⊥
 unfolding IsDistinct
 distinct_apart [] i j x h l e f = none-some x e

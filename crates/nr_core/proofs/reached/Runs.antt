@@ -1,46 +1,38 @@
 -- Each list of steps reaches a state of which the facts hold.
-use Rattle.std.proofs.Common.{ℕ, List, sym, subst}
-use Rattle.vs_types.specs.Config.{Layout}
-use Rattle.vs_types.specs.declared.request.Query.{Query}
+use Rattle.std.proofs.Common.{ℕ, Some, None, sym, subst}
 use Rattle.nr_core.specs.State.{State, start}
-use Rattle.nr_core.specs.Steps.{act}
-use Rattle.nr_core.specs.Run.{after_steps, IsReachable}
-use Rattle.nr_core.specs.declared.step.Act.{Act}
-use Rattle.nr_core.specs.declared.step.Act.TheVariants.{Call, Post, Take, Collect, Append, Advance, Apply, Answer, Release, Look, Read, Reply}
-use Rattle.nr_core.specs.declared.step.Step.{Step}
+use Rattle.nr_core.specs.Run.{IsReachable}
 use Rattle.nr_core.specs.inside.Reached.{IsReached}
-use Rattle.nr_core.proofs.reached.Kept.{Keeps, after_all}
+use Rattle.nr_core.proofs.reached.Each.{AfterEach, after_all}
 use Rattle.nr_core.proofs.reached.Start.{start_is_reached}
-use Rattle.nr_core.proofs.reached.Call.{call_keeps}
-use Rattle.nr_core.proofs.reached.Post.{post_keeps}
-use Rattle.nr_core.proofs.reached.Take.{take_keeps}
-use Rattle.nr_core.proofs.reached.Collect.{collect_keeps}
-use Rattle.nr_core.proofs.reached.Append.{append_keeps}
-use Rattle.nr_core.proofs.reached.Advance.{advance_keeps}
-use Rattle.nr_core.proofs.reached.Apply.{apply_keeps}
-use Rattle.nr_core.proofs.reached.Answer.{answer_keeps}
-use Rattle.nr_core.proofs.reached.Release.{release_keeps}
-use Rattle.nr_core.proofs.reached.Look.{look_keeps}
-use Rattle.nr_core.proofs.reached.Read.{read_keeps}
-use Rattle.nr_core.proofs.reached.Reply.{reply_keeps}
+use Rattle.nr_core.proofs.reached.Call.{called}
+use Rattle.nr_core.proofs.reached.Post.{posted}
+use Rattle.nr_core.proofs.reached.Locking.{locks_keep}
+use Rattle.nr_core.proofs.reached.Collect.{collected}
+use Rattle.nr_core.proofs.reached.Append.{appended}
+use Rattle.nr_core.proofs.reached.Advance.{advanced}
+use Rattle.nr_core.proofs.reached.Apply.{applied}
+use Rattle.nr_core.proofs.reached.Answer.{answered}
+use Rattle.nr_core.proofs.reached.Look.{looked}
+use Rattle.nr_core.proofs.reached.Read.{has_read}
+use Rattle.nr_core.proofs.reached.Reply.{has_replied}
 
-act_keeps : (state : State) (t : ℕ) (what : Act) → IsReached state → Keeps (act state t what)
-act_keeps state t Call reached = call_keeps state t reached
-act_keeps state t Post reached = post_keeps state t reached
-act_keeps state t (Take r) reached = take_keeps state t r reached
-act_keeps state t (Collect s) reached = collect_keeps state t s reached
-act_keeps state t Append reached = append_keeps state t reached
-act_keeps state t Advance reached = advance_keeps state t reached
-act_keeps state t Apply reached = apply_keeps state t reached
-act_keeps state t (Answer s) reached = answer_keeps state t s reached
-act_keeps state t Release reached = release_keeps state t reached
-act_keeps state t Look reached = look_keeps state t reached
-act_keeps state t Read reached = read_keeps state t reached
-act_keeps state t Reply reached = reply_keeps state t reached
-
-pub each_is_reached : (layout : Layout) (scripts : List (List Query)) (steps : List Step) → IsReached (after_steps (start layout scripts) steps)
-each_is_reached layout scripts steps =
-    after_all IsReached (λ state step reached. act_keeps state step.thread step.act reached) (start layout scripts) steps (start_is_reached layout scripts)
+each_keeps : (state : State) (t : ℕ) → IsReached state → AfterEach IsReached state t
+each_keeps state t reached = record {
+  call = λ thread request left at is. called state t thread request left reached at is;
+  post = λ thread call action at is. posted state t thread call action reached at is;
+  take = λ r thread replica at there free unheld. locks_keep state t r thread replica (Some r) (Some t) reached at there;
+  collect = λ s r call replica other action there here is at_home. collected state s r call replica other action reached there here is at_home;
+  append = λ r replica there unplaced. appended state r replica reached there unplaced;
+  advance = λ r replica there. advanced state r replica reached there;
+  apply = λ r replica entry there stands less. applied state r replica entry reached there stands less;
+  answer = λ s r call replica other u a there here i of_s noted is. answered state s r call replica other u a reached there here i of_s noted is;
+  release = λ r thread replica at holds there. locks_keep state t r thread replica None None reached at there;
+  look = λ thread call request at is reads. looked state t thread call request reached at is reads;
+  read = λ thread replica call request completed at there is less. has_read state t thread replica call request completed reached at there is less;
+  reply = λ thread a at is. has_replied state t thread a reached at is;
+}
 
 pub reached_by_steps : (state : State) → IsReachable state → IsReached state
-reached_by_steps state (layout, scripts, steps, is) = subst IsReached (sym is) (each_is_reached layout scripts steps)
+reached_by_steps state (layout, scripts, steps, is) =
+    subst IsReached (sym is) (after_all IsReached each_keeps (start layout scripts) steps (start_is_reached layout scripts))

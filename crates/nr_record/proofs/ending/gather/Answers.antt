@@ -1,4 +1,5 @@
 use Rattle.std.proofs.Common.{◌≡◌, ℕ, List, [], ◌∷◌, ◌++◌, All, length, ap, sym, subst, ◌∙◌, arith, rules}
+use Rattle.std.proofs.lemmas.List.Elements.{All-head}
 use Rattle.std.specs.List.{flat_map, sum_by}
 use Rattle.std.proofs.lemmas.List.{append-nil}
 use Rattle.std.proofs.lemmas.Grind.{flat_map-append}
@@ -9,7 +10,6 @@ use Rattle.nr_record.specs.declared.stamped.Stamped.{Stamped}
 use Rattle.nr_record.specs.declared.view.View.{View}
 use Rattle.nr_record.specs.inside.Held.{IsTrueOf}
 use Rattle.nr_record.proofs.Gathering.{IsGathered, all_done, empty_rest, gathered_first, gathered_more, next_of, true_of}
-use Rattle.nr_record.proofs.Seats.{of_first}
 use Rattle.nr_record.proofs.ending.gather.Goals as goal
 
 pub loop-pen-init : goal.loop-pen-init
@@ -21,7 +21,7 @@ loop-pen-init c =
     let all = c.args.pens.items in
     let parts = sym c.into_iter-pens.ensures.rest ∙ c.in-Some.ensures.items
     ∙ ap (λ it. first ∷ it.rest.items) (sym c.into_iter-pen-iterator.ensures.into_iter_gives) in
-    let clock = of_first (λ (p : PenState). p.clock ≡ c.args.clock) first _
+    let clock = All-head (λ (p : PenState). p.clock ≡ c.args.clock) first _
     (subst (λ ps. All (λ (p : PenState). p.clock ≡ c.args.clock) ps) parts c.requires.pens.of_clock) in
     let items = c.in_ok-push.ensures.items ∙ ap (λ v. v ++ c.first.inside.made ∷ []) c.in_ok-notes.ensures.items in
     let flat : flat_map (λ made. made.items) c.push.new.self.items ≡ first.made =
@@ -78,27 +78,19 @@ close-requires-clause-whole c =
     none c.loop-pen.invariant.3 in
     end.quota ∙ ap (λ ps. sum_by (λ (p : PenState). p.quota) ps) (sym (all_done _ _ _ end)) ∙ c.requires.pens.quotas
 
-pub returns-clause-notes : goal.returns-clause-notes
-returns-clause-notes c =
+pub returns : goal.returns
+returns c =
     let none = empty_rest _ _ c.loop-pen.pen-iterator.rest.ok.0 c.in-None.ensures.steps.0 in
     let end = subst (λ (rest : List PenState). IsGathered c.args.pens.items rest c.loop-pen.seat.me.0 (flat_map (λ made. made.items) c.loop-pen.notes.items))
     none c.loop-pen.invariant.3 in
-    end.notes ∙ ap (λ ps. flat_map (λ (p : PenState). p.made) ps) (sym (all_done _ _ _ end))
-
-pub returns-clause-stamps : goal.returns-clause-stamps
-returns-clause-stamps c =
-    let none = empty_rest _ _ c.loop-pen.pen-iterator.rest.ok.0 c.in-None.ensures.steps.0 in
-    let end = subst (λ (rest : List PenState). IsGathered c.args.pens.items rest c.loop-pen.seat.me.0 (flat_map (λ made. made.items) c.loop-pen.notes.items))
-    none c.loop-pen.invariant.3 in
-    let same = end.stamps ∙ ap (λ ps. flat_map stamps_of ps) (sym (all_done _ _ _ end)) in (
-      subst (λ (xs : List ℕ). AreBelow c.close.result xs) same c.close.ensures.stamps,
-      sym (ap (λ (xs : List ℕ). length xs) same) ∙ c.close.ensures.count.0,
-      c.close.ensures.count.1,
-    )
-
-pub returns-clause-each : goal.returns-clause-each
-returns-clause-each c =
-    let none = empty_rest _ _ c.loop-pen.pen-iterator.rest.ok.0 c.in-None.ensures.steps.0 in
-    let end = subst (λ (rest : List PenState). IsGathered c.args.pens.items rest c.loop-pen.seat.me.0 (flat_map (λ made. made.items) c.loop-pen.notes.items))
-    none c.loop-pen.invariant.3 in
-    subst (λ ps. All IsTrueOf ps) (sym (all_done _ _ _ end)) end.each
+    let all = sym (all_done _ _ _ end) in
+    let same = end.stamps ∙ ap (λ ps. flat_map stamps_of ps) all in
+    record {
+      notes = end.notes ∙ ap (λ ps. flat_map (λ (p : PenState). p.made) ps) all;
+      stamps = (
+        subst (λ (xs : List ℕ). AreBelow c.close.result xs) same c.close.ensures.stamps,
+        sym (ap (λ (xs : List ℕ). length xs) same) ∙ c.close.ensures.count.0,
+        c.close.ensures.count.1,
+      );
+      each = subst (λ ps. All IsTrueOf ps) all end.each;
+    }

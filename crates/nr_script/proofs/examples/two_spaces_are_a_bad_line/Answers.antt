@@ -12,10 +12,7 @@ use Rattle.nr_script.proofs.examples.two_spaces_are_a_bad_line.Goals as goal
 
 no_empty_name : (name : Name) → 0 < length (name_text name)
 no_empty_name names.Map = lit< tt
-no_empty_name names.Unmap = lit< tt
-no_empty_name names.Protect = lit< tt
-no_empty_name names.Resolve = lit< tt
-no_empty_name names.Access = lit< tt
+no_empty_name _ = lit< tt
 
 says_nothing : (it : Line) → Says Four (codes "0  resolve 0x0") it → ⊥
 says_nothing says.PassedOver (inl empty) = omega (arith, ap length empty)

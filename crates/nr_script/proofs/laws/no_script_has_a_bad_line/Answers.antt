@@ -1,4 +1,4 @@
-use Rattle.nr_script.proofs.OneReading.{not_bad}
+use Rattle.nr_script.proofs.OneScript.{not_bad}
 use Rattle.nr_script.proofs.laws.no_script_has_a_bad_line.Goals as goal
 
 pub returns : goal.returns

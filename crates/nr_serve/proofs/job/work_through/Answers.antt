@@ -4,6 +4,8 @@ use Rattle.nr_serve.specs.declared.said.Said.{Said}
 use Rattle.nr_serve.specs.inside.Working.{IsAnswer, IsUnderWay}
 use Rattle.nr_serve.proofs.Working.{IsNext, begins, ends, goes_on, named_heard, named_history, stops}
 use Rattle.nr_serve.proofs.job.work_through.Goals as goal
+use Rattle.nr_serve.proofs.job.work_through.Given.{Over}
+use Rattle.nr_serve.proofs.job.work_through.Goals.{After-note}
 
 pub loop-done-init : goal.loop-done-init
 loop-done-init g c =
@@ -18,56 +20,40 @@ loop-done-init g c =
       c.requires.said.1,
     )
 
+-- the call that the thread has just made
+next : (g : Over) (c : After-note g) → IsNext c.args.team.now.clock.now g.K.ReplicasName.log c.args.thread c.args.script.now c.loop-done.done
+    c.index-script-done.result c.loop-done.pen c.call-item.new.pen c.loop-done.pass c.call-item.new.pass c.loop-done.said.items c.call-item.result
+next g c = record {
+  under_way = c.loop-done.invariant.0;
+  within = c.loop-done-test.true;
+  request_is = c.index-script-done.is;
+  same_log = c.call-item.ensures.log;
+  heard = named_heard c.args.team.now.clock.now.layout g.J.LogName.depth g.J.LogName.replicas g.K.ReplicasName.tables c.loop-done.pass.view
+      c.call-item.new.pass.view c.requires.names c.call-item.ensures.heard;
+  called = c.call-item.ensures.called;
+}
+
 pub returns-in-Stopped : goal.returns-in-Stopped
 returns-in-Stopped g c =
     let clock = c.args.team.now.clock.now in
     let log = g.K.ReplicasName.log in
-    let script = c.args.script.now in
-    let pen = c.call-item.new.pen in
-    let pass = c.call-item.new.pass in
-    let item = c.call-item.result in
-    let request = c.index-script-done.result in
     let was = c.loop-done in
-    let next : IsNext clock log c.args.thread script was.done request was.pen pen was.pass pass was.said.items item =
-    record {
-      under_way = was.invariant.0;
-      within = c.loop-done-test.true;
-      request_is = c.index-script-done.is;
-      same_log = c.call-item.ensures.log;
-      heard = named_heard clock.layout g.J.LogName.depth g.J.LogName.replicas g.K.ReplicasName.tables was.pass.view pass.view c.requires.names
-          c.call-item.ensures.heard;
-      called = c.call-item.ensures.called;
-    }
-    in
-    let Here : List Said → Type 0 = λ l. IsServed clock log c.args.thread script (record { pen = pen; pass = pass; said = l }) in
-    subst Here (sym c.note.ensures.0)
-    (stops clock log c.args.thread script was.done request was.pen pen was.pass pass was.said.items item next c.in-Stopped.is)
+    let made = c.call-item.new in
+    let Here : List Said → Type 0 =
+    λ l. IsServed clock log c.args.thread c.args.script.now (record { pen = made.pen; pass = made.pass; said = l }) in
+    subst Here (sym c.note.ensures.0) (stops clock log c.args.thread c.args.script.now was.done c.index-script-done.result was.pen made.pen was.pass made.pass
+    was.said.items c.call-item.result (next g (goal.at.returns-in-Stopped g c).After-note) c.in-Stopped.is)
 
 pub loop-done-preserved : goal.loop-done-preserved
 loop-done-preserved g c =
     let clock = c.args.team.now.clock.now in
     let log = g.K.ReplicasName.log in
-    let script = c.args.script.now in
-    let pen = c.call-item.new.pen in
-    let pass = c.call-item.new.pass in
-    let item = c.call-item.result in
-    let request = c.index-script-done.result in
     let was = c.loop-done in
-    let next : IsNext clock log c.args.thread script was.done request was.pen pen was.pass pass was.said.items item =
-    record {
-      under_way = was.invariant.0;
-      within = c.loop-done-test.true;
-      request_is = c.index-script-done.is;
-      same_log = c.call-item.ensures.log;
-      heard = named_heard clock.layout g.J.LogName.depth g.J.LogName.replicas g.K.ReplicasName.tables was.pass.view pass.view c.requires.names
-          c.call-item.ensures.heard;
-      called = c.call-item.ensures.called;
-    }
-    in
-    let answered : IsAnswer item = subst IsAnswer (sym c.in-Answer.is) tt in
-    let Here : List Said → Type 0 = λ l. IsUnderWay clock log c.args.thread script (was.done + 1) pen pass l in (
-      subst Here (sym c.note.ensures.0)
-          (goes_on clock log c.args.thread script was.done request was.pen pen was.pass pass was.said.items item next answered),
+    let made = c.call-item.new in
+    let answered : IsAnswer c.call-item.result = subst IsAnswer (sym c.in-Answer.is) tt in
+    let Here : List Said → Type 0 = λ l. IsUnderWay clock log c.args.thread c.args.script.now (was.done + 1) made.pen made.pass l in (
+      subst Here (sym c.note.ensures.0) (goes_on clock log c.args.thread c.args.script.now was.done c.index-script-done.result was.pen made.pen was.pass
+          made.pass was.said.items c.call-item.result (next g (goal.at.loop-done-preserved g c).After-note) answered),
       omega (arith, was.invariant.1, c.note.ensures.1),
     )
 

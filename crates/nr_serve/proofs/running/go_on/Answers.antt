@@ -1,14 +1,15 @@
+use Rattle.std.proofs.lemmas.Simd.{map-map}
 use Rattle.std.proofs.Common.{ℕ, List, length, sum, ap, sym, ◌∙◌}
 use Rattle.vs_types.specs.Config.{Layout}
 use Rattle.vs_types.specs.declared.request.Query.{Query}
-use Rattle.nr_serve.proofs.Teams.{all_of_log, all_pens, map_items}
+use Rattle.nr_serve.proofs.Teams.{all_of_log, all_pens}
 use Rattle.nr_serve.proofs.running.go_on.Goals as goal
 
 pub ending-requires-clause-pens : goal.ending-requires-clause-pens
 ending-requires-clause-pens g c =
     all_pens _ _ _ _ c.in_ok-workers.ensures (c.requires.scripts.one_each ∙ ap (λ (l : Layout). l.threads) (sym c.requires.layout.1))
     (c.requires.calls ∙ ap (λ (ns : List ℕ). sum ns)
-    (sym (map_items (λ script. script.items) (λ (script : List Query). length script) c.args.scripts.items)))
+    (sym (map-map (λ (script : List Query). length script) (λ script. script.items) c.args.scripts.items)))
 
 pub ending-requires-clause-passes : goal.ending-requires-clause-passes
 ending-requires-clause-passes g c = all_of_log _ _ _ _ c.in_ok-workers.ensures

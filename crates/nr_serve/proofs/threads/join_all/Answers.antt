@@ -1,9 +1,10 @@
 use Rattle.std.proofs.Common.{List, [], ◌∷◌, ◌++◌, length, map, ap, sym, subst, arith}
 use Rattle.std.proofs.Math.ListN.{length-append}
 use Rattle.std.specs.List.{AllZip}
+use Rattle.std.proofs.lemmas.Slice.Zip.{all_zipped_more}
 use Rattle.nr_serve.specs.inside.Calls.{WorkerState}
 use Rattle.nr_serve.specs.inside.Working.{IsDone, JobState}
-use Rattle.nr_serve.proofs.Jobs.{one_joined, zipped_push}
+use Rattle.nr_serve.proofs.Jobs.{one_joined}
 use Rattle.nr_serve.proofs.threads.join_all.Goals as goal
 
 pub loop-handle-init : goal.loop-handle-init
@@ -26,7 +27,7 @@ loop-handle-preserved g c =
       was.0 ++ job ∷ [],
       one_joined _ was.0 _ _ _ c.in-Some.handle steps was.1,
       subst (λ (l : List WorkerState). AllZip R (was.0 ++ job ∷ []) l) (sym items)
-          (zipped_push R was.0 c.loop-handle.workers.items job c.join.result was.2 c.join.ensures),
+          (all_zipped_more R was.0 c.loop-handle.workers.items job c.join.result was.2 c.join.ensures),
       omega (
         arith,
         was.3,

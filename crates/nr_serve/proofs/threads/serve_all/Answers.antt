@@ -1,10 +1,11 @@
+use Rattle.std.proofs.lemmas.Simd.{map-map}
 use Rattle.std.proofs.Common.{◌≡◌, List, All, length, map, ap, sym, subst, ◌∙◌, arith}
 use Rattle.std.proofs.Math.ListN.{length-map}
 use Rattle.std.specs.List.{AllZip}
 use Rattle.vs_types.specs.declared.request.Query.{Query}
 use Rattle.nr_record.specs.Pen.{PenState, new_pens}
 use Rattle.nr_serve.specs.inside.Working.{IsDone, IsReadyJob, JobState, jobs_from}
-use Rattle.nr_serve.proofs.Jobs.{all_served, jobs_ready, map_twice, pens_count}
+use Rattle.nr_serve.proofs.Jobs.{all_served, jobs_ready, pens_count}
 use Rattle.nr_serve.proofs.threads.serve_all.Goals as goal
 
 pub jobs_of-requires-clause-few : goal.jobs_of-requires-clause-few
@@ -30,7 +31,7 @@ run_all-requires-clause-ready g c =
     let scripts = map (λ script. script.items) c.args.scripts.items in
     let passes = c.args.passes.items in
     let lengths : map (λ (script : List Query). length script) scripts ≡ map (λ script. length script.items) c.args.scripts.items =
-    map_twice (λ (script : List Query). length script) (λ script. script.items) c.args.scripts.items in
+    map-map (λ (script : List Query). length script) (λ script. script.items) c.args.scripts.items in
     let pens : c.args.pens.items ≡ new_pens clock 0 (map (λ (script : List Query). length script) scripts) =
     c.requires.pens ∙ ap (new_pens clock 0) (sym lengths) in
     let all = jobs_ready clock log 0 scripts passes c.requires.scripts.well_formed c.requires.of_log

@@ -1,22 +1,21 @@
-use Rattle.std.proofs.Common.{◌≡◌, ◌<◌, ◌++◌, [], ◌∷◌, length, slice_index_or, refl, sym, subst, ap, ◌∙◌, rules}
-use Rattle.std.specs.Prelude.{IsSome, All, slice_get}
+use Rattle.std.proofs.Common.{◌≡◌, ◌++◌, [], ◌∷◌, slice_index_or, refl, sym, subst, ◌∙◌, rules}
+use Rattle.std.specs.Prelude.{All}
 use Rattle.std.proofs.lemmas.List.Elements.{All-push}
 use Rattle.vs_types.specs.Operation.{IsAction}
+use Rattle.nr_trace.proofs.LawsOfCalls.{the_some}
 use Rattle.nr_core.specs.Steps as steps
-use Rattle.nr_core.specs.inside.Parts.{replica_in, IsReplica}
+use Rattle.nr_core.specs.inside.Parts.{replica_in}
 use Rattle.nr_core.specs.declared.stage.Collected.{Collected}
-use Rattle.nr_core.proofs.Keeping.{some_seen, seen_is, one_of, with_other_replica, set_replica, same_replica}
+use Rattle.nr_core.proofs.Keeping.{replica_seen, with_other_replica, set_replica, same_replica}
 use Rattle.nr_core.proofs.state.Core.push_update.Goals as goal
 use Rattle.nr_core.proofs.state.Core.push_update.Goals.{in-Ok, in-Err}
 
 pub invariant_of-self : goal.invariant_of-self
 invariant_of-self c =
-    let replicas = c.self.inside.replicas.items in
     let x = c.index_mut.result.now in
-    let at : x ≡ slice_index_or replicas c.args.replica x = search rules in
-    let within : c.args.replica < length replicas =
-    some_seen replica_in replicas c.args.replica (subst (λ s. IsSome (slice_get s.replicas c.args.replica)) (sym c.self.view_is) c.requires.there) in
-    let good = one_of (IsReplica c.self.inside.config) replicas c.args.replica x within at c.self.invariant.each_replica in
+    let at : x ≡ slice_index_or c.self.inside.replicas.items c.args.replica x = search rules in
+    let there = the_some _ c.requires.there in
+    let good = (replica_seen c.self.inside c.args.replica x there.0 c.self.view_is c.self.invariant there.1 at).good in
     let update : IsAction c.self.inside.config.depth c.args.update.entry.op =
     subst (λ s. IsAction s.layout.depth c.args.update.entry.op) (sym c.self.view_is) c.requires.fits in
     let batch : All (λ (u : Collected). IsAction c.self.inside.config.depth u.entry.op) c.push.new.self.items = elim c.match-push.branch [
@@ -32,10 +31,9 @@ invariant_of-self c =
 
 pub returns-clause-pushed : goal.returns-clause-pushed
 returns-clause-pushed c before there =
-    let replicas = c.self.inside.replicas.items in
     let x = c.index_mut.result.now in
-    let at : x ≡ slice_index_or replicas c.args.replica x = search rules in
-    let is = seen_is replica_in replicas c.args.replica x before (ap (λ s. slice_get s.replicas c.args.replica) c.self.view_is ∙ there) at in
+    let at : x ≡ slice_index_or c.self.inside.replicas.items c.args.replica x = search rules in
+    let is = (replica_seen c.self.inside c.args.replica x before c.self.view_is c.self.invariant there at).is in
     elim c.match-push.branch [
       | in-Ok w ↦
           let items : c.push.new.self.items ≡ x.batch.items ++ c.args.update ∷ [] = search rules in

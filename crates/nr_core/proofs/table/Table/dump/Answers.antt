@@ -2,13 +2,13 @@ use Rattle.std.proofs.Common.{Contains, get_or, sym, subst, ◌∙◌, arith}
 use Rattle.std.proofs.lemmas.List.Elements.{Contains-get_or}
 use Rattle.vs_walk.specs.Traversal.{traversal, reached}
 use Rattle.vs_walk.proofs.Gathered.{reached_few}
-use Rattle.nr_core.proofs.Dumped.{IsGathered, has_frames, is_dump, same_reached}
+use Rattle.vs_walk.proofs.SameFrames.{same_reached}
+use Rattle.nr_core.proofs.Dumped.{IsGathered, has_frames, is_dump}
 use Rattle.nr_core.proofs.table.Table.dump.Goals as goal
 
 pub gather-requires-clause-few : goal.gather-requires-clause-few
 gather-requires-clause-few c none =
-    let few = reached_few c.depth-depth.result c.args.self.now.pages.memory c.root-root.result none in
-    omega (arith, few, c.tables-tables.ensures.reads, c.tables-tables.ensures.at_most, c.requires)
+    omega (arith, reached_few c.depth-depth.result c.args.self.now.pages.memory c.root-root.result none, c.frames_are_counted.ensures.few)
 
 pub gather-requires-clause-in_range : goal.gather-requires-clause-in_range
 gather-requires-clause-in_range c none k d within =
@@ -19,11 +19,13 @@ gather-requires-clause-in_range c none k d within =
     let number = get_or numbers k d in
     all.in_range number (all.in_use number (subst (λ l. Contains l number) same (Contains-get_or numbers k d within)))
 
-pub returns-in-Ok-clause-is : goal.returns-in-Ok-clause-is
-returns-in-Ok-clause-is c replica applied space =
+pub returns-in-Ok : goal.returns-in-Ok
+returns-in-Ok c =
     let pages = c.args.self.now.pages in
+    let of = c.args.self.now.of in
     let all = c.root-root.ensures in
     let made = c.in-Ok.ensures in
+    let counted = c.frames_are_counted.ensures in
     let gathered : IsGathered pages c.depth-depth.result c.root-root.result c.in-Ok.dump = record {
       depth_is = c.depth-depth.ensures;
       root_is = all.reads;
@@ -33,25 +35,10 @@ returns-in-Ok-clause-is c replica applied space =
       held = made.held;
       only = made.only;
     } in
-    let frames = has_frames pages c.args.self.now.of.0 c.depth-depth.result c.root-root.result c.tables-tables.result c.in-Ok.dump gathered
-    c.tables-tables.ensures.reads (c.tables-tables.ensures.counts c.args.self.now.of.0 c.args.self.now.of.1)
-    (omega (arith, c.tables-tables.ensures.reads, c.tables-tables.ensures.at_most, c.requires)) in
-    is_dump pages c.args.self.now.of.0 replica c.depth-depth.result c.root-root.result c.in-Ok.dump c.args.self.now.of.1 space frames.0
-    (made.applied ∙ sym applied) all.faultless gathered
-
-pub returns-in-Ok-clause-frames : goal.returns-in-Ok-clause-frames
-returns-in-Ok-clause-frames c =
-    let pages = c.args.self.now.pages in
-    let all = c.root-root.ensures in
-    let made = c.in-Ok.ensures in
-    has_frames pages c.args.self.now.of.0 c.depth-depth.result c.root-root.result c.tables-tables.result c.in-Ok.dump
-    (record {
-      depth_is = c.depth-depth.ensures;
-      root_is = all.reads;
-      in_use = all.in_use;
-      each = all.each;
-      dump_root = made.root;
-      held = made.held;
-      only = made.only;
-    }) c.tables-tables.ensures.reads (c.tables-tables.ensures.counts c.args.self.now.of.0 c.args.self.now.of.1)
-    (omega (arith, c.tables-tables.ensures.reads, c.tables-tables.ensures.at_most, c.requires))
+    let frames = has_frames pages of.0 c.depth-depth.result c.root-root.result c.in-Ok.dump gathered counted.counts counted.few in
+    record {
+      is = λ replica applied space.
+          is_dump pages of.0 replica c.depth-depth.result c.root-root.result c.in-Ok.dump of.1 space frames.0
+          (made.applied ∙ sym applied) all.faultless gathered;
+      frames = frames;
+    }

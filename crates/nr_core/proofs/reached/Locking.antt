@@ -1,10 +1,8 @@
--- Take.
-use Rattle.std.proofs.Common.{ℕ, slice_get, ◌&&◌, Option, Some, is_none, option_and_then, refl, arith}
+-- Take and Release.
+use Rattle.std.proofs.Common.{ℕ, Option, refl, arith}
 use Rattle.nr_core.specs.State.{State, Thread, Replica, with_thread, with_replica}
-use Rattle.nr_core.specs.Steps.{take_lock, when}
 use Rattle.nr_core.specs.inside.Reached.{At, IsReached}
 use Rattle.nr_core.proofs.reached.Changes.{thread_changes, replica_changes, still_collected, collected_keep}
-use Rattle.nr_core.proofs.reached.Kept.{Keeps, keeps_then, keeps_when}
 
 -- locks change nothing else
 pub locks_keep : (state : State) (t r : ℕ) (thread : Thread) (replica : Replica) (holds holder : Option ℕ) → IsReached state → At state.threads t thread
@@ -21,13 +19,3 @@ locks_keep state t r thread replica holds holder reached at there =
       space = (reached.replicas r replica there).space;
     })
     (λ update i. still_collected (with_thread state t next) r replica later update first there (omega arith) (λ h. h) i) (reached.batches r replica there)
-
-pub take_keeps : (state : State) (t r : ℕ) → IsReached state → Keeps (take_lock state t r)
-take_keeps state t r reached =
-    keeps_then (slice_get state.threads t) (λ thread. option_and_then (λ replica. go thread replica) (slice_get state.replicas r))
-    (λ thread at. keeps_then (slice_get state.replicas r) (λ replica. go thread replica)
-    (λ replica there. keeps_when (is_none thread.holds && is_none replica.holder) _
-    (λ test. locks_keep state t r thread replica (Some r) (Some t) reached at there))) where
-      go : Thread → Replica → Option State
-      go thread replica = when (is_none thread.holds && is_none replica.holder)
-          (with_replica (with_thread state t (record thread { holds = Some r })) r (record replica { holder = Some t }))
