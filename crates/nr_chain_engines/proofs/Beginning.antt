@@ -16,7 +16,7 @@ use Rattle.nr_trace.specs.Recording.{IsRecording, Recording}
 use Rattle.nr_trace.specs.Spelling.{SpellsSegment}
 use Rattle.nr_trace.specs.FirstFault.{HasSegmentFault}
 use Rattle.nr_trace.specs.Feed.{EndsSegment, FedSegment, FeedsSegment, IsWhole}
-use Rattle.nr_trace.specs.Feed.Fed.{Taken}
+use Rattle.nr_trace.specs.Feed.Fed.{Stopped, Taken}
 use Rattle.nr_trace.specs.declared.fault.Fault.TheVariants as faults
 use Rattle.nr_trace.specs.declared.fault.Format.{Format}
 use Rattle.nr_trace.specs.declared.fault.Format.TheVariants.{Truncated}
@@ -95,7 +95,7 @@ refused_so : (read piece behind : List ℕ) (new : FedSegment) (fail : Fail Form
 refused_so read piece behind new (Refused fault) feeds = feeds.1.1 behind
 refused_so read piece behind new Memory feeds = tt
 
-pub first_refused : (known left next : Option (List ℕ)) (feed new : FedSegment) (piece : List ℕ) (fail : Fail Format) → IsBegun known left feed
+first_refused : (known left next : Option (List ℕ)) (feed new : FedSegment) (piece : List ℕ) (fail : Fail Format) → IsBegun known left feed
     → Consumes left next piece → FeedsSegment feed piece new (Err fail) → HasReadFirst known (Err fail)
 first_refused known left next feed new piece fail begun lost feeds =
     let (behind, is) = whole_with known next (begun.read ++ piece) (Consumes-trans known left next begun.read piece begun.consumed lost) in
@@ -105,6 +105,16 @@ first_refused known left next feed new piece fail begun lost feeds =
       begins = refused_so begun.read piece behind new fail
           (subst (λ (f : FedSegment). FeedsSegment f piece new (Err fail)) begun.feed_is feeds);
     }
+
+-- so it is with what such a feed ends with
+pub first_stopped : (known left next : Option (List ℕ)) (feed new : FedSegment) (piece : List ℕ) (fail : Fail Format)
+    (read : Result Recording (Fail Format)) → IsBegun known left feed → Consumes left next piece → FeedsSegment feed piece new (Err fail)
+    → EndsSegment new read → HasReadFirst known read
+first_stopped known left next feed new piece fail read begun lost feeds ends =
+    let here : FeedsSegment (fed_first begun.read) piece new (Err fail) = subst (λ (f : FedSegment). FeedsSegment f piece new (Err fail)) begun.feed_is feeds in
+    let stopped : new ≡ record { before = new.before; pieces = Stopped fail } = λ i. record { before = new.before; pieces = here.1.0 i } in
+    let same : read ≡ Err fail = subst (λ (f : FedSegment). EndsSegment f read) stopped ends in
+    subst (HasReadFirst known) (sym same) (first_refused known left next feed new piece fail begun lost feeds)
 
 -- ---- the segment is whole
 

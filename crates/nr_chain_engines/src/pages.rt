@@ -1,8 +1,12 @@
 //! The pages with which a chain begins, and those after its last segment.
 
-ghost use Rattle.std.specs.Prelude.{◌≡◌, ℕ, IfErr, IfOk, List, None, length, string_bytes};
+ghost use Rattle.std.specs.Prelude.{◌≡◌, ℕ, [], IfErr, IfOk, List, None, OnOk, Result, length, string_bytes};
+ghost use Rattle.vs_types.specs.declared.refusal.Fail.{Fail};
 ghost use Rattle.vs_types.specs.Space.{pages};
-ghost use Rattle.nr_trace.specs.Recording.{IsRecording};
+ghost use Rattle.nr_trace.specs.Feed.{EndsSegment, FedSegment};
+ghost use Rattle.nr_trace.specs.Feed.Fed.{Taken};
+ghost use Rattle.nr_trace.specs.Recording.{IsRecording, Recording};
+ghost use Rattle.nr_trace.specs.declared.fault.Format.{Format};
 ghost use Rattle.nr_segment.specs.Faults.{IsSoundAfter};
 ghost use Rattle.nr_segment.specs.Start.{first_space};
 ghost use Rattle.nr_engines.specs.Answers.{WritesReport};
@@ -33,7 +37,38 @@ fn fault_report(alloc: Global, number: u64, fault: SegmentFault) -> Result<Repor
     Ok(Report { text, status: 1 })
 }
 
-/// Reads blocks until the first segment is whole, or can't be any more.
+/// Reads blocks and feeds each, until the first segment is whole, or can't be any more. What the feed ends with is then what was read.
+fn feed_first<R: Read>(
+    reader: &mut R,
+    first: &mut SegmentFeed,
+    block: &mut [u8],
+) -> Result<(), ProgFault>
+    requires empty { let nothing : FedSegment = record { before = None; pieces = Taken [] } in
+        first.old ≡ nothing }
+    requires block { length block.old ≡ 4096 }
+    ensures ok { OnOk result ((read : Result Recording (Fail Format)) → EndsSegment first.new read
+        → HasReadFirst (R.remaining reader.old) read) }
+    ensures err { IfErr result (λ fault. fault ≡ ProgFault.CannotRead) }
+    ensures few { HasReadFewOfStart (R.remaining reader.old) (R.remaining reader.new) }
+{
+    let mut room = MOST_BLOCKS;
+    while room > 0 {
+        let count = read_block(reader, block)?;
+        if count == 0 {
+            return Ok(());
+        }
+        if let Err(_fail) = first.feed(&block[..count]) {
+            return Ok(());
+        }
+        if first.is_whole() {
+            return Ok(());
+        }
+        room -= 1;
+    }
+    Err(ProgFault::CannotRead)
+}
+
+/// Reads the first segment.
 fn read_first<R: Read>(
     alloc: Global,
     reader: &mut R,
@@ -45,21 +80,8 @@ fn read_first<R: Read>(
     ensures few { HasReadFewOfStart (R.remaining reader.old) (R.remaining reader.new) }
 {
     let mut first = SegmentFeed::new(alloc, None);
-    let mut room = MOST_BLOCKS;
-    while room > 0 {
-        let count = read_block(reader, block)?;
-        if count == 0 {
-            return Ok(first.end());
-        }
-        if let Err(fail) = first.feed(&block[..count]) {
-            return Ok(Err(fail));
-        }
-        if first.is_whole() {
-            return Ok(first.end());
-        }
-        room -= 1;
-    }
-    Err(ProgFault::CannotRead)
+    feed_first(reader, &mut first, block)?;
+    Ok(first.end())
 }
 
 /// The pages of the start of a segment that is right as the first one.
@@ -167,8 +189,10 @@ fn end_report(alloc: Global, judged: Judged, as_ranges: bool) -> Result<Report, 
 {
     match judged {
         Judged::Ended(chain, number) => {
-            let text = last_text(alloc, &chain, as_ranges)?;
-            match chain.end() {
+            let text = last_text(alloc, &chain, as_ranges);
+            let found = chain.end();
+            let text = text?;
+            match found {
                 None => Ok(Report { text, status: 0 }),
                 Some(fault) => fault_report(alloc, number, fault),
             }

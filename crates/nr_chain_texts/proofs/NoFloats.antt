@@ -13,7 +13,11 @@ use Rattle.nr_chain_explain.specs.declared.explanation.ChainExplanation.{ChainEx
 use Rattle.nr_chain_explain.specs.declared.explanation.ChainExplanation.TheVariants.{Yes, No}
 use Rattle.nr_engines.specs.EvidenceJson.{step_data, way_data}
 use Rattle.nr_engines.proofs.NoFloats.{evidence_has_no_float}
-use Rattle.nr_chain_texts.specs.EvidenceJson.{chain_explanation_data, change_data, moment_data, origin_data, segment_evidence_data}
+use Rattle.nr_engines.specs.Parts.{says_data}
+use Rattle.nr_chain_texts.specs.ChainExplained.{chain_explanation_data}
+use Rattle.nr_chain_texts.specs.Evidence.{bad_segment_parts, chain_counts_parts, change_says, difference_parts, moment_data, origin_says}
+use Rattle.nr_chain_texts.specs.Evidence.{other_answer_parts, segment_evidence_data, start_beyond_parts, start_differs_parts, start_missing_parts}
+use Rattle.nr_chain_texts.specs.Evidence.{start_reserved_parts, start_shared_parts, start_stray_parts, window_parts}
 
 steps : (entries : List Step) → items_have_float (items_of (map step_data entries)) ≡ false
 steps [] = refl
@@ -26,12 +30,14 @@ moments : (looks : List Moment) → items_have_float (items_of (map moment_data 
 moments [] = refl
 moments (moment ∷ more) = moments more
 
-from : (origin : Origin) → has_float (origin_data origin) ≡ false
+from : (origin : Origin) → has_float (says_data (origin_says origin)) ≡ false
+unfolding says_data origin_says
 from Nothing = refl
 from Start = refl
 from Earlier = refl
 
-change : (update : Option PlacedUpdate) (origin : Origin) → has_float (change_data update origin) ≡ false
+change : (update : Option PlacedUpdate) (origin : Origin) → has_float (says_data (change_says update origin)) ≡ false
+unfolding says_data change_says
 change None origin = from origin
 change (Some update) origin = refl
 
@@ -43,7 +49,7 @@ abbrev two : Bool → Bool → Bool
 two a b = a || (b || false)
 
 segment_evidence_has_no_float : (evidence : SegmentEvidence) → has_float (segment_evidence_data evidence) ≡ false
-unfolding segment_evidence_data
+unfolding segment_evidence_data says_data bad_segment_parts other_answer_parts difference_parts start_missing_parts start_shared_parts start_reserved_parts start_stray_parts start_beyond_parts start_differs_parts window_parts
 segment_evidence_has_no_float (shown.Format bad) = refl
 segment_evidence_has_no_float (shown.Within evidence) = evidence_has_no_float evidence
 segment_evidence_has_no_float (shown.WrongAnswer wrong origin) = ap one (change wrong.changed origin)
@@ -57,5 +63,6 @@ segment_evidence_has_no_float (shown.StartDiffers wrong) = ap₂ two (from wrong
 segment_evidence_has_no_float (shown.Stale touch) = ap one (moments touch.looks.items)
 
 pub chain_explanation_has_no_float : (explanation : ChainExplanation) → has_float (chain_explanation_data explanation) ≡ false
+unfolding chain_counts_parts says_data
 chain_explanation_has_no_float (Yes counts) = refl
 chain_explanation_has_no_float (No number fault evidence) = ap one (segment_evidence_has_no_float evidence)

@@ -1,10 +1,42 @@
 -- What `explain --chain` answers to bytes: a text or a JSON object, and a status.
-use Rattle.std.specs.Prelude.{◌≡◌, ℕ, Bool, true, false, List}
+use Rattle.std.specs.Prelude.{◌≡◌, ℕ, ◌++◌, Bool, true, false, List, Some, None, codes, decimal}
+use Rattle.serde_json.specs.Data.{Data, member, no_members, object, string}
+use Rattle.serde_json.specs.Written.{compact_text}
 use Rattle.nr_chain_explain.specs.Explanation.{IsExplanationOfChain}
+use Rattle.nr_chain_explain.specs.declared.evidence.SegmentEvidence.{SegmentEvidence}
 use Rattle.nr_chain_explain.specs.declared.explanation.ChainExplanation.{ChainExplanation}
 use Rattle.nr_chain_explain.specs.declared.explanation.ChainExplanation.TheVariants.{Yes, No}
-use Rattle.nr_chain_texts.specs.Sentence.{chain_explanation_text}
-use Rattle.nr_chain_texts.specs.EvidenceJson.{chain_explanation_json}
+use Rattle.nr_engines.specs.Text.{line_end}
+use Rattle.nr_engines.specs.EvidenceJson.{number_data}
+use Rattle.nr_chain_engines.specs.ChainText.{end_lines, segment_fault_text}
+use Rattle.nr_chain_texts.specs.Sentence.{segment_sentence}
+use Rattle.nr_chain_texts.specs.Evidence.{chain_counts_data, chain_counts_lines, segment_evidence_data, segment_evidence_text}
+
+-- the sentence and the lines of the evidence
+abbrev pub shown_text : SegmentEvidence → List ℕ
+shown_text evidence = segment_sentence evidence ++ (line_end ++ segment_evidence_text evidence)
+
+-- the lines: how many segments are right and how much they have; or the segment with the first fault, the fault, its sentence and the
+-- evidence
+abbrev pub chain_explanation_text : ChainExplanation → List ℕ
+chain_explanation_text (Yes counts) = end_lines counts.segments None ++ chain_counts_lines counts
+chain_explanation_text (No number fault evidence) = end_lines number (Some fault) ++ shown_text evidence
+
+-- the JSON object: how many segments are right and how much they have; or the segment with the first fault, the evidence, the sentence
+-- and the fault
+abbrev pub chain_explanation_data : ChainExplanation → Data
+chain_explanation_data (Yes counts) = object
+    (member (codes "counts") (chain_counts_data counts)
+    (member (codes "verdict") (string (codes "segments " ++ decimal counts.segments)) no_members))
+chain_explanation_data (No number fault evidence) = object
+    (member (codes "evidence") (segment_evidence_data evidence)
+    (member (codes "segment") (number_data number)
+    (member (codes "sentence") (string (segment_sentence evidence))
+    (member (codes "verdict") (string (codes "no " ++ segment_fault_text fault)) no_members))))
+
+-- the object on one line
+abbrev pub chain_explanation_json : ChainExplanation → List ℕ
+chain_explanation_json explanation = compact_text (chain_explanation_data explanation) ++ line_end
 
 -- as JSON, or as lines
 abbrev pub told_chain : Bool → ChainExplanation → List ℕ

@@ -1,5 +1,4 @@
-pub mod EvidenceText
+pub mod Evidence
 pub mod Sentence
-pub mod EvidenceJson
 pub mod ChainExplained
 pub mod inside

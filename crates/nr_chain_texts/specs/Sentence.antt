@@ -1,5 +1,5 @@
--- The sentence of a fault of a chain, and all that `explain --chain` prints.
-use Rattle.std.specs.Prelude.{ℕ, ◌++◌, List, [], ◌∷◌, length, codes, decimal, None, Some}
+-- The sentence of a fault of a chain.
+use Rattle.std.specs.Prelude.{ℕ, ◌++◌, List, [], ◌∷◌, length, codes, decimal}
 use Rattle.vs_text.specs.Words.{hexadecimal}
 use Rattle.nr_trace.specs.declared.fault.Format.{Format}
 use Rattle.nr_trace.specs.declared.fault.Format.TheVariants as formats
@@ -14,13 +14,10 @@ use Rattle.nr_chain_explain.specs.declared.evidence.StartDiffers.{StartDiffers}
 use Rattle.nr_chain_explain.specs.declared.evidence.StaleTouch.{StaleTouch}
 use Rattle.nr_chain_explain.specs.declared.evidence.SegmentEvidence.{SegmentEvidence}
 use Rattle.nr_chain_explain.specs.declared.evidence.SegmentEvidence.TheVariants as shown
-use Rattle.nr_chain_explain.specs.declared.explanation.ChainExplanation.{ChainExplanation}
-use Rattle.nr_chain_explain.specs.declared.explanation.ChainExplanation.TheVariants.{Yes, No}
-use Rattle.nr_engines.specs.Text.{answer_text, line_end, walk_words}
+use Rattle.nr_engines.specs.Text.{answer_text, walk_words}
 use Rattle.nr_engines.specs.EvidenceText.{bytes_text}
 use Rattle.nr_engines.specs.Sentence.{difference_sentence, event_text, frame_text, other_answer_sentence, sentence_text, start_text}
-use Rattle.nr_chain_engines.specs.ChainText.{end_lines}
-use Rattle.nr_chain_texts.specs.EvidenceText.{chain_counts_lines, segment_evidence_text, segment_unit_text}
+use Rattle.nr_chain_texts.specs.Evidence.{segment_unit_text}
 
 -- where bytes end in a unit
 abbrev pub cut_segment_text : BadSegment → List ℕ
@@ -97,10 +94,3 @@ segment_sentence (shown.StartStray frame) = start_stray_sentence frame
 segment_sentence (shown.StartBeyond wrong) = start_beyond_sentence wrong
 segment_sentence (shown.StartDiffers wrong) = start_differs_sentence wrong
 segment_sentence (shown.Stale touch) = stale_sentence touch
-
--- what `explain --chain` prints: how many segments are right and how much they have; or the segment with the first fault, the fault, its
--- sentence and the evidence
-abbrev pub chain_explanation_text : ChainExplanation → List ℕ
-chain_explanation_text (Yes counts) = end_lines counts.segments None ++ chain_counts_lines counts
-chain_explanation_text (No number fault evidence) =
-    end_lines number (Some fault) ++ (segment_sentence evidence ++ (line_end ++ segment_evidence_text evidence))

@@ -7,13 +7,13 @@ ghost use Rattle.nr_engines.specs.Answers.{WritesReport};
 ghost use Rattle.nr_engines.specs.Refusals.{IsEndFault, WritesAnswersAlone};
 ghost use Rattle.nr_chain_engines.specs.ChainAudit.{HasReadFewOfChain};
 ghost use Rattle.nr_chain_engines.specs.ChainText.{end_lines, segment_fault_text};
-ghost use Rattle.nr_chain_texts.specs.ChainExplained.{chain_explanation_status, told_chain, IsChainExplained};
-ghost use Rattle.nr_chain_texts.specs.EvidenceJson.{chain_explanation_data, chain_explanation_json};
-ghost use Rattle.nr_chain_texts.specs.Sentence.{chain_explanation_text};
+ghost use Rattle.nr_chain_texts.specs.ChainExplained.{chain_explanation_data, chain_explanation_json, chain_explanation_status};
+ghost use Rattle.nr_chain_texts.specs.ChainExplained.{chain_explanation_text, shown_text, told_chain, IsChainExplained};
 ghost use Rattle.nr_chain_texts.specs.inside.Explaining.{HasExplained};
 
-use crate::evidence_json::{chain_counts_value, segment_evidence_value};
-use crate::evidence_text::{chain_counts_lines, segment_evidence_text};
+use crate::evidence::{
+    chain_counts_lines, chain_counts_value, segment_evidence_text, segment_evidence_value,
+};
 use crate::sentence::segment_sentence;
 use nr_chain_engines::segment_fault_text;
 use nr_chain_explain::{ChainCounts, ChainExplanation, ChainReader, Fed, SegmentEvidence};
@@ -52,6 +52,17 @@ fn fault_lines(alloc: Global, number: u64, fault: SegmentFault) -> Result<String
     format!(in alloc; "segment {number}\nno {name}\n")
 }
 
+/// Adds the sentence of a fault and the lines of what shows it.
+fn push_shown(alloc: Global, text: &mut String, shown: &SegmentEvidence) -> Result<(), AllocError>
+    ensures { OnOk result (string_bytes text.new ≡ string_bytes text.old ++ shown_text shown.now) }
+{
+    let sentence = segment_sentence(alloc, shown)?;
+    text.push_str(sentence.as_str())?;
+    text.push_str("\n")?;
+    let lines = segment_evidence_text(alloc, shown)?;
+    text.push_str(lines.as_str())
+}
+
 fn wrong_text(
     alloc: Global,
     number: u64,
@@ -61,10 +72,9 @@ fn wrong_text(
     ensures { IfOk result (λ text. string_bytes text
         ≡ chain_explanation_text (ChainExplanation.No number fault shown.now)) }
 {
-    let fault = fault_lines(alloc, number, fault)?;
-    let sentence = segment_sentence(alloc, shown)?;
-    let lines = segment_evidence_text(alloc, shown)?;
-    format!(in alloc; "{fault}{sentence}\n{lines}")
+    let mut text = fault_lines(alloc, number, fault)?;
+    push_shown(alloc, &mut text, shown)?;
+    Ok(text)
 }
 
 /// The lines that are printed.
@@ -164,6 +174,34 @@ fn told_chain(
     }
 }
 
+/// The report of an explanation.
+fn report_of(
+    alloc: Global,
+    as_json: bool,
+    explanation: &ChainExplanation,
+) -> Result<Report, AllocError>
+    ensures { IfOk result (λ report. (string_bytes report.text ≡ told_chain as_json explanation.now)
+        × (report.status ≡ chain_explanation_status explanation.now)) }
+{
+    let text = told_chain(alloc, as_json, explanation)?;
+    Ok(Report {
+        text,
+        status: status_of(explanation),
+    })
+}
+
+/// The same, of one that isn't used any more.
+fn chain_report(
+    alloc: Global,
+    as_json: bool,
+    explanation: ChainExplanation,
+) -> Result<Report, AllocError>
+    ensures { IfOk result (λ report. (string_bytes report.text ≡ told_chain as_json explanation)
+        × (report.status ≡ chain_explanation_status explanation)) }
+{
+    report_of(alloc, as_json, &explanation)
+}
+
 /// Reads blocks and feeds each, to the end of the input or to the first fault.
 fn explain_blocks<R: Read>(
     alloc: Global,
@@ -218,10 +256,6 @@ pub fn explain_chain_io<R: Read, W: Write>(
     ensures few { HasReadFewOfChain (R.remaining reader.old) (R.remaining reader.new) }
 {
     let explanation = explain_blocks(alloc, reader, &mut [0; BLOCK])?;
-    let text = told_chain(alloc, as_json, &explanation)?;
-    let report = Report {
-        text,
-        status: status_of(&explanation),
-    };
+    let report = chain_report(alloc, as_json, explanation)?;
     write_report(writer, &report)
 }

@@ -2,10 +2,8 @@
 //! that reads a chain and prints it: `explain_chain_io`. What it writes is a function of what it reads.
 #![tactic(auto)]
 
-mod evidence_json;
-mod evidence_text;
+mod evidence;
 mod explain;
-mod fact_json;
 mod sentence;
 
 pub use explain::explain_chain_io;

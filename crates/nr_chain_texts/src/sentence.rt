@@ -7,7 +7,7 @@ ghost use Rattle.nr_chain_texts.specs.Sentence.{bad_segment_sentence, cut_segmen
 ghost use Rattle.nr_chain_texts.specs.Sentence.{start_beyond_sentence, start_differs_sentence, start_entry_text, start_leads_text, start_missing_sentence};
 ghost use Rattle.nr_chain_texts.specs.Sentence.{start_reserved_sentence, start_shared_sentence, start_stray_sentence, window_text};
 
-use crate::evidence_text::segment_unit_text;
+use crate::evidence::segment_unit_text;
 use nr_chain_explain::{
     BadSegment, Origin, SegmentEvidence, StaleTouch, StartBeyond, StartDiffers, StartMissing,
     StartReserved, StartShared,

@@ -1,6 +1,6 @@
 -- What a parse by clap says of the inspection that is asked for.
 use Rattle.std.proofs.Common.{◌≡◌, ◌∙◌, ◌≤◌, ◌⊎◌, map, ℕ, Bool, true, false, List, [], ◌∷◌, Option, Some, None, Result, Ok, Err, ap, inl, inr, sym, refl, subst, codes, option_map, unwrap_or}
-use Rattle.std.proofs.Common.{Bor, Box, IfErr}
+use Rattle.std.proofs.Common.{Bor, Box, IfErr, IfOk}
 use Rattle.std.specs.Result.{IsErrAnd}
 use Rattle.std.specs.Box.{box_value}
 use Rattle.std.specs.Str.Parse.{ParsesUnsigned}
@@ -23,6 +23,17 @@ use Rattle.nr_commands.specs.declared.task.Task.TheVariants.{Audit, Explain, Res
 pub one_more : (k : ErrorKind) (kinds : Kinds) (e : Error) → HasKind kinds e → HasKind (k ∷ kinds) e
 one_more k kinds e (inl h) = inl h
 one_more k kinds e (inr h) = inr (inr h)
+
+-- where it is that one alone, others may be
+pub alone : (k : ErrorKind) (kinds : Kinds) (e : Error) → HasKind (k ∷ []) e → HasKind (k ∷ kinds) e
+alone k kinds e (inl h) = inl h
+alone k kinds e (inr (inl h)) = inr (inl h)
+alone k kinds e (inr (inr h)) = absurd h
+
+-- two facts of a command that there is
+pub both : {T E : Type 0} (P Q : T → Type 0) (r : Result T E) → IfOk r P → IfOk r Q → IfOk r (λ x. P x × Q x)
+both P Q (Ok x) p q = (p, q)
+both P Q (Err e) p q = tt
 
 -- the subcommand of a parse, by its name and its rows
 pub entered : {Z : Type 0} (o : Option (Box SubCommand Z)) (name : Text) (rows : List Row)
@@ -56,6 +67,12 @@ pub of_pages : (e : Error) (kinds : Kinds) (sub : Option (Text × List Row)) (ro
     → (kind_of e ≡ OutOfMemory) ⊎ IsPagesMisuse rows (kind_of e) → HasKind kinds e ⊎ IsMisused sub (kind_of e)
 of_pages e kinds sub rows is (inl memory) = inl (inl memory)
 of_pages e kinds sub rows is (inr misuse) = inr (subst (λ s. IsMisused s (kind_of e)) (sym is) (inr (refl, misuse)))
+
+-- an error of a subcommand, where a parse gave that
+pub told_of : (k : ErrorKind) (kinds : Kinds) (e : Error) (given sub : Option (Text × List Row)) → given ≡ sub
+    → HasKind (k ∷ []) e ⊎ IsMisused given (kind_of e) → HasKind (k ∷ kinds) e ⊎ IsMisused sub (kind_of e)
+told_of k kinds e given sub same (inl h) = inl (alone k kinds e h)
+told_of k kinds e given sub same (inr h) = inr (subst (λ s. IsMisused s (kind_of e)) same h)
 
 -- the text of a value, or none
 pub text_or_none : (o : Option (Bor (List ℕ))) (d : Bor (List ℕ)) (t : Option Text) → option_map (λ s. s.now) o ≡ t → d.now ≡ []

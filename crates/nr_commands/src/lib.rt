@@ -16,4 +16,4 @@ pub use inspection::{Inspection, read_audit, read_explain, read_pages, read_reso
 pub use refusal::{end, tell_refusal};
 pub use running::run_inspection;
 pub use task::{ChainPoint, ChainTask, Task};
-pub use words::{VERSION, audit, explain, pages, resolve};
+pub use words::{VERSION, audit, explain, pages, resolve, with_command};

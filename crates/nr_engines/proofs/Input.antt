@@ -91,11 +91,19 @@ settled (Some whole) (Some left) bytes (Refused fault) lost h =
     record { input = whole; is_read = refl; read_is = subst (λ (l : List ℕ). HasFormatFault l fault) (sym lost) (h left) }
 
 -- a piece was read, and refused
-pub stops : (known left new : Option (List ℕ)) (feed after : Fed) (piece : List ℕ) (fail : Fail Format) (room : ℕ) → IsFed known left feed room
+stops : (known left new : Option (List ℕ)) (feed after : Fed) (piece : List ℕ) (fail : Fail Format) (room : ℕ) → IsFed known left feed room
     → Consumes left new piece → Feeds feed piece after (Err fail) → HasRead known (Err fail)
 stops known left new feed after piece fail room fed lost feeds =
     let here : Feeds (Taken fed.bytes) piece after (Err fail) = subst (λ f. Feeds f piece after (Err fail)) fed.taken feeds in
     settled known new (fed.bytes ++ piece) fail (Consumes-trans known left new fed.bytes piece fed.consumed lost) here.1
+
+-- so it is with what such a feed ends with
+pub stops_with : (known left new : Option (List ℕ)) (feed after : Fed) (piece : List ℕ) (fail : Fail Format) (room : ℕ) (read : Result Recording (Fail Format))
+    → IsFed known left feed room → Consumes left new piece → Feeds feed piece after (Err fail) → Ends after read → HasRead known read
+stops_with known left new feed after piece fail room read fed lost feeds end =
+    let here : Feeds (Taken fed.bytes) piece after (Err fail) = subst (λ f. Feeds f piece after (Err fail)) fed.taken feeds in
+    let same : read ≡ Err fail = subst (λ f. Ends f read) here.0 end in
+    subst (HasRead known) (sym same) (stops known left new feed after piece fail room fed lost feeds)
 
 ended : (bytes : List ℕ) (read : Result Recording (Fail Format)) → Ends (Taken bytes) read → Reads bytes read
 ended bytes (Ok trace) h = h

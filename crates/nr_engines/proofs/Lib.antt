@@ -3,4 +3,3 @@ pub mod Reports
 pub mod UnitInput
 pub mod UnitTexts
 pub mod NoFloats
-pub mod Joins

@@ -14,7 +14,12 @@ use Rattle.nr_explain.specs.declared.explaining.Explanation.TheVariants.{Yes, No
 use Rattle.nr_explain.specs.declared.all_dumps.DumpExplanation.{DumpExplanation}
 use Rattle.nr_explain.specs.declared.all_dumps.DumpExplanation.TheVariants.{Sound, Faulty}
 use Rattle.nr_engines.specs.FullExplained.{dump_data, full_data}
-use Rattle.nr_engines.specs.EvidenceJson.{changed_data, event_data, evidence_data, explanation_data, number_data, option_data, own_data, step_data, way_data}
+use Rattle.nr_engines.specs.EvidenceJson.{changed_data, event_data, number_data, option_data, own_data, step_data, way_data}
+use Rattle.nr_engines.specs.Parts.{says_data}
+use Rattle.nr_engines.specs.Evidence.{counts_parts, evidence_data, evidence_parts}
+use Rattle.nr_engines.specs.Evidence.{bad_unit_parts, difference_parts, early_parts, long_prefix_parts, misplaced_parts, missing_parts, no_update_parts, open_parts, other_answer_parts}
+use Rattle.nr_engines.specs.Evidence.{past_end_parts, reserved_parts, shared_parts, short_prefix_parts, stray_parts, stray_reply_parts, two_places_parts, two_replies_parts}
+use Rattle.nr_engines.specs.Explained.{explanation_data}
 
 numbers : (order : List ℕ) → items_have_float (items_of (map number_data order)) ≡ false
 numbers [] = refl
@@ -53,7 +58,7 @@ abbrev two : Bool → Bool → Bool
 two a b = a || (b || false)
 
 pub evidence_has_no_float : (shown : Evidence) → has_float (evidence_data shown) ≡ false
-unfolding evidence_data
+unfolding evidence_parts says_data bad_unit_parts open_parts stray_reply_parts two_replies_parts no_update_parts two_places_parts misplaced_parts past_end_parts early_parts other_answer_parts long_prefix_parts short_prefix_parts missing_parts shared_parts reserved_parts stray_parts difference_parts
 evidence_has_no_float (evidence.Format bad) = refl
 evidence_has_no_float (evidence.ThreadOpen calls) = refl
 evidence_has_no_float (evidence.NoSuchCall stray) = ap one (event stray.reply.call stray.named)
@@ -73,6 +78,7 @@ evidence_has_no_float (evidence.StrayFrame wrong) = refl
 evidence_has_no_float (evidence.Differs wrong) = ap₂ two (changed wrong.changed) (way wrong.path.items)
 
 pub explanation_has_no_float : (explanation : Explanation) → has_float (explanation_data explanation) ≡ false
+unfolding counts_parts says_data
 explanation_has_no_float (Yes order counts) = ap one (numbers order)
 explanation_has_no_float (No fault shown) = ap one (evidence_has_no_float shown)
 

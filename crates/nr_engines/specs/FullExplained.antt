@@ -10,16 +10,16 @@ use Rattle.nr_explain.specs.declared.all_dumps.DumpExplanation.{DumpExplanation}
 use Rattle.nr_explain.specs.declared.all_dumps.DumpExplanation.TheVariants.{Sound, Faulty}
 use Rattle.nr_explain.specs.declared.all_dumps.FullExplanation.{FullExplanation}
 use Rattle.nr_engines.specs.Text.{fault_text, line_end}
-use Rattle.nr_engines.specs.EvidenceText.{evidence_text}
-use Rattle.nr_engines.specs.Sentence.{explanation_text, sentence_text}
-use Rattle.nr_engines.specs.EvidenceJson.{evidence_data, explanation_data, number_data}
-use Rattle.nr_engines.specs.Explained.{explanation_status}
+use Rattle.nr_engines.specs.Sentence.{sentence_text}
+use Rattle.nr_engines.specs.EvidenceJson.{number_data}
+use Rattle.nr_engines.specs.Evidence.{evidence_data}
+use Rattle.nr_engines.specs.Explained.{explanation_data, explanation_status, explanation_text, shown_text}
 
 -- the lines of a dump: that it has no fault; or its first, with its sentence and the evidence
 unfoldable pub dump_lines : DumpExplanation → List ℕ
 dump_lines (Sound replica) = codes "dump " ++ (decimal replica ++ codes ": no fault\n")
-dump_lines (Faulty replica fault shown) = codes "dump " ++ (decimal replica ++ (codes ": " ++ (fault_text fault ++ (line_end
-    ++ (sentence_text shown ++ (line_end ++ evidence_text shown))))))
+dump_lines (Faulty replica fault shown) =
+    codes "dump " ++ (decimal replica ++ (codes ": " ++ (fault_text fault ++ (line_end ++ shown_text shown))))
 
 -- the lines of the explanation, and then those of the other dumps
 abbrev pub full_text : FullExplanation → List ℕ

@@ -3,6 +3,8 @@ pub mod EvidenceText
 pub mod FieldText
 pub mod Sentence
 pub mod EvidenceJson
+pub mod Parts
+pub mod Evidence
 pub mod Explained
 pub mod FullExplained
 pub mod Answers

@@ -30,11 +30,9 @@ use Rattle.nr_explain.specs.declared.evidence.StrayTable.{StrayTable}
 use Rattle.nr_explain.specs.declared.evidence.Difference.{Difference}
 use Rattle.nr_explain.specs.declared.evidence.Evidence.{Evidence}
 use Rattle.nr_explain.specs.declared.evidence.Evidence.TheVariants as evidence
-use Rattle.nr_explain.specs.declared.explaining.Explanation.{Explanation}
-use Rattle.nr_explain.specs.declared.explaining.Explanation.TheVariants.{Yes, No}
 use Rattle.nr_engines.specs.FieldText.{since_text}
-use Rattle.nr_engines.specs.Text.{answer_text, line_end, no_text, walk_words, yes_text}
-use Rattle.nr_engines.specs.EvidenceText.{bytes_text, counts_lines, evidence_text, unit_text}
+use Rattle.nr_engines.specs.Text.{answer_text, walk_words}
+use Rattle.nr_engines.specs.EvidenceText.{bytes_text, unit_text}
 
 -- the word for one of them, or for none or more
 abbrev pub noun : ℕ → List ℕ → List ℕ → List ℕ
@@ -204,8 +202,3 @@ sentence_text (evidence.SharedFrame wrong) = shared_sentence wrong
 sentence_text (evidence.ReservedBit wrong) = reserved_sentence wrong
 sentence_text (evidence.StrayFrame wrong) = stray_sentence wrong
 sentence_text (evidence.Differs wrong) = difference_sentence wrong
-
--- what `explain` prints: the lines of the verdict, and for a no its sentence and the evidence, for a yes how much there is
-abbrev pub explanation_text : Explanation → List ℕ
-explanation_text (Yes order counts) = yes_text order ++ counts_lines counts
-explanation_text (No fault shown) = no_text fault ++ (sentence_text shown ++ (line_end ++ evidence_text shown))

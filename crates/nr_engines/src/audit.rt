@@ -1,3 +1,5 @@
+//! The verdict on a trace: judged, and printed.
+
 ghost use Rattle.std.specs.Prelude.{◌≡◌, ◌++◌, ℕ, IfOk, IfErr, List, codes, string_bytes};
 ghost use Rattle.nr_trace.specs.Feed.{Reads};
 ghost use Rattle.nr_audit.specs.Verdict.{verdict_status};

@@ -1,5 +1,11 @@
-ghost use Rattle.std.specs.Prelude.{◌≡◌, ◌<◌, [], IfOk, IfErr, OnOk, length, string_bytes, take};
+//! Reading an input in blocks to its end, or to the first refusal.
+
+ghost use Rattle.std.specs.Prelude.{◌≡◌, ◌<◌, [], IfOk, IfErr, OnOk, Result, length, string_bytes, take};
+ghost use Rattle.vs_types.specs.declared.refusal.Fail.{Fail};
+ghost use Rattle.nr_trace.specs.Feed.{Ends};
 ghost use Rattle.nr_trace.specs.Feed.Fed.{Taken};
+ghost use Rattle.nr_trace.specs.Recording.{Recording};
+ghost use Rattle.nr_trace.specs.declared.fault.Format.{Format};
 ghost use Rattle.std.specs.Io.{ReadsAtMost};
 ghost use Rattle.std.specs.Io.KnownBytes.{Appends, Consumes, IsAtEnd, Keeps};
 ghost use Rattle.nr_engines.specs.Answers.{HasRead, HasReadFew};
@@ -41,15 +47,12 @@ pub fn read_block<R: Read>(reader: &mut R, block: &mut [u8]) -> Result<usize, Pr
 }
 
 /// Reads blocks and feeds each, to the end of the input or to the first refusal, which comes at the latest with the last byte
-/// that there is room for.
-fn feed_blocks<R: Read>(
-    reader: &mut R,
-    mut feed: Feed,
-    block: &mut [u8],
-) -> Result<Result<Trace, Fail<Format>>, ProgFault>
-    requires empty { feed ≡ Taken [] }
+/// that there is room for. What the feed ends with is then what was read.
+fn feed_blocks<R: Read>(reader: &mut R, feed: &mut Feed, block: &mut [u8]) -> Result<(), ProgFault>
+    requires empty { feed.old ≡ Taken [] }
     requires block { length block.old ≡ 4096 }
-    ensures ok { IfOk result (HasRead (R.remaining reader.old)) }
+    ensures ok { OnOk result ((read : Result Recording (Fail Format)) → Ends feed.new read
+        → HasRead (R.remaining reader.old) read) }
     ensures err { IfErr result (λ fault. fault ≡ ProgFault.CannotRead) }
     ensures few { HasReadFew (R.remaining reader.old) (R.remaining reader.new) }
 {
@@ -58,10 +61,10 @@ fn feed_blocks<R: Read>(
         let piece = &mut block[..room.min(BLOCK)];
         let count = read_block(reader, piece)?;
         if count == 0 {
-            return Ok(feed.end());
+            return Ok(());
         }
-        if let Err(fail) = feed.feed(&piece[..count]) {
-            return Ok(Err(fail));
+        if let Err(_fail) = feed.feed(&piece[..count]) {
+            return Ok(());
         }
         room -= count;
     }
@@ -83,7 +86,9 @@ pub fn read_trace<R: Read>(
     ensures err { IfErr result (λ fault. fault ≡ ProgFault.CannotRead) }
     ensures few { HasReadFew (R.remaining reader.old) (R.remaining reader.new) }
 {
-    feed_blocks(reader, Feed::new(alloc), &mut [0; BLOCK])
+    let mut feed = Feed::new(alloc);
+    feed_blocks(reader, &mut feed, &mut [0; BLOCK])?;
+    Ok(feed.end())
 }
 
 /// Writes the text and nothing else. A flush that fails is a failed write.

@@ -1,17 +1,20 @@
+//! The verdict on a trace with what shows its fault, as lines and as JSON.
+
 ghost use Rattle.std.specs.Prelude.{◌≡◌, ◌++◌, ℕ, [], IfOk, IfErr, List, OnOk, codes, map, string_bytes};
 ghost use Rattle.serde_json.specs.Data.{array, object, put as with_member, string};
-ghost use Rattle.nr_engines.specs.Text.{fault_text};
+ghost use Rattle.nr_engines.specs.Text.{fault_text, no_text, yes_text};
 ghost use Rattle.nr_explain.specs.Units.{ReadsUnits};
 ghost use Rattle.serde_json.specs.View.{items_of, members_view, view};
-ghost use Rattle.nr_engines.specs.Sentence.{explanation_text, sentence_text};
-ghost use Rattle.nr_engines.specs.EvidenceJson.{evidence_data, explanation_data, explanation_json, number_data};
-ghost use Rattle.nr_engines.specs.Explained.{explanation_status, told_explanation, IsExplained};
+ghost use Rattle.nr_engines.specs.Sentence.{sentence_text};
+ghost use Rattle.nr_engines.specs.EvidenceJson.{number_data};
+ghost use Rattle.nr_engines.specs.Evidence.{counts_lines, evidence_data};
+ghost use Rattle.nr_engines.specs.Explained.{explanation_data, explanation_json, explanation_status, explanation_text};
+ghost use Rattle.nr_engines.specs.Explained.{shown_text, told_explanation, IsExplained};
 ghost use Rattle.nr_engines.specs.Refusals.{IsEndFault, WritesAnswersAlone};
 ghost use Rattle.nr_engines.specs.Answers.{HasReadFew, WritesReport};
 
 use crate::ends::write_report;
-use crate::evidence_json::{counts_value, evidence_value};
-use crate::evidence_text::{counts_lines, evidence_lines};
+use crate::evidence::{counts_lines, counts_value, evidence_lines, evidence_value};
 use crate::fact_json::{Members, put_text};
 use crate::fault::ProgFault;
 use crate::report::Report;
@@ -34,6 +37,37 @@ pub(crate) fn status_of(explanation: &Explanation) -> u8
     }
 }
 
+/// Adds the sentence of a fault and the lines of what shows it.
+pub(crate) fn push_shown(
+    alloc: Global,
+    text: &mut String,
+    shown: &Evidence,
+) -> Result<(), AllocError>
+    ensures { OnOk result (string_bytes text.new ≡ string_bytes text.old ++ shown_text shown.now) }
+{
+    let sentence = sentence_text(alloc, shown)?;
+    text.push_str(sentence.as_str())?;
+    text.push_str("\n")?;
+    let lines = evidence_lines(alloc, shown)?;
+    text.push_str(lines.as_str())
+}
+
+fn right_text(alloc: Global, order: &[u32], counts: Counts) -> Result<String, AllocError>
+    ensures { IfOk result (λ text. string_bytes text ≡ yes_text order.now ++ counts_lines counts) }
+{
+    let yes = yes_text(alloc, order)?;
+    let lines = counts_lines(alloc, counts)?;
+    format!(in alloc; "{yes}{lines}")
+}
+
+fn wrong_text(alloc: Global, fault: Fault, shown: &Evidence) -> Result<String, AllocError>
+    ensures { IfOk result (λ text. string_bytes text ≡ no_text fault ++ shown_text shown.now) }
+{
+    let mut text = no_text(alloc, fault)?;
+    push_shown(alloc, &mut text, shown)?;
+    Ok(text)
+}
+
 /// The lines that `explain` prints. Allocates memory for the text.
 pub(crate) fn explanation_text(
     alloc: Global,
@@ -42,17 +76,8 @@ pub(crate) fn explanation_text(
     ensures { IfOk result (λ text. string_bytes text ≡ explanation_text explanation.now) }
 {
     match explanation {
-        Explanation::Yes(order, counts) => {
-            let yes = yes_text(alloc, order.calls())?;
-            let lines = counts_lines(alloc, *counts)?;
-            format!(in alloc; "{yes}{lines}")
-        }
-        Explanation::No(fault, shown) => {
-            let no = no_text(alloc, *fault)?;
-            let sentence = sentence_text(alloc, shown)?;
-            let lines = evidence_lines(alloc, shown)?;
-            format!(in alloc; "{no}{sentence}\n{lines}")
-        }
+        Explanation::Yes(order, counts) => right_text(alloc, order.calls(), *counts),
+        Explanation::No(fault, shown) => wrong_text(alloc, *fault, shown),
     }
 }
 
@@ -154,6 +179,22 @@ fn told_explanation(
     }
 }
 
+/// The report of an explanation.
+fn explanation_report(
+    alloc: Global,
+    as_json: bool,
+    explanation: &Explanation,
+) -> Result<Report, Memory>
+    ensures { IfOk result (λ report. (string_bytes report.text ≡ told_explanation as_json explanation.now)
+        × (report.status ≡ explanation_status explanation.now)) }
+{
+    let text = told_explanation(alloc, as_json, explanation)?;
+    Ok(Report {
+        text,
+        status: status_of(explanation),
+    })
+}
+
 /// What `explain` answers to what was read of an input: the lines of its explanation, or the JSON object of it, and 0 where it
 /// is a right trace, else 1. Allocates memory for the judgement, the evidence and the text.
 ///
@@ -169,11 +210,7 @@ pub fn explained_read(
         IsExplained as_json bytes (string_bytes report.text) report.status) }
 {
     let explanation = explain_read(alloc, read)?;
-    let text = told_explanation(alloc, as_json, &explanation)?;
-    Ok(Report {
-        text,
-        status: status_of(&explanation),
-    })
+    explanation_report(alloc, as_json, &explanation)
 }
 
 /// Reads a trace in blocks, judges it, and writes the verdict and, for a no, a sentence and what shows the fault, as lines or as one JSON

@@ -1,10 +1,11 @@
 //! The lines of what evidence is made of: calls, replies, entries of tables.
 
-ghost use Rattle.std.specs.Prelude.{◌≡◌, ◌++◌, IfOk, OnOk, Some, flat_map, string_bytes, true};
+ghost use Rattle.std.specs.Prelude.{◌≡◌, ◌++◌, IfOk, OnOk, Some, decimal, string_bytes, true};
 ghost use Rattle.vs_types.specs.declared.request.Query.TheVariants as queries;
 ghost use Rattle.nr_trace.specs.declared.event.Event.TheVariants as events;
-ghost use Rattle.nr_engines.specs.EvidenceText.{address_line, answer_line, asked_text, call_line, changed_line, event_line, format_lines};
-ghost use Rattle.nr_engines.specs.EvidenceText.{number_line, option_line, own_line, reply_line, reserved_text, step_line, way_lines};
+ghost use Rattle.vs_text.specs.Words.{hexadecimal};
+ghost use Rattle.nr_engines.specs.EvidenceText.{asked_text, call_line, changed_line, event_line, format_lines, option_text, own_line};
+ghost use Rattle.nr_engines.specs.EvidenceText.{reply_line, reserved_text, step_line, steps_lines, way_lines};
 
 use crate::answer::answer_text;
 use nr_explain::{PlacedUpdate, RecordedCall, RecordedReply, Step};
@@ -43,13 +44,9 @@ pub(crate) fn asked_text(alloc: Global, touch: bool, request: Request) -> Result
     }
 }
 
-/// The line of a call. Allocates the text.
-///
-/// # Errors
-///
-/// Out of memory.
+/// The line of a call.
 #[tactic(auto, unfolding(crate::specs::EvidenceText::call_line))]
-pub fn call_line(alloc: Global, call: RecordedCall) -> Result<String, AllocError>
+pub(crate) fn call_line(alloc: Global, call: RecordedCall) -> Result<String, AllocError>
     ensures { IfOk result (λ text. string_bytes text ≡ call_line call) }
 {
     let asked = asked_text(alloc, call.touch, call.request)?;
@@ -59,13 +56,9 @@ pub fn call_line(alloc: Global, call: RecordedCall) -> Result<String, AllocError
     format!(in alloc; "call {event}, thread {thread}, replica {replica}: {asked}\n")
 }
 
-/// The line of a reply. Allocates the text.
-///
-/// # Errors
-///
-/// Out of memory.
+/// The line of a reply.
 #[tactic(auto, unfolding(crate::specs::EvidenceText::reply_line))]
-pub fn reply_line(alloc: Global, reply: RecordedReply) -> Result<String, AllocError>
+pub(crate) fn reply_line(alloc: Global, reply: RecordedReply) -> Result<String, AllocError>
     ensures { IfOk result (λ text. string_bytes text ≡ reply_line reply) }
 {
     let told = answer_text(alloc, reply.answer)?;
@@ -158,49 +151,37 @@ pub(crate) fn event_line(
     }
 }
 
-/// The line of a number, behind words. Allocates the text.
-///
-/// # Errors
-///
-/// Out of memory.
-#[tactic(auto, unfolding(crate::specs::EvidenceText::number_line))]
-pub fn number_line(alloc: Global, words: &'static str, number: u64) -> Result<String, AllocError>
-    ensures { IfOk result (λ text. string_bytes text ≡ number_line words.now number) }
+/// A number.
+pub(crate) fn number_text(alloc: Global, number: u64) -> Result<String, AllocError>
+    ensures { IfOk result (λ text. string_bytes text ≡ decimal number) }
 {
-    format!(in alloc; "{words}{number}\n")
+    format!(in alloc; "{number}")
 }
 
-/// The same where there may be none.
-#[tactic(auto, unfolding(crate::specs::EvidenceText::option_line, crate::specs::EvidenceText::number_line))]
-pub(crate) fn option_line(
-    alloc: Global,
-    words: &'static str,
-    number: Option<u32>,
-) -> Result<String, AllocError>
-    ensures { IfOk result (λ text. string_bytes text ≡ option_line words.now number) }
+/// A number, if there is one.
+#[tactic(auto, unfolding(crate::specs::EvidenceText::option_text))]
+pub(crate) fn option_text(alloc: Global, number: Option<u32>) -> Result<String, AllocError>
+    ensures { IfOk result (λ text. string_bytes text ≡ option_text number) }
 {
     match number {
-        None => format!(in alloc; "{words}none\n"),
-        Some(number) => format!(in alloc; "{words}{number}\n"),
+        None => String::from_str(alloc, "none"),
+        Some(number) => format!(in alloc; "{number}"),
     }
 }
 
-/// The line of an answer, behind words. Allocates the text.
-///
-/// # Errors
-///
-/// Out of memory.
-#[tactic(auto, unfolding(crate::specs::EvidenceText::answer_line))]
-pub fn answer_line(alloc: Global, words: &'static str, answer: Answer) -> Result<String, AllocError>
-    ensures { IfOk result (λ text. string_bytes text ≡ answer_line words.now answer) }
+/// An address, or the number of a frame.
+pub(crate) fn address_text(alloc: Global, address: u64) -> Result<String, AllocError>
+    ensures { IfOk result (λ text. string_bytes text ≡ hexadecimal address) }
 {
-    let answer = answer_text(alloc, answer)?;
-    format!(in alloc; "{words}{answer}\n")
+    format!(in alloc; "0x{address:x}")
 }
 
 /// The last update that changed how an address looks, to the end of its line.
 #[tactic(auto, unfolding(crate::specs::EvidenceText::changed_line))]
-fn changed_line(alloc: Global, changed: Option<PlacedUpdate>) -> Result<String, AllocError>
+pub(crate) fn changed_line(
+    alloc: Global,
+    changed: Option<PlacedUpdate>,
+) -> Result<String, AllocError>
     ensures { IfOk result (λ text. string_bytes text ≡ changed_line changed) }
 {
     match changed {
@@ -213,30 +194,9 @@ fn changed_line(alloc: Global, changed: Option<PlacedUpdate>) -> Result<String, 
     }
 }
 
-/// The line of an address, and what changed last how it looks. Allocates the text.
-///
-/// # Errors
-///
-/// Out of memory.
-#[tactic(auto, unfolding(crate::specs::EvidenceText::address_line))]
-pub fn address_line(
-    alloc: Global,
-    address: u64,
-    changed: Option<PlacedUpdate>,
-) -> Result<String, AllocError>
-    ensures { IfOk result (λ text. string_bytes text ≡ address_line address changed) }
-{
-    let changed = changed_line(alloc, changed)?;
-    format!(in alloc; "address 0x{address:x}, {changed}")
-}
-
-/// The line of an entry of a table. Allocates the text.
-///
-/// # Errors
-///
-/// Out of memory.
+/// The line of an entry of a table.
 #[tactic(auto, unfolding(crate::specs::EvidenceText::step_line))]
-pub fn step_line(alloc: Global, step: Step) -> Result<String, AllocError>
+pub(crate) fn step_line(alloc: Global, step: Step) -> Result<String, AllocError>
     ensures { IfOk result (λ text. string_bytes text ≡ step_line step) }
 {
     let level = step.level;
@@ -246,13 +206,9 @@ pub fn step_line(alloc: Global, step: Step) -> Result<String, AllocError>
     format!(in alloc; "level {level}, frame 0x{frame:x}, index {index}: 0x{word:x}\n")
 }
 
-/// Adds the lines of entries. Allocates the text.
-///
-/// # Errors
-///
-/// Out of memory.
-pub fn push_steps(alloc: Global, text: &mut String, steps: &[Step]) -> Result<(), AllocError>
-    ensures { OnOk result (string_bytes text.new ≡ string_bytes text.old ++ flat_map step_line steps.now) }
+/// Adds the lines of entries.
+pub(crate) fn push_steps(alloc: Global, text: &mut String, steps: &[Step]) -> Result<(), AllocError>
+    ensures { OnOk result (string_bytes text.new ≡ string_bytes text.old ++ steps_lines steps.now) }
 {
     for step in steps {
         let line = step_line(alloc, *step)?;
@@ -261,30 +217,29 @@ pub fn push_steps(alloc: Global, text: &mut String, steps: &[Step]) -> Result<()
     Ok(())
 }
 
-/// The lines of the entries on a way from the root. Allocates the text.
-///
-/// # Errors
-///
-/// Out of memory.
-#[tactic(auto, unfolding(crate::specs::EvidenceText::way_lines))]
-pub fn way_lines(alloc: Global, steps: &[Step]) -> Result<String, AllocError>
-    ensures { IfOk result (λ text. string_bytes text ≡ way_lines steps.now) }
+/// The lines of entries.
+pub(crate) fn steps_lines(alloc: Global, steps: &[Step]) -> Result<String, AllocError>
+    ensures { IfOk result (λ text. string_bytes text ≡ steps_lines steps.now) }
 {
-    if steps.is_empty() {
-        return String::from_str(alloc, "it is the root\n");
-    }
     let mut text = String::new(alloc);
     push_steps(alloc, &mut text, steps)?;
     Ok(text)
 }
 
-/// What is reserved in an entry of a level that has a reserved bit set. Allocates the text.
-///
-/// # Errors
-///
-/// Out of memory.
+/// The lines of the entries on a way from the root.
+#[tactic(auto, unfolding(crate::specs::EvidenceText::way_lines))]
+pub(crate) fn way_lines(alloc: Global, steps: &[Step]) -> Result<String, AllocError>
+    ensures { IfOk result (λ text. string_bytes text ≡ way_lines steps.now) }
+{
+    if steps.is_empty() {
+        return String::from_str(alloc, "it is the root\n");
+    }
+    steps_lines(alloc, steps)
+}
+
+/// What is reserved in an entry of a level that has a reserved bit set.
 #[tactic(auto, unfolding(crate::specs::EvidenceText::reserved_text))]
-pub fn reserved_text(alloc: Global, level: u8) -> Result<String, AllocError>
+pub(crate) fn reserved_text(alloc: Global, level: u8) -> Result<String, AllocError>
     ensures { IfOk result (λ text. string_bytes text ≡ reserved_text level) }
 {
     if level == 2 {
@@ -296,13 +251,9 @@ pub fn reserved_text(alloc: Global, level: u8) -> Result<String, AllocError>
     format!(in alloc; "bit 7 is reserved in an entry of level {level}")
 }
 
-/// The unit that is wrong, and what is allowed there. Allocates the text.
-///
-/// # Errors
-///
-/// Out of memory.
+/// The unit that is wrong, and what is allowed there.
 #[tactic(auto, unfolding(crate::specs::EvidenceText::format_lines))]
-pub fn format_lines(alloc: Global, fault: Format) -> Result<String, AllocError>
+pub(crate) fn format_lines(alloc: Global, fault: Format) -> Result<String, AllocError>
     ensures { IfOk result (λ text. string_bytes text ≡ format_lines fault) }
 {
     match fault {

@@ -1,3 +1,5 @@
+//! Why a command gives no answer, and the status for that.
+
 ghost use Rattle.std.specs.Prelude.{◌≡◌};
 ghost use Rattle.nr_engines.specs.declared.fault.ProgFault.TheVariants as faults;
 

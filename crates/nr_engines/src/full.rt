@@ -5,13 +5,13 @@ ghost use Rattle.serde_json.specs.Data.{array, object};
 ghost use Rattle.serde_json.specs.View.{items_of, members_view, view};
 ghost use Rattle.nr_explain.specs.Units.{ReadsUnits};
 ghost use Rattle.nr_engines.specs.Answers.{HasReadFew, WritesReport};
+ghost use Rattle.nr_engines.specs.Explained.{explanation_status};
 ghost use Rattle.nr_engines.specs.FullExplained.{dump_data, dump_lines, full_data, full_json, full_text, told_full, IsFullyExplained};
 ghost use Rattle.nr_engines.specs.Refusals.{IsEndFault, WritesAnswersAlone};
 
 use crate::ends::write_report;
-use crate::evidence_json::evidence_value;
-use crate::evidence_text::evidence_lines;
-use crate::explain::{explanation_text, explanation_value, put_no, status_of};
+use crate::evidence::evidence_value;
+use crate::explain::{explanation_text, explanation_value, push_shown, put_no, status_of};
 use crate::fact_json::Members;
 use crate::fault::ProgFault;
 use crate::report::Report;
@@ -27,22 +27,39 @@ use std::alloc::{AllocError, Global};
 use std::io::{Read, Write};
 use vs_types::Memory;
 
-/// The lines of a dump.
+/// The lines of a dump that has no fault.
 #[tactic(auto, unfolding(crate::specs::FullExplained::dump_lines))]
+fn sound_lines(alloc: Global, replica: u8) -> Result<String, AllocError>
+    ensures { IfOk result (λ text. string_bytes text ≡ dump_lines (DumpExplanation.Sound replica)) }
+{
+    format!(in alloc; "dump {replica}: no fault\n")
+}
+
+/// The lines of a dump with its first fault and what shows it.
+#[tactic(auto, unfolding(crate::specs::FullExplained::dump_lines))]
+fn faulty_lines(
+    alloc: Global,
+    replica: u8,
+    fault: Fault,
+    shown: &Evidence,
+) -> Result<String, AllocError>
+    ensures { IfOk result (λ text. string_bytes text
+        ≡ dump_lines (DumpExplanation.Faulty replica fault shown.now)) }
+{
+    let fault = fault_text(alloc, fault)?;
+    let mut text = format!(in alloc; "dump {replica}: {fault}\n")?;
+    push_shown(alloc, &mut text, shown)?;
+    Ok(text)
+}
+
+/// The lines of a dump.
 fn dump_lines(alloc: Global, dump: &DumpExplanation) -> Result<String, AllocError>
     ensures { IfOk result (λ text. string_bytes text ≡ dump_lines dump.now) }
 {
     match dump {
-        DumpExplanation::Sound(replica) => {
-            let replica = *replica;
-            format!(in alloc; "dump {replica}: no fault\n")
-        }
+        DumpExplanation::Sound(replica) => sound_lines(alloc, *replica),
         DumpExplanation::Faulty(replica, fault, shown) => {
-            let replica = *replica;
-            let fault = fault_text(alloc, *fault)?;
-            let sentence = sentence_text(alloc, shown)?;
-            let lines = evidence_lines(alloc, shown)?;
-            format!(in alloc; "dump {replica}: {fault}\n{sentence}\n{lines}")
+            faulty_lines(alloc, *replica, *fault, shown)
         }
     }
 }
@@ -195,6 +212,18 @@ fn told_full(alloc: Global, as_json: bool, full: &FullExplanation) -> Result<Str
     }
 }
 
+/// The report of a full explanation.
+fn full_report(alloc: Global, as_json: bool, full: &FullExplanation) -> Result<Report, Memory>
+    ensures { IfOk result (λ report. (string_bytes report.text ≡ told_full as_json full.now)
+        × (report.status ≡ explanation_status full.now.explanation)) }
+{
+    let text = told_full(alloc, as_json, full)?;
+    Ok(Report {
+        text,
+        status: status_of(&full.explanation),
+    })
+}
+
 /// What `explain --all` answers to what was read of an input: as `explained_read`, and then what is wrong with each dump that the first
 /// fault is not of, where there is a fault and it is not of the format. Allocates memory for the judgement, the evidence and the text.
 ///
@@ -210,11 +239,7 @@ pub fn fully_explained_read(
         IsFullyExplained as_json bytes (string_bytes report.text) report.status) }
 {
     let full = explain_all_read(alloc, read)?;
-    let text = told_full(alloc, as_json, &full)?;
-    Ok(Report {
-        text,
-        status: status_of(&full.explanation),
-    })
+    full_report(alloc, as_json, &full)
 }
 
 /// As `explain_io`, and after the explanation writes what is wrong with each dump that the first fault is not of: the first fault of

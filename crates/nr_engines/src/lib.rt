@@ -5,14 +5,16 @@
 mod answer;
 mod audit;
 mod ends;
-mod evidence_json;
-mod evidence_text;
+mod evidence;
 mod explain;
 mod fact_json;
 mod fact_text;
 mod fault;
 mod field_text;
 mod full;
+mod part_json;
+mod part_text;
+mod parts;
 mod report;
 mod resolve;
 mod sentence;
@@ -23,24 +25,19 @@ mod units;
 pub use answer::{answer_text, push_answer};
 pub use audit::{audit_io, audit_read, named_audit_io, named_audit_read};
 pub use ends::{BLOCK, read_block, read_trace, write_report, write_text};
-pub use evidence_json::evidence_value;
-pub use evidence_text::evidence_lines;
+pub use evidence::{evidence_lines, evidence_value};
 pub use explain::{explain_io, explained_read};
-pub use fact_json::{
-    Members, put_answer, put_call, put_changed, put_hexadecimal, put_reply, put_step, put_text,
-    put_way,
-};
-pub use fact_text::{
-    address_line, answer_line, call_line, format_lines, number_line, push_steps, reply_line,
-    reserved_text, step_line, way_lines,
-};
+pub use fact_json::{Members, put_text};
 pub use fault::ProgFault;
 pub use full::{explain_all_io, fully_explained_read};
+pub use part_json::{parts_value, put_parts};
+pub use part_text::{parts_text, push_parts};
+pub use parts::{Part, Says};
 pub use report::Report;
 pub use resolve::{resolve_io, resolve_read};
 pub use sentence::{
     difference_sentence, event_text, frame_text, other_answer_sentence, sentence_text, start_text,
 };
-pub use text::{fault_text, format_text, walk_words, yes_text};
+pub use text::{fault_text, walk_words, yes_text};
 pub use unit_input::read_units;
-pub use units::{bytes_text, read_text, unit_text};
+pub use units::{bytes_text, unit_text};

@@ -1,3 +1,5 @@
+//! What a command writes, and its status.
+
 /// What a command answers: its lines, and the exit status.
 #[derive(Debug, Drop)]
 pub struct Report {

@@ -1,5 +1,8 @@
+//! The texts of a fault and of a verdict.
+
 ghost use Rattle.std.specs.Prelude.{◌≡◌, ◌++◌, IfOk, OnOk, codes, string_bytes};
-ghost use Rattle.nr_engines.specs.Text.{format_text, fault_text, no_text, call_text, yes_text, verdict_line, verdict_text, walk_text, walk_words};
+ghost use Rattle.nr_engines.specs.Text.{format_text, fault_text, no_text, call_text, yes_text, verdict_line, verdict_text};
+ghost use Rattle.nr_engines.specs.Text.{walk_text, walk_words};
 
 use itoa::Buffer;
 use nr_audit::Verdict;
@@ -8,13 +11,9 @@ use std::alloc::{AllocError, Global};
 use vs_text::push_page;
 use vs_walk::Walk;
 
-/// The name of a fault of the format, and its numbers. Allocates the text.
-///
-/// # Errors
-///
-/// Out of memory.
+/// The name of a fault of the format, and its numbers.
 #[tactic(auto, unfolding(crate::specs::Text::format_text))]
-pub fn format_text(alloc: Global, fault: Format) -> Result<String, AllocError>
+pub(crate) fn format_text(alloc: Global, fault: Format) -> Result<String, AllocError>
     ensures { IfOk result (λ text. string_bytes text ≡ format_text fault) }
 {
     match fault {

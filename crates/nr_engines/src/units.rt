@@ -1,10 +1,9 @@
-//! The lines of a unit that is bad.
+//! The texts of a unit and of its bytes.
 
 ghost use Rattle.std.specs.Prelude.{◌≡◌, ◌++◌, IfOk, OnOk, flat_map, string_bytes, take};
-ghost use Rattle.nr_engines.specs.EvidenceText.{bad_unit_lines, byte_text, bytes_text, read_text, unit_text};
+ghost use Rattle.nr_engines.specs.EvidenceText.{byte_text, bytes_text, read_text, unit_text};
 
-use crate::fact_text::format_lines;
-use nr_explain::{BadUnit, TraceUnit};
+use nr_explain::TraceUnit;
 use std::alloc::{AllocError, Global};
 
 /// Which unit of a trace it is. Allocates memory for the text.
@@ -51,26 +50,13 @@ pub fn bytes_text(alloc: Global, bytes: &[u8]) -> Result<String, AllocError>
     Ok(text)
 }
 
-/// The same, or `none` where there is no byte. Allocates memory for the text.
+/// The same, or `none` where there is no byte.
 #[tactic(auto, unfolding(crate::specs::EvidenceText::read_text))]
-pub fn read_text(alloc: Global, bytes: &[u8]) -> Result<String, AllocError>
+pub(crate) fn read_text(alloc: Global, bytes: &[u8]) -> Result<String, AllocError>
     ensures { IfOk result (λ text. string_bytes text ≡ read_text bytes.now) }
 {
     if bytes.is_empty() {
         return String::from_str(alloc, "none");
     }
     bytes_text(alloc, bytes)
-}
-
-/// The lines of the unit that shows a fault of the format.
-pub(crate) fn bad_unit_lines(alloc: Global, bad: &BadUnit) -> Result<String, AllocError>
-    ensures { IfOk result (λ text. string_bytes text ≡ bad_unit_lines bad.now) }
-{
-    let unit = unit_text(alloc, bad.unit)?;
-    let offset = bad.offset;
-    let there = bad.read.len();
-    let size = bad.unit.size();
-    let read = read_text(alloc, &bad.read)?;
-    let allowed = format_lines(alloc, bad.fault)?;
-    format!(in alloc; "{unit}, at byte {offset}\nread {there} of {size} bytes: {read}\n{allowed}")
 }

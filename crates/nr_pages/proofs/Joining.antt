@@ -1,48 +1,17 @@
 -- Pages joined to ranges: the ranges have the pages, and none goes on with the one before it.
-use Rattle.std.proofs.Common.{◌≡◌, ℕ, zero, suc, ◌/◌, ◌%◌, ◌<◌, ◌==◌, ◌↔◌, Bool, true, false, List, [], ◌∷◌, ◌++◌, All, IsTrue, if◌then◌else◌}
+use Rattle.std.proofs.Common.{◌≡◌, ℕ, zero, suc, ◌<◌, ◌↔◌, true, false, List, [], ◌∷◌, ◌++◌, All, IsTrue, if◌then◌else◌}
 use Rattle.std.proofs.Common.{flat_map, refl, sym, ap, subst, ◌∙◌, arith, append_assoc, eq-eqb, add-one}
 use Rattle.std.proofs.lemmas.Bool.{and_parts, and_from, eqb-true, false≢true}
 use Rattle.std.proofs.lemmas.List.Elements.{All-nil, All-cons}
 use Rattle.vs_types.specs.Codes.{rights_code, size_code}
+use Rattle.vs_types.specs.inside.Telling.{rights_in, size_in}
 use Rattle.vs_types.specs.declared.page.Page.{Page}
-use Rattle.vs_types.specs.declared.page.Rights.{Rights}
-use Rattle.vs_types.specs.declared.page.Size.{Size}
-use Rattle.vs_types.specs.declared.page.Size.TheVariants.{K4, M2, G1}
+use Rattle.vs_types.proofs.OneEntry.{rights_back, size_back}
 use Rattle.vs_types.proofs.Pages.{same_page as equal_page}
 use Rattle.nr_pages.specs.Ranges.{alone, joined, longer, page_after, pages_from, pages_of, ranges_of, same_page, AreParted}
 use Rattle.nr_pages.specs.declared.range.PageRange.{PageRange}
 
 -- ---- whether two pages are one
-
-size_in : ℕ → Size
-size_in code = if code == 0 then K4 else if code == 1 then M2 else G1
-
-size_back : (size : Size) → size_in (size_code size) ≡ size
-unfolding size_in
-size_back K4 = refl
-size_back M2 = refl
-size_back G1 = refl
-
-rights_of : Bool → Bool → Bool → Rights
-rights_of write user exec = record { write = write; user = user; exec = exec }
-
-rights_in : ℕ → Rights
-rights_in code = rights_of (code % 2 == 1) (code / 2 % 2 == 1) (code / 4 == 1)
-
-bits_back : (write user exec : Bool) → rights_in (rights_code (rights_of write user exec)) ≡ rights_of write user exec
-unfolding rights_in rights_of
-bits_back true true true = refl
-bits_back true true false = refl
-bits_back true false true = refl
-bits_back true false false = refl
-bits_back false true true = refl
-bits_back false true false = refl
-bits_back false false true = refl
-bits_back false false false = refl
-
-rights_back : (rights : Rights) → rights_in (rights_code rights) ≡ rights
-unfolding rights_of
-rights_back rights = bits_back rights.write rights.user rights.exec
 
 -- pages that the test finds to be one are one
 pub one_page : (p q : Page) → same_page p q ≡ true → p ≡ q

@@ -1,5 +1,5 @@
 -- What is printed of pages says which they are: the lines of other pages are others.
-use Rattle.std.proofs.Common.{◌≡◌, ◌≢◌, ℕ, ◌*◌, ◌^◌, ◌<◌, ◌==◌, Bool, true, false, if◌then◌else◌, List, [], ◌∷◌, ◌++◌, All, codes}
+use Rattle.std.proofs.Common.{◌≡◌, ◌≢◌, ℕ, ◌*◌, ◌^◌, ◌<◌, Bool, true, false, List, [], ◌∷◌, ◌++◌, All, codes}
 use Rattle.std.proofs.Common.{length, get_or, drop, refl, sym, ap, ◌∙◌, arith, append_assoc}
 use Rattle.std.specs.Char.{digit_value}
 use Rattle.std.specs.Fmt.{digits}
@@ -11,8 +11,9 @@ use Rattle.vs_types.specs.Page.{bytes_of}
 use Rattle.vs_types.specs.declared.page.Page.{Page}
 use Rattle.vs_types.specs.declared.page.Rights.{Rights}
 use Rattle.vs_types.specs.declared.page.Size.{Size}
-use Rattle.vs_types.specs.declared.page.Size.TheVariants.{K4, M2, G1}
+use Rattle.vs_types.specs.declared.page.Size.TheVariants.{K4}
 use Rattle.vs_types.proofs.Pages.{same_page as equal_page}
+use Rattle.vs_text.proofs.Alone.{one_rights, one_size}
 use Rattle.vs_text.specs.Words.{hexadecimal, mark, rights_text, size_text, space}
 use Rattle.nr_pages.specs.Listing.{mapping_text, page_line, page_lines, range_line, range_lines}
 use Rattle.nr_pages.specs.Ranges.{range_end}
@@ -62,20 +63,7 @@ one_address a b first second same =
 
 size_alone : (size : Size) → HasNo 32 (size_text size)
 size_alone K4 = (λ same. omega arith, (λ same. omega arith, tt))
-size_alone M2 = (λ same. omega arith, (λ same. omega arith, tt))
-size_alone G1 = (λ same. omega arith, (λ same. omega arith, tt))
-
-size_in : List ℕ → Size
-size_in text = if get_or text 0 0 == 52 then K4 else if get_or text 0 0 == 50 then M2 else G1
-
-size_back : (size : Size) → size_in (size_text size) ≡ size
-unfolding size_in
-size_back K4 = refl
-size_back M2 = refl
-size_back G1 = refl
-
-one_size : (a b : Size) → size_text a ≡ size_text b → a ≡ b
-one_size a b same = sym (size_back a) ∙ ap size_in same ∙ size_back b
+size_alone _ = (λ same. omega arith, (λ same. omega arith, tt))
 
 mark_alone : (given : Bool) (letter : ℕ) (rest : List ℕ) → letter ≢ 10 → HasNo 10 rest → HasNo 10 (mark given (letter ∷ []) ++ rest)
 mark_alone true letter rest is none = (is, none)
@@ -88,30 +76,6 @@ exec_alone false = (λ same. omega arith, tt)
 rights_alone : (rights : Rights) → HasNo 10 (rights_text rights)
 rights_alone rights =
     mark_alone rights.write 119 _ (λ same. omega arith) (mark_alone rights.user 117 _ (λ same. omega arith) (exec_alone rights.exec))
-
-rights_of : Bool → Bool → Bool → Rights
-rights_of write user exec = record { write = write; user = user; exec = exec }
-
-rights_in : List ℕ → Rights
-rights_in text = rights_of (get_or text 0 0 == 119) (get_or text 1 0 == 117) (get_or text 2 0 == 120)
-
-marks_back : (write user exec : Bool) → rights_in (rights_text (rights_of write user exec)) ≡ rights_of write user exec
-unfolding rights_in rights_of
-marks_back true true true = refl
-marks_back true true false = refl
-marks_back true false true = refl
-marks_back true false false = refl
-marks_back false true true = refl
-marks_back false true false = refl
-marks_back false false true = refl
-marks_back false false false = refl
-
-rights_back : (rights : Rights) → rights_in (rights_text rights) ≡ rights
-unfolding rights_of
-rights_back rights = marks_back rights.write rights.user rights.exec
-
-one_rights : (a b : Rights) → rights_text a ≡ rights_text b → a ≡ b
-one_rights a b same = sym (rights_back a) ∙ ap rights_in same ∙ rights_back b
 
 -- ---- lines
 
@@ -182,8 +146,7 @@ pub record IsShownRange (range : PageRange) : Type 0 where
 
 same_count : (size : Size) (a b : ℕ) → a * bytes_of size ≡ b * bytes_of size → a ≡ b
 same_count K4 a b same = omega arith
-same_count M2 a b same = omega arith
-same_count G1 a b same = omega arith
+same_count _ a b same = omega arith
 
 equal_range : (r s : PageRange) → r.first ≡ s.first → r.count ≡ s.count → r ≡ s
 equal_range r s first count = λ i. record { first = first i; count = count i }

@@ -36,10 +36,6 @@ more_behind : (pages : List Page) (page : Page) (more : List Page)
     → range_lines (ranges_of (pages_and pages page more)) ≡ range_lines (ranges_of (pages ++ page ∷ more))
 more_behind pages page more = ap (λ (ps : List Page). range_lines (ranges_of ps)) (append_assoc pages (page ∷ []) more)
 
--- nothing is taken yet
-pub none_taken : (text : List ℕ) → text ≡ [] → HasJoined text None []
-none_taken text empty fits = record { goes_on = λ more. ap (λ (bytes : List ℕ). bytes ++ range_lines (ranges_of more)) (sym empty); fits = tt }
-
 -- the first page
 pub first_taken : (text : List ℕ) (pages : List Page) (page : Page) → HasJoined text None pages → HasJoined text (Some (alone page)) (pages ++ page ∷ [])
 first_taken text pages page had fits =

@@ -3,7 +3,6 @@
 ghost use Rattle.std.specs.Prelude.{◌≡◌, IfErr, IfOk, None, OnOk, Some, false, true, string_bytes};
 ghost use Rattle.vs_types.specs.Refusal.{IfRefused};
 ghost use Rattle.vs_types.specs.Space.{pages, IsSpace};
-ghost use Rattle.vs_walk.specs.Dump.{IsDump};
 ghost use Rattle.vs_walk.specs.Traversal.{walk_fault};
 ghost use Rattle.nr_pages.specs.Dumps.{dump_text};
 ghost use Rattle.nr_pages.specs.Listing.{pages_text};
@@ -12,14 +11,8 @@ use crate::visitors::{PageLines, RangeLines};
 use std::alloc::Global;
 use vs_plain::PlainSpace;
 use vs_types::{Depth, Fail, Memory};
+use vs_walk::laws::frames_are_a_dump;
 use vs_walk::{Dump, PageVisitor, WalkFault, traverse};
-
-/// That this is a dump. It does nothing: a call that counts the frames shows it.
-fn is_dump(dump: &Dump)
-    ensures { IsDump dump.now }
-{
-    let _count = dump.count();
-}
 
 /// The lines of its pages.
 fn lines_of_pages(alloc: Global, dump: &Dump, depth: Depth) -> Result<String, Fail<WalkFault>>
@@ -40,7 +33,7 @@ fn lines_of_ranges(alloc: Global, dump: &Dump, depth: Depth) -> Result<String, F
     ensures first { IfErr result
         (IfRefused (λ fault. walk_fault depth dump.now.frames dump.now.root ≡ Some fault)) }
 {
-    is_dump(dump);
+    frames_are_a_dump(dump);
     let mut lines = RangeLines::new(alloc);
     traverse(alloc, dump, dump.root(), depth, &mut lines)?;
     Ok(lines.end()?)

@@ -2,11 +2,12 @@
 ghost use Rattle.std.specs.Prelude.{◌≡◌, false, IfOk};
 ghost use Rattle.clap.specs.Words.{app_of, rule_of};
 ghost use Rattle.nr_commands.specs.Words.{IsLocal};
-ghost use Rattle.nrvs.specs.CommandLine.{command_line, number_option, run_app, simulate_app};
+ghost use Rattle.nrvs.specs.CommandLine.{command_line, levels_option, number_option, replicas_option, run_app, simulate_app};
+ghost use Rattle.nrvs.specs.CommandLine.{tables_option, trace_option, turns_option};
 
 use clap::builder::ValueParser;
 use clap::{Arg, ArgAction, Command};
-use nr_commands::{VERSION, audit, explain, pages, resolve};
+use nr_commands::{VERSION, audit, explain, pages, resolve, with_command};
 use std::alloc::{AllocError, Global};
 
 /// What `--help` prints after the commands.
@@ -17,7 +18,13 @@ Status 2       Words, input or output are unusable, or a thread could not be sta
 Status 3       Memory ran out";
 
 /// An option whose value is read so.
-fn number<'a>(alloc: Global, id: &'a str, parser: ValueParser<'a>, default: &'a str) -> Arg<'a>
+fn number<'a>(
+    alloc: Global,
+    id: &'a str,
+    parser: ValueParser<'a>,
+    default: &'a str,
+    help: &'a str,
+) -> Arg<'a>
     ensures rule { rule_of result ≡ number_option id.entry.now parser.entry default.entry.now }
     ensures local { result.global ≡ false }
 {
@@ -25,68 +32,96 @@ fn number<'a>(alloc: Global, id: &'a str, parser: ValueParser<'a>, default: &'a 
         .long(id)
         .value_parser(parser)
         .default_value(default)
+        .help(help)
+}
+
+/// The levels of paging.
+fn levels<'a>(alloc: Global) -> Arg<'a>
+    ensures rule { rule_of result ≡ levels_option }
+    ensures local { result.global ≡ false }
+{
+    let parser = ValueParser::signed(4, 5);
+    number(alloc, "levels", parser, "4", "The levels of paging: 4 or 5")
+}
+
+/// The number of replicas.
+fn replicas<'a>(alloc: Global) -> Arg<'a>
+    ensures rule { rule_of result ≡ replicas_option }
+    ensures local { result.global ≡ false }
+{
+    let parser = ValueParser::signed(1, 4);
+    number(
+        alloc,
+        "replicas",
+        parser,
+        "1",
+        "The number of replicas: 1 to 4",
+    )
+}
+
+/// The most tables of each replica.
+fn tables<'a>(alloc: Global) -> Arg<'a>
+    ensures rule { rule_of result ≡ tables_option }
+    ensures local { result.global ≡ false }
+{
+    let parser = ValueParser::signed(1, 4096);
+    number(
+        alloc,
+        "tables",
+        parser,
+        "4096",
+        "The most tables of each replica: 1 to 4096",
+    )
+}
+
+/// The most turns of each call.
+fn turns<'a>(alloc: Global) -> Arg<'a>
+    ensures rule { rule_of result ≡ turns_option }
+    ensures local { result.global ≡ false }
+{
+    let parser = ValueParser::signed(1, 4_294_967_295);
+    let help = "The most turns of each call, before it is stopped: 1 to 4294967295";
+    number(alloc, "turns", parser, "100000", help)
+}
+
+/// Whether the trace is printed.
+fn trace<'a>(alloc: Global, help: &'a str) -> Arg<'a>
+    ensures rule { rule_of result ≡ trace_option }
+    ensures local { result.global ≡ false }
+{
+    Arg::new(alloc, "trace")
+        .long("trace")
+        .action(ArgAction::SetTrue)
+        .help(help)
 }
 
 fn simulate<'a>(alloc: Global) -> Result<Command<'a>, AllocError>
     ensures app { IfOk result (λ command. app_of command ≡ simulate_app) }
     ensures local { IfOk result IsLocal }
 {
-    let levels = number(alloc, "levels", ValueParser::signed(4, 5), "4").help(
-        "The levels of paging: 4 or 5",
-    );
-    let replicas = number(alloc, "replicas", ValueParser::signed(1, 4), "1").help(
-        "The number of replicas: 1 to 4",
-    );
-    let tables = number(alloc, "tables", ValueParser::signed(1, 4096), "4096").help(
-        "The most tables of each replica: 1 to 4096",
-    );
-    let trace = Arg::new(alloc, "trace")
-        .long("trace")
-        .action(ArgAction::SetTrue)
-        .help("Prints the trace itself, and doesn't judge it");
+    let about =
+        "Takes the steps of a script on standard input, and prints whether their trace is right";
     Command::new(alloc, "simulate")
-        .about(
-            "Takes the steps of a script on standard input, and prints whether their trace is right",
-        )
-        .arg(levels)?
-        .arg(replicas)?
-        .arg(tables)?
-        .arg(trace)
+        .about(about)
+        .arg(levels(alloc))?
+        .arg(replicas(alloc))?
+        .arg(tables(alloc))?
+        .arg(trace(alloc, "Prints the trace itself, and doesn't judge it"))
 }
 
 fn run<'a>(alloc: Global) -> Result<Command<'a>, AllocError>
     ensures app { IfOk result (λ command. app_of command ≡ run_app) }
     ensures local { IfOk result IsLocal }
 {
-    let levels = number(alloc, "levels", ValueParser::signed(4, 5), "4").help(
-        "The levels of paging: 4 or 5",
-    );
-    let replicas = number(alloc, "replicas", ValueParser::signed(1, 4), "1").help(
-        "The number of replicas: 1 to 4",
-    );
-    let tables = number(alloc, "tables", ValueParser::signed(1, 4096), "4096").help(
-        "The most tables of each replica: 1 to 4096",
-    );
-    let turns = number(
-        alloc,
-        "turns",
-        ValueParser::signed(1, 4_294_967_295),
-        "100000",
-    )
-    .help("The most turns of each call, before it is stopped: 1 to 4294967295");
-    let trace = Arg::new(alloc, "trace")
-        .long("trace")
-        .action(ArgAction::SetTrue)
-        .help("Prints the trace of the run instead of the answers");
+    let about =
+        "Runs the threads of a script on standard input, and prints the answers and whether the run is verified";
     Command::new(alloc, "run")
-        .about(
-            "Runs the threads of a script on standard input, and prints the answers and whether the run is verified",
-        )
-        .arg(levels)?
-        .arg(replicas)?
-        .arg(tables)?
-        .arg(turns)?
-        .arg(trace)
+        .about(about)
+        .arg(levels(alloc))?
+        .arg(replicas(alloc))?
+        .arg(tables(alloc))?
+        .arg(turns(alloc))?
+        .arg(trace(alloc, "Prints the trace of the run instead of the answers"))
 }
 
 /// The program's words.
@@ -97,21 +132,15 @@ fn run<'a>(alloc: Global) -> Result<Command<'a>, AllocError>
 pub fn command_line<'a>(alloc: Global) -> Result<Command<'a>, AllocError>
     ensures app { IfOk result (λ command. app_of command ≡ command_line) }
 {
-    let audit = audit(alloc)?;
-    let explain = explain(alloc)?;
-    let resolve = resolve(alloc)?;
-    let pages = pages(alloc)?;
-    let simulate = simulate(alloc)?;
-    let run = run(alloc)?;
-    Command::new(alloc, "nrvs")
+    let line = Command::new(alloc, "nrvs")
         .about("Checks recorded runs of replicated address spaces")
         .version(VERSION)
         .subcommand_required(true)
-        .after_help(AFTER_HELP)
-        .subcommand(audit)?
-        .subcommand(explain)?
-        .subcommand(resolve)?
-        .subcommand(pages)?
-        .subcommand(simulate)?
-        .subcommand(run)
+        .after_help(AFTER_HELP);
+    let line = with_command(line, audit(alloc))?;
+    let line = with_command(line, explain(alloc))?;
+    let line = with_command(line, resolve(alloc))?;
+    let line = with_command(line, pages(alloc))?;
+    let line = with_command(line, simulate(alloc))?;
+    with_command(line, run(alloc))
 }

@@ -3,7 +3,7 @@
 ghost use Rattle.std.specs.Prelude.{◌≡◌, ◌≤◌, ◌⊎◌, ◌∷◌, [], false, IfOk, IfErr, MatchResult, codes, map, string_bytes};
 ghost use Rattle.vs_types.specs.declared.limits.TheConstants.{MOST_LEVELS};
 ghost use Rattle.vs_types.specs.Depth.{levels};
-ghost use Rattle.clap.specs.Words.{fault_of, found_of, kind_of, one_text, rows_of, subcommand_of, HasKind};
+ghost use Rattle.clap.specs.Words.{fault_of, found_of, kind_of, one_text, rows_of, subcommand_of, subcommand_rows_of, HasKind};
 ghost use Rattle.nr_commands.specs.Words.{kinds_of_no_words, IsMisused};
 ghost use Rattle.nrvs.specs.CommandLine.{command_line, Asks, IsNumber, IsSetup, IsTurns};
 
@@ -62,6 +62,36 @@ fn read_setup(given: &ArgMatches<'_>) -> Setup
     }
 }
 
+/// What a subcommand and what was given with it ask for, or what is wrong with that.
+fn read_matches<'a>(
+    alloc: Global,
+    line: &mut clap::Command<'a>,
+    matches: &ArgMatches<'a>,
+) -> Result<Command<'a>, Error>
+    ensures asks { IfOk result (Asks (subcommand_rows_of matches.now)) }
+    ensures fault { IfErr result (λ error. HasKind (ErrorKind.MissingSubcommand ∷ []) error
+        ⊎ IsMisused (subcommand_rows_of matches.now) (kind_of error)) }
+{
+    match matches.subcommand() {
+        Some(("audit", given)) => Ok(Command::Inspect(read_audit(alloc, line, given)?)),
+        Some(("explain", given)) => Ok(Command::Inspect(read_explain(given))),
+        Some(("resolve", given)) => Ok(Command::Inspect(read_resolve(given))),
+        Some(("pages", given)) => Ok(Command::Inspect(read_pages(line, given)?)),
+        Some(("simulate", given)) => {
+            let setup = read_setup(given);
+            let as_trace = given.get_flag("trace");
+            Ok(Command::Simulate(setup, as_trace))
+        }
+        Some(("run", given)) => {
+            let setup = read_setup(given);
+            let turns = read_turns(given);
+            let as_trace = given.get_flag("trace");
+            Ok(Command::Run(setup, turns, as_trace))
+        }
+        _ => Err(line.error(ErrorKind::MissingSubcommand, "a subcommand is required")?),
+    }
+}
+
 /// What the words ask for, or what clap answers to them.
 fn read_words<'a>(alloc: Global, words: &'a [String]) -> Result<Command<'a>, Error>
     ensures asks { IfOk result
@@ -76,24 +106,7 @@ fn read_words<'a>(alloc: Global, words: &'a [String]) -> Result<Command<'a>, Err
 {
     let mut line = command_line(alloc)?;
     let matches = line.try_get_matches_from_mut(words)?;
-    match matches.subcommand() {
-        Some(("audit", given)) => Ok(Command::Inspect(read_audit(alloc, &mut line, given)?)),
-        Some(("explain", given)) => Ok(Command::Inspect(read_explain(given))),
-        Some(("resolve", given)) => Ok(Command::Inspect(read_resolve(given))),
-        Some(("pages", given)) => Ok(Command::Inspect(read_pages(&mut line, given)?)),
-        Some(("simulate", given)) => {
-            let setup = read_setup(given);
-            let as_trace = given.get_flag("trace");
-            Ok(Command::Simulate(setup, as_trace))
-        }
-        Some(("run", given)) => {
-            let setup = read_setup(given);
-            let turns = read_turns(given);
-            let as_trace = given.get_flag("trace");
-            Ok(Command::Run(setup, turns, as_trace))
-        }
-        _ => Err(line.error(ErrorKind::MissingSubcommand, "a subcommand is required")?),
-    }
+    read_matches(alloc, &mut line, &matches)
 }
 
 /// The same, where the words are known.

@@ -4,7 +4,7 @@ ghost use Rattle.clap.specs.Words.{app_of};
 ghost use Rattle.nrvs_audit.specs.CommandLine.{nrvs_audit_line};
 
 use clap::Command;
-use nr_commands::{VERSION, audit, explain, pages, resolve};
+use nr_commands::{VERSION, audit, explain, pages, resolve, with_command};
 use std::alloc::{AllocError, Global};
 
 /// What `--help` prints after the commands.
@@ -22,17 +22,13 @@ Status 3  Memory ran out";
 pub fn command_line<'a>(alloc: Global) -> Result<Command<'a>, AllocError>
     ensures app { IfOk result (λ command. app_of command ≡ nrvs_audit_line) }
 {
-    let audit = audit(alloc)?;
-    let explain = explain(alloc)?;
-    let resolve = resolve(alloc)?;
-    let pages = pages(alloc)?;
-    Command::new(alloc, "nrvs_audit")
+    let line = Command::new(alloc, "nrvs_audit")
         .about("Checks recorded runs of replicated address spaces")
         .version(VERSION)
         .subcommand_required(true)
-        .after_help(AFTER_HELP)
-        .subcommand(audit)?
-        .subcommand(explain)?
-        .subcommand(resolve)?
-        .subcommand(pages)
+        .after_help(AFTER_HELP);
+    let line = with_command(line, audit(alloc))?;
+    let line = with_command(line, explain(alloc))?;
+    let line = with_command(line, resolve(alloc))?;
+    with_command(line, pages(alloc))
 }

@@ -1,7 +1,7 @@
-use Rattle.std.proofs.Common.{inl, inr, string_bytes, subst, sym}
+use Rattle.std.proofs.Common.{IfOk, inl, inr, string_bytes, subst, sym}
 use Rattle.std.proofs.lemmas.Result.{IfOk-weaker}
 use Rattle.nr_chain.specs.Bytes.{EndsWith}
-use Rattle.nr_chain_engines.specs.inside.Judged.{SaysEnd}
+use Rattle.nr_chain_engines.specs.inside.Judged.{IsTextAfter, SaysEnd}
 use Rattle.nr_chain_engines.specs.declared.audit.Judged.{Judged}
 use Rattle.nr_chain_engines.proofs.Ending.{pages_said}
 use Rattle.nr_chain_engines.proofs.pages.end_report.Goals as goal
@@ -10,13 +10,15 @@ pub returns-in-None : goal.returns-in-None
 returns-in-None c =
     let chain = c.in-Ended.chain in
     let text = string_bytes c.in_ok-text-in-Ended.text in
+    let said : IsTextAfter c.args.as_ranges chain.kept text =
+    subst (λ r. IfOk r (λ t. IsTextAfter c.args.as_ranges chain.kept (string_bytes t))) c.in_ok-text-in-Ended.was c.last_text-text.ensures in
     subst (λ (j : Judged). SaysEnd c.args.as_ranges j text 0) (sym c.in-Ended.is)
-    (inl (pages_said c.args.as_ranges chain text (subst (EndsWith chain.kept chain.bytes) c.in-None.is c.end.ensures) c.in_ok-text-in-Ended.ensures))
+    (inl (pages_said c.args.as_ranges chain text (subst (EndsWith chain.kept chain.bytes) c.in-None.is c.end-found.ensures) said))
 
 pub returns-in-Some : goal.returns-in-Some
 returns-in-Some c =
     let chain = c.in-Ended.chain in
     IfOk-weaker c.fault_report.result _ _
     (λ report says. subst (λ (j : Judged). SaysEnd c.args.as_ranges j (string_bytes report.text) report.status) (sym c.in-Ended.is)
-    (inr (c.in-Some.fault, subst (EndsWith chain.kept chain.bytes) c.in-Some.is c.end.ensures, says)))
+    (inr (c.in-Some.fault, subst (EndsWith chain.kept chain.bytes) c.in-Some.is c.end-found.ensures, says)))
     c.fault_report.ensures

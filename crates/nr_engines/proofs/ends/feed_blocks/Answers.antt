@@ -1,7 +1,7 @@
 use Rattle.std.proofs.Common.{◌≡◌, ℕ, [], ap, take, arith}
 use Rattle.std.proofs.lemmas.List.{length-take}
 use Rattle.std.specs.Io.KnownBytes.{IsAtEnd}
-use Rattle.nr_engines.proofs.Input.{stops, ends, reads_a_block, reads_no_more, reads_to_here}
+use Rattle.nr_engines.proofs.Input.{stops_with, ends, reads_a_block, reads_no_more, reads_to_here}
 use Rattle.nr_engines.proofs.ends.feed_blocks.Goals as goal
 
 pub returns-in_err-count-clause-few : goal.returns-in_err-count-clause-few
@@ -21,9 +21,8 @@ returns-then-count-eq0-clause-ok g c =
     let asked = c.requires.block in
     let nothing : piece ≡ [] = ap (λ (n : ℕ). take n c.read_block.new.block) c.if-count-eq0.true in
     let end : IsAtEnd (known c.read_block.new.reader) = c.in_ok-count.ensures.end c.if-count-eq0.true (omega arith) in
-    ends (known c.args.reader.now) (known c.loop-room.reader)
-    (known c.read_block.new.reader) c.loop-room.feed piece c.end.result c.loop-room.room c.loop-room.invariant c.in_ok-count.ensures.ok nothing end
-    c.end.ensures
+    λ read is. ends (known c.args.reader.now) (known c.loop-room.reader)
+    (known c.read_block.new.reader) c.loop-room.feed piece read c.loop-room.room c.loop-room.invariant c.in_ok-count.ensures.ok nothing end is
 
 pub returns-then-count-eq0-clause-few : goal.returns-then-count-eq0-clause-few
 returns-then-count-eq0-clause-few g c =
@@ -41,9 +40,9 @@ pub returns-in-Err-clause-ok : goal.returns-in-Err-clause-ok
 returns-in-Err-clause-ok g c =
     let known = g.R.Read.remaining in
     let piece = take c.in_ok-count.count c.read_block.new.block in
-    stops (known c.args.reader.now) (known c.loop-room.reader)
-    (known c.read_block.new.reader) c.loop-room.feed c.feed-in-loop-room.new.self piece c.in-Err.fail c.loop-room.room c.loop-room.invariant
-    c.in_ok-count.ensures.ok c.in-Err.ensures
+    λ read is. stops_with (known c.args.reader.now) (known c.loop-room.reader)
+    (known c.read_block.new.reader) c.loop-room.feed c.feed.new.self piece c.in-Err._fail c.loop-room.room read c.loop-room.invariant
+    c.in_ok-count.ensures.ok c.in-Err.ensures is
 
 pub returns-in-Err-clause-few : goal.returns-in-Err-clause-few
 returns-in-Err-clause-few g c =

@@ -2,7 +2,7 @@ use Rattle.std.proofs.Common.{◌≡◌, ℕ, List, Some, slice_get}
 use Rattle.vs_walk.specs.Dump.{Image}
 use Rattle.vs_walk.specs.Traversal.{walk_fault}
 use Rattle.vs_walk.specs.declared.walk.WalkFault.{WalkFault}
-use Rattle.vs_walk.specs.declared.walk.WalkFault.TheVariants.{Missing, Shared, Reserved}
+use Rattle.vs_walk.specs.declared.walk.WalkFault.TheVariants.{Missing}
 use Rattle.nr_trace.specs.Faults.{HasFault}
 use Rattle.nr_trace.specs.Recording.{Recording}
 use Rattle.nr_trace.specs.Spelling.{Spells}
@@ -14,9 +14,7 @@ has_fault : (bytes : List ℕ) (trace : Recording) (replica : ℕ) (dump : Image
     → slice_get trace.dumps replica ≡ Some dump → walk_fault trace.layout.depth dump.frames dump.root ≡ Some fault → HasFault trace (dump_fault replica fault)
 has_fault bytes trace replica dump (Missing number) spelled is first =
     (dump, is, dump_is_there trace replica dump spelled.of_form spelled.in_range is, first)
-has_fault bytes trace replica dump (Shared number) spelled is first =
-    (dump, is, dump_is_there trace replica dump spelled.of_form spelled.in_range is, first)
-has_fault bytes trace replica dump (Reserved number index) spelled is first =
+has_fault bytes trace replica dump _ spelled is first =
     (dump, is, dump_is_there trace replica dump spelled.of_form spelled.in_range is, first)
 
 pub returns : goal.returns

@@ -11,4 +11,4 @@ returns-clause-text c =
     c.in_ok-end.ensures (pages_in c.args.depth c.args.dump.now)
     (subst (λ root. HasJoined (string_bytes lines.text) lines.open (found (traversal c.args.depth c.args.dump.now.frames root)))
     c.root.ensures (c.in_ok-traverse.ensures.pages [] c.new-lines.ensures))
-    (dump_ends c.args.depth c.args.dump.now c.is_dump.ensures)
+    (dump_ends c.args.depth c.args.dump.now c.frames_are_a_dump.ensures)

@@ -1,13 +1,12 @@
-use Rattle.std.proofs.Common.{◌≡◌, ◌∙◌, ◌⊎◌, [], ◌∷◌, List, ℕ, map, string_bytes, ap, inl, inr, refl, subst, Some, codes, sym}
-use Rattle.std.proofs.lemmas.Result.{IfOk-weaker}
-use Rattle.clap.specs.Words.{App, app_of, rows_of, found_of, subcommand_of, subcommand_rows_of, is_simple, kind_of, HasKind}
+use Rattle.std.proofs.Common.{◌≡◌, ◌∙◌, ◌⊎◌, [], ◌∷◌, map, string_bytes, ap, inl, inr, subst}
+use Rattle.std.proofs.lemmas.Result.{IfOk-weaker, IfErr-weaker}
+use Rattle.clap.specs.Words.{App, app_of, subcommand_of, subcommand_rows_of, is_simple, kind_of, HasKind}
+use Rattle.clap.specs.declared.error.Error.{Error}
 use Rattle.clap.specs.declared.error.kind.ErrorKind.TheVariants.{MissingSubcommand}
 use Rattle.clap.specs.Faults.{fault_of, is_simple_and_free}
-use Rattle.clap.proofs.WalkLemmas.{one_text-rows}
-use Rattle.nr_commands.proofs.CommandLines.{entered, flag_of, of_audit, of_clap, of_pages, one_more, passed_on, same_error}
 use Rattle.nr_commands.specs.Words.{IsMisused}
-use Rattle.nrvs.specs.CommandLine.{command_line, IsTurns}
-use Rattle.nrvs.proofs.CommandLines.{asks_inspection, asks_run, asks_simulate}
+use Rattle.nr_commands.proofs.CommandLines.{alone, of_clap, one_more, same_error, told_of}
+use Rattle.nrvs.specs.CommandLine.{command_line, Asks}
 use Rattle.nrvs.proofs.words.read_words.Goals as goal
 
 pub returns-in_err-matches-clause-fault : goal.returns-in_err-matches-clause-fault
@@ -22,152 +21,25 @@ returns-in_err-matches-clause-fault c =
     (MissingSubcommand ∷ fault_of command_line texts) c.from_residual-in_err-matches.ensures.1
     (one_more MissingSubcommand (fault_of command_line texts) c.in_err-matches.field-0.0 known))
 
-pub returns-in-Some-audit-default-clause-faultless : goal.returns-in-Some-audit-default-clause-faultless
-returns-in-Some-audit-default-clause-faultless c =
+pub returns-clause-faultless : goal.returns-clause-faultless
+returns-clause-faultless c =
     let app_is : app_of c.in_ok-line.line ≡ command_line = c.in_ok-line.ensures.app in
-    subst (λ (a : App). fault_of a (map (λ word. string_bytes word) c.args.words.now) ≡ []) app_is
-    (c.in_ok-matches.ensures.kinds (ap is_simple_and_free app_is))
+    let none = subst (λ (a : App). fault_of a (map (λ word. string_bytes word) c.args.words.now) ≡ []) app_is
+    (c.in_ok-matches.ensures.kinds (ap is_simple_and_free app_is)) in
+    IfOk-weaker c.read_matches.result _ _ (λ asked h. none) c.read_matches.ensures.asks
 
-pub returns-in-Some-audit-default-clause-asks : goal.returns-in-Some-audit-default-clause-asks
-returns-in-Some-audit-default-clause-asks c =
+pub returns-clause-asks : goal.returns-clause-asks
+returns-clause-asks c =
     let app_is : app_of c.in_ok-line.line ≡ command_line = c.in_ok-line.ensures.app in
-    let arm = c.in-Some-audit-default in
-    let found = found_of arm.given.now in
     let texts = map (λ word. string_bytes word) c.args.words.now in
     let parsed : subcommand_rows_of c.in_ok-matches.matches ≡ subcommand_of command_line texts =
     (c.in_ok-matches.ensures.ok.2 (ap is_simple app_is)).1 ∙ ap (λ (a : App). subcommand_of a texts) app_is in
-    let name_is = ap Some (sym arm.is-audit) ∙ arm.ensures.name in
-    let sub_is = sym parsed ∙ entered _ (codes "audit") (rows_of found) name_is arm.ensures.rows in
-    asks_inspection _ (codes "audit", rows_of found) c.in_ok-read_audit-in-Some-audit-default.field-0 sub_is
-    (inl (refl, c.in_ok-read_audit-in-Some-audit-default.ensures.asks))
+    IfOk-weaker c.read_matches.result _ _ (λ asked h. subst (λ s. Asks s asked) parsed h) c.read_matches.ensures.asks
 
-pub returns-in_err-read_audit-in-Some-audit-default-clause-fault : goal.returns-in_err-read_audit-in-Some-audit-default-clause-fault
-returns-in_err-read_audit-in-Some-audit-default-clause-fault c =
+pub returns-clause-fault : goal.returns-clause-fault
+returns-clause-fault c =
     let app_is : app_of c.in_ok-line.line ≡ command_line = c.in_ok-line.ensures.app in
-    let arm = c.in-Some-audit-default in
-    let found = found_of arm.given.now in
     let texts = map (λ word. string_bytes word) c.args.words.now in
     let parsed : subcommand_rows_of c.in_ok-matches.matches ≡ subcommand_of command_line texts =
     (c.in_ok-matches.ensures.ok.2 (ap is_simple app_is)).1 ∙ ap (λ (a : App). subcommand_of a texts) app_is in
-    let name_is = ap Some (sym arm.is-audit) ∙ arm.ensures.name in
-    let sub_is = sym parsed ∙ entered _ (codes "audit") (rows_of found) name_is arm.ensures.rows in
-    let kinds = MissingSubcommand ∷ fault_of command_line texts in
-    passed_on c.from_residual-in_err-read_audit-in-Some-audit-default.result c.in_err-read_audit-in-Some-audit-default.field-0.0
-    (λ e. HasKind kinds e ⊎ IsMisused (subcommand_of command_line texts) (kind_of e))
-    c.from_residual-in_err-read_audit-in-Some-audit-default.ensures.1
-    (of_audit c.in_err-read_audit-in-Some-audit-default.field-0.0 kinds (subcommand_of command_line texts) (rows_of found) sub_is
-    c.in_err-read_audit-in-Some-audit-default.ensures.misused)
-
-pub returns-in-Some-explain-default-clause-faultless : goal.returns-in-Some-explain-default-clause-faultless
-returns-in-Some-explain-default-clause-faultless c =
-    let app_is : app_of c.in_ok-line.line ≡ command_line = c.in_ok-line.ensures.app in
-    subst (λ (a : App). fault_of a (map (λ word. string_bytes word) c.args.words.now) ≡ []) app_is
-    (c.in_ok-matches.ensures.kinds (ap is_simple_and_free app_is))
-
-pub returns-in-Some-explain-default-clause-asks : goal.returns-in-Some-explain-default-clause-asks
-returns-in-Some-explain-default-clause-asks c =
-    let app_is : app_of c.in_ok-line.line ≡ command_line = c.in_ok-line.ensures.app in
-    let arm = c.in-Some-explain-default in
-    let found = found_of arm.given.now in
-    let texts = map (λ word. string_bytes word) c.args.words.now in
-    let parsed : subcommand_rows_of c.in_ok-matches.matches ≡ subcommand_of command_line texts =
-    (c.in_ok-matches.ensures.ok.2 (ap is_simple app_is)).1 ∙ ap (λ (a : App). subcommand_of a texts) app_is in
-    let name_is = ap Some (sym arm.is-explain) ∙ arm.ensures.name in
-    let sub_is = sym parsed ∙ entered _ (codes "explain") (rows_of found) name_is arm.ensures.rows in
-    asks_inspection _ (codes "explain", rows_of found) c.read_explain.result sub_is (inr (inl (refl, c.read_explain.ensures)))
-
-pub returns-in-Some-resolve-default-clause-faultless : goal.returns-in-Some-resolve-default-clause-faultless
-returns-in-Some-resolve-default-clause-faultless c =
-    let app_is : app_of c.in_ok-line.line ≡ command_line = c.in_ok-line.ensures.app in
-    subst (λ (a : App). fault_of a (map (λ word. string_bytes word) c.args.words.now) ≡ []) app_is
-    (c.in_ok-matches.ensures.kinds (ap is_simple_and_free app_is))
-
-pub returns-in-Some-resolve-default-clause-asks : goal.returns-in-Some-resolve-default-clause-asks
-returns-in-Some-resolve-default-clause-asks c =
-    let app_is : app_of c.in_ok-line.line ≡ command_line = c.in_ok-line.ensures.app in
-    let arm = c.in-Some-resolve-default in
-    let found = found_of arm.given.now in
-    let texts = map (λ word. string_bytes word) c.args.words.now in
-    let parsed : subcommand_rows_of c.in_ok-matches.matches ≡ subcommand_of command_line texts =
-    (c.in_ok-matches.ensures.ok.2 (ap is_simple app_is)).1 ∙ ap (λ (a : App). subcommand_of a texts) app_is in
-    let name_is = ap Some (sym arm.is-resolve) ∙ arm.ensures.name in
-    let sub_is = sym parsed ∙ entered _ (codes "resolve") (rows_of found) name_is arm.ensures.rows in
-    asks_inspection _ (codes "resolve", rows_of found) c.read_resolve.result sub_is (inr (inr (inl (refl, c.read_resolve.ensures))))
-
-pub returns-in-Some-pages-default-clause-faultless : goal.returns-in-Some-pages-default-clause-faultless
-returns-in-Some-pages-default-clause-faultless c =
-    let app_is : app_of c.in_ok-line.line ≡ command_line = c.in_ok-line.ensures.app in
-    subst (λ (a : App). fault_of a (map (λ word. string_bytes word) c.args.words.now) ≡ []) app_is
-    (c.in_ok-matches.ensures.kinds (ap is_simple_and_free app_is))
-
-pub returns-in-Some-pages-default-clause-asks : goal.returns-in-Some-pages-default-clause-asks
-returns-in-Some-pages-default-clause-asks c =
-    let app_is : app_of c.in_ok-line.line ≡ command_line = c.in_ok-line.ensures.app in
-    let arm = c.in-Some-pages-default in
-    let found = found_of arm.given.now in
-    let texts = map (λ word. string_bytes word) c.args.words.now in
-    let parsed : subcommand_rows_of c.in_ok-matches.matches ≡ subcommand_of command_line texts =
-    (c.in_ok-matches.ensures.ok.2 (ap is_simple app_is)).1 ∙ ap (λ (a : App). subcommand_of a texts) app_is in
-    let name_is = ap Some (sym arm.is-pages) ∙ arm.ensures.name in
-    let sub_is = sym parsed ∙ entered _ (codes "pages") (rows_of found) name_is arm.ensures.rows in
-    asks_inspection _ (codes "pages", rows_of found) c.in_ok-read_pages-in-Some-pages-default.field-0 sub_is
-    (inr (inr (inr (refl, c.in_ok-read_pages-in-Some-pages-default.ensures.asks))))
-
-pub returns-in_err-read_pages-in-Some-pages-default-clause-fault : goal.returns-in_err-read_pages-in-Some-pages-default-clause-fault
-returns-in_err-read_pages-in-Some-pages-default-clause-fault c =
-    let app_is : app_of c.in_ok-line.line ≡ command_line = c.in_ok-line.ensures.app in
-    let arm = c.in-Some-pages-default in
-    let found = found_of arm.given.now in
-    let texts = map (λ word. string_bytes word) c.args.words.now in
-    let parsed : subcommand_rows_of c.in_ok-matches.matches ≡ subcommand_of command_line texts =
-    (c.in_ok-matches.ensures.ok.2 (ap is_simple app_is)).1 ∙ ap (λ (a : App). subcommand_of a texts) app_is in
-    let name_is = ap Some (sym arm.is-pages) ∙ arm.ensures.name in
-    let sub_is = sym parsed ∙ entered _ (codes "pages") (rows_of found) name_is arm.ensures.rows in
-    let kinds = MissingSubcommand ∷ fault_of command_line texts in
-    passed_on c.from_residual-in_err-read_pages-in-Some-pages-default.result c.in_err-read_pages-in-Some-pages-default.field-0.0
-    (λ e. HasKind kinds e ⊎ IsMisused (subcommand_of command_line texts) (kind_of e))
-    c.from_residual-in_err-read_pages-in-Some-pages-default.ensures.1
-    (of_pages c.in_err-read_pages-in-Some-pages-default.field-0.0 kinds (subcommand_of command_line texts) (rows_of found) sub_is
-    c.in_err-read_pages-in-Some-pages-default.ensures.misused)
-
-pub returns-in-Some-simulate-default-clause-faultless : goal.returns-in-Some-simulate-default-clause-faultless
-returns-in-Some-simulate-default-clause-faultless c =
-    let app_is : app_of c.in_ok-line.line ≡ command_line = c.in_ok-line.ensures.app in
-    subst (λ (a : App). fault_of a (map (λ word. string_bytes word) c.args.words.now) ≡ []) app_is
-    (c.in_ok-matches.ensures.kinds (ap is_simple_and_free app_is))
-
-pub returns-in-Some-simulate-default-clause-asks : goal.returns-in-Some-simulate-default-clause-asks
-returns-in-Some-simulate-default-clause-asks c =
-    let app_is : app_of c.in_ok-line.line ≡ command_line = c.in_ok-line.ensures.app in
-    let arm = c.in-Some-simulate-default in
-    let found = found_of arm.given.now in
-    let texts = map (λ word. string_bytes word) c.args.words.now in
-    let parsed : subcommand_rows_of c.in_ok-matches.matches ≡ subcommand_of command_line texts =
-    (c.in_ok-matches.ensures.ok.2 (ap is_simple app_is)).1 ∙ ap (λ (a : App). subcommand_of a texts) app_is in
-    let name_is = ap Some (sym arm.is-simulate) ∙ arm.ensures.name in
-    let sub_is = sym parsed ∙ entered _ (codes "simulate") (rows_of found) name_is arm.ensures.rows in
-    let flag = c.get_flag-as_trace.ensures in
-    asks_simulate _ (rows_of found) c.read_setup-setup.result c.get_flag-as_trace.result sub_is c.read_setup-setup.ensures
-    (flag_of _ _ _ (one_text-rows found (codes "trace")) flag.none flag.value flag.other)
-
-pub returns-in-Some-run-default-clause-faultless : goal.returns-in-Some-run-default-clause-faultless
-returns-in-Some-run-default-clause-faultless c =
-    let app_is : app_of c.in_ok-line.line ≡ command_line = c.in_ok-line.ensures.app in
-    subst (λ (a : App). fault_of a (map (λ word. string_bytes word) c.args.words.now) ≡ []) app_is
-    (c.in_ok-matches.ensures.kinds (ap is_simple_and_free app_is))
-
-pub returns-in-Some-run-default-clause-asks : goal.returns-in-Some-run-default-clause-asks
-returns-in-Some-run-default-clause-asks c =
-    let app_is : app_of c.in_ok-line.line ≡ command_line = c.in_ok-line.ensures.app in
-    let arm = c.in-Some-run-default in
-    let found = found_of arm.given.now in
-    let texts = map (λ word. string_bytes word) c.args.words.now in
-    let parsed : subcommand_rows_of c.in_ok-matches.matches ≡ subcommand_of command_line texts =
-    (c.in_ok-matches.ensures.ok.2 (ap is_simple app_is)).1 ∙ ap (λ (a : App). subcommand_of a texts) app_is in
-    let name_is = ap Some (sym arm.is-run) ∙ arm.ensures.name in
-    let sub_is = sym parsed ∙ entered _ (codes "run") (rows_of found) name_is arm.ensures.rows in
-    let turns = subst (λ t. IsTurns t c.read_turns-turns.result) (one_text-rows found (codes "turns")) c.read_turns-turns.ensures in
-    let flag = c.get_flag-as_trace-in-Some-run-default.ensures in
-    asks_run _ (rows_of found) c.read_setup-setup-in-Some-run-default.result c.read_turns-turns.result
-    c.get_flag-as_trace-in-Some-run-default.result sub_is c.read_setup-setup-in-Some-run-default.ensures turns
-    (flag_of _ _ _ (one_text-rows found (codes "trace")) flag.none flag.value flag.other)
+    IfErr-weaker c.read_matches.result _ _ (λ e h. told_of MissingSubcommand (fault_of command_line texts) e _ _ parsed h) c.read_matches.ensures.fault

@@ -1,0 +1,148 @@
+-- What shows a fault, each fact of it, and how much a right trace has; the lines and the JSON object of it.
+use Rattle.std.specs.Prelude.{ℕ, List, [], ◌∷◌, codes, length}
+use Rattle.serde_json.specs.Data.{Data}
+use Rattle.nr_explain.specs.Units.{size}
+use Rattle.nr_explain.specs.declared.counts.Counts.{Counts}
+use Rattle.nr_explain.specs.declared.units.BadUnit.{BadUnit}
+use Rattle.nr_explain.specs.declared.evidence.OpenCalls.{OpenCalls}
+use Rattle.nr_explain.specs.declared.evidence.StrayReply.{StrayReply}
+use Rattle.nr_explain.specs.declared.evidence.TwoReplies.{TwoReplies}
+use Rattle.nr_explain.specs.declared.evidence.NoUpdate.{NoUpdate}
+use Rattle.nr_explain.specs.declared.evidence.TwoPlaces.{TwoPlaces}
+use Rattle.nr_explain.specs.declared.evidence.Misplaced.{Misplaced}
+use Rattle.nr_explain.specs.declared.evidence.PastEnd.{PastEnd}
+use Rattle.nr_explain.specs.declared.evidence.EarlyCall.{EarlyCall}
+use Rattle.nr_explain.specs.declared.evidence.OtherAnswer.{OtherAnswer}
+use Rattle.nr_explain.specs.declared.evidence.LongPrefix.{LongPrefix}
+use Rattle.nr_explain.specs.declared.evidence.ShortPrefix.{ShortPrefix}
+use Rattle.nr_explain.specs.declared.evidence.MissingTable.{MissingTable}
+use Rattle.nr_explain.specs.declared.evidence.SharedTable.{SharedTable}
+use Rattle.nr_explain.specs.declared.evidence.ReservedEntry.{ReservedEntry}
+use Rattle.nr_explain.specs.declared.evidence.StrayTable.{StrayTable}
+use Rattle.nr_explain.specs.declared.evidence.Difference.{Difference}
+use Rattle.nr_explain.specs.declared.evidence.Evidence.{Evidence}
+use Rattle.nr_explain.specs.declared.evidence.Evidence.TheVariants as evidence
+use Rattle.nr_engines.specs.Text.{line_end}
+use Rattle.nr_engines.specs.Parts.{Part, said, told, words, named, parts_data, parts_text}
+use Rattle.nr_engines.specs.Parts.{address, allowed, answer, bytes, call, changed, count, event, frame, own, place, reply, reserved, step, steps, text, unit, walk, way}
+
+-- the name of the fault
+abbrev pub fault_is : List ℕ → Part
+fault_is name = named (codes "fault") (text name)
+
+unfoldable pub bad_unit_parts : BadUnit → List Part
+bad_unit_parts bad = fault_is (codes "Format") ∷ told (codes "unit") (unit bad.unit) ∷ words (codes ", at byte ")
+    ∷ told (codes "offset") (count bad.offset) ∷ words (codes "\nread ") ∷ told (codes "there") (count (length bad.read.items)) ∷ words (codes " of ")
+    ∷ told (codes "size") (count (size bad.unit)) ∷ words (codes " bytes: ") ∷ told (codes "read") (bytes bad.read.items) ∷ words line_end
+    ∷ told (codes "format") (allowed bad.fault) ∷ []
+
+unfoldable pub open_parts : OpenCalls → List Part
+open_parts calls = fault_is (codes "ThreadOpen") ∷ told (codes "first") (call calls.first) ∷ told (codes "second") (call calls.second) ∷ []
+
+unfoldable pub stray_reply_parts : StrayReply → List Part
+stray_reply_parts stray = fault_is (codes "NoSuchCall") ∷ told (codes "reply") (reply stray.reply) ∷ told (codes "named") (event stray.reply.call stray.named) ∷ []
+
+unfoldable pub two_replies_parts : TwoReplies → List Part
+two_replies_parts replies = fault_is (codes "AnsweredTwice") ∷ told (codes "call") (call replies.call) ∷ told (codes "first") (reply replies.first)
+    ∷ told (codes "second") (reply replies.second) ∷ []
+
+unfoldable pub no_update_parts : NoUpdate → List Part
+no_update_parts wrong = fault_is (codes "NotAnUpdate") ∷ words (codes "place ") ∷ told (codes "place") (count wrong.place) ∷ words (codes " has ")
+    ∷ told (codes "call") (count wrong.call) ∷ words line_end ∷ told (codes "named") (event wrong.call wrong.named) ∷ []
+
+unfoldable pub two_places_parts : TwoPlaces → List Part
+two_places_parts places = fault_is (codes "PlacedTwice") ∷ words (codes "places ") ∷ told (codes "first") (count places.first) ∷ words (codes " and ")
+    ∷ told (codes "second") (count places.second) ∷ words line_end ∷ told (codes "call") (call places.call) ∷ []
+
+unfoldable pub misplaced_parts : Misplaced → List Part
+misplaced_parts wrong = fault_is (codes "NotPlaced") ∷ told (codes "call") (call wrong.call) ∷ told (codes "reply") (reply wrong.reply)
+    ∷ words (codes "its place: ") ∷ told (codes "own") (place wrong.own) ∷ words (codes "\nthe call there: ") ∷ told (codes "there") (place wrong.there)
+    ∷ words line_end ∷ []
+
+unfoldable pub past_end_parts : PastEnd → List Part
+past_end_parts wrong = fault_is (codes "PastLog") ∷ told (codes "call") (call wrong.call) ∷ told (codes "reply") (reply wrong.reply)
+    ∷ words (codes "entries of the log: ") ∷ told (codes "places") (count wrong.places) ∷ words line_end ∷ []
+
+unfoldable pub early_parts : EarlyCall → List Part
+early_parts early = fault_is (codes "Early") ∷ told (codes "call") (call early.call) ∷ told (codes "own") (own early.own)
+    ∷ words (codes "entries before it: ") ∷ told (codes "entries") (count early.entries) ∷ words (codes "\nknown when it was made: ")
+    ∷ told (codes "floor") (count early.floor) ∷ words line_end ∷ told (codes "reply") (reply early.reply) ∷ told (codes "answered") (call early.answered) ∷ []
+
+unfoldable pub other_answer_parts : OtherAnswer → List Part
+other_answer_parts wrong = fault_is (codes "WrongAnswer") ∷ told (codes "call") (call wrong.call) ∷ told (codes "reply") (reply wrong.reply)
+    ∷ words (codes "the space answers: ") ∷ told (codes "wanted") (answer wrong.wanted) ∷ words (codes "\naddress ")
+    ∷ told (codes "address") (address wrong.address) ∷ words (codes ", ") ∷ told (codes "changed") (changed wrong.changed) ∷ []
+
+unfoldable pub long_prefix_parts : LongPrefix → List Part
+long_prefix_parts wrong = fault_is (codes "PrefixPastLog") ∷ words (codes "applied: ") ∷ told (codes "applied") (count wrong.applied)
+    ∷ words (codes "\nentries of the log: ") ∷ told (codes "places") (count wrong.places) ∷ words line_end ∷ named (codes "replica") (count wrong.replica) ∷ []
+
+unfoldable pub short_prefix_parts : ShortPrefix → List Part
+short_prefix_parts wrong = fault_is (codes "PrefixShort") ∷ words (codes "applied: ") ∷ told (codes "applied") (count wrong.applied)
+    ∷ words (codes "\nknown there: ") ∷ told (codes "known") (count wrong.known) ∷ words line_end ∷ told (codes "reply") (reply wrong.reply)
+    ∷ told (codes "call") (call wrong.call) ∷ named (codes "replica") (count wrong.replica) ∷ []
+
+unfoldable pub missing_parts : MissingTable → List Part
+missing_parts wrong = fault_is (codes "MissingFrame") ∷ told (codes "path") (way wrong.path.items) ∷ words (codes "frame ")
+    ∷ told (codes "frame") (frame wrong.frame) ∷ words (codes ", which the dump doesn't have\n") ∷ named (codes "replica") (count wrong.replica) ∷ []
+
+unfoldable pub shared_parts : SharedTable → List Part
+shared_parts wrong = fault_is (codes "SharedFrame") ∷ words (codes "one way:\n") ∷ told (codes "first") (way wrong.first.items) ∷ words (codes "another:\n")
+    ∷ told (codes "second") (way wrong.second.items) ∷ named (codes "frame") (frame wrong.frame) ∷ named (codes "replica") (count wrong.replica) ∷ []
+
+unfoldable pub reserved_parts : ReservedEntry → List Part
+reserved_parts wrong = fault_is (codes "ReservedBit") ∷ told (codes "path") (steps wrong.path.items) ∷ told (codes "entry") (step wrong.entry)
+    ∷ words (codes "bit ") ∷ told (codes "bit") (count wrong.bit) ∷ words (codes " is set: ") ∷ said (reserved wrong.entry.level) ∷ words line_end
+    ∷ named (codes "replica") (count wrong.replica) ∷ []
+
+unfoldable pub stray_parts : StrayTable → List Part
+stray_parts wrong = fault_is (codes "StrayFrame") ∷ words (codes "no table leads to frame ") ∷ told (codes "frame") (frame wrong.frame) ∷ words line_end
+    ∷ named (codes "replica") (count wrong.replica) ∷ []
+
+unfoldable pub difference_parts : Difference → List Part
+difference_parts wrong = fault_is (codes "Differs") ∷ words (codes "applied: ") ∷ told (codes "applied") (count wrong.applied) ∷ words (codes "\nthe dump: ")
+    ∷ told (codes "found") (walk wrong.found) ∷ words line_end ∷ told (codes "path") (steps wrong.path.items) ∷ words (codes "the space: ")
+    ∷ told (codes "wanted") (answer wrong.wanted) ∷ words (codes "\naddress ") ∷ told (codes "address") (address wrong.address) ∷ words (codes ", ")
+    ∷ told (codes "changed") (changed wrong.changed) ∷ named (codes "replica") (count wrong.replica) ∷ []
+
+-- the facts of the evidence
+unfoldable pub evidence_parts : Evidence → List Part
+evidence_parts (evidence.Format bad) = bad_unit_parts bad
+evidence_parts (evidence.ThreadOpen calls) = open_parts calls
+evidence_parts (evidence.NoSuchCall stray) = stray_reply_parts stray
+evidence_parts (evidence.AnsweredTwice replies) = two_replies_parts replies
+evidence_parts (evidence.NotAnUpdate wrong) = no_update_parts wrong
+evidence_parts (evidence.PlacedTwice places) = two_places_parts places
+evidence_parts (evidence.NotPlaced wrong) = misplaced_parts wrong
+evidence_parts (evidence.PastLog wrong) = past_end_parts wrong
+evidence_parts (evidence.Early early) = early_parts early
+evidence_parts (evidence.WrongAnswer wrong) = other_answer_parts wrong
+evidence_parts (evidence.PrefixPastLog wrong) = long_prefix_parts wrong
+evidence_parts (evidence.PrefixShort wrong) = short_prefix_parts wrong
+evidence_parts (evidence.MissingFrame wrong) = missing_parts wrong
+evidence_parts (evidence.SharedFrame wrong) = shared_parts wrong
+evidence_parts (evidence.ReservedBit wrong) = reserved_parts wrong
+evidence_parts (evidence.StrayFrame wrong) = stray_parts wrong
+evidence_parts (evidence.Differs wrong) = difference_parts wrong
+
+-- the lines of the evidence
+abbrev pub evidence_text : Evidence → List ℕ
+evidence_text shown = parts_text (evidence_parts shown)
+
+-- the evidence as JSON
+abbrev pub evidence_data : Evidence → Data
+evidence_data shown = parts_data (evidence_parts shown)
+
+-- how much a right trace has
+unfoldable pub counts_parts : Counts → List Part
+counts_parts counts = words (codes "calls: ") ∷ told (codes "calls") (count counts.calls) ∷ words (codes "\nupdates: ") ∷ told (codes "updates") (count counts.updates)
+    ∷ words (codes "\nreads: ") ∷ told (codes "reads") (count counts.reads) ∷ words (codes "\nreplicas: ") ∷ told (codes "replicas") (count counts.replicas)
+    ∷ words (codes "\npages: ") ∷ told (codes "pages") (count counts.pages) ∷ words line_end ∷ []
+
+-- its lines
+abbrev pub counts_lines : Counts → List ℕ
+counts_lines counts = parts_text (counts_parts counts)
+
+-- as JSON
+abbrev pub counts_data : Counts → Data
+counts_data counts = parts_data (counts_parts counts)
