@@ -1,5 +1,5 @@
 //! The steps of the calls.
-use crate::fault::ProgFault;
+use benchmark_program::ProgFault;
 use nr_core::{Act, Step};
 use std::alloc::Global;
 

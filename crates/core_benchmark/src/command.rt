@@ -1,23 +1,19 @@
 use crate::calls::steps;
-use crate::fault::ProgFault;
 use crate::measure::{Measured, measure};
 use crate::scripts::{are_scripts, scripts};
+use benchmark_program::{ProgFault, per_second, read_words, status_of};
 use std::alloc::Global;
-use std::env;
 use std::rt::{Clock, Env};
 use std::time::Duration;
 use vs_types::{Config, Depth, TABLES};
 
+/// How the program is used.
+const USAGE: &str =
+    "usage: core_benchmark THREADS REPLICAS CALLS, up to 64 threads, so many for each of up to 4 replicas, and 65536 calls in all";
+
 /// Runs the program on its words, and gives the exit status.
 pub fn run<R: Env + AllocGlobal + Print + Eprint + Clock>(rt: &R) -> u8 {
-    match try_run(rt) {
-        Ok(()) => 0,
-        Err(fault) => {
-            let text = fault.text();
-            let _ = eprintln!(rt; "{text}");
-            fault.status()
-        }
-    }
+    status_of(rt, try_run(rt), USAGE)
 }
 
 /// What the program's words ask for.
@@ -29,13 +25,6 @@ struct Wanted {
 }
 
 /// The words are the number of threads, that of replicas, and how many calls all threads make together.
-fn read_words<R: Env + AllocGlobal>(rt: &R) -> Result<Wanted, ProgFault> {
-    let words: Vec<String> = env::args(rt)
-        .map_err(|_| ProgFault::Memory)?
-        .collect(rt.alloc())?;
-    parse_words(&words)
-}
-
 fn parse_words(words: &[String]) -> Result<Wanted, ProgFault> {
     let [_, threads, replicas, calls] = words else {
         return Err(ProgFault::BadWords);
@@ -55,7 +44,7 @@ fn parse_words(words: &[String]) -> Result<Wanted, ProgFault> {
 
 /// Takes the steps, and prints what they came to and how many there were in a second.
 fn try_run<R: Env + AllocGlobal + Print + Eprint + Clock>(rt: &R) -> Result<(), ProgFault> {
-    let Wanted { config, requests } = read_words(rt)?;
+    let Wanted { config, requests } = parse_words(&read_words(rt)?)?;
     let (taken, measured) = take_steps(rt, rt.alloc(), config, requests)?;
     print_measured(rt, taken, measured)?;
     print_rate(rt, config, taken, measured.time)
@@ -98,17 +87,8 @@ fn print_rate<R: Eprint>(
     time: Duration,
 ) -> Result<(), ProgFault> {
     let (threads, replicas) = (config.threads(), config.replicas());
-    let rate = rate(steps, time);
+    let rate = per_second(steps, time);
     eprintln!(rt; "operations a second  {:>12}", "step")?;
     eprintln!(rt; "threads_{threads}_{replicas}          {rate:>12}")?;
     Ok(())
-}
-
-/// How many steps fit into a second, where this many took this time.
-fn rate(steps: u64, time: Duration) -> u64 {
-    let nanos = time
-        .as_secs()
-        .saturating_mul(1_000_000_000)
-        .saturating_add(u64::from(time.subsec_nanos()));
-    steps.saturating_mul(1_000_000_000) / nanos.max(1)
 }

@@ -5,7 +5,6 @@
 
 mod calls;
 mod command;
-mod fault;
 mod measure;
 mod scripts;
 

@@ -2,11 +2,11 @@
 ghost use Rattle.std.specs.Prelude.{map};
 ghost use Rattle.vs_types.specs.Query.{AreScripts};
 
-use crate::fault::ProgFault;
+use benchmark_program::{ProgFault, now};
 use nr_core::{Core, Step};
 use nr_trace::{Event, Trace};
 use std::alloc::Global;
-use std::time::{Clock, Duration, Instant};
+use std::time::{Clock, Duration};
 use vs_types::{Config, Request};
 
 /// What the steps came to.
@@ -54,11 +54,6 @@ fn time_steps(
     let start = now(clock)?;
     let enabled = take(core, steps)?;
     Ok((enabled, now(clock)?.duration_since(start)))
-}
-
-/// What the clock says.
-fn now(clock: &impl Clock) -> Result<Instant, ProgFault> {
-    Instant::now(clock).map_err(|_| ProgFault::NoClock)
 }
 
 /// Takes the steps in turn. How many were enabled.

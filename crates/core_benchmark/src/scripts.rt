@@ -3,7 +3,7 @@ ghost use Rattle.std.specs.Prelude.{◌≡◌, All, IsTrue, map};
 ghost use Rattle.vs_types.specs.Query.{IsQuery};
 ghost use Rattle.vs_types.specs.Query.{AreScripts};
 
-use crate::fault::ProgFault;
+use benchmark_program::ProgFault;
 use std::alloc::Global;
 use vs_types::{Config, Depth, Op, Request, Rights, Size};
 

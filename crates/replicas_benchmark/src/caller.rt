@@ -4,7 +4,7 @@ ghost use Rattle.vs_types.specs.Depth.{IsCanonical};
 ghost use Rattle.vs_types.specs.Operation.{IsAction};
 ghost use Rattle.vs_types.specs.declared.depth.Depth.TheVariants.{Four};
 
-use crate::fault::ProgFault;
+use benchmark_program::ProgFault;
 use nr_replicas::{Gate, Point, Replicas, ReplicasName, Signal};
 use nr_ring::{LogName, LogPass};
 use std::marker::Model;

@@ -1,22 +1,18 @@
-use crate::fault::ProgFault;
 use crate::measure::{Done, Measured, Work, measure};
-use std::env;
+use benchmark_program::{ProgFault, per_second, read_words, status_of};
 use std::marker::Brand;
 use std::rt::{Clock, Env};
 use std::sync::Wait;
 use std::thread::Threads;
 use vs_types::{Config, Depth, TABLES};
 
+/// How the program is used.
+const USAGE: &str =
+    "usage: replicas_benchmark THREADS REPLICAS CALLS READS [maps], up to 64 threads and 4 replicas, and up to 100 READS of a hundred calls";
+
 /// Runs the program on its words, and gives the exit status.
 pub fn run<R: Env + AllocGlobal + Print + Eprint + Clock + Threads + Wait + Sync>(rt: &R) -> u8 {
-    match try_run(rt) {
-        Ok(()) => 0,
-        Err(fault) => {
-            let text = fault.text();
-            let _ = eprintln!(rt; "{text}");
-            fault.status()
-        }
-    }
+    status_of(rt, try_run(rt), USAGE)
 }
 
 /// What the program's words ask for.
@@ -28,13 +24,6 @@ struct Wanted {
 }
 
 /// The words are the number of threads, that of replicas, how many calls each thread makes, how many of a hundred read, and perhaps `maps`.
-fn read_words<R: Env + AllocGlobal>(rt: &R) -> Result<Wanted, ProgFault> {
-    let words: Vec<String> = env::args(rt)
-        .map_err(|_| ProgFault::Memory)?
-        .collect(rt.alloc())?;
-    parse_words(&words)
-}
-
 fn parse_words(words: &[String]) -> Result<Wanted, ProgFault> {
     let [_, threads, replicas, calls, reads, rest @ ..] = words else {
         return Err(ProgFault::BadWords);
@@ -66,7 +55,7 @@ fn try_run<R: Env + AllocGlobal + Print + Eprint + Clock + Threads + Wait + Sync
         threads,
         replicas,
         work,
-    } = read_words(rt)?;
+    } = parse_words(&read_words(rt)?)?;
     let config = Config::new(Depth::Four, replicas, threads, TABLES)?;
     let measured = measure::<Brand, R>(rt, rt.alloc(), config, work)?;
     print_done(rt, &measured.done)?;
@@ -95,12 +84,7 @@ fn print_rate<R: Eprint>(
 ) -> Result<(), ProgFault> {
     let (threads, replicas, reads) = (config.threads(), config.replicas(), work.reads);
     let all = u64::from(threads) * u64::from(work.calls);
-    let nanos = measured
-        .time
-        .as_secs()
-        .saturating_mul(1_000_000_000)
-        .saturating_add(u64::from(measured.time.subsec_nanos()));
-    let rate = all.saturating_mul(1_000_000_000) / nanos.max(1);
+    let rate = per_second(all, measured.time);
     eprintln!(rt; "operations a second  {:>12}", "call")?;
     let kind = if work.maps { "maps" } else { "reads" };
     eprintln!(rt; "{kind}_{reads}_{threads}_{replicas}  {rate:>12}")?;

@@ -6,7 +6,6 @@
 mod caller;
 mod command;
 mod draws;
-mod fault;
 mod measure;
 
 use std::process::ExitCode;

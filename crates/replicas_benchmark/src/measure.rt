@@ -4,7 +4,7 @@ ghost use Rattle.vs_types.specs.declared.depth.Depth.TheVariants.{Four};
 
 use crate::caller::{Caller, Numbers};
 use crate::draws::{Drawn, Draws, PAGES};
-use crate::fault::ProgFault;
+use benchmark_program::{ProgFault, now};
 use nr_replicas::{OpenReplicas, Replicas, ReplicasName};
 use nr_ring::{LogName, LogPass};
 use std::alloc::Global;
@@ -13,7 +13,7 @@ use std::rt::Clock;
 use std::sync::Wait;
 use std::thread;
 use std::thread::Threads;
-use std::time::{Duration, Instant};
+use std::time::Duration;
 use vs_types::{Answer, Config, Depth, Op, Rights, Size};
 
 /// How many updates map the pages: the last 32 of them one in each table of the pages that are the threads' own.
@@ -130,11 +130,6 @@ fn all_done(alloc: Global, results: &[Result<Done, ProgFault>]) -> Result<Vec<Do
         done.push((*result)?)?;
     }
     Ok(done)
-}
-
-/// What the clock says.
-fn now<R: Clock>(rt: &R) -> Result<Instant, ProgFault> {
-    Instant::now(rt).map_err(|_| ProgFault::NoClock)
 }
 
 /// A caller for each thread. The calls of the first begin with those that map the pages.

@@ -3,10 +3,9 @@ ghost use Rattle.std.specs.Prelude.{◌≡◌, ◌+◌, ◌≤◌, ◌∷◌, �
 ghost use Rattle.vs_types.specs.LogEntry.{IsLogEntry};
 ghost use Rattle.vs_types.specs.declared.depth.Depth.TheVariants.{Four};
 
-use crate::clock::{now, since};
 use crate::entry::entry_of;
-use crate::fault::ProgFault;
 use arrayvec::ArrayVec;
+use benchmark_program::{ProgFault, now};
 use crossbeam_utils::Backoff;
 use nr_ring::{AppendFault, LogName, LogPass, RingLog, Tails};
 use std::alloc::Global;
@@ -72,9 +71,9 @@ fn append_on<J: LogName + Send + Sync, R: Threads + Wait + Clock + Sync>(
     requires owners { All (λ pass. (replica : ℕ) × (pass.view.owns ≡ replica ∷ [])) passes.items }
     requires calls { calls ≤ 65536 }
 {
-    let start = now(rt);
+    let start = now(rt)?;
     let taken = append_by_all(rt, log, passes, calls, all)?;
-    let time = since(start, now(rt))?;
+    let time = now(rt)?.duration_since(start);
     let tails = log.look(&mut own);
     Ok(Appends { tails, taken, time })
 }

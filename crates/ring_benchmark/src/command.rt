@@ -1,26 +1,22 @@
 ghost use Rattle.std.specs.Prelude.{◌≤◌};
 
 use crate::appends::{Appends, Taken, append};
-use crate::fault::ProgFault;
 use crate::looks::{Looks, look};
+use benchmark_program::{ProgFault, per_second, read_words, status_of};
 use std::alloc::Global;
-use std::env;
 use std::marker::Brand;
 use std::rt::{Clock, Env};
 use std::sync::Wait;
 use std::thread::Threads;
 use std::time::Duration;
 
+/// How the program is used.
+const USAGE: &str =
+    "usage: ring_benchmark looks|appends THREADS CALLS, up to 4 threads, and 65536 appends in all";
+
 /// Runs the program on its words, and gives the exit status.
 pub fn run<R: Env + AllocGlobal + Print + Eprint + Clock + Threads + Wait + Sync>(rt: &R) -> u8 {
-    match try_run(rt) {
-        Ok(()) => 0,
-        Err(fault) => {
-            let text = fault.text();
-            let _ = eprintln!(rt; "{text}");
-            fault.status()
-        }
-    }
+    status_of(rt, try_run(rt), USAGE)
 }
 
 /// What is timed.
@@ -41,13 +37,6 @@ struct Wanted {
 }
 
 /// The words are what is timed, the number of threads and the number of calls.
-fn read_words<R: Env + AllocGlobal>(rt: &R) -> Result<Wanted, ProgFault> {
-    let words: Vec<String> = env::args(rt)
-        .map_err(|_| ProgFault::Memory)?
-        .collect(rt.alloc())?;
-    parse_words(&words)
-}
-
 fn parse_words(words: &[String]) -> Result<Wanted, ProgFault> {
     let [_, call, threads, calls] = words else {
         return Err(ProgFault::BadWords);
@@ -74,7 +63,7 @@ fn try_run<R: Env + AllocGlobal + Print + Eprint + Clock + Threads + Wait + Sync
         call,
         threads,
         calls,
-    } = read_words(rt)?;
+    } = parse_words(&read_words(rt)?)?;
     if threads < 1 || threads > 4 {
         return Err(ProgFault::BadWords);
     }
@@ -136,17 +125,8 @@ fn print_rate<R: Eprint>(
     all: u64,
     time: Duration,
 ) -> Result<(), ProgFault> {
-    let rate = rate(all, time);
+    let rate = per_second(all, time);
     eprintln!(rt; "operations a second  {name:>12}")?;
     eprintln!(rt; "{threads}_threads            {rate:>12}")?;
     Ok(())
-}
-
-/// How many operations fit into a second, where this many took this time.
-fn rate(operations: u64, time: Duration) -> u64 {
-    let nanos = time
-        .as_secs()
-        .saturating_mul(1_000_000_000)
-        .saturating_add(u64::from(time.subsec_nanos()));
-    operations.saturating_mul(1_000_000_000) / nanos.max(1)
 }

@@ -2,9 +2,8 @@
 ghost use Rattle.std.specs.Prelude.{◌≡◌, ◌+◌, ◌≤◌, All};
 ghost use Rattle.vs_types.specs.declared.depth.Depth.TheVariants.{Four};
 
-use crate::clock::{now, since};
 use crate::entry::entry_of;
-use crate::fault::ProgFault;
+use benchmark_program::{ProgFault, now};
 use nr_ring::{LogName, LogPass, RingLog};
 use std::alloc::Global;
 use std::rt::Clock;
@@ -52,9 +51,9 @@ fn look_on<J: LogName + Send + Sync, R: Threads + Wait + Clock + Sync>(
 ) -> Result<Looks, ProgFault>
     requires log { All (λ pass. pass.log ≡ log.now) passes.items }
 {
-    let start = now(rt);
+    let start = now(rt)?;
     let tails = look_by_all(rt, log, passes, calls)?;
-    let time = since(start, now(rt))?;
+    let time = now(rt)?.duration_since(start);
     Ok(Looks { tails, time })
 }
 

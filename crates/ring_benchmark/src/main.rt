@@ -4,10 +4,8 @@
 #![tactic(auto)]
 
 mod appends;
-mod clock;
 mod command;
 mod entry;
-mod fault;
 mod looks;
 
 use std::process::ExitCode;

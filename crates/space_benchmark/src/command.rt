@@ -1,23 +1,18 @@
-use crate::fault::ProgFault;
 use crate::load::Load;
 use crate::measure::{BASE, FRAMES, Measured, measure};
 use crate::workload::Workload;
+use benchmark_program::{ProgFault, per_second, read_words, status_of};
 use std::alloc::Global;
-use std::env;
-use std::time::{Clock, Duration};
+use std::time::Clock;
 use vs_arena::{FRAME_WORDS, FrameMark, LentArena, RawArena, VecArena};
 use vs_types::Depth;
 
+/// How the program is used.
+const USAGE: &str = "usage: space_benchmark [ROUNDS [raw|lent] [five]], up to 65535 rounds";
+
 /// Runs the program on its words, and gives the exit status.
 pub fn run(rt: &HostRuntime) -> u8 {
-    match try_run(rt) {
-        Ok(()) => 0,
-        Err(fault) => {
-            let text = fault.text();
-            let _ = eprintln!(rt; "{text}");
-            fault.status()
-        }
-    }
+    status_of(rt, try_run(rt), USAGE)
 }
 
 /// Where the frames of the page table lie.
@@ -37,7 +32,7 @@ impl Store {
         match word {
             "raw" => Ok(Store::Raw),
             "lent" => Ok(Store::Lent),
-            _ => Err(ProgFault::BadRounds),
+            _ => Err(ProgFault::BadWords),
         }
     }
 }
@@ -53,13 +48,6 @@ struct Wanted {
 
 /// The first word is the number of rounds, up to 65,535, or one round where there is none. Where there are more, the first isn't timed. After it `raw` asks for frames in
 /// one block of memory, or `lent` for frames that are lent, and then `five` for five levels.
-fn read_words(rt: &HostRuntime) -> Result<Wanted, ProgFault> {
-    let words: Vec<String> = env::args(rt)
-        .map_err(|_| ProgFault::Memory)?
-        .collect(rt.alloc())?;
-    parse_words(&words)
-}
-
 fn parse_words(words: &[String]) -> Result<Wanted, ProgFault> {
     let (rounds, (store, depth)) = match words {
         [] | [_] => {
@@ -74,7 +62,7 @@ fn parse_words(words: &[String]) -> Result<Wanted, ProgFault> {
         [_, rounds, store, five] if five.as_str() == "five" => {
             (rounds, (Store::named(store)?, Depth::Five))
         }
-        _ => return Err(ProgFault::BadRounds),
+        _ => return Err(ProgFault::BadWords),
     };
     Ok(Wanted {
         rounds: rounds.parse::<u16>()?,
@@ -93,7 +81,7 @@ fn store_or_depth(word: &str) -> Result<(Store, Depth), ProgFault> {
 
 /// Runs each workload on a page table of its own, and prints its sum and its times.
 fn try_run(rt: &HostRuntime) -> Result<(), ProgFault> {
-    let wanted = read_words(rt)?;
+    let wanted = parse_words(&read_words(rt)?)?;
     eprintln!(rt;
         "operations a second  {:>12} {:>12} {:>12} {:>12}",
         "map", "resolve", "protect", "unmap"
@@ -150,19 +138,10 @@ fn print(
     println!(rt; "{name} {sum}")?;
     let timed = rounds.saturating_sub(1).max(1);
     let operations = u64::from(workload.pages()) * u64::from(timed);
-    let map = rate(operations, measured.times.map);
-    let resolve = rate(operations, measured.times.resolve);
-    let protect = rate(operations, measured.times.protect);
-    let unmap = rate(operations, measured.times.unmap);
+    let map = per_second(operations, measured.times.map);
+    let resolve = per_second(operations, measured.times.resolve);
+    let protect = per_second(operations, measured.times.protect);
+    let unmap = per_second(operations, measured.times.unmap);
     eprintln!(rt; "{name:<19}  {map:>12} {resolve:>12} {protect:>12} {unmap:>12}")?;
     Ok(())
-}
-
-/// How many operations fit into a second, where this many took this time.
-fn rate(operations: u64, time: Duration) -> u64 {
-    let nanos = time
-        .as_secs()
-        .saturating_mul(1_000_000_000)
-        .saturating_add(u64::from(time.subsec_nanos()));
-    operations.saturating_mul(1_000_000_000) / nanos.max(1)
 }

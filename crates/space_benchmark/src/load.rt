@@ -2,8 +2,8 @@ ghost use Rattle.std.specs.Prelude.{◌↔◌, All, IsTrue};
 ghost use Rattle.vs_types.specs.Depth.{IsCanonical};
 ghost use Rattle.vs_types.specs.Operation.{IsAction};
 
-use crate::fault::ProgFault;
 use crate::workload::{Workload, rights_of};
+use benchmark_program::ProgFault;
 use std::alloc::Global;
 use vs_types::{Depth, Op};
 

@@ -4,7 +4,6 @@
 #![tactic(auto)]
 
 mod command;
-mod fault;
 mod load;
 mod measure;
 mod sum;

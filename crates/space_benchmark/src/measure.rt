@@ -6,10 +6,10 @@ ghost use Rattle.vs_types.specs.Operation.{IsAction};
 ghost use Rattle.vs_space.specs.Table.{IsTableOf};
 ghost use Rattle.space_benchmark.specs.Work.{Applies, IsRound, IsWellFormed, after_rounds, no_progress, sum_of_looks};
 
-use crate::fault::ProgFault;
 use crate::load::{Load, all_fit};
 use crate::sum::Sum;
-use std::time::{Clock, Duration, Instant};
+use benchmark_program::{ProgFault, now};
+use std::time::{Clock, Duration};
 use vs_arena::FrameStore;
 use vs_space::Space;
 use vs_types::Op;
@@ -133,13 +133,6 @@ pub fn measure<S: FrameStore + Drop>(
         measured.round(clock, &mut space, load)?;
     }
     Ok(measured)
-}
-
-/// What the clock says.
-fn now(clock: &impl Clock) -> Result<Instant, ProgFault>
-    ensures { IfErr result (λ fault. fault ≡ ProgFault.NoClock) }
-{
-    Instant::now(clock).map_err(|_| ProgFault::NoClock)
 }
 
 /// Does the operations one after another, and gives the sum with their answers. It is a function of its own for each kind of store,

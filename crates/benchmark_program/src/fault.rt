@@ -1,12 +1,20 @@
+//! Why a benchmark ends early.
 use std::alloc::{AllocError, AllocFailed};
 use std::io;
 use std::num::ParseIntError;
+use vs_types::{BadConfig, BadOp, Memory};
 
-/// Why the program ends early.
+/// Why a benchmark ends early.
 #[derive(Clone, Copy)]
 pub enum ProgFault {
-    /// The program's words aren't how many threads, replicas and calls there are.
+    /// The program's words are none that it knows.
     BadWords,
+    /// A page of a workload is not well formed.
+    BadPage,
+    /// The threads' updates are more than the log has room for.
+    LogEnded,
+    /// A call was not answered, or not as it must be, or another thread did not get on.
+    Stuck,
     /// The output gave an error.
     CannotWrite,
     /// The clock gave an error.
@@ -16,11 +24,13 @@ pub enum ProgFault {
 }
 
 impl ProgFault {
-    /// What is written to standard error.
-    pub fn text(self) -> &'static str {
+    /// What is written to standard error, by a program that is used so.
+    pub(crate) fn text(self, usage: &'static str) -> &'static str {
         match self {
-            ProgFault::BadWords =>
-                "usage: core_benchmark THREADS REPLICAS CALLS, up to 64 threads, so many for each of up to 4 replicas, and 65536 calls in all",
+            ProgFault::BadWords => usage,
+            ProgFault::BadPage => "a page of a workload is not well formed",
+            ProgFault::LogEnded => "the log has ended",
+            ProgFault::Stuck => "a thread is stuck",
             ProgFault::CannotWrite => "cannot write",
             ProgFault::NoClock => "cannot read the clock",
             ProgFault::Memory => "out of memory",
@@ -28,10 +38,10 @@ impl ProgFault {
     }
 
     /// The exit status: 3 where memory runs out, else 2.
-    pub fn status(self) -> u8 {
+    pub(crate) fn status(self) -> u8 {
         match self {
             ProgFault::Memory => 3,
-            ProgFault::BadWords | ProgFault::CannotWrite | ProgFault::NoClock => 2,
+            _ => 2,
         }
     }
 }
@@ -48,21 +58,21 @@ impl<T: Drop> From<AllocFailed<T>> for ProgFault {
     }
 }
 
-impl From<vs_types::Memory> for ProgFault {
-    fn from(_error: vs_types::Memory) -> ProgFault {
+impl From<Memory> for ProgFault {
+    fn from(_error: Memory) -> ProgFault {
         ProgFault::Memory
     }
 }
 
-impl From<vs_types::BadConfig> for ProgFault {
-    fn from(_error: vs_types::BadConfig) -> ProgFault {
+impl From<BadConfig> for ProgFault {
+    fn from(_error: BadConfig) -> ProgFault {
         ProgFault::BadWords
     }
 }
 
-impl From<vs_types::BadOp> for ProgFault {
-    fn from(_error: vs_types::BadOp) -> ProgFault {
-        ProgFault::BadWords
+impl From<BadOp> for ProgFault {
+    fn from(_error: BadOp) -> ProgFault {
+        ProgFault::BadPage
     }
 }
 
