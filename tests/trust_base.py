@@ -3,6 +3,7 @@
 of the libraries and their preconditions with the promises of their crates' READMEs. Part 1 of DEFINITIONS.md has to have just the words
 of the two headlines, and just the types and constants of the code of which these speak, with their variants, fields and values as the code
 declares them; and the crates of the audit depend on none of the replication. The tables of ARCHITECTURE.md list the crates of crates.txt.
+Each wrong body can be applied: what it replaces is once in its file (`rt ci` passes over one that can't be).
 
 A word of the trust base is a definition of some specs/ folder that a clause of a public call cites, or that such a word
 cites; worked examples aside. In DEFINITIONS.md a word has its words where it is in bold code, **`word`**, under a heading that
@@ -369,6 +370,24 @@ def main_promises():
                 yield f"{file.relative_to(ROOT)}:{number_} has {len(line)} columns, of {WIDTH} at most"
 
 
+def unusable_edits():
+    """The wrong bodies that say nothing, since what they replace isn't in the file that they name, or is there more than once."""
+    for edit in sorted(ROOT.glob("crates/*/must-fail/*")):
+        texts, file, old = {}, None, None
+        for line in edit.read_text().splitlines():
+            if line.startswith("file: "):
+                file = edit.parent.parent / line.removeprefix("file: ").strip()
+            elif line.startswith("old: "):
+                old = line.removeprefix("old: ")
+            elif line.startswith("new:") and file and old:
+                text = texts.get(file) or (file.read_text() if file.is_file() else "")
+                if text.count(old) != 1:
+                    yield f"{edit.relative_to(ROOT)}: what it replaces is {text.count(old)} times in {file.name}: {old}"
+                texts[file] = text.replace(old, line.removeprefix("new:").removeprefix(" "))
+        if edit.suffix != ".edit" or not texts:
+            yield f"{edit.relative_to(ROOT)} is no wrong body"
+
+
 def read_aloud(text):
     """The words in bold code, each with the places that the heading above it names: (`crate`: Module, Module; `crate`: Module). What
     the code declares is none of them."""
@@ -399,7 +418,7 @@ def main(words):
     others = [(places, name) for places, name in told if not any((place, name) in base for place in places)]
     for places, name in others:
         print(f"read aloud, and no clause rests on it: {name} (of {', '.join(places)})")
-    lacking = [*first_part(), *audit_alone(), *untold(), *main_promises(), *unknown_names(), *listed()]
+    lacking = [*first_part(), *audit_alone(), *untold(), *main_promises(), *unknown_names(), *listed(), *unusable_edits()]
     for line in lacking:
         print(line)
     wrong = len(missing) + len(others) + len(lacking)

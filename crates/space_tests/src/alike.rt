@@ -7,7 +7,6 @@ use crate::cases::{
 };
 use std::alloc::Global;
 use std::process::Abort;
-use std::test::Fail;
 use vs_alike::{Both, Told};
 use vs_arena::{FrameStore, RawArena, VecArena};
 use vs_types::{Answer, Depth, Query};
@@ -18,24 +17,20 @@ use vs_types::{Answer, Depth, Query};
 struct Case<'a>(&'a str, u16, usize, &'a [Row]);
 
 /// What both answer to a call.
-fn answers<S: FrameStore>(
-    rt: &impl Abort,
-    both: &mut Both<S>,
-    call: Call,
-) -> Result<Told<Answer>, Fail> {
+fn answers<S: FrameStore>(rt: &impl Abort, both: &mut Both<S>, call: Call) -> Told<Answer> {
     let depth = both.plain().depth();
-    match call.request(depth)?.query() {
+    match call.request(depth).expect(rt, "a request").query() {
         Query::Update(op) => {
             assert!(rt; op.fits(depth));
-            Ok(both.apply(op)?)
+            both.apply(op).expect(rt, "memory")
         }
         Query::Resolve(address) => {
             assert!(rt; depth.is_canonical(address));
-            Ok(both.resolve(address))
+            both.resolve(address)
         }
         Query::Access(address, mode, access) => {
             assert!(rt; depth.is_canonical(address));
-            Ok(both.access(address, mode, access))
+            both.access(address, mode, access)
         }
     }
 }
@@ -47,69 +42,47 @@ fn is_so<S: FrameStore>(
     call: Call,
     answer: Answer,
     tables: usize,
-) -> Result<bool, Fail> {
-    let told = answers(rt, both, call)?;
+) -> bool {
+    let told = answers(rt, both, call);
     let counts = both.tables();
-    Ok(
-        (told.table, told.plain) == (answer, answer)
-            && (counts.table, counts.plain) == (tables, tables)
-            && both.table().tables() == tables,
-    )
+    (told.table, told.plain) == (answer, answer)
+        && (counts.table, counts.plain) == (tables, tables)
+        && both.table().tables() == tables
 }
 
 /// Runs a case on both kinds of address space, the page table over this store, and holds each answer and each count against
 /// what is expected.
-fn run<S: FrameStore + Drop>(
-    rt: &impl Abort,
-    alloc: Global,
-    store: S,
-    depth: Depth,
-    case: Case,
-) -> Result<(), Fail>
+fn run<S: FrameStore + Drop>(rt: &impl Abort, alloc: Global, store: S, depth: Depth, case: Case)
     requires { S.frames store ≡ finite.empty }
 {
     let Case(name, _, more, rows) = case;
-    let mut both = Both::new(alloc, store, depth)?;
-    assert!(rt; both.plain().pages()?.is_empty());
+    let mut both = Both::new(alloc, store, depth).expect(rt, "memory");
+    assert!(rt; both.plain().pages().expect(rt, "memory").is_empty());
     for (place, Row(call, answer, tables)) in rows.iter().enumerate() {
         let tables = if *tables > 1 {
             tables.saturating_add(more)
         } else {
             1
         };
-        assert!(rt;
-            is_so(rt, &mut both, *call, *answer, tables)?,
-            "{name}, row {place}"
-        );
+        let is_so = is_so(rt, &mut both, *call, *answer, tables);
+        assert!(rt; is_so, "{name}, row {place}");
     }
-    Ok(())
 }
 
 /// Runs each case over both stores.
-fn run_all(rt: &impl Abort, alloc: Global, depth: Depth, cases: &[Case]) -> Result<(), Fail> {
+fn run_all(rt: &impl Abort, alloc: Global, depth: Depth, cases: &[Case]) {
     for case in cases {
         let limit = usize::from(case.1);
         assert!(rt; limit <= 4096);
-        run(
-            rt,
-            alloc,
-            VecArena::new(alloc, 1 << 39, limit)?,
-            depth,
-            *case,
-        )?;
-        run(
-            rt,
-            alloc,
-            RawArena::new(alloc, 1 << 39, limit)?,
-            depth,
-            *case,
-        )?;
+        let store = VecArena::new(alloc, 1 << 39, limit).expect(rt, "memory");
+        run(rt, alloc, store, depth, *case);
+        let store = RawArena::new(alloc, 1 << 39, limit).expect(rt, "memory");
+        run(rt, alloc, store, depth, *case);
     }
-    Ok(())
 }
 
 #[test]
-fn worked_examples(rt: HostRuntime) -> Result<(), Fail> {
+fn worked_examples(rt: HostRuntime) {
     let cases = [
         Case("both halves", 4096, 0, &BOTH_HALVES),
         Case("overlap names the least base", 4096, 0, &OVERLAP),
@@ -120,12 +93,12 @@ fn worked_examples(rt: HostRuntime) -> Result<(), Fail> {
         Case("protect changes rights", 4096, 0, &PROTECT),
         Case("accesses by rights", 4096, 0, &ACCESS),
     ];
-    run_all(&rt, rt.alloc(), Depth::Four, &cases)
+    run_all(&rt, rt.alloc(), Depth::Four, &cases);
 }
 
 // The same calls as at four levels take one table more, below the root.
 #[test]
-fn worked_examples_at_five_levels(rt: HostRuntime) -> Result<(), Fail> {
+fn worked_examples_at_five_levels(rt: HostRuntime) {
     let cases = [
         Case("overlap", 4096, 1, &OVERLAP),
         Case("gigabyte page", 4096, 1, &GIGABYTE),
@@ -136,5 +109,5 @@ fn worked_examples_at_five_levels(rt: HostRuntime) -> Result<(), Fail> {
         Case("both halves of five", 4096, 0, &BOTH_HALVES_OF_FIVE),
         Case("full", 4, 0, &FULL_OF_FIVE),
     ];
-    run_all(&rt, rt.alloc(), Depth::Five, &cases)
+    run_all(&rt, rt.alloc(), Depth::Five, &cases);
 }

@@ -6,7 +6,6 @@ use crate::values::BASE;
 use std::alloc::Global;
 use std::marker::Send;
 use std::process::Abort;
-use std::test::Fail;
 use vs_arena::{Frame, FrameStore, RawArena, VecArena};
 
 // A frame that was taken, whose words are all 0.
@@ -100,10 +99,11 @@ fn use_again<S: FrameStore>(rt: &impl Abort, store: &mut S, first: u64, second: 
 }
 
 // All frames of a new store are taken, freed in that order, and taken again.
-fn use_all<S: FrameStore>(rt: &impl Abort, alloc: Global, store: &mut S) -> Result<(), Fail> {
+fn use_all<S: FrameStore>(rt: &impl Abort, alloc: Global, store: &mut S) {
     let mut order = Vec::new(alloc);
     for _ in 0..store.capacity() {
-        order.push(take_and_fill(rt, store))?;
+        let number = take_and_fill(rt, store);
+        order.push(number).expect(rt, "memory");
     }
     assert!(rt; store.take().is_none());
     for number in &order {
@@ -114,7 +114,6 @@ fn use_all<S: FrameStore>(rt: &impl Abort, alloc: Global, store: &mut S) -> Resu
         take_cleared(rt, store);
     }
     assert!(rt; store.take().is_none());
-    Ok(())
 }
 
 // The number of a frame that was taken, whose first word and last one were written.
@@ -145,23 +144,24 @@ fn raw_arena(rt: &impl Abort, alloc: Global, n: usize) -> RawArena
 }
 
 #[test]
-fn arenas_of_two(rt: HostRuntime) -> Result<(), Fail> {
-    use_two(&rt, &mut VecArena::new(rt.alloc(), BASE, 2)?);
+fn arenas_of_two(rt: HostRuntime) {
+    let mut store = VecArena::new(rt.alloc(), BASE, 2).expect(&rt, "memory");
+    use_two(&rt, &mut store);
     use_two(&rt, &mut raw_arena(&rt, rt.alloc(), 2));
-    Ok(())
 }
 
 #[test]
-fn arenas_of_all(rt: HostRuntime) -> Result<(), Fail> {
-    use_all(&rt, rt.alloc(), &mut VecArena::new(rt.alloc(), BASE, 4096)?)?;
-    use_all(&rt, rt.alloc(), &mut raw_arena(&rt, rt.alloc(), 4096))
+fn arenas_of_all(rt: HostRuntime) {
+    let mut store = VecArena::new(rt.alloc(), BASE, 4096).expect(&rt, "memory");
+    use_all(&rt, rt.alloc(), &mut store);
+    use_all(&rt, rt.alloc(), &mut raw_arena(&rt, rt.alloc(), 4096));
 }
 
 #[test]
-fn arenas_of_none(rt: HostRuntime) -> Result<(), Fail> {
-    use_none(&rt, &mut VecArena::new(rt.alloc(), BASE, 0)?);
+fn arenas_of_none(rt: HostRuntime) {
+    let mut store = VecArena::new(rt.alloc(), BASE, 0).expect(&rt, "memory");
+    use_none(&rt, &mut store);
     use_none(&rt, &mut raw_arena(&rt, rt.alloc(), 0));
-    Ok(())
 }
 
 // A new store of so many frames from a base on gives each of them once.
@@ -180,27 +180,29 @@ fn use_sized<S: FrameStore>(rt: &impl Abort, store: &mut S, base: u64, n: usize)
 
 // 0 to 64 frames at the least and the greatest bases, and at one between
 #[test]
-fn arenas_at_many_bases(rt: HostRuntime) -> Result<(), Fail> {
+fn arenas_at_many_bases(rt: HostRuntime) {
     for base in [0, 1, BASE, (1 << 40) - 64, (1 << 40) - 16] {
         for n in 0..65 {
             if base + n as u64 <= 1 << 40 {
-                use_sized(&rt, &mut VecArena::new(rt.alloc(), base, n)?, base, n);
-                use_sized(&rt, &mut RawArena::new(rt.alloc(), base, n)?, base, n);
+                let mut store = VecArena::new(rt.alloc(), base, n).expect(&rt, "memory");
+                use_sized(&rt, &mut store, base, n);
+                let mut store = RawArena::new(rt.alloc(), base, n).expect(&rt, "memory");
+                use_sized(&rt, &mut store, base, n);
             }
         }
     }
-    Ok(())
 }
 
 // 16 to 4,096 frames
 #[test]
-fn arenas_of_many_sizes(rt: HostRuntime) -> Result<(), Fail> {
+fn arenas_of_many_sizes(rt: HostRuntime) {
     for step in 0..17 {
         let n = 16 + 255 * step;
-        assert!(rt; VecArena::new(rt.alloc(), BASE, n)?.capacity() == n);
-        assert!(rt; RawArena::new(rt.alloc(), BASE, n)?.capacity() == n);
+        let store = VecArena::new(rt.alloc(), BASE, n).expect(&rt, "memory");
+        assert!(rt; store.capacity() == n);
+        let store = RawArena::new(rt.alloc(), BASE, n).expect(&rt, "memory");
+        assert!(rt; store.capacity() == n);
     }
-    Ok(())
 }
 
 fn cross<T: Send>(value: T) -> T {

@@ -2,7 +2,6 @@ use crate::cases::{BOTH_HALVES, OVERLAP, Row};
 use crate::space::answer;
 use crate::values::BASE;
 use std::process::Abort;
-use std::test::Fail;
 use vs_arena::{FRAME_WORDS, FrameMark, FrameStore, LentArena};
 use vs_space::{Space, SpaceParts};
 use vs_types::Depth;
@@ -24,25 +23,22 @@ fn answers_rows(
     words: &mut [[u64; FRAME_WORDS]],
     marks: &mut [FrameMark],
     rows: &[Row],
-) -> Result<(), Fail> {
-    if words.len() > 4096 || words.len() > marks.len() {
-        return Err(Fail::new("few frames, and a mark for each"));
-    }
-    let mut space = Space::new(LentArena::new(BASE, words, marks), Depth::Four)?;
+) {
+    assert!(rt; words.len() <= 4096 && words.len() <= marks.len());
+    let store = LentArena::new(BASE, words, marks);
+    let mut space = Space::new(store, Depth::Four).expect(rt, "a root");
     for Row(call, told, tables) in rows.iter().copied() {
         space = reopened(space);
         assert!(rt; answer(rt, &mut space, call) == told);
         assert!(rt; space.tables() == tables);
     }
     assert!(rt; space.words(space.root()).is_some());
-    Ok(())
 }
 
 #[test]
-fn lent_table_is_kept_between_calls(rt: HostRuntime) -> Result<(), Fail> {
-    let mut words = vec![in rt.alloc(); [DIRT; FRAME_WORDS]; 16]?;
-    let mut marks = vec![in rt.alloc(); FrameMark::default(); 16]?;
-    answers_rows(&rt, &mut words, &mut marks, BOTH_HALVES.as_slice())?;
-    answers_rows(&rt, &mut words, &mut marks, OVERLAP.as_slice())?;
-    Ok(())
+fn lent_table_is_kept_between_calls(rt: HostRuntime) {
+    let mut words = vec![in rt.alloc(); [DIRT; FRAME_WORDS]; 16].expect(&rt, "memory");
+    let mut marks = vec![in rt.alloc(); FrameMark::default(); 16].expect(&rt, "memory");
+    answers_rows(&rt, &mut words, &mut marks, BOTH_HALVES.as_slice());
+    answers_rows(&rt, &mut words, &mut marks, OVERLAP.as_slice());
 }

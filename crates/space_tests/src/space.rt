@@ -2,7 +2,6 @@ use crate::cases::{Call, Row};
 use crate::values::{BASE, WRITE};
 use std::alloc::Global;
 use std::process::Abort;
-use std::test::Fail;
 use vs_arena::{FrameStore, VecArena};
 use vs_space::{NoRoot, Space};
 use vs_types::{Answer, Depth, Query, Rights, Size};
@@ -173,31 +172,31 @@ fn is_so<S: FrameStore>(rt: &impl Abort, space: &mut Space<S>, step: Step) -> bo
     answer(rt, space, call) == told && space.tables() == tables && word(rt, space, path) == last
 }
 
-fn take_all(rt: &impl Abort, alloc: Global, depth: Depth, steps: &[Step]) -> Result<(), Fail> {
-    let mut space = Space::new(VecArena::new(alloc, BASE, 16)?, depth)?;
+fn take_all(rt: &impl Abort, alloc: Global, depth: Depth, steps: &[Step]) {
+    let store = VecArena::new(alloc, BASE, 16).expect(rt, "memory");
+    let mut space = Space::new(store, depth).expect(rt, "a root");
     assert!(rt; space.depth() == depth && space.tables() == 1);
     for (place, step) in steps.iter().enumerate() {
         assert!(rt; is_so(rt, &mut space, *step), "row {place}");
     }
     assert!(rt; word(rt, &space, &[255]) % 4096 == 7);
-    Ok(())
 }
 
 #[test]
-fn words_of_pages(rt: HostRuntime) -> Result<(), Fail> {
-    take_all(&rt, rt.alloc(), Depth::Four, &AT_FOUR_LEVELS)?;
-    take_all(&rt, rt.alloc(), Depth::Five, &AT_FIVE_LEVELS)
+fn words_of_pages(rt: HostRuntime) {
+    take_all(&rt, rt.alloc(), Depth::Four, &AT_FOUR_LEVELS);
+    take_all(&rt, rt.alloc(), Depth::Five, &AT_FIVE_LEVELS);
 }
 
 #[test]
-fn arena_of_two(rt: HostRuntime) -> Result<(), Fail> {
-    let arena = VecArena::new(rt.alloc(), BASE, 0)?;
+fn arena_of_two(rt: HostRuntime) {
+    let arena = VecArena::new(rt.alloc(), BASE, 0).expect(&rt, "memory");
     assert!(rt; Space::new(arena, Depth::Four).err() == Some(NoRoot));
-    let mut space = Space::new(VecArena::new(rt.alloc(), BASE, 2)?, Depth::Four)?;
+    let arena = VecArena::new(rt.alloc(), BASE, 2).expect(&rt, "memory");
+    let mut space = Space::new(arena, Depth::Four).expect(&rt, "a root");
     let map = Call::Map(0x1000, Size::K4, 0x5000, ALL);
     assert!(rt; answer(&rt, &mut space, map) == Answer::Full(4));
     assert!(rt; space.tables() == 1);
-    Ok(())
 }
 
 // A page in each of a thousand gibibytes: so many tables.
@@ -222,10 +221,11 @@ fn use_thousand<S: FrameStore>(rt: &impl Abort, space: &mut Space<S>, tables: us
 
 // A table for each page, two of the level above, and at five levels one more below the root.
 #[test]
-fn two_thousand_tables(rt: HostRuntime) -> Result<(), Fail> {
-    let mut space = Space::new(VecArena::new(rt.alloc(), BASE, 2004)?, Depth::Four)?;
+fn two_thousand_tables(rt: HostRuntime) {
+    let arena = VecArena::new(rt.alloc(), BASE, 2004).expect(&rt, "memory");
+    let mut space = Space::new(arena, Depth::Four).expect(&rt, "a root");
     use_thousand(&rt, &mut space, 2003);
-    let mut space = Space::new(VecArena::new(rt.alloc(), BASE, 2004)?, Depth::Five)?;
+    let arena = VecArena::new(rt.alloc(), BASE, 2004).expect(&rt, "memory");
+    let mut space = Space::new(arena, Depth::Five).expect(&rt, "a root");
     use_thousand(&rt, &mut space, 2004);
-    Ok(())
 }

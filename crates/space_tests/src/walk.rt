@@ -1,11 +1,10 @@
-ghost use Rattle.std.specs.Prelude.{◌<◌, IfOk};
+ghost use Rattle.std.specs.Prelude.{◌<◌};
 ghost use Rattle.vs_walk.specs.Dump.{IsDump};
 
 use crate::values::USER_AND_EXEC;
 use std::alloc::Global;
 use std::process::Abort;
-use std::test::Fail;
-use vs_types::{Depth, Memory, Page, Rights, Size};
+use vs_types::{Depth, Page, Rights, Size};
 use vs_walk::{Dump, Frames, Walk, WalkFault, are_zero, leaves, translate};
 
 const ALL: Rights = Rights::ALL;
@@ -67,21 +66,21 @@ fn one_word(word: Word) -> [u64; 512] {
 }
 
 /// A dump of five frames, numbered from 1, which are these tables.
-fn dump_of(alloc: Global, tables: Tables) -> Result<Dump, Memory>
-    ensures { IfOk result (λ dump. IsDump dump) }
+fn dump_of(rt: &impl Abort, alloc: Global, tables: Tables) -> Dump
+    ensures { IsDump result }
 {
     let words = words_of(tables);
     let mut root = one_word(words[0]);
     root[words[1].0 % 512] = words[1].1;
     let mut dump = Dump::new(alloc, 7, 1);
-    dump.make_room(5)?;
-    dump.push(1, &root)?;
-    dump.push(2, &one_word(words[2]))?;
-    dump.push(3, &one_word(words[3]))?;
-    dump.push(4, &one_word(words[4]))?;
-    dump.push(5, &one_word(words[5]))?;
+    dump.make_room(5).expect(rt, "memory");
+    dump.push(1, &root).expect(rt, "memory");
+    dump.push(2, &one_word(words[2])).expect(rt, "memory");
+    dump.push(3, &one_word(words[3])).expect(rt, "memory");
+    dump.push(4, &one_word(words[4])).expect(rt, "memory");
+    dump.push(5, &one_word(words[5])).expect(rt, "memory");
     let _frames = dump.count();
-    Ok(dump)
+    dump
 }
 
 /// Tables from a root on, an address, its translation, and what is found of all.
@@ -230,13 +229,7 @@ const OF_FIVE_LEVELS: [Case; 4] = [
 ];
 
 /// What is found of all tables from a root on. The frames that are reached are the first.
-fn found(
-    rt: &impl Abort,
-    alloc: Global,
-    dump: &Dump,
-    root: u64,
-    depth: Depth,
-) -> Result<Found, Memory>
+fn found(rt: &impl Abort, alloc: Global, dump: &Dump, root: u64, depth: Depth) -> Found
     requires { IsDump dump.now }
 {
     match leaves(alloc, dump, root, depth) {
@@ -247,55 +240,53 @@ fn found(
             assert!(rt; Some(found.reached.as_slice()) == [1, 2, 3, 4, 5].get(..count));
             assert!(rt; found.reached.contains(1) && !found.reached.contains(6));
             let pages = [pages.first().copied(), pages.get(1).copied()];
-            Ok(Ok((pages, count)))
+            Ok((pages, count))
         }
-        Err(vs_types::Fail::Refused(fault)) => Ok(Err(fault)),
-        Err(vs_types::Fail::Memory) => Err(Memory),
+        Err(vs_types::Fail::Refused(fault)) => Err(fault),
+        Err(vs_types::Fail::Memory) => panic!(rt; "memory: Memory"),
     }
 }
 
-fn run(rt: &impl Abort, alloc: Global, depth: Depth, cases: &[Case]) -> Result<(), Fail> {
+fn run(rt: &impl Abort, alloc: Global, depth: Depth, cases: &[Case]) {
     for Case(tables, root, address, walk, all) in cases.iter().copied() {
-        let dump = dump_of(alloc, tables)?;
+        let dump = dump_of(rt, alloc, tables);
         assert!(rt; depth.is_canonical(address));
         assert!(rt; translate(&dump, root, depth, address) == walk);
-        assert!(rt; found(rt, alloc, &dump, root, depth)? == all);
+        assert!(rt; found(rt, alloc, &dump, root, depth) == all);
     }
-    Ok(())
 }
 
 #[test]
-fn dumps_of_four_levels(rt: HostRuntime) -> Result<(), Fail> {
+fn dumps_of_four_levels(rt: HostRuntime) {
     let cases = OF_FOUR_LEVELS;
-    run(&rt, rt.alloc(), Depth::Four, &cases)
+    run(&rt, rt.alloc(), Depth::Four, &cases);
 }
 
 #[test]
-fn faulty_dumps(rt: HostRuntime) -> Result<(), Fail> {
+fn faulty_dumps(rt: HostRuntime) {
     let cases = FAULTY;
-    run(&rt, rt.alloc(), Depth::Four, &cases)
+    run(&rt, rt.alloc(), Depth::Four, &cases);
 }
 
 #[test]
-fn dumps_of_five_levels(rt: HostRuntime) -> Result<(), Fail> {
+fn dumps_of_five_levels(rt: HostRuntime) {
     let cases = OF_FIVE_LEVELS;
-    run(&rt, rt.alloc(), Depth::Five, &cases)
+    run(&rt, rt.alloc(), Depth::Five, &cases);
 }
 
 /// The tables from the root, and those of four levels below it, of which the root is no part.
 #[test]
-fn gathered(rt: HostRuntime) -> Result<(), Fail> {
-    let dump = dump_of(rt.alloc(), Tables::High)?;
+fn gathered(rt: HostRuntime) {
+    let dump = dump_of(&rt, rt.alloc(), Tables::High);
     assert!(rt; (dump.applied(), dump.root(), dump.count()) == (7, 1, 5));
-    let gathered = Dump::gather(rt.alloc(), &dump, 1, Depth::Five, 3)?;
+    let gathered = Dump::gather(rt.alloc(), &dump, 1, Depth::Five, 3).expect(&rt, "memory");
     assert!(rt; (gathered.applied(), gathered.root(), gathered.count()) == (3, 1, 5));
-    let gathered = Dump::gather(rt.alloc(), &dump, 2, Depth::Four, 1)?;
+    let gathered = Dump::gather(rt.alloc(), &dump, 2, Depth::Four, 1).expect(&rt, "memory");
     assert!(rt; gathered.root() == 2);
     assert!(rt; gathered.count() == 4);
     assert!(rt; gathered.number(3) == 5);
     assert!(rt; gathered.words(1).is_none());
     assert!(rt; has_words(&gathered, 4, [0x5007, 0, 0]));
-    Ok(())
 }
 
 /// Whether the frame of this number has these words, at the indexes 0, 1 and 511.
@@ -308,7 +299,7 @@ fn has_words(dump: &Dump, number: u64, wanted: [u64; 3]) -> bool {
 
 /// Eight words in a row, of which one or none is not 0.
 #[test]
-fn eight_zeros(rt: HostRuntime) -> Result<(), Fail> {
+fn eight_zeros(rt: HostRuntime) {
     let words = one_word((300, 5));
     for (at, zeros) in [
         (0, true),
@@ -321,29 +312,25 @@ fn eight_zeros(rt: HostRuntime) -> Result<(), Fail> {
         assert!(rt; at <= 504);
         assert!(rt; are_zero(&words, at) == zeros);
     }
-    Ok(())
 }
 
 /// A frame that comes to a dump word by word.
 #[test]
-fn frame_by_words(rt: HostRuntime) -> Result<(), Fail> {
+fn frame_by_words(rt: HostRuntime) {
     let mut dump = Dump::new(rt.alloc(), 7, 1);
-    dump.push(1, &one_word((0, 0x2007)))?;
-    let mut dump = dump.begin_frame(2)?;
+    dump.push(1, &one_word((0, 0x2007))).expect(&rt, "memory");
+    let mut dump = dump.begin_frame(2).expect(&rt, "memory");
     for word in 0..512 {
         if dump.words_come() < 512 {
             dump.push(word);
         }
     }
     assert!(rt; (dump.number(), dump.words_come()) == (2, 512));
-    if dump.words_come() < 512 {
-        return Err("words that did not come".into());
-    }
+    assert!(rt; dump.words_come() >= 512);
     let dump = dump.end_frame();
     assert!(rt; (dump.applied(), dump.root(), dump.count()) == (7, 1, 2));
     assert!(rt; has_words(&dump, 1, [0x2007, 0, 0]));
     assert!(rt; has_words(&dump, 2, [0, 1, 511]));
-    let words = dump.words(2).ok_or("frame 2")?;
+    let words = dump.words(2).expect(&rt, "frame 2");
     assert!(rt; (words.next_nonzero(0), words.next_nonzero(512)) == (1, 512));
-    Ok(())
 }
