@@ -49,7 +49,8 @@ abbrev two : Bool → Bool → Bool
 two a b = a || (b || false)
 
 segment_evidence_has_no_float : (evidence : SegmentEvidence) → has_float (segment_evidence_data evidence) ≡ false
-unfolding segment_evidence_data says_data bad_segment_parts other_answer_parts difference_parts start_missing_parts start_shared_parts start_reserved_parts start_stray_parts start_beyond_parts start_differs_parts window_parts
+unfolding segment_evidence_data says_data bad_segment_parts other_answer_parts difference_parts start_missing_parts start_shared_parts
+    start_reserved_parts start_stray_parts start_beyond_parts start_differs_parts window_parts
 segment_evidence_has_no_float (shown.Format bad) = refl
 segment_evidence_has_no_float (shown.Within evidence) = evidence_has_no_float evidence
 segment_evidence_has_no_float (shown.WrongAnswer wrong origin) = ap one (change wrong.changed origin)

@@ -76,7 +76,8 @@ allowed_says formats.Truncated = allowed formats.Truncated
 allowed_says formats.BadMagic = text (codes "bytes 0 to 3 are NRVS\n")
 allowed_says formats.BadVersion = text (codes "bytes 4 and 5 are the version, 1\n")
 allowed_says formats.BadCount = text
-    (codes "levels 4 or 5, replicas 1 to 4, threads and tables 1 to 65535, places to 65536, events to 131072, frames to 65535; where a dump has none, its other numbers are 0\n")
+    (codes
+    "levels 4 or 5, replicas 1 to 4, threads and tables 1 to 65535, places to 65536, events to 131072, frames to 65535; where a dump has none, its other numbers are 0\n")
 allowed_says formats.BadChain = allowed formats.BadChain
 allowed_says (formats.BadStart index) = allowed (formats.BadStart index)
 allowed_says (formats.BadEvent index) = allowed (formats.BadEvent index)

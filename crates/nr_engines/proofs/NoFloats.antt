@@ -58,7 +58,9 @@ abbrev two : Bool → Bool → Bool
 two a b = a || (b || false)
 
 pub evidence_has_no_float : (shown : Evidence) → has_float (evidence_data shown) ≡ false
-unfolding evidence_parts says_data bad_unit_parts open_parts stray_reply_parts two_replies_parts no_update_parts two_places_parts misplaced_parts past_end_parts early_parts other_answer_parts long_prefix_parts short_prefix_parts missing_parts shared_parts reserved_parts stray_parts difference_parts
+unfolding evidence_parts says_data bad_unit_parts open_parts stray_reply_parts two_replies_parts no_update_parts two_places_parts
+    misplaced_parts past_end_parts early_parts other_answer_parts long_prefix_parts short_prefix_parts missing_parts shared_parts
+    reserved_parts stray_parts difference_parts
 evidence_has_no_float (evidence.Format bad) = refl
 evidence_has_no_float (evidence.ThreadOpen calls) = refl
 evidence_has_no_float (evidence.NoSuchCall stray) = ap one (event stray.reply.call stray.named)

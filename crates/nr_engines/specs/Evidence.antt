@@ -40,7 +40,8 @@ unfoldable pub open_parts : OpenCalls → List Part
 open_parts calls = fault_is (codes "ThreadOpen") ∷ told (codes "first") (call calls.first) ∷ told (codes "second") (call calls.second) ∷ []
 
 unfoldable pub stray_reply_parts : StrayReply → List Part
-stray_reply_parts stray = fault_is (codes "NoSuchCall") ∷ told (codes "reply") (reply stray.reply) ∷ told (codes "named") (event stray.reply.call stray.named) ∷ []
+stray_reply_parts stray = fault_is (codes "NoSuchCall") ∷ told (codes "reply") (reply stray.reply)
+    ∷ told (codes "named") (event stray.reply.call stray.named) ∷ []
 
 unfoldable pub two_replies_parts : TwoReplies → List Part
 two_replies_parts replies = fault_is (codes "AnsweredTwice") ∷ told (codes "call") (call replies.call) ∷ told (codes "first") (reply replies.first)
@@ -135,7 +136,8 @@ evidence_data shown = parts_data (evidence_parts shown)
 
 -- how much a right trace has
 unfoldable pub counts_parts : Counts → List Part
-counts_parts counts = words (codes "calls: ") ∷ told (codes "calls") (count counts.calls) ∷ words (codes "\nupdates: ") ∷ told (codes "updates") (count counts.updates)
+counts_parts counts = words (codes "calls: ") ∷ told (codes "calls") (count counts.calls) ∷ words (codes "\nupdates: ")
+    ∷ told (codes "updates") (count counts.updates)
     ∷ words (codes "\nreads: ") ∷ told (codes "reads") (count counts.reads) ∷ words (codes "\nreplicas: ") ∷ told (codes "replicas") (count counts.replicas)
     ∷ words (codes "\npages: ") ∷ told (codes "pages") (count counts.pages) ∷ words line_end ∷ []
 

@@ -55,7 +55,8 @@ module _ (numbers : Numbers) (make at : ℕ → TraceUnit) (len limit : ℕ) (se
   comes n few = ap (λ (u : TraceUnit). record { unit = u; numbers = numbers }) (series.there n few)
 
   -- a run of so many
-  pass_run : (count n : ℕ) (front run : List ℕ) → n + count ≤ limit → length run ≡ len * count → GoesOn front (Comes n) → GoesOn (front ++ run) (Comes (n + count))
+  pass_run : (count n : ℕ) (front run : List ℕ) → n + count ≤ limit → length run ≡ len * count → GoesOn front (Comes n)
+      → GoesOn (front ++ run) (Comes (n + count))
   pass_run zero n front run few long goes =
       let none : run ≡ [] = nil_from_length run (omega (arith, long)) in
       let here : n ≡ n + 0 = omega arith in

@@ -249,7 +249,8 @@ module _ (bytes : List ℕ) (fault : Format) (other : fault ≢ Truncated) where
 
   -- ---- the header
 
-  at_counts : (version : Version) → IsVersionOf forms.Trace version → (numbers : Numbers) → IsHere bytes fault (BehindVersion forms.Trace version) Counts numbers
+  at_counts : (version : Version) → IsVersionOf forms.Trace version → (numbers : Numbers)
+      → IsHere bytes fault (BehindVersion forms.Trace version) Counts numbers
       → IsShown bytes fault
   at_counts version of numbers here =
       at_unit (Some BadCount) (IsCounts version) (counts version) (BehindCounts forms.Trace version) Counts numbers refl

@@ -116,7 +116,9 @@ fits_next P k e events item lt fits =
 
 fits_rest : (P : Event → Bool) (k : ℕ) (e : Event) (events : List Event) (made : List Stamped) → All (λ s. k < s) (stamps made)
     → All (Fits P k (e ∷ events)) made → All (Fits P (suc k) events) made
-fits_rest P k e events made above fits = λ i d lt. fits_next P k e events (get_or made i d) (All-unmap (λ n. k < n) (λ (item : Stamped). item.stamp) made above i d lt) (fits i d lt)
+fits_rest P k e events made above fits = λ i d lt.
+    let later = All-unmap (λ n. k < n) (λ (item : Stamped). item.stamp) made above in
+    fits_next P k e events (get_or made i d) (later i d lt) (fits i d lt)
 
 not_true : (b : Bool) → (b ≡ true → ⊥) → b ≡ false
 not_true true never = absurd (never refl)

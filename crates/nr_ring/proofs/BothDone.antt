@@ -60,7 +60,8 @@ both_done depth replicas words r u v w batch before place looked is may history 
         entries_are = λ replica owns.
             ap (λ (l : List LogEntry). l ++ batch) before_is
             ∙ (sym (drop_longer log.entries batch (local_of log r) (fits.written r))
-            ∙ (ap (λ (l : Log). to_take l r) (sym one) ∙ ap (λ (p : ℕ). to_take (log_after replicas middle.seen) p) (same_replica v.owns r replica is.owns owns)));
+            ∙ (ap (λ (l : Log). to_take l r) (sym one)
+            ∙ ap (λ (p : ℕ). to_take (log_after replicas middle.seen) p) (same_replica v.owns r replica is.owns owns)));
         history = history;
       };
     }

@@ -40,7 +40,8 @@ code_up depth replicas seen (event ∷ rest) few is =
     (subst FitsTheRing one (history_fits depth replicas (seen ++ event ∷ []) after)) (omega (arith, as_many_locals depth replicas seen before, few)) may in
     omega (arith, next, raises, ap code_of_log one, ap (λ (l : List LogEvent). code_of_log (log_after replicas l)) same)
 
-pub code_rises : (depth : Depth) (replicas : ℕ) (later earlier : List LogEvent) → replicas ≤ 4 → IsLogHistory depth replicas later → (b : StartsWith later earlier)
+pub code_rises : (depth : Depth) (replicas : ℕ) (later earlier : List LogEvent) → replicas ≤ 4 → IsLogHistory depth replicas later
+    → (b : StartsWith later earlier)
     → code_of_log (log_after replicas earlier) + length b.0 ≤ code_of_log (log_after replicas later)
 code_rises depth replicas later earlier few is b =
     let Is : List LogEvent → Type 0 = λ l. IsLogHistory depth replicas l in

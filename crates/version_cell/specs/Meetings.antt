@@ -10,4 +10,5 @@ HaveComeFurther code first second words = ((code first < code second) × (words 
 -- whatever the others know, the rule stays when this pass's view becomes some w, which speaks of words that it saw and not of those that
 -- the cell has now
 abbrev pub Recalls : {V : Type 0} → (List ℕ → List V → Type 0) → ℕ → V → List ℕ → (V → List ℕ → List ℕ → V → Type 0) → Type 0
-Recalls holds pass v words then = (x : List ℕ) (views : List _) → holds x views → get_elem? views pass ≡ some v → (w : _) × holds x (slice_set views pass w) × then v words words w
+Recalls holds pass v words then = (x : List ℕ) (views : List _) → holds x views → get_elem? views pass ≡ some v
+    → (w : _) × holds x (slice_set views pass w) × then v words words w

@@ -32,6 +32,7 @@ lent_frames base taken words marks lenders =
 
 abbrev pub lent_code : Coded LentFrames
 lent_code = code_by (ℕ × (ℕ × (Store × (Notes × Lenders))))
-    (coded× coded_ℕ (coded× coded_ℕ (coded× (finite.code {R = nat_cmp} coded_ℕ (coded_list coded_ℕ)) (coded× (finite.code {R = nat_cmp} coded_ℕ coded_ℕ) (coded_list coded_ℕ)))))
+    (coded× coded_ℕ (coded× coded_ℕ (coded× (finite.code {R = nat_cmp} coded_ℕ (coded_list coded_ℕ))
+    (coded× (finite.code {R = nat_cmp} coded_ℕ coded_ℕ) (coded_list coded_ℕ)))))
     (λ a. (a.base, (a.size, (a.frames, (a.notes, a.lenders)))))
     (λ p. record { base = p.0; size = p.1.0; frames = p.1.1.0; notes = p.1.1.1.0; lenders = p.1.1.1.1 }) (λ _. refl)

@@ -37,6 +37,11 @@ use Rattle.vs_plan.proofs.Pages.{absent_here, reserved_never, page_here}
 use Rattle.vs_plan.proofs.Parts.{nothing_right, due_as}
 use Rattle.vs_plan.proofs.Ways.{way_table}
 
+-- a word is the leaf that is read of it
+pub read_leaf : (level : ℕ) {word taken phys : ℕ} {read : Meaning} {own : Rights} → taken ≡ word → read ≡ meaning level taken
+    → read ≡ entry.Leaf phys own → meaning level word ≡ entry.Leaf phys own
+read_leaf level same is leaf = ap (meaning level) (sym same) ∙ sym is ∙ leaf
+
 -- ---- no page covers the address
 
 stepped_none : (target : Target) (space : Space) (request : Request) → IsNoMap request → page_at space (address_of request) ≡ None

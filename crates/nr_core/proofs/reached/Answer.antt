@@ -42,7 +42,8 @@ unplaced_before false (v ∷ left) u i e = refl
 other_thread : (n s : ℕ) → not (n == s) ≡ true → n ≡ s → ⊥
 other_thread n s e f = false≢true (sym (ap not (eq-eqb n s f)) ∙ e)
 
-pub answered : (state : State) (s r call : ℕ) (replica : Replica) (other : Thread) (u : Collected) (a : Answered) → IsReached state → At state.replicas r replica
+pub answered : (state : State) (s r call : ℕ) (replica : Replica) (other : Thread) (u : Collected) (a : Answered) → IsReached state
+    → At state.replicas r replica
     → At state.threads s other → In u replica.batch → u.thread ≡ s → u.noted ≡ Some a → other.stage ≡ Taken call
     → IsReached (with_replica (with_thread state s (record other { stage = Ready a })) r (without s replica))
 answered state s r call replica other u a reached there here i of_s noted is =

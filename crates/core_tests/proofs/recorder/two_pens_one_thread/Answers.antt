@@ -4,7 +4,8 @@ use Rattle.core_tests.proofs.recorder.two_pens_one_thread.Goals as goal
 
 pub finish_two-requires-clause-pens : goal.finish_two-requires-clause-pens
 finish_two-requires-clause-pens g c =
-    let first = one_call _ _ _ _ _ _ c.in_ok-clock.ensures.first c.call.ensures.made (c.reply-2.ensures.made c.call.result (ap (λ p. p.waiting) c.call.ensures.made)) in
+    let first = one_call _ _ _ _ _ _ c.in_ok-clock.ensures.first c.call.ensures.made
+    (c.reply-2.ensures.made c.call.result (ap (λ p. p.waiting) c.call.ensures.made)) in
     let second = one_call _ _ _ _ _ _ c.in_ok-clock.ensures.second c.call-2.ensures.made
     (c.reply.ensures.made c.call-2.result (ap (λ p. p.waiting) c.call-2.ensures.made)) in
     all_of_two first second c.in_ok-clock.ensures.threads c.in_ok-clock.ensures.calls

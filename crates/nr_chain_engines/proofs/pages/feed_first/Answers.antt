@@ -56,7 +56,8 @@ pub returns-then-is_whole-clause-ok : goal.returns-then-is_whole-clause-ok
 returns-then-is_whole-clause-ok g c =
     let known = g.R.Read.remaining in
     let piece = take c.in_ok-count.count c.read_block.new.block in
-    λ read_so ends. first_whole _ (known c.loop-room.reader) (known c.read_block.new.reader) c.loop-room.first c.feed.new.self piece c.in_default.field-0 read_so
+    λ read_so ends. first_whole _ (known c.loop-room.reader) (known c.read_block.new.reader) c.loop-room.first c.feed.new.self piece
+    c.in_default.field-0 read_so
     c.loop-room.invariant c.in_ok-count.ensures.ok c.in_default.ensures (c.is_whole.ensures.0 c.if-is_whole.true) ends
 
 pub returns-then-is_whole-clause-few : goal.returns-then-is_whole-clause-few

@@ -14,7 +14,8 @@ returns-in_ok-read_audit-in-Some-audit-default-clause-asks c =
     let found = found_of arm.given.now in
     let name_is = ap Some (sym arm.is-audit) ∙ arm.ensures.name in
     let sub_is = entered _ (codes "audit") (rows_of found) name_is arm.ensures.rows in
-    asks_inspection _ (codes "audit", rows_of found) c.in_ok-read_audit-in-Some-audit-default.field-0 sub_is (inl (refl, c.in_ok-read_audit-in-Some-audit-default.ensures.asks))
+    asks_inspection _ (codes "audit", rows_of found) c.in_ok-read_audit-in-Some-audit-default.field-0 sub_is
+    (inl (refl, c.in_ok-read_audit-in-Some-audit-default.ensures.asks))
 
 pub returns-in_err-read_audit-in-Some-audit-default-clause-fault : goal.returns-in_err-read_audit-in-Some-audit-default-clause-fault
 returns-in_err-read_audit-in-Some-audit-default-clause-fault c =
@@ -50,7 +51,8 @@ returns-in_ok-read_pages-in-Some-pages-default-clause-asks c =
     let found = found_of arm.given.now in
     let name_is = ap Some (sym arm.is-pages) ∙ arm.ensures.name in
     let sub_is = entered _ (codes "pages") (rows_of found) name_is arm.ensures.rows in
-    asks_inspection _ (codes "pages", rows_of found) c.in_ok-read_pages-in-Some-pages-default.field-0 sub_is (inr (inr (inr (refl, c.in_ok-read_pages-in-Some-pages-default.ensures.asks))))
+    asks_inspection _ (codes "pages", rows_of found) c.in_ok-read_pages-in-Some-pages-default.field-0 sub_is
+    (inr (inr (inr (refl, c.in_ok-read_pages-in-Some-pages-default.ensures.asks))))
 
 pub returns-in_err-read_pages-in-Some-pages-default-clause-fault : goal.returns-in_err-read_pages-in-Some-pages-default-clause-fault
 returns-in_err-read_pages-in-Some-pages-default-clause-fault c =

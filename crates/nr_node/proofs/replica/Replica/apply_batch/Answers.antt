@@ -46,7 +46,8 @@ loop-waiting-preserved g c =
         | then-waiting-thread+then-eq w ↦
             let equal : entry ≡ c.args.wanted.now = same_entries entry c.args.wanted.now (sym w.if-eq.ensures) in
             rw w.own-is
-            (own_made start now next _ entry c.args.wanted.now _ c.apply-answer.result is.0 made c.applied-place.ensures.counts equal c.apply-answer.ensures.answer)
+            (own_made start now next _ entry c.args.wanted.now _ c.apply-answer.result is.0 made c.applied-place.ensures.counts equal
+            c.apply-answer.ensures.answer)
         | else-waiting-thread w ↦
             rw w.own-is (if_some_on c.loop-waiting.own _ _ (λ update before. own_stays start now next entry c.args.wanted.now _ _ made before) is.1)
       ],

@@ -52,7 +52,8 @@ exchange-requires-clause-code g c =
     let May : View → Type 0 = λ v. MayAppend depth (log_after replicas v.seen) batch in
     let Owns : List ℕ → Type 0 = λ l. Contains l c.args.replica in
     let owns : view.owns ≡ c.args.replica ∷ [] = sym (ap (λ (v : View). v.owns) shown) ∙ c.requires.owner in
-    let there : c.args.replica < length (log_after replicas view.seen).locals = omega (arith, as_many_locals depth replicas view.seen is.is_history, c.requires.there) in
+    let there : c.args.replica < length (log_after replicas view.seen).locals =
+    omega (arith, as_many_locals depth replicas view.seen is.is_history, c.requires.there) in
     let Written : List (ℕ × ℕ) → Type 0 = λ changes. IsWritten (slice_index head 0) (length batch) batch words (changed words changes) in
     let writes = subst Written (sym c.as_slice.ensures.value) (c.list_changes.ensures.written words is.words_are.long) in
     let leads = both_lead depth replicas head words _ view is c.head-head.ensures batch c.args.replica (slice_index head 0 + length batch) code
@@ -74,7 +75,8 @@ exchange-requires-clause-events g c =
     let May : View → Type 0 = λ v. MayAppend depth (log_after replicas v.seen) batch in
     let Owns : List ℕ → Type 0 = λ l. Contains l c.args.replica in
     let owns : view.owns ≡ c.args.replica ∷ [] = sym (ap (λ (v : View). v.owns) shown) ∙ c.requires.owner in
-    let there : c.args.replica < length (log_after replicas view.seen).locals = omega (arith, as_many_locals depth replicas view.seen is.is_history, c.requires.there) in
+    let there : c.args.replica < length (log_after replicas view.seen).locals =
+    omega (arith, as_many_locals depth replicas view.seen is.is_history, c.requires.there) in
     let Written : List (ℕ × ℕ) → Type 0 = λ changes. IsWritten (slice_index head 0) (length batch) batch words (changed words changes) in
     let writes = subst Written (sym c.as_slice.ensures.value) (c.list_changes.ensures.written words is.words_are.long) in
     let leads = both_lead depth replicas head words _ view is c.head-head.ensures batch c.args.replica (slice_index head 0 + length batch) code
