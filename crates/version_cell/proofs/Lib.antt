@@ -1,4 +1,4 @@
+pub mod Parts
+pub mod Further
+pub mod Starts
 pub mod Keeps
-pub mod Readings
-pub mod Changing
-pub mod Heads

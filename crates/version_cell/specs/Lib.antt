@@ -1,6 +1,5 @@
 pub mod Passes
-pub mod Changes
-pub mod Heads
+pub mod Words
 pub mod Meetings
 -- the table below the cell
 pub mod inside

@@ -1,17 +1,16 @@
-//! A cell of words with a version: threads read the words as one and exchange them as one, under a rule of the caller's.
+//! A cell whose value threads exchange as one, under a rule of the caller's, with words beside it that each belong to one pass.
 //!
-//! A pass keeps the version of the words that it saw last, and the first of them, which it determines. So a look is one load. The other
-//! words are loaded when they are needed.
+//! One word of the cell is the code of its value, and each exchange is one step that raises it. The words beside it that the value needs
+//! were stored before by the pass that they belong to. So no exchange waits for another, and a look is one load.
 #![tactic(auto)]
 
 mod cell;
+mod doing;
 mod layout;
 mod pass;
 mod plays;
 mod rule;
-mod seats;
-mod stage;
 
 pub use cell::VersionCell;
 pub use pass::Pass;
-pub use rule::{CellOutcome, CellRule};
+pub use rule::{CellChange, CellOutcome, CellRule};

@@ -1,57 +1,45 @@
--- The rule of the table: one word is the version, and the words of the cell follow from a place on. The others are not used.
--- The version is twice the code of the value, which determines its first words: those of the table are not used. While the version is even
--- the others are those of the value. While it is odd, one more, one seat writes, and the value is still that of before.
-use Rattle.std.specs.Prelude.{◌≡◌, ℕ, ◌+◌, ◌*◌, ◌%◌, ◌<◌, ◌≤◌, List, [], map, length, slice_index}
+-- The rule of the table: one word is the version, and the words beside the cell follow from a place on. The others are not used.
+use Rattle.std.specs.Prelude.{◌≡◌, ◌≢◌, ◌⊎◌, ℕ, ◌+◌, ◌<◌, ◌≤◌, true, List, map, length, slice_index}
 use mathlib.Core.Option.{some}
 use lib.ListN.{get_elem?}
 use Rattle.atomic_table.specs.Table.{State}
-use Rattle.version_cell.specs.Heads.{IsCoded}
-use Rattle.version_cell.specs.inside.Heads.{AgreeTo}
+use Rattle.version_cell.specs.Words.{IsOwn}
 use Rattle.version_cell.specs.declared.layout.TheConstants.{VERSION, WORDS}
-use Rattle.version_cell.specs.declared.stage.Doing.{Doing}
-use Rattle.version_cell.specs.declared.stage.Stage.{Stage}
-use Rattle.version_cell.specs.declared.stage.Stage.TheVariants.{Idle, Seen, Writing}
+use Rattle.version_cell.specs.declared.doing.Doing.{Doing}
 
-abbrev pub doing : {V : Type 0} → Stage → V → Doing V
-doing stage v = record { stage = stage; client = v }
+-- a seat's value is the one of now, or that has come further since
+abbrev pub ComesTo : {X : Type 0} → (X → ℕ) → (X → ℕ) → X → X → Type 0
+ComesTo code age value now = (code value ≡ code now → value ≡ now) × ((value ≡ now) ⊎ (age value < age now))
 
-abbrev pub client : {V : Type 0} → Doing V → V
-client d = d.client
+module _ {V X : Type 0} where
+  abbrev pub client : Doing V X → V
+  client d = d.client
 
--- the words that a seat saw last
-abbrev pub words_of : Stage → List ℕ
-words_of Idle = []
-words_of (Seen at last x) = x
-words_of (Writing at old now) = old
+  -- the first seat: it has seen the first value, and all words are its own
+  abbrev pub beginning : X → V → List ℕ → Doing V X
+  beginning start first words = record { value = start; fresh = true; from = 0; own = words; client = first }
 
--- it saw so many words at this version, of which these are the first
-pub record HasSeen (h n at : ℕ) (head : List ℕ) (stage : Stage) : Type 0 where
-  pub last : ℕ
-  pub seen : stage ≡ Seen at last (words_of stage)
-  pub long : length (words_of stage) ≡ n
-  pub begin_so : AgreeTo h head (words_of stage)
+  -- what a seat knows is true: the value is the one that it saw, or has come further since; and its own words lie there. What lies there
+  -- and is needed was needed when it looked, since nobody else has it be needed; and what it counts on is needed still
+  pub record Knows (code age : X → ℕ) (needs : X → ℕ → ℕ → Type 0) (lasts : V → X → ℕ → ℕ → Type 0) (words : List ℕ) (value : X) (d : Doing V X)
+      : Type 0 where
+    pub risen : code d.value ≤ code value
+    pub same : ComesTo code age d.value value
+    pub within : d.from + length d.own + WORDS ≤ length words
+    pub lie : (i : ℕ) → i < length d.own → slice_index words (d.from + i + WORDS) ≡ slice_index d.own i
+    pub needed : d.fresh ≡ true → (place word : ℕ) → IsOwn d.from d.own place → needs value place word → needs d.value place word
+    pub last : d.fresh ≡ true → (place word : ℕ) → lasts d.client d.value place word → needs d.value place word → needs value place word
 
--- the words of the table have these, from a place on
-abbrev pub Holds : ℕ → List ℕ → List ℕ → Type 0
-Holds h words value = (i : ℕ) → h ≤ i → i < length value → slice_index words (i + WORDS) ≡ slice_index value i
-
--- what a seat knows is true: words that it saw at this version are the value, or the value has come further since
-abbrev pub Knows : ℕ → (List ℕ → ℕ) → List ℕ → List ℕ → ℕ → ℕ → Stage → Type 0
-Knows h code words value writer seat Idle = Unit {0}
-Knows h code words value writer seat (Seen at last x) =
-    (at ≡ 2 * code x) × (at ≤ last) × (last ≤ slice_index words VERSION) × (slice_index words VERSION < at + 2 → x ≡ value)
-    × (at + 2 ≤ slice_index words VERSION → code x < code value)
-Knows h code words value writer seat (Writing at old now) =
-    (at % 2 ≡ 1) × (at ≡ slice_index words VERSION) × (seat ≡ writer) × (old ≡ value) × (length now ≡ length value) × Holds h words now
-
-pub record Versioned {V : Type 0} (wide h : ℕ) (holds : List ℕ → List V → Type 0) (code : List ℕ → ℕ) (head : ℕ → ℕ → ℕ)
-    (s : State (Unit {0}) (Doing V)) : Type 0 where
-  pub value : List ℕ
-  pub writer : ℕ
-  pub width : length s.words ≡ wide
-  pub long : length value + WORDS ≡ wide
-  pub version_is : slice_index s.words VERSION ≡ 2 * code value + slice_index s.words VERSION % 2
-  pub coded : IsCoded code head h value
-  pub at_rest : slice_index s.words VERSION % 2 ≡ 0 → Holds h s.words value
-  pub each_seat : (j : ℕ) (d : Doing V) → get_elem? s.views j ≡ some d → Knows h code s.words value writer j d.stage
-  pub kept : holds value (map client s.views)
+  pub record Versioned (wide : ℕ) (holds : X → List V → Type 0) (start : X) (code age : X → ℕ) (needs : X → ℕ → ℕ → Type 0)
+      (lasts : V → X → ℕ → ℕ → Type 0) (s : State (Unit {0}) (Doing V X)) : Type 0 where
+    pub value : X
+    pub width : length s.words ≡ wide
+    pub long : WORDS ≤ wide
+    pub version_is : slice_index s.words VERSION ≡ code value
+    pub risen : code start ≤ code value
+    pub begun : ComesTo code age start value
+    pub lie : (place word : ℕ) → needs value place word → slice_index s.words (place + WORDS) ≡ word
+    pub each_seat : (j : ℕ) (d : Doing V X) → get_elem? s.views j ≡ some d → Knows code age needs lasts s.words value d
+    pub apart : (j k : ℕ) (d e : Doing V X) (place : ℕ) → j ≢ k → get_elem? s.views j ≡ some d → get_elem? s.views k ≡ some e
+        → IsOwn d.from d.own place → IsOwn e.from e.own place → ⊥
+    pub kept : holds value (map client s.views)
