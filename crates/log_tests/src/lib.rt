@@ -3,6 +3,8 @@
 #![tactic(auto)]
 
 #[cfg(test)]
+mod entry;
+#[cfg(test)]
 mod log_words;
 #[cfg(test)]
 mod pair;

@@ -4,16 +4,17 @@ ghost use Rattle.vs_types.specs.LogEntry.{IsLogEntry};
 ghost use Rattle.nr_ring.specs.LogHistory.{Log, local_of, log_after};
 ghost use Rattle.nr_ring.specs.Pass.{tails_of};
 
+use crate::entry::entry;
 use crate::start::Start;
 use arrayvec::ArrayVec;
-use nr_ring::{AppendFault, LogName, LogPass, Moved, RingLog, Tails};
+use nr_ring::{AppendFault, LogName, LogPass, Moved, PackedEntry, RingLog, Tails};
 use std::marker::{Brand, Model, PhantomData};
 use std::process::Abort;
 use std::sync::Wait;
-use vs_types::{CALLS, Depth, LogEntry, Op};
+use vs_types::{Depth, Op};
 
 /// An entry by which a call unmaps a page. At five levels it is one that only these have.
-fn entry(rt: &impl Abort, depth: Depth, call: u32) -> LogEntry
+fn unmap(rt: &impl Abort, depth: Depth, call: u32) -> PackedEntry
     ensures { IsLogEntry depth result }
 {
     let base = match depth {
@@ -21,9 +22,7 @@ fn entry(rt: &impl Abort, depth: Depth, call: u32) -> LogEntry
         Depth::Five => 0xFF00000000000000,
     };
     let op = Op::unmap(depth, base).expect(rt, "a well-formed unmap");
-    assert!(rt; op.fits(depth));
-    assert!(rt; call < CALLS);
-    LogEntry { call, op }
+    entry(rt, depth, call, op)
 }
 
 /// The local tail of a replica.
@@ -115,50 +114,50 @@ impl<'a, N: LogName, K: OfLog> Party<'a, N, K> {
     }
 
     /// Appends an entry of this call.
-    pub fn append<R: Wait + Abort>(&mut self, rt: &R, call: u32) -> Result<u32, AppendFault> {
-        let entry = entry(rt, self.depth, call);
-        self.log.append(rt, &mut self.pass, &[entry])
+    pub fn append(&mut self, rt: &impl Abort, call: u32) -> Result<u32, AppendFault> {
+        let entry = unmap(rt, self.depth, call);
+        self.log.append(&mut self.pass, &[entry])
     }
 
     /// Appends 16 entries of this call.
-    pub fn append_all<R: Wait + Abort>(&mut self, rt: &R, call: u32) -> Result<u32, AppendFault> {
+    pub fn append_all(&mut self, rt: &impl Abort, call: u32) -> Result<u32, AppendFault> {
         self.append_some(rt, 16, call)
     }
 
     /// Appends so many entries of this call, 1 to 16.
-    pub fn append_some<R: Wait + Abort>(
+    pub fn append_some(
         &mut self,
-        rt: &R,
+        rt: &impl Abort,
         count: usize,
         call: u32,
     ) -> Result<u32, AppendFault> {
         assert!(rt; 1 <= count && count <= 16);
-        let batch = [entry(rt, self.depth, call); 16];
-        self.log.append(rt, &mut self.pass, &batch[..count])
+        let batch = [unmap(rt, self.depth, call); 16];
+        self.log.append(&mut self.pass, &batch[..count])
     }
 
     /// Appends an entry of this call, and its replica takes all, in one exchange: the place, and what it takes before that entry. It only
     /// appends where it owns none.
-    pub fn append_and_take<R: Wait + Abort>(
+    pub fn append_and_take(
         &mut self,
-        rt: &R,
+        rt: &impl Abort,
         call: u32,
-    ) -> Result<(u32, ArrayVec<LogEntry, 16>), AppendFault> {
-        let batch = [entry(rt, self.depth, call)];
+    ) -> Result<(u32, ArrayVec<PackedEntry, 16>), AppendFault> {
+        let batch = [unmap(rt, self.depth, call)];
         let mut before = ArrayVec::new();
         let place = match self.pass.replica() {
             Some(_) => self
                 .log
-                .append_and_take(rt, &mut self.pass, &batch, &mut before)?,
-            None => self.log.append(rt, &mut self.pass, &batch)?,
+                .append_and_take(&mut self.pass, &batch, &mut before)?,
+            None => self.log.append(&mut self.pass, &batch)?,
         };
         Ok((place, before))
     }
 
     /// Whether it appends an entry of this call, which gets this place, and takes entries of these calls before it.
-    pub fn appends_and_takes<R: Wait + Abort>(
+    pub fn appends_and_takes(
         &mut self,
-        rt: &R,
+        rt: &impl Abort,
         call: u32,
         place: u32,
         calls: &[u32],
@@ -170,49 +169,44 @@ impl<'a, N: LogName, K: OfLog> Party<'a, N, K> {
     }
 
     /// What its replica has still to take; nothing where it owns none.
-    pub fn fetch<R: Wait>(&mut self, rt: &R) -> ArrayVec<LogEntry, 16> {
+    pub fn fetch(&mut self) -> ArrayVec<PackedEntry, 16> {
         let mut entries = ArrayVec::new();
         if let Some(_) = self.pass.replica() {
-            self.log.fetch(rt, &mut self.pass, &mut entries);
+            self.log.fetch(&mut self.pass, &mut entries);
         }
         entries
     }
 
     /// Whether it fetches entries of these calls.
-    pub fn fetches<R: Wait + Abort>(&mut self, rt: &R, calls: &[u32]) -> bool {
-        let entries = self.fetch(rt);
+    pub fn fetches(&mut self, rt: &impl Abort, calls: &[u32]) -> bool {
+        let entries = self.fetch();
         self.are_of(rt, &entries, calls)
     }
 
     /// Takes all that its replica has still to take, in one exchange; nothing where it owns none.
-    pub fn take<R: Wait>(&mut self, rt: &R) -> Result<ArrayVec<LogEntry, 16>, Moved> {
+    pub fn take(&mut self) -> Result<ArrayVec<PackedEntry, 16>, Moved> {
         let mut entries = ArrayVec::new();
         if let Some(_) = self.pass.replica() {
-            self.log.take(rt, &mut self.pass, &mut entries)?;
+            self.log.take(&mut self.pass, &mut entries)?;
         }
         Ok(entries)
     }
 
     /// Whether it takes entries of these calls.
-    pub fn takes<R: Wait + Abort>(&mut self, rt: &R, calls: &[u32]) -> bool {
-        match self.take(rt) {
+    pub fn takes(&mut self, rt: &impl Abort, calls: &[u32]) -> bool {
+        match self.take() {
             Ok(entries) => self.are_of(rt, &entries, calls),
             Err(Moved) => false,
         }
     }
 
     /// Whether the entries are those of these calls.
-    fn are_of<R: Wait + Abort>(
-        &self,
-        rt: &R,
-        entries: &ArrayVec<LogEntry, 16>,
-        calls: &[u32],
-    ) -> bool {
+    fn are_of(&self, rt: &impl Abort, entries: &ArrayVec<PackedEntry, 16>, calls: &[u32]) -> bool {
         if entries.len() != calls.len() {
             return false;
         }
         for at in 0..calls.len() {
-            if entries[at] != entry(rt, self.depth, calls[at]) {
+            if entries[at] != unmap(rt, self.depth, calls[at]) {
                 return false;
             }
         }
@@ -220,21 +214,21 @@ impl<'a, N: LogName, K: OfLog> Party<'a, N, K> {
     }
 
     /// Looks, and advances its replica to this place; it does nothing where it owns none.
-    pub fn advance_to<R: Wait + Abort>(&mut self, rt: &R, to: u32) -> Result<(), Moved> {
+    pub fn advance_to(&mut self, rt: &impl Abort, to: u32) -> Result<(), Moved> {
         let tails = self.look();
         self.advance_from(rt, tails, to)
     }
 
     /// The same, to the tail.
-    pub fn advance<R: Wait + Abort>(&mut self, rt: &R) -> Result<(), Moved> {
+    pub fn advance(&mut self, rt: &impl Abort) -> Result<(), Moved> {
         let tails = self.look();
         self.advance_from(rt, tails, tails.tail)
     }
 
     /// Looks, and advances its replica to the tail that it saw after another party has appended an entry of this call.
-    pub fn advance_late<R: Wait + Abort>(
+    pub fn advance_late(
         &mut self,
-        rt: &R,
+        rt: &impl Abort,
         other: &mut Party<'a, N, K>,
         call: u32,
     ) -> Result<(), Moved> {
@@ -244,9 +238,9 @@ impl<'a, N: LogName, K: OfLog> Party<'a, N, K> {
     }
 
     /// Looks, and advances its replica to the tail that it saw after the replica of another party has taken all entries, if it owns one.
-    pub fn advance_after_another<R: Wait + Abort>(
+    pub fn advance_after_another(
         &mut self,
-        rt: &R,
+        rt: &impl Abort,
         other: &mut Party<'a, N, K>,
     ) -> Result<(), Moved> {
         let tails = self.look();
@@ -269,7 +263,7 @@ impl<'a, N: LogName, K: OfLog> Party<'a, N, K> {
     }
 
     /// Advances its replica from its local tail, where nothing is exchanged, to a place. These tails are those that it has seen.
-    fn advance_from<R: Wait + Abort>(&mut self, rt: &R, tails: Tails, to: u32) -> Result<(), Moved>
+    fn advance_from(&mut self, rt: &impl Abort, tails: Tails, to: u32) -> Result<(), Moved>
         requires { tails ≡ tails_of (log_after N.replicas self.old.view.seen) }
     {
         let Some(replica) = self.pass.replica() else {
@@ -278,8 +272,8 @@ impl<'a, N: LogName, K: OfLog> Party<'a, N, K> {
         assert!(rt; replica < 4);
         let local = local(&tails, replica);
         assert!(rt; local <= to && to <= tails.tail);
-        assert!(rt; self.log.advance(rt, &mut self.pass, local).is_ok());
-        self.log.advance(rt, &mut self.pass, to)
+        assert!(rt; self.log.advance(&mut self.pass, local).is_ok());
+        self.log.advance(&mut self.pass, to)
     }
 
     /// Hands another party what this one has seen.

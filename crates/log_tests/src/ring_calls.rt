@@ -6,7 +6,6 @@ use crate::scene::{OF_FOUR, Test, run};
 use arrayvec::ArrayVec;
 use nr_ring::{AppendFault, LogName, Moved, Tails};
 use std::process::Abort;
-use std::sync::Wait;
 
 /// An event that one party makes.
 #[derive(Clone, Copy)]
@@ -46,37 +45,25 @@ static CALLS: [Call; 11] = [
 ];
 
 /// Looks, and is to see these tails.
-fn look<N: LogName, K: OfLog, R: Wait + Abort>(rt: &R, party: &mut Party<N, K>, tails: &Tails) {
+fn look<N: LogName, K: OfLog>(rt: &impl Abort, party: &mut Party<N, K>, tails: &Tails) {
     assert!(rt; party.look() == *tails);
 }
 
 /// Appends an entry, of which the call is its place.
-fn append<N: LogName, K: OfLog, R: Wait + Abort>(
-    rt: &R,
-    party: &mut Party<N, K>,
-    tails: &mut Tails,
-) {
+fn append<N: LogName, K: OfLog>(rt: &impl Abort, party: &mut Party<N, K>, tails: &mut Tails) {
     let place = tails.tail;
     assert!(rt; party.append(rt, place) == Ok(place));
     tails.tail = place.saturating_add(1);
 }
 
 /// Its replica takes all entries.
-fn advance<N: LogName, K: OfLog, R: Wait + Abort>(
-    rt: &R,
-    party: &mut Party<N, K>,
-    tails: &mut Tails,
-) {
+fn advance<N: LogName, K: OfLog>(rt: &impl Abort, party: &mut Party<N, K>, tails: &mut Tails) {
     assert!(rt; party.advance(rt).is_ok());
     has_taken(rt, party, tails);
 }
 
 /// Its replica, if it owns one, has taken all entries.
-fn has_taken<N: LogName, K: OfLog, R: Wait + Abort>(
-    rt: &R,
-    party: &Party<N, K>,
-    tails: &mut Tails,
-) {
+fn has_taken<N: LogName, K: OfLog>(rt: &impl Abort, party: &Party<N, K>, tails: &mut Tails) {
     let tail = tails.tail;
     let Some(replica) = party.replica() else {
         return;
@@ -87,11 +74,7 @@ fn has_taken<N: LogName, K: OfLog, R: Wait + Abort>(
 }
 
 /// Appends 2 to 15 entries at once, of which the call is the first one's place.
-fn append_some<N: LogName, K: OfLog, R: Wait + Abort>(
-    rt: &R,
-    party: &mut Party<N, K>,
-    tails: &mut Tails,
-) {
+fn append_some<N: LogName, K: OfLog>(rt: &impl Abort, party: &mut Party<N, K>, tails: &mut Tails) {
     let place = tails.tail;
     let count = 2 + place % 14;
     assert!(rt; party.append_some(rt, count as usize, place) == Ok(place));
@@ -99,8 +82,8 @@ fn append_some<N: LogName, K: OfLog, R: Wait + Abort>(
 }
 
 /// The calls of the entries that its replica has still to take, which are their places; none where it owns none.
-fn to_take<N: LogName, K: OfLog, R: Wait + Abort>(
-    rt: &R,
+fn to_take<N: LogName, K: OfLog>(
+    rt: &impl Abort,
     party: &Party<N, K>,
     tails: &Tails,
 ) -> ArrayVec<u32, 16> {
@@ -115,8 +98,8 @@ fn to_take<N: LogName, K: OfLog, R: Wait + Abort>(
 }
 
 /// Appends an entry, of which the call is its place, and is to get all entries that its replica has still to take before it.
-fn append_and_take<N: LogName, K: OfLog, R: Wait + Abort>(
-    rt: &R,
+fn append_and_take<N: LogName, K: OfLog>(
+    rt: &impl Abort,
     party: &mut Party<N, K>,
     tails: &mut Tails,
 ) {
@@ -128,12 +111,7 @@ fn append_and_take<N: LogName, K: OfLog, R: Wait + Abort>(
 }
 
 /// Fetches, or takes in one exchange, and is to get all entries that its replica has still to take.
-fn get<N: LogName, K: OfLog, R: Wait + Abort>(
-    rt: &R,
-    party: &mut Party<N, K>,
-    tails: &Tails,
-    takes: bool,
-) {
+fn get<N: LogName, K: OfLog>(rt: &impl Abort, party: &mut Party<N, K>, tails: &Tails, takes: bool) {
     let waiting = to_take(rt, party, tails);
     let calls = waiting.as_slice();
     assert!(rt;
@@ -146,8 +124,8 @@ fn get<N: LogName, K: OfLog, R: Wait + Abort>(
 }
 
 /// The other makes its call, after the first has made an event.
-fn make_call<'a, N: LogName, K: OfLog, R: Wait + Abort>(
-    rt: &R,
+fn make_call<'a, N: LogName, K: OfLog>(
+    rt: &impl Abort,
     first: &mut Party<'a, N, K>,
     other: &mut Party<'a, N, K>,
     call: Call,
@@ -200,8 +178,8 @@ fn make_call<'a, N: LogName, K: OfLog, R: Wait + Abort>(
 }
 
 /// The first party makes an event: an append, or an advance past an entry that the other appended.
-fn make_event<'a, N: LogName, K: OfLog, R: Wait + Abort>(
-    rt: &R,
+fn make_event<'a, N: LogName, K: OfLog>(
+    rt: &impl Abort,
     first: &mut Party<'a, N, K>,
     other: &mut Party<'a, N, K>,
     event: Event,
@@ -217,8 +195,8 @@ fn make_event<'a, N: LogName, K: OfLog, R: Wait + Abort>(
 }
 
 /// All replicas take all entries, and all parties look.
-fn settle<'a, N: LogName, K: OfLog, R: Wait + Abort>(
-    rt: &R,
+fn settle<'a, N: LogName, K: OfLog>(
+    rt: &impl Abort,
     first: &mut Party<'a, N, K>,
     others: &mut [Party<'a, N, K>],
     tails: &mut Tails,
@@ -234,8 +212,8 @@ fn settle<'a, N: LogName, K: OfLog, R: Wait + Abort>(
 }
 
 /// The first party makes each event, and one of the others each call after it.
-fn all_calls<'a, N: LogName, K: OfLog, R: Wait + Abort>(
-    rt: &R,
+fn all_calls<'a, N: LogName, K: OfLog>(
+    rt: &impl Abort,
     first: &mut Party<'a, N, K>,
     others: &mut [Party<'a, N, K>],
     at: usize,
@@ -252,8 +230,8 @@ fn all_calls<'a, N: LogName, K: OfLog, R: Wait + Abort>(
 }
 
 /// The first party appends so many batches of 16 entries, and all replicas take each.
-fn append_batches<'a, N: LogName, K: OfLog, R: Wait + Abort>(
-    rt: &R,
+fn append_batches<'a, N: LogName, K: OfLog>(
+    rt: &impl Abort,
     parties: &mut [Party<'a, N, K>],
     count: u32,
     tails: &mut Tails,
@@ -270,8 +248,8 @@ fn append_batches<'a, N: LogName, K: OfLog, R: Wait + Abort>(
 }
 
 /// Each party makes each event, and each of the others each call after it, where the log has so many batches of 16 entries before.
-pub fn each_call<'a, N: LogName, K: OfLog, R: Wait + Abort>(
-    rt: &R,
+pub fn each_call<'a, N: LogName, K: OfLog>(
+    rt: &impl Abort,
     parties: Vec<Party<'a, N, K>>,
     batches: u32,
 ) {

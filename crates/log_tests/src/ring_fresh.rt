@@ -6,7 +6,6 @@ use crate::scene::{OF_FOUR, Test, run};
 use nr_ring::{AppendFault, LogName, Tails};
 use std::alloc::Global;
 use std::process::Abort;
-use std::sync::Wait;
 use std::sync::atomic::{AtomicU32, Ordering};
 use std::thread;
 use std::thread::Threads;
@@ -62,7 +61,7 @@ impl Told {
     }
 
     /// Looks, and sees at least what was answered before.
-    fn look<N: LogName, K: OfLog, R: Wait + Abort>(&self, rt: &R, party: &mut Party<N, K>) {
+    fn look<N: LogName, K: OfLog>(&self, rt: &impl Abort, party: &mut Party<N, K>) {
         let before = self.now();
         let tails = party.look();
         assert!(rt; is_later(&tails, &before));
@@ -71,12 +70,7 @@ impl Told {
 }
 
 /// An append, which may be refused where the replicas are late or another's event comes between.
-fn append<N: LogName, K: OfLog, R: Wait + Abort>(
-    rt: &R,
-    party: &mut Party<N, K>,
-    call: u32,
-    told: &Told,
-) {
+fn append<N: LogName, K: OfLog>(rt: &impl Abort, party: &mut Party<N, K>, call: u32, told: &Told) {
     match party.append(rt, call) {
         Ok(place) => {
             told.tail
@@ -89,7 +83,7 @@ fn append<N: LogName, K: OfLog, R: Wait + Abort>(
 
 impl<'a, N: LogName, K: OfLog> Pair<'a, N, K> {
     /// One call of eight kinds, and then a look by each party.
-    fn act<R: Wait + Abort>(&mut self, rt: &R, round: u32, told: &Told) {
+    fn act(&mut self, rt: &impl Abort, round: u32, told: &Told) {
         match (self.number % 8 + round % 8) % 8 {
             0 => append(rt, &mut self.owner, round, told),
             1 | 5 => {
@@ -105,17 +99,17 @@ impl<'a, N: LogName, K: OfLog> Pair<'a, N, K> {
     }
 }
 
-fn all_rounds<N: LogName, K: OfLog, R: Wait + Abort>(rt: &R, mut pair: Pair<N, K>, told: &Told) {
+fn all_rounds<N: LogName, K: OfLog>(rt: &impl Abort, mut pair: Pair<N, K>, told: &Told) {
     for round in 0..ROUNDS {
         pair.act(rt, round, told);
     }
 }
 
-pub fn run_rounds<
-    N: LogName + Send + Sync,
-    K: OfLog + Send + Sync,
-    R: Wait + Abort + Threads + Sync,
->(rt: &R, alloc: Global, parties: Vec<Party<N, K>>) {
+pub fn run_rounds<N: LogName + Send + Sync, K: OfLog + Send + Sync, R: Abort + Threads + Sync>(
+    rt: &R,
+    alloc: Global,
+    parties: Vec<Party<N, K>>,
+) {
     let all = pairs(rt, alloc, parties);
     let told = Told::new();
     let ended = thread::map_vec(rt, all, &|pair: Pair<N, K>| all_rounds(rt, pair, &told));

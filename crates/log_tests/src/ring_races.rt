@@ -56,7 +56,7 @@ impl<'a, N: LogName, K: OfLog> Pair<'a, N, K> {
     }
 
     /// Both parties see all of the round. The replica of the thread that advanced in vain has taken less than the others.
-    fn look<R: Wait + Abort>(&mut self, rt: &R, round: u32)
+    fn look(&mut self, rt: &impl Abort, round: u32)
         requires { round ≤ 65536 }
     {
         let taken = 2 * round;

@@ -4,21 +4,21 @@ use crate::party::{OfLog, Party, is_later};
 use crate::scene::{Layout, Test, run};
 use arrayvec::ArrayVec;
 use crossbeam_utils::Backoff;
-use nr_ring::{AppendFault, LogName, Moved, Tails};
+use nr_ring::{AppendFault, LogName, Moved, PackedEntry, Tails};
 use std::alloc::Global;
 use std::process::Abort;
 use std::sync::Wait;
 use std::sync::atomic::{AtomicU64, Ordering};
 use std::thread;
 use std::thread::Threads;
-use vs_types::{Depth, LogEntry};
+use vs_types::Depth;
 
 /// How many entries each of two threads appends.
 const ROUNDS: u32 = 10_000;
 
 /// Looks, and sees all entries that a thread had appended or seen before.
-fn look_now<N: LogName, K: OfLog, R: Wait + Abort>(
-    rt: &R,
+fn look_now<N: LogName, K: OfLog>(
+    rt: &impl Abort,
     party: &mut Party<N, K>,
     known: &AtomicU64,
 ) -> Tails {
@@ -32,14 +32,14 @@ fn look_now<N: LogName, K: OfLog, R: Wait + Abort>(
 
 /// Fetches the entries that the replica has still to take, of which it has taken so many, and advances past them: none where another
 /// thread's event comes between.
-fn fetch_and_advance<N: LogName, K: OfLog, R: Wait + Abort>(
-    rt: &R,
+fn fetch_and_advance<N: LogName, K: OfLog>(
+    rt: &impl Abort,
     party: &mut Party<N, K>,
     replica: u8,
     known: &AtomicU64,
     count: usize,
-) -> Result<ArrayVec<LogEntry, 16>, Moved> {
-    let entries = party.fetch(rt);
+) -> Result<ArrayVec<PackedEntry, 16>, Moved> {
+    let entries = party.fetch();
     let tails = look_now(rt, party, known);
     assert!(rt; replica < 4);
     let local = tails.local[usize::from(replica)];
@@ -51,8 +51,8 @@ fn fetch_and_advance<N: LogName, K: OfLog, R: Wait + Abort>(
 
 /// Takes the entries that the replica has still to take, where no other thread's event comes between: replica 0 by a fetch and an
 /// advance, the others in one exchange. It adds the calls of those that it took.
-fn take<N: LogName, K: OfLog, R: Wait + Abort>(
-    rt: &R,
+fn take<N: LogName, K: OfLog>(
+    rt: &impl Abort,
     party: &mut Party<N, K>,
     replica: u8,
     known: &AtomicU64,
@@ -60,18 +60,18 @@ fn take<N: LogName, K: OfLog, R: Wait + Abort>(
 ) {
     let entries = match replica {
         0 => fetch_and_advance(rt, party, replica, known, taken.len()),
-        _ => party.take(rt),
+        _ => party.take(),
     };
     if let Ok(entries) = entries {
         for entry in entries.as_slice() {
-            taken.push(entry.call).expect(rt, "memory");
+            taken.push(entry.call()).expect(rt, "memory");
         }
     }
 }
 
 /// Appends one entry: replica 0 alone, the others as they take all, in one exchange. It adds the calls of what it took.
-fn try_append<N: LogName, K: OfLog, R: Wait + Abort>(
-    rt: &R,
+fn try_append<N: LogName, K: OfLog>(
+    rt: &impl Abort,
     party: &mut Party<N, K>,
     replica: u8,
     call: u32,
@@ -82,7 +82,7 @@ fn try_append<N: LogName, K: OfLog, R: Wait + Abort>(
     }
     let (place, before) = party.append_and_take(rt, call)?;
     for entry in before.as_slice() {
-        taken.push(entry.call).expect(rt, "memory");
+        taken.push(entry.call()).expect(rt, "memory");
     }
     taken.push(call).expect(rt, "memory");
     Ok(place)

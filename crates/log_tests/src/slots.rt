@@ -1,11 +1,12 @@
 //! Each call on slots in each state of a slot.
 ghost use Rattle.std.specs.Prelude.{◌≡◌};
 
+use crate::entry::entry;
 use arrayvec::ArrayVec;
 use nr_slots::{Answered, NotTaken, Slots};
 use std::alloc::Global;
 use std::process::Abort;
-use vs_types::{Answer, CALLS, Depth, Op, Rights, Size};
+use vs_types::{Answer, Depth, LogEntry, Op, Rights, Size};
 
 /// What a thread does with its slot, and what that answers.
 #[derive(Clone, Copy)]
@@ -140,10 +141,10 @@ fn of_thread(rt: &impl Abort, thread: u16) -> Answered {
         Op::unmap(Depth::Four, base),
         Op::protect(Depth::Four, base, rights),
     ];
+    let op = ops[usize::from(number % 3)].expect(rt, "a well-formed operation");
     Answered {
         thread,
-        call: 2047 * u32::from(number),
-        op: ops[usize::from(number % 3)].expect(rt, "a well-formed operation"),
+        entry: entry(rt, Depth::Four, 2047 * u32::from(number), op),
         place: 65_535 * (63 - u32::from(number)) / 63,
         answer: answers[usize::from(number % 7)],
     }
@@ -154,8 +155,7 @@ fn posts(rt: &impl Abort, slots: &Slots, count: u16, update: Answered) -> bool
     requires { slots.now ≡ count }
 {
     assert!(rt; update.thread < count);
-    assert!(rt; update.call < CALLS);
-    slots.post(update.thread, update.call, update.op).is_ok()
+    slots.post(update.thread, update.entry).is_ok()
 }
 
 /// What a thread polls.
@@ -184,24 +184,25 @@ fn take(rt: &impl Abort, slots: &Slots, count: u16, thread: u16, does: Does) -> 
         Does::Answers => slots.answer(own).is_ok(),
         Does::AnswersAgain => is_not_taken(slots, own),
         Does::AnswersInVain => {
-            let call = own.call;
+            let entry = entry(rt, Depth::Four, own.entry.call(), next.entry.entry().op);
             is_not_taken(
                 slots,
                 Answered {
                     thread,
-                    call,
+                    entry,
                     ..next
                 },
             )
         }
         Does::Polls => poll(rt, slots, count, thread) == Some(own),
         Does::HasNoAnswer => {
-            let call = own.call.wrapping_add(1);
+            let LogEntry { call, op } = own.entry.entry();
+            let entry = entry(rt, Depth::Four, call.wrapping_add(1), op);
             let no_thread = Answered {
                 thread: thread.wrapping_add(64),
                 ..own
             };
-            is_not_taken(slots, Answered { call, ..own })
+            is_not_taken(slots, Answered { entry, ..own })
                 && is_not_taken(slots, no_thread)
                 && poll(rt, slots, count, thread).is_none()
         }
@@ -214,8 +215,7 @@ fn collects(rt: &impl Abort, slots: &Slots, first: u16, count: u16) -> bool {
     slots.collect(&mut batch);
     let mut thread = first;
     for waiting in batch.as_slice() {
-        let Answered { call, op, .. } = of_thread(rt, thread);
-        if (waiting.thread, waiting.call, waiting.op) != (thread, call, op) {
+        if (waiting.thread, waiting.entry) != (thread, of_thread(rt, thread).entry) {
             return false;
         }
         thread = thread.wrapping_add(1);

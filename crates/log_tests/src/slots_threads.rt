@@ -2,13 +2,14 @@
 ghost use Rattle.std.specs.Prelude.{◌≡◌};
 ghost use Rattle.log_tests.specs.declared.slots_threads.TheConstants.{POSTERS};
 
+use crate::entry::entry;
 use arrayvec::ArrayVec;
 use crossbeam_utils::Backoff;
 use nr_slots::{Answered, Slots};
 use std::process::Abort;
 use std::sync::Wait;
 use std::thread;
-use vs_types::{Answer, CALLS, Depth, Op};
+use vs_types::{Answer, Depth, Op};
 
 /// How many threads post: more than a batch has room for.
 const POSTERS: u16 = 20;
@@ -26,10 +27,10 @@ struct Shared {
 /// What a thread posts in a round, and what it is answered: it unmaps a page of its own, which is not mapped.
 fn update_of(rt: &impl Abort, thread: u16, round: u32) -> Answered {
     let base = 0x1000 * (u64::from(thread) + 1);
+    let op = Op::unmap(Depth::Four, base).expect(rt, "an unmap");
     Answered {
         thread,
-        call: round,
-        op: Op::unmap(Depth::Four, base).expect(rt, "an unmap"),
+        entry: entry(rt, Depth::Four, round, op),
         place: 65_535u32.saturating_sub(round),
         answer: Answer::Full(u64::from(round) + 1),
     }
@@ -38,8 +39,8 @@ fn update_of(rt: &impl Abort, thread: u16, round: u32) -> Answered {
 impl Shared {
     /// Posts into its slot, which is empty.
     fn post<R: Wait + Abort>(&self, rt: &R, update: Answered) {
-        assert!(rt; update.thread < POSTERS && update.call < CALLS);
-        let posted = self.slots.post(update.thread, update.call, update.op);
+        assert!(rt; update.thread < POSTERS);
+        let posted = self.slots.post(update.thread, update.entry);
         assert_eq!(rt; posted, Ok(()));
     }
 
@@ -81,8 +82,7 @@ impl Shared {
             let thread = usize::from(waiting.thread);
             let round = rounds[thread];
             let update = update_of(rt, waiting.thread, round);
-            let is_next = waiting.call == update.call && waiting.op == update.op;
-            assert!(rt; is_next);
+            assert_eq!(rt; waiting.entry, update.entry);
             self.answer(rt, waiting.thread, round);
             rounds[thread] = round.saturating_add(1);
         }

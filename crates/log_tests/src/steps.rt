@@ -3,7 +3,6 @@
 use crate::party::{OfLog, Party};
 use nr_ring::{AppendFault, LogName, Moved, Tails};
 use std::process::Abort;
-use std::sync::Wait;
 
 /// What a party does, and what that answers.
 #[derive(Clone, Copy)]
@@ -46,11 +45,7 @@ fn tails(tail: u32, completed: u32, local: [u32; 4]) -> Tails {
 }
 
 /// Takes these steps one after another.
-pub fn take_all<N: LogName, K: OfLog, R: Wait + Abort>(
-    rt: &R,
-    parties: Vec<Party<N, K>>,
-    steps: &[Step],
-) {
+pub fn take_all<N: LogName, K: OfLog>(rt: &impl Abort, parties: Vec<Party<N, K>>, steps: &[Step]) {
     let mut parties = parties;
     for (place, Step(number, does)) in steps.iter().enumerate() {
         let (first, later) = parties
@@ -62,8 +57,8 @@ pub fn take_all<N: LogName, K: OfLog, R: Wait + Abort>(
 }
 
 /// One step of a party, with those after it: whether it answers so.
-fn take<'a, N: LogName, K: OfLog, R: Wait + Abort>(
-    rt: &R,
+fn take<'a, N: LogName, K: OfLog>(
+    rt: &impl Abort,
     party: &mut Party<'a, N, K>,
     later: &mut [Party<'a, N, K>],
     does: Does,
@@ -99,7 +94,7 @@ fn take<'a, N: LogName, K: OfLog, R: Wait + Abort>(
 }
 
 /// The only party fills its log to the end.
-pub fn fill<N: LogName, K: OfLog, R: Wait + Abort>(rt: &R, parties: Vec<Party<N, K>>) {
+pub fn fill<N: LogName, K: OfLog>(rt: &impl Abort, parties: Vec<Party<N, K>>) {
     let mut parties = parties;
     let party = parties.first_mut().expect(rt, "a party");
     for round in 0..4096 {
@@ -110,7 +105,7 @@ pub fn fill<N: LogName, K: OfLog, R: Wait + Abort>(rt: &R, parties: Vec<Party<N,
 }
 
 /// The only party appends a batch of each size, and its replica takes each before the next.
-pub fn append_each_size<N: LogName, K: OfLog, R: Wait + Abort>(rt: &R, parties: Vec<Party<N, K>>) {
+pub fn append_each_size<N: LogName, K: OfLog>(rt: &impl Abort, parties: Vec<Party<N, K>>) {
     let mut parties = parties;
     let party = parties.first_mut().expect(rt, "a party");
     let mut place = 0u32;

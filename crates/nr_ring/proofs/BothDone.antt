@@ -1,13 +1,15 @@
 -- A pass that appended a batch and took all.
-use Rattle.std.proofs.Common.{◌≡◌, ℕ, zero, suc, ◌+◌, ◌<◌, ◌≤◌, List, [], ◌∷◌, ◌++◌, Some, drop, length, length-append, refl, ap, sym, ◌∙◌, arith}
+use Rattle.std.proofs.Common.{◌≡◌, ℕ, zero, suc, ◌+◌, ◌≤◌, List, [], ◌∷◌, ◌++◌, Some, drop, length, length-append, refl, ap, sym, ◌∙◌, arith}
 use Rattle.std.specs.Prelude.{slice_index_or}
 use Rattle.std.proofs.lemmas.List.{append-nil}
+use Rattle.version_cell.specs.Passes.{CellPass}
 use Rattle.vs_types.specs.declared.depth.Depth.{Depth}
 use Rattle.vs_types.specs.declared.log_entry.LogEntry.{LogEntry}
 use Rattle.nr_ring.specs.LogHistory.{Log, IsLogHistory, MayAppend, local_of, log_after, log_after_event, new_log, tail}
 use Rattle.nr_ring.specs.Calls.{HasLooked, with_event, with_events}
 use Rattle.nr_ring.specs.Entries.{HasAppendedAndTaken, to_take}
 use Rattle.nr_ring.specs.declared.log_event.LogEvent.TheVariants.{Append, Advance}
+use Rattle.nr_ring.specs.declared.stored.Stored.{Stored}
 use Rattle.nr_ring.specs.declared.view.View.{View}
 use Rattle.nr_ring.specs.inside.Held.{Remembers}
 use Rattle.nr_ring.proofs.Advances.{same_replica}
@@ -20,9 +22,10 @@ drop_longer [] ys (suc n) le = absurd (omega arith)
 drop_longer (x ∷ xs) ys (suc n) le = drop_longer xs ys n (omega arith)
 
 -- a look after an append sees what the pass appended
-looked_after : (depth : Depth) (replicas : ℕ) (words : List ℕ) (r : ℕ) (v : View) (batch : List LogEntry) → Remembers depth replicas words (Some r) v
-    → MayAppend depth (log_after replicas v.seen) batch → HasLooked depth replicas (with_event v (Append batch)) (with_event v (Append batch))
-looked_after depth replicas words r v batch is may = let middle = with_event v (Append batch) in record {
+looked_after : (depth : Depth) (replicas passes r ring : ℕ) (p : CellPass View Stored) (batch : List LogEntry)
+    → Remembers depth replicas passes (Some r) ring p → MayAppend depth (log_after replicas p.view.seen) batch
+    → HasLooked depth replicas (with_event p.view (Append batch)) (with_event p.view (Append batch))
+looked_after depth replicas passes r ring p batch is may = let v = p.view in let middle = with_event v (Append batch) in record {
   is_history = goes_on_by depth (new_log replicas) v.seen (Append batch) is.is_history may;
   seen = whole middle.seen;
   told = λ k d lt. begins_still v.seen (slice_index_or v.told k d) (Append batch) (is.told k d lt);
@@ -33,12 +36,13 @@ looked_after depth replicas words r v batch is may = let middle = with_event v (
   rights = refl;
 }
 
-pub both_done : (depth : Depth) (replicas : ℕ) (words : List ℕ) (r : ℕ) (u v w : View) (batch before : List LogEntry) (place : ℕ)
-    → HasLooked depth replicas u v → Remembers depth replicas words (Some r) v → MayAppend depth (log_after replicas v.seen) batch
-    → IsLogHistory depth replicas w.seen → place ≡ tail (log_after replicas v.seen)
-    → w ≡ with_events v (Append batch ∷ Advance r (tail (log_after replicas v.seen) + length batch) ∷ [])
-    → before ≡ to_take (log_after replicas v.seen) r → HasAppendedAndTaken depth replicas u batch place before w
-both_done depth replicas words r u v w batch before place looked is may history at made before_is =
+pub both_done : (depth : Depth) (replicas passes r ring : ℕ) (u w : View) (p : CellPass View Stored) (batch before : List LogEntry) (place : ℕ)
+    → HasLooked depth replicas u p.view → Remembers depth replicas passes (Some r) ring p → MayAppend depth (log_after replicas p.view.seen) batch
+    → IsLogHistory depth replicas w.seen → place ≡ tail (log_after replicas p.view.seen)
+    → w ≡ with_events p.view (Append batch ∷ Advance r (tail (log_after replicas p.view.seen) + length batch) ∷ [])
+    → before ≡ to_take (log_after replicas p.view.seen) r → HasAppendedAndTaken depth replicas u batch place before w
+both_done depth replicas passes r ring u w p batch before place looked is may history at made before_is =
+    let v = p.view in
     let log = log_after replicas v.seen in
     let middle = with_event v (Append batch) in
     let one : log_after replicas middle.seen ≡ log_after_event log (Append batch) = after_one_more (new_log replicas) v.seen (Append batch) in
@@ -50,7 +54,7 @@ both_done depth replicas words r u v w batch before place looked is may history 
       appended = record { seen_before = v; looked = looked; appended = refl; place_is = at };
       taken = record {
         between = middle;
-        looked = looked_after depth replicas words r v batch is may;
+        looked = looked_after depth replicas passes r ring p batch is may;
         taken = record {
           replica = r;
           owns = is.owns;

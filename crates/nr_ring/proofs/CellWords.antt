@@ -1,16 +1,17 @@
--- The words of the cell after an advance and after an append.
-use Rattle.std.proofs.Common.{◌≡◌, ◌≢◌, ℕ, zero, suc, ◌+◌, ◌-◌, ◌*◌, ◌%◌, ◌<◌, ◌≤◌, max, List, [], ◌∷◌, ◌++◌, Some, length, get_or, set, ◌⊎◌, inl, inr, ⊎_elim}
+-- The words of a log after an advance and after an append, and of a new one.
+use Rattle.std.proofs.Common.{◌≡◌, ◌≢◌, ℕ, zero, suc, ◌+◌, ◌-◌, ◌*◌, ◌%◌, ◌<◌, ◌≤◌, max, List, [], ◌∷◌, ◌++◌, Some, length, get_or, replicate, set, ◌⊎◌, inl, inr, ⊎_elim}
 use Rattle.std.proofs.Common.{refl, ap, sym, ◌∙◌, arith}
 use Rattle.std.specs.Prelude.{slice_get, slice_index}
-use Rattle.std.proofs.Math.ListN.{length-append, length-set}
+use Rattle.std.proofs.Math.ListN.{length-append, length-replicate, length-set}
 use Rattle.std.proofs.lemmas.List.{get_or-set_same, get_or-set_other}
 use Rattle.std.proofs.lemmas.Bool.Decides.{eqb_tells}
 use Rattle.vs_types.specs.declared.depth.Depth.{Depth}
 use Rattle.vs_types.specs.declared.log_entry.LogEntry.{LogEntry}
-use Rattle.nr_ring.specs.LogHistory.{Log, tail, MayAdvance, MayAppend, log_after_event}
-use Rattle.nr_ring.specs.Words.{word_of, IsWordsOf, advanced_words, IsAppended}
+use Rattle.nr_ring.specs.LogHistory.{Log, greatest, tail, MayAdvance, MayAppend, log_after_event, new_log}
+use Rattle.nr_ring.specs.Words.{word_of, IsWordsOf, advanced_words, IsAppended, new_words}
 use Rattle.nr_ring.specs.declared.log_event.LogEvent.TheVariants.{Append, Advance}
 use Rattle.nr_ring.proofs.LocalTails.{greatest_raised, le_or_lt}
+use Rattle.nr_ring.proofs.Needed.{get_left, get_right}
 
 -- a word that an advance leaves
 left_alone : (words : List ℕ) (replica to word : ℕ) → word ≢ 1 → word ≢ 2 + replica
@@ -50,15 +51,6 @@ advance_words log replica to words few is may =
       unused = λ word le. left_alone words replica to word (λ e. absurd (omega arith)) (λ e. absurd (omega arith)) ∙ is.unused word le;
     }
 
-get_left : (xs ys : List LogEntry) (i : ℕ) → i < length xs → slice_get (xs ++ ys) i ≡ slice_get xs i
-get_left [] ys i lt = absurd (omega arith)
-get_left (x ∷ xs) ys zero lt = refl
-get_left (x ∷ xs) ys (suc i) lt = get_left xs ys i (omega arith)
-
-get_right : (xs ys : List LogEntry) (i : ℕ) → slice_get (xs ++ ys) (length xs + i) ≡ slice_get ys i
-get_right [] ys i = ap (slice_get ys) (Rattle.std.proofs.Common.zero-add i)
-get_right (x ∷ xs) ys i = ap (slice_get (x ∷ (xs ++ ys))) (Rattle.std.proofs.Math.Nat.suc-add (length xs) i) ∙ get_right xs ys i
-
 -- places less than 16 apart have words of their own
 pub apart : (place later : ℕ) → place < later → later < place + 16 → (word_of place + 2 ≤ word_of later) ⊎ (word_of later + 2 ≤ word_of place)
 apart place later lt near = ⊎_elim (λ le. let differ : place % 16 ≢ later % 16 = λ e. absurd (omega arith) in
@@ -95,3 +87,42 @@ append_words depth log batch before words is may new =
     } where
       unused_later : (t n i word : ℕ) → i < n → 7 + 2 * (t + n) ≤ word → word_of (t + i) + 2 ≤ word
       unused_later t n i word lt le = omega arith
+
+-- ---- a new log
+
+pub zeros : (n i : ℕ) → slice_index (replicate n 0) i ≡ 0
+zeros zero i = refl
+zeros (suc n) zero = refl
+zeros (suc n) (suc i) = zeros n i
+
+no_greatest : (n : ℕ) → greatest (replicate n 0) ≡ 0
+no_greatest zero = refl
+no_greatest (suc n) = ap (Rattle.std.proofs.Common.max 0) (no_greatest n)
+
+low : (replicas r : ℕ) → r < 4 → slice_index (new_words replicas) (2 + r) ≡ 0
+low replicas zero lt = refl
+low replicas (suc zero) lt = refl
+low replicas (suc (suc zero)) lt = refl
+low replicas (suc (suc (suc zero))) lt = refl
+low replicas (suc (suc (suc (suc r)))) lt = absurd (omega arith)
+
+high : (replicas word : ℕ) → 7 ≤ word → slice_index (new_words replicas) word ≡ 0
+high replicas zero le = refl
+high replicas (suc zero) le = refl
+high replicas (suc (suc zero)) le = refl
+high replicas (suc (suc (suc zero))) le = refl
+high replicas (suc (suc (suc (suc zero)))) le = refl
+high replicas (suc (suc (suc (suc (suc zero))))) le = refl
+high replicas (suc (suc (suc (suc (suc (suc zero)))))) le = absurd (omega arith)
+high replicas (suc (suc (suc (suc (suc (suc (suc word))))))) le = zeros 32 word
+
+pub new_is : (replicas : ℕ) → IsWordsOf (new_log replicas) (new_words replicas)
+new_is replicas = record {
+  long = refl;
+  tail_is = refl;
+  completed_is = sym (no_greatest replicas);
+  locals_are = λ r lt. low replicas r lt ∙ sym (zeros replicas r);
+  replicas_are = sym (length-replicate replicas 0);
+  entries_are = λ place entry k there near lt. cc;
+  unused = λ word le. high replicas word (omega arith);
+}

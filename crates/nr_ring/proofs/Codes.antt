@@ -1,28 +1,23 @@
--- The code of the words of the cell determines their first ones, and each event raises it.
-use Rattle.std.proofs.Common.{◌≡◌, ℕ, zero, suc, ◌+◌, ◌-◌, ◌*◌, ◌/◌, ◌%◌, ◌^◌, ◌<◌, ◌≤◌, max, Bool, true, false, nat_le, if◌then◌else◌, List, [], ◌∷◌, length, get_or, set, refl, ap, sym, ◌∙◌, subst, arith}
+-- The code of the value of the cell determines the tails, and each event raises it.
+use Rattle.std.proofs.Common.{◌≡◌, ℕ, zero, suc, ◌+◌, ◌-◌, ◌*◌, ◌/◌, ◌%◌, ◌^◌, ◌<◌, ◌≤◌, Bool, true, false, nat_le, nat_lt, if◌then◌else◌, List, [], ◌∷◌, length, get_or, set, take, refl, ap, sym, ◌∙◌, subst, arith, le_trans}
 use Rattle.std.proofs.Common.{length-append, length-set, get_or-set_other, get_or-set_same}
-use Rattle.std.proofs.lemmas.Bool.{leb-false, leb-true}
+use Rattle.std.proofs.Math.Nat.{le-max_left, le-max_right, max-le, le_antisymm}
+use Rattle.std.proofs.lemmas.Bool.{le-leb, leb-false, leb-true}
 use Rattle.std.specs.Prelude.{◌++◌, All, slice_index}
 use mathlib.Core.Logic.{dite}
-use native.Mathlib.Decide.{ℕ_discrete}
+use native.Mathlib.Decide.{dec_le, ℕ_discrete}
 use Rattle.vs_types.specs.declared.depth.Depth.{Depth}
 use Rattle.vs_types.specs.declared.log_entry.LogEntry.{LogEntry}
-use Rattle.version_cell.specs.Heads.{IsCoded}
 use Rattle.version_cell.specs.inside.Heads.{IsHead}
-use Rattle.nr_ring.specs.Laws.{FitsTheRing}
-use Rattle.nr_ring.specs.LogHistory.{Log, MayAdvance, MayFollow, completed, greatest, local_of, log_after_event, tail}
-use Rattle.nr_ring.specs.Words.{IsWordsOf}
+use Rattle.nr_ring.specs.Laws.{FitsTheRing, HasSameTails}
+use Rattle.nr_ring.specs.LogHistory.{Log, MayFollow, completed, greatest, local_of, log_after_event, tail}
 use Rattle.nr_ring.specs.declared.log_event.LogEvent.{LogEvent}
 use Rattle.nr_ring.specs.declared.log_event.LogEvent.TheVariants.{Append, Advance}
 use Rattle.nr_ring.specs.inside.Batch.{AreSmall}
 use Rattle.nr_ring.specs.inside.Held.{IsHeadOf}
-use Rattle.nr_ring.specs.inside.Codes.{code_in, code_of, code_of_log, local_in, locals_in, room_of, word_in}
-
--- words have the code of their log
-pub code_is : (log : Log) (words : List ℕ) → IsWordsOf log words → code_in words ≡ code_of_log log
-code_is log words is = λ i.
-    code_of (is.tail_is i) (is.locals_are 0 (omega arith) i ∷ is.locals_are 1 (omega arith) i ∷ is.locals_are 2 (omega arith) i
-    ∷ is.locals_are 3 (omega arith) i ∷ []) (is.replicas_are i)
+use Rattle.nr_ring.specs.inside.Codes.{above, code_of, code_of_log, for_each, local_in, locals_in, most_in, packed, room_of, rooms_of, tails_word, word_in}
+use Rattle.nr_ring.proofs.LocalTails.{below_greatest, greatest_least}
+use Rattle.nr_ring.proofs.Packing.{Small, above_packed, few_low, field_packed, listed, packed_after, packed_end, packed_raised, room_in, rooms_long, same_listed, set_listed}
 
 beyond : (xs : List ℕ) (i : ℕ) → length xs ≤ i → get_or xs i 0 ≡ 0
 beyond [] i le = refl
@@ -50,203 +45,163 @@ room_is : (log : Log) → FitsTheRing log → (r : ℕ)
     → Room (tail log) (local_of log r) (room_of (tail log) (local_of log r) (nat_le (r + 1) (length log.locals))) (length log.locals) r
 room_is log fits r = room_at log fits r (nat_le (r + 1) (length log.locals)) refl
 
--- what a code of a tail, four rooms and a number of replicas determines
-abbrev packed : ℕ → ℕ → ℕ → ℕ → ℕ → ℕ → ℕ
-packed t a b c d n = ((((t * 32 + a) * 32 + b) * 32 + c) * 32 + d) * 8 + n
+-- the first places are those of the tails
+pub word_early : (code place : ℕ) → place < 7 → word_in code place ≡ tails_word (code / 128) place
+word_early code place lt = ap (λ (b : Bool). if b then tails_word (code / 128) place else code % 128) (le-leb (place + 1) 7 (omega arith))
 
-local_at : (code t room l n r unit : ℕ) → code % 8 ≡ n → code / 2 ^ 23 ≡ t → code / unit % 32 ≡ room → Room t l room n r → (n ≤ r → l ≡ 0)
-    → (b : Bool) → nat_le (r + 1) (code % 8) ≡ b
-    → (if b then code / 2 ^ 23 + code / unit % 32 - 16 else 0) ≡ l
-local_at code t room l n r unit count tail has is none true e =
-    let lt = leb-true (r + 1) (code % 8) e in
+-- the local tail is what a tail and its room say
+local_at : (c x y t room l n r : ℕ) → c ≡ n → x ≡ t → y ≡ room → Room t l room n r → (n ≤ r → l ≡ 0) → (b : Bool) → nat_le (r + 1) c ≡ b
+    → (if b then x + y - 16 else 0) ≡ l
+local_at c x y t room l n r count tail has is none true e =
+    let lt = leb-true (r + 1) c e in
     let here : l + 16 ≡ t + room = is.here (omega (arith, lt, count)) in
-    ap (λ (z : ℕ). z + code / unit % 32 - 16) tail ∙ (ap (λ (z : ℕ). t + z - 16) has ∙ omega (arith, here))
-local_at code t room l n r unit count tail has is none false e =
-    let gt = leb-false (r + 1) (code % 8) e in sym (none (omega (arith, gt, count)))
+    omega (arith, tail, has, here)
+local_at c x y t room l n r count tail has is none false e = let gt = leb-false (r + 1) c e in sym (none (omega (arith, gt, count)))
 
--- the greatest of at most four numbers
-greatest_of_four : (xs : List ℕ) → length xs ≤ 4 → greatest xs ≡ max (get_or xs 0 0) (max (get_or xs 1 0) (max (get_or xs 2 0) (get_or xs 3 0)))
-greatest_of_four [] le = refl
-greatest_of_four (a ∷ []) le = refl
-greatest_of_four (a ∷ b ∷ []) le = refl
-greatest_of_four (a ∷ b ∷ c ∷ []) le = refl
-greatest_of_four (a ∷ b ∷ c ∷ d ∷ []) le = ap (λ (z : ℕ). max a (max b (max c z))) (omega arith)
-greatest_of_four (a ∷ b ∷ c ∷ d ∷ e ∷ rest) le = absurd (omega arith)
+-- the greatest that a code has is that of a list
+most_high : (code n m : ℕ) → ((r : ℕ) → r < n → local_in code r ≤ m) → most_in code n ≤ m
+most_high code zero m low = omega arith
+most_high code (suc n) m low = max-le (most_high code n m (λ r lt. low r (omega arith))) (low n (omega arith))
+
+most_low : (code n r : ℕ) → r < n → local_in code r ≤ most_in code n
+most_low code zero r lt = absurd (omega arith)
+most_low code (suc n) r lt = dite (ℕ_discrete r n)
+    (λ e. let P : ℕ → Type 0 = λ k. local_in code k ≤ most_in code (suc n) in subst P (sym e) (le-max_right (most_in code n) (local_in code n)))
+    (λ other. le_trans (most_low code n r (omega (arith, other))) (le-max_left (most_in code n) (local_in code n)))
+
+most_is : (code n : ℕ) (xs : List ℕ) → length xs ≤ n → ((r : ℕ) → r < n → local_in code r ≡ get_or xs r 0) → most_in code n ≡ greatest xs
+most_is code n xs few same = le_antisymm
+    (most_high code n (greatest xs) (λ r lt. omega (arith, same r lt, below_greatest xs r)))
+    (greatest_least xs (most_in code n)
+    (λ r. dite (dec_le n r) (λ high. let none = beyond xs r (omega (arith, few, high)) in omega (arith, none))
+    (λ low. let lt : r < n = omega (arith, low) in omega (arith, same r lt, most_low code n r lt))))
+
+-- the local tails of a log, and their rooms
+abbrev pub locals_of : Log → List ℕ
+locals_of log = for_each (local_of log) 0 4
+
+abbrev rooms : Log → List ℕ
+rooms log = rooms_of (tail log) (locals_of log) 0 (length log.locals)
+
+room_at_place : (log : Log) (r : ℕ) → r < 4 → get_or (rooms log) r 0 ≡ room_of (tail log) (local_of log r) (nat_le (r + 1) (length log.locals))
+room_at_place log r lt =
+    let at : 0 + r ≡ r = omega arith in
+    room_in (tail log) (locals_of log) 0 (length log.locals) r lt
+    ∙ (λ i. room_of (tail log) ((listed (local_of log) 0 4 r lt ∙ ap (local_of log) at) i) (nat_le (at i + 1) (length log.locals)))
+
+room_here : (log : Log) → FitsTheRing log → (r : ℕ) → r < 4 → Room (tail log) (local_of log r) (get_or (rooms log) r 0) (length log.locals) r
+room_here log fits r lt =
+    let P : ℕ → Type 0 = λ room. Room (tail log) (local_of log r) room (length log.locals) r in
+    subst P (sym (room_at_place log r lt)) (room_is log fits r)
+
+small_rooms : (log : Log) → FitsTheRing log → Small (rooms log)
+small_rooms log fits k = dite (dec_le 4 k) (λ high. let none = beyond (rooms log) k high in omega (arith, none))
+    (λ low. let few = (room_here log fits k (omega (arith, low))).few in omega (arith, few))
+
+in_parts : (p n : ℕ) → n ≤ 4 → ((p * 8 + n) / 8 ≡ p) × ((p * 8 + n) % 8 ≡ n)
+in_parts p n few = (omega arith, omega arith)
 
 module _ (log : Log) (fits : FitsTheRing log) (few : length log.locals ≤ 4) where
-  abbrev room : ℕ → ℕ
-  room r = room_of (tail log) (local_of log r) (nat_le (r + 1) (length log.locals))
-
   abbrev pub code : ℕ
   code = code_of_log log
 
-  code_packed : code ≡ packed (tail log) (room 0) (room 1) (room 2) (room 3) (length log.locals)
-  code_packed = refl
+  parts : (code / 8 ≡ packed (tail log) (rooms log)) × (code % 8 ≡ length log.locals)
+  parts = in_parts (packed (tail log) (rooms log)) (length log.locals) few
 
-  small : (r : ℕ) → room r ≤ 16
-  small r = (room_is log fits r).few
+  pub tells_count : code % 8 ≡ length log.locals
+  tells_count = parts.1
 
-  tells_count : code % 8 ≡ length log.locals
-  tells_count = omega (arith, code_packed, few)
+  pub tells_tail : above (code / 8) 4 ≡ tail log
+  tells_tail = ap (λ (z : ℕ). above z 4) parts.0 ∙ above_packed (tail log) (rooms log) (small_rooms log fits)
 
-  tells_tail : code / 2 ^ 23 ≡ tail log
-  tells_tail = omega (arith, code_packed, few, small 0, small 1, small 2, small 3)
+  tells_room : (r : ℕ) → r < 4 → above (code / 8) (4 - (r + 1)) % 32 ≡ get_or (rooms log) r 0
+  tells_room r lt =
+      ap (λ (z : ℕ). above z (4 - (r + 1)) % 32) parts.0 ∙ field_packed (tail log) (rooms log) r (small_rooms log fits) lt
 
-  tells_room_0 : code / 2 ^ 18 % 32 ≡ room 0
-  tells_room_0 = omega (arith, code_packed, few, small 0, small 1, small 2, small 3)
+  tells_local : (r : ℕ) → r < 4 → local_in code r ≡ local_of log r
+  tells_local r lt =
+      local_at (code % 8) (above (code / 8) 4) (above (code / 8) (4 - (r + 1)) % 32) (tail log) (get_or (rooms log) r 0) (local_of log r)
+      (length log.locals) r tells_count tells_tail (tells_room r lt) (room_here log fits r lt) (beyond log.locals r)
+      (nat_le (r + 1) (code % 8)) refl
 
-  tells_room_1 : code / 2 ^ 13 % 32 ≡ room 1
-  tells_room_1 = omega (arith, code_packed, few, small 0, small 1, small 2, small 3)
+  pub completed_told : tails_word code 1 ≡ completed log
+  completed_told = most_is code 4 log.locals few tells_local
 
-  tells_room_2 : code / 2 ^ 8 % 32 ≡ room 2
-  tells_room_2 = omega (arith, code_packed, few, small 0, small 1, small 2, small 3)
+  pub local_told : (r : ℕ) → r < 4 → tails_word code (2 + r) ≡ local_of log r
+  local_told r lt = local_word code r lt ∙ tells_local r lt where
+    local_word : (code r : ℕ) → r < 4 → tails_word code (2 + r) ≡ local_in code r
+    local_word code r lt =
+        let at : 2 + r ≡ suc (suc r) = omega arith in
+        ap (tails_word code) at ∙ ap (λ (b : Bool). if b then local_in code r else code % 8) (le-leb (r + 1) 4 (omega arith))
 
-  tells_room_3 : code / 2 ^ 3 % 32 ≡ room 3
-  tells_room_3 = omega (arith, code_packed, few, small 0, small 1, small 2, small 3)
+  -- what the code of a log says, with a ring, is that log's
+  pub head_of_code : (last : ℕ) (head : List ℕ) → last < 128 → IsHead word_in (code * 128 + last) 8 head → IsHeadOf log last head
+  head_of_code last head lt is =
+      let tails : (code * 128 + last) / 128 ≡ code = omega arith in
+      let rest : (code * 128 + last) % 128 ≡ last = omega arith in
+      record {
+        tail_is = is 0 (omega arith) ∙ (ap (λ (z : ℕ). tails_word z 0) tails ∙ tells_tail);
+        completed_is = is 1 (omega arith) ∙ (ap (λ (z : ℕ). tails_word z 1) tails ∙ completed_told);
+        locals_are = λ r low. is (2 + r) (omega arith) ∙ (early (code * 128 + last) r low ∙ ap (λ (z : ℕ). tails_word z (2 + r)) tails ∙ local_told r low);
+        replicas_are = is 6 (omega arith) ∙ (ap (λ (z : ℕ). tails_word z 6) tails ∙ tells_count);
+        last_is = is 7 (omega arith) ∙ rest;
+      } where
+        early : (code r : ℕ) → r < 4 → word_in code (2 + r) ≡ tails_word (code / 128) (2 + r)
+        early code r low = word_early code (2 + r) (omega arith)
 
-  tells_local : (r unit : ℕ) → code / unit % 32 ≡ room r → local_in code r unit ≡ local_of log r
-  tells_local r unit has =
-      local_at code (tail log) (room r) (local_of log r) (length log.locals) r unit tells_count tells_tail has (room_is log fits r)
-      (beyond log.locals r) (nat_le (r + 1) (code % 8)) refl
-
-  pub small_code : code < 2 ^ 62
-  small_code = omega (arith, code_packed, few, fits.ends, small 0, small 1, small 2, small 3)
-
-  completed_told : word_in code 1 ≡ completed log
-  completed_told =
-      let all : word_in code 1 ≡ max (local_of log 0) (max (local_of log 1) (max (local_of log 2) (local_of log 3))) =
-      λ i. max (tells_local 0 (2 ^ 18) tells_room_0 i)
-      (max (tells_local 1 (2 ^ 13) tells_room_1 i) (max (tells_local 2 (2 ^ 8) tells_room_2 i) (tells_local 3 (2 ^ 3) tells_room_3 i))) in
-      all ∙ sym (greatest_of_four log.locals few)
-
-  local_told : (r : ℕ) → r < 4 → word_in code (2 + r) ≡ local_of log r
-  local_told zero lt = tells_local 0 (2 ^ 18) tells_room_0
-  local_told (suc zero) lt = tells_local 1 (2 ^ 13) tells_room_1
-  local_told (suc (suc zero)) lt = tells_local 2 (2 ^ 8) tells_room_2
-  local_told (suc (suc (suc zero))) lt = tells_local 3 (2 ^ 3) tells_room_3
-  local_told (suc (suc (suc (suc r)))) lt = absurd (omega arith)
-
-  -- first words as the code of a log determines them are that log's
-  pub first_words : (words : List ℕ) → IsHead word_in code 7 words → IsHeadOf log words
-  first_words words is = record {
-    tail_is = is 0 (omega arith) ∙ tells_tail;
-    completed_is = is 1 (omega arith) ∙ completed_told;
-    locals_are = λ r lt. is (2 + r) (omega arith) ∙ local_told r lt;
-    replicas_are = is 6 (omega arith) ∙ tells_count;
-  }
-
-  told : (words : List ℕ) → IsWordsOf log words → (place : ℕ) → place < 7 → slice_index words place ≡ word_in code place
-  told words is zero lt = is.tail_is ∙ sym tells_tail
-  told words is (suc zero) lt = is.completed_is ∙ sym completed_told
-  told words is (suc (suc zero)) lt = is.locals_are 0 (omega arith) ∙ sym (local_told 0 (omega arith))
-  told words is (suc (suc (suc zero))) lt = is.locals_are 1 (omega arith) ∙ sym (local_told 1 (omega arith))
-  told words is (suc (suc (suc (suc zero)))) lt = is.locals_are 2 (omega arith) ∙ sym (local_told 2 (omega arith))
-  told words is (suc (suc (suc (suc (suc zero))))) lt = is.locals_are 3 (omega arith) ∙ sym (local_told 3 (omega arith))
-  told words is (suc (suc (suc (suc (suc (suc zero)))))) lt = is.replicas_are ∙ sym tells_count
-  told words is (suc (suc (suc (suc (suc (suc (suc place))))))) lt = absurd (omega arith)
-
-  -- the code of the words of a log determines their first ones
-  pub words_are_coded : (words : List ℕ) → IsWordsOf log words → IsCoded code_in word_in 7 words
-  words_are_coded words is place lt = told words is place lt ∙ ap (λ (z : ℕ). word_in z place) (sym (code_is log words is))
+pub same_tails : (p q : Log) → FitsTheRing p → FitsTheRing q → length p.locals ≤ 4 → length q.locals ≤ 4 → code_of_log p ≡ code_of_log q → HasSameTails p q
+same_tails p q fits fits' few few' same = record {
+  tail = sym (tells_tail p fits few) ∙ (ap (λ (z : ℕ). above (z / 8) 4) same ∙ tells_tail q fits' few');
+  locals = λ r. dite (dec_le 4 r) (λ high. beyond p.locals r (omega (arith, few, high)) ∙ sym (beyond q.locals r (omega (arith, few', high))))
+      (λ not_high. let low : r < 4 = omega arith in
+      sym (local_told p fits few r low) ∙ (ap (λ (z : ℕ). tails_word z (2 + r)) same ∙ local_told q fits' few' r low));
+}
 
 -- each event raises the code
+eighth : (a b n m : ℕ) → a < b → m ≡ n → a * 8 + n < b * 8 + m
+eighth a b n m lt same = omega arith
+
 pub event_raises : (depth : Depth) (log : Log) (event : LogEvent) → FitsTheRing log → FitsTheRing (log_after_event log event)
     → length log.locals ≤ 4 → MayFollow depth log event
     → code_of_log log < code_of_log (log_after_event log event)
 event_raises depth log (Append batch) fits after few may =
-    let r = λ (k : ℕ). (room_is log fits k).few in
-    omega (
-      arith,
-      length-append log.entries batch,
-      may.some,
-      few,
-      r 0,
-      r 1,
-      r 2,
-      r 3,
-      code_packed log fits few,
-      code_packed (log_after_event log (Append batch)) after few,
-    )
-event_raises depth log (Advance replica to) fits after few may = by_replica replica may after where
-  next : ℕ → Log
-  next r = log_after_event log (Advance r to)
+    let next = log_after_event log (Append batch) in
+    let longer : tail log < tail next = omega (arith, length-append log.entries batch, may.some) in
+    eighth (packed (tail log) (rooms log)) (packed (tail next) (rooms next)) (length log.locals) (length next.locals)
+    (packed_after (tail log) (tail next) (rooms log) (rooms next) longer refl (small_rooms log fits)) refl
+event_raises depth log (Advance replica to) fits after few may =
+    let next = log_after_event log (Advance replica to) in
+    let many : length next.locals ≡ length log.locals = length-set log.locals replica to in
+    let there : replica < 4 = omega (arith, may.there, few) in
+    let rises : local_of log replica < local_of next replica = omega (arith, get_or-set_same log.locals replica to 0 may.there, may.some) in
+    let before = (room_here log fits replica there).here may.there in
+    let now = (room_here next after replica there).here (omega (arith, many, may.there)) in
+    let up : get_or (rooms log) replica 0 < get_or (rooms next) replica 0 = omega (arith, before, now, rises) in
+    let same : (k : ℕ) → k < replica → get_or (rooms log) k 0 ≡ get_or (rooms next) k 0 =
+    λ k lt. room_at_place log k (omega (arith, lt, there))
+    ∙ (λ i. room_of (tail log) (sym (get_or-set_other log.locals replica k to 0 (λ e. omega (arith, e, lt))) i) (nat_le (k + 1) (sym many i)))
+    ∙ sym (room_at_place next k (omega (arith, lt, there))) in
+    eighth (packed (tail log) (rooms log)) (packed (tail log) (rooms next)) (length log.locals) (length next.locals)
+    (packed_raised (tail log) (rooms log) (rooms next) replica there refl (small_rooms log fits) same up) many
 
-  stays : (r k : ℕ) → (k ≡ r → ⊥) → local_of (next r) k ≡ local_of log k
-  stays r k other = get_or-set_other log.locals r k to 0 other
-
-  as_many : (r : ℕ) → length (next r).locals ≡ length log.locals
-  as_many r = length-set log.locals r to
-
-  rises : (r : ℕ) → MayAdvance log r to → local_of log r < local_of (next r) r
-  rises r may = omega (arith, get_or-set_same log.locals r to 0 may.there, may.some)
-
-  same : (r k : ℕ) → (k ≡ r → ⊥) → room_of (tail log) (local_of (next r) k) (nat_le (k + 1) (length (next r).locals))
-      ≡ room_of (tail log) (local_of log k) (nat_le (k + 1) (length log.locals))
-  same r k other = λ i. room_of (tail log) (stays r k other i) (nat_le (k + 1) (as_many r i))
-
-  more : (r : ℕ) → MayAdvance log r to → FitsTheRing (next r) → room_of (tail log) (local_of log r) (nat_le (r + 1) (length log.locals))
-      < room_of (tail log) (local_of (next r) r) (nat_le (r + 1) (length (next r).locals))
-  more r may after = omega (arith, rises r may, (room_is log fits r).here may.there, (room_is (next r) after r).here (omega (arith, as_many r, may.there)))
-
-  few_of : (k : ℕ) → room_of (tail log) (local_of log k) (nat_le (k + 1) (length log.locals)) ≤ 16
-  few_of k = (room_is log fits k).few
-
-  few_after : (r k : ℕ) → FitsTheRing (next r) → room_of (tail log) (local_of (next r) k) (nat_le (k + 1) (length (next r).locals)) ≤ 16
-  few_after r k after = (room_is (next r) after k).few
-
-  by_replica : (r : ℕ) → MayAdvance log r to → FitsTheRing (next r) → code_of_log log < code_of_log (next r)
-  by_replica zero may after =
-      omega (
-        arith,
-        as_many 0,
-        more 0 may after,
-        few_of 1,
-        few_of 2,
-        few_of 3,
-        same 0 1 (λ e. omega arith),
-        same 0 2 (λ e. omega arith),
-        same 0 3 (λ e. omega arith),
-      )
-  by_replica (suc zero) may after =
-      omega (arith, as_many 1, more 1 may after, few_of 2, few_of 3, same 1 0 (λ e. omega arith), same 1 2 (λ e. omega arith), same 1 3 (λ e. omega arith))
-  by_replica (suc (suc zero)) may after =
-      omega (arith, as_many 2, more 2 may after, few_of 3, same 2 0 (λ e. omega arith), same 2 1 (λ e. omega arith), same 2 3 (λ e. omega arith))
-  by_replica (suc (suc (suc zero))) may after =
-      omega (arith, as_many 3, more 3 may after, same 3 0 (λ e. omega arith), same 3 1 (λ e. omega arith), same 3 2 (λ e. omega arith))
-  by_replica (suc (suc (suc (suc r)))) may after = absurd (omega (arith, may.there, few))
-
--- the local tails of a log
-abbrev pub locals_of : Log → List ℕ
-locals_of log = local_of log 0 ∷ local_of log 1 ∷ local_of log 2 ∷ local_of log 3 ∷ []
-
-locals_are : (log : Log) (words : List ℕ) → IsHeadOf log words → locals_in words ≡ locals_of log
-locals_are log words is = λ i. is.locals_are 0 (omega arith) i ∷ is.locals_are 1 (omega arith) i ∷ is.locals_are 2 (omega arith) i
-    ∷ is.locals_are 3 (omega arith) i ∷ []
+locals_are : (log : Log) (last : ℕ) (head : List ℕ) → IsHeadOf log last head → locals_in head ≡ locals_of log
+locals_are log last head is = same_listed (λ r. slice_index head (2 + r)) (local_of log) 0 4 (λ r low lt. is.locals_are r (omega (arith, lt)))
 
 -- the local tails after an advance
 advanced_locals : (log : Log) (replica to : ℕ) → replica < length log.locals → length log.locals ≤ 4
     → set (locals_of log) replica to ≡ locals_of (log_after_event log (Advance replica to))
-advanced_locals log replica to there few = by_replica replica there where
-  here : (r : ℕ) → r < length log.locals → to ≡ get_or (set log.locals r to) r 0
-  here r there = sym (get_or-set_same log.locals r to 0 there)
+advanced_locals log replica to there few =
+    let at : 0 + replica ≡ replica = omega arith in
+    let next = log_after_event log (Advance replica to) in
+    set_listed (local_of log) (local_of next) 0 4 replica to (omega (arith, there, few))
+    (sym (ap (local_of next) at ∙ get_or-set_same log.locals replica to 0 there))
+    (λ k other. sym (get_or-set_other log.locals replica k to 0 (λ e. other (e ∙ sym at))))
 
-  other : (r k : ℕ) → (k ≡ r → ⊥) → local_of log k ≡ get_or (set log.locals r to) k 0
-  other r k apart = sym (get_or-set_other log.locals r k to 0 apart)
-
-  by_replica : (r : ℕ) → r < length log.locals → set (locals_of log) r to ≡ locals_of (log_after_event log (Advance r to))
-  by_replica zero there = λ i. here 0 there i ∷ other 0 1 (λ e. omega arith) i ∷ other 0 2 (λ e. omega arith) i ∷ other 0 3 (λ e. omega arith) i ∷ []
-  by_replica (suc zero) there = λ i. other 1 0 (λ e. omega arith) i ∷ here 1 there i ∷ other 1 2 (λ e. omega arith) i ∷ other 1 3 (λ e. omega arith) i ∷ []
-  by_replica (suc (suc zero)) there =
-      λ i. other 2 0 (λ e. omega arith) i ∷ other 2 1 (λ e. omega arith) i ∷ here 2 there i ∷ other 2 3 (λ e. omega arith) i ∷ []
-  by_replica (suc (suc (suc zero))) there =
-      λ i. other 3 0 (λ e. omega arith) i ∷ other 3 1 (λ e. omega arith) i ∷ other 3 2 (λ e. omega arith) i ∷ here 3 there i ∷ []
-  by_replica (suc (suc (suc (suc r)))) there = absurd (omega (arith, there, few))
-
-pub append_code : (log : Log) (words : List ℕ) (batch : List LogEntry) (t : ℕ) → IsHeadOf log words → t ≡ slice_index words 0 + length batch
-    → code_of t (locals_in words) (slice_index words 6) ≡ code_of_log (log_after_event log (Append batch))
-append_code log words batch t is tail_is =
+pub append_code : (log : Log) (last : ℕ) (head : List ℕ) (batch : List LogEntry) (t : ℕ) → IsHeadOf log last head → t ≡ slice_index head 0 + length batch
+    → code_of t (locals_in head) (slice_index head 6) ≡ code_of_log (log_after_event log (Append batch))
+append_code log last head batch t is tail_is =
     let longer : t ≡ length (log.entries ++ batch) = omega (arith, tail_is, is.tail_is, length-append log.entries batch) in
-    λ i. code_of (longer i) (locals_are log words is i) (is.replicas_are i)
+    λ i. code_of (longer i) (locals_are log last head is i) (is.replicas_are i)
 
 -- the code after an advance of a log with these local tails
 raised_code : (log : Log) (replica to t n : ℕ) (locals : List ℕ) → replica < length log.locals → length log.locals ≤ 4 → t ≡ tail log
@@ -256,26 +211,26 @@ raised_code log replica to t n locals there few tail_is same count =
     let moved = ap (λ (l : List ℕ). set l replica to) same ∙ advanced_locals log replica to there few in
     λ i. code_of (tail_is i) (moved i) ((count ∙ sym (length-set log.locals replica to)) i)
 
-pub advance_code : (log : Log) (words : List ℕ) (replica to t : ℕ) → IsHeadOf log words → replica < length log.locals → length log.locals ≤ 4
+pub advance_code : (log : Log) (last : ℕ) (head : List ℕ) (replica to t : ℕ) → IsHeadOf log last head → replica < length log.locals → length log.locals ≤ 4
     → t ≡ tail log
-    → code_of t (set (locals_in words) replica to) (slice_index words 6) ≡ code_of_log (log_after_event log (Advance replica to))
-advance_code log words replica to t is there few tail_is =
-    raised_code log replica to t (slice_index words 6) (locals_in words) there few tail_is (locals_are log words is) is.replicas_are
+    → code_of t (set (locals_in head) replica to) (slice_index head 6) ≡ code_of_log (log_after_event log (Advance replica to))
+advance_code log last head replica to t is there few tail_is =
+    raised_code log replica to t (slice_index head 6) (locals_in head) there few tail_is (locals_are log last head is) is.replicas_are
 
 -- and after an append and then an advance
-pub both_code : (log : Log) (words : List ℕ) (batch : List LogEntry) (replica to t : ℕ) → IsHeadOf log words → replica < length log.locals
+pub both_code : (log : Log) (last : ℕ) (head : List ℕ) (batch : List LogEntry) (replica to t : ℕ) → IsHeadOf log last head → replica < length log.locals
     → length log.locals ≤ 4
     → t ≡ tail log + length batch
-    → code_of t (set (locals_in words) replica to) (slice_index words 6)
+    → code_of t (set (locals_in head) replica to) (slice_index head 6)
     ≡ code_of_log (log_after_event (log_after_event log (Append batch)) (Advance replica to))
-both_code log words batch replica to t is there few tail_is =
-    raised_code (log_after_event log (Append batch)) replica to t (slice_index words 6) (locals_in words) there few
-    (tail_is ∙ sym (length-append log.entries batch)) (locals_are log words is) is.replicas_are
+both_code log last head batch replica to t is there few tail_is =
+    raised_code (log_after_event log (Append batch)) replica to t (slice_index head 6) (locals_in head) there few
+    (tail_is ∙ sym (length-append log.entries batch)) (locals_are log last head is) is.replicas_are
 
--- the local tails that words have are small, and stay so where one is raised to a small one
-pub small_locals : (words locals : List ℕ) → AreSmall words → locals ≡ locals_in words → All (λ local. local ≤ 65536) locals
-small_locals words locals small is = subst (λ (l : List ℕ). All (λ local. local ≤ 65536) l) (sym is) each where
-  each : All (λ local. local ≤ 65536) (locals_in words)
+-- the local tails that a head has are small, and stay so where one is raised to a small one
+pub small_locals : (head locals : List ℕ) → AreSmall head → locals ≡ locals_in head → All (λ local. local ≤ 65536) locals
+small_locals head locals small is = subst (λ (l : List ℕ). All (λ local. local ≤ 65536) l) (sym is) each where
+  each : All (λ local. local ≤ 65536) (locals_in head)
   each zero d lt = small.tails 2 (omega arith)
   each (suc zero) d lt = small.tails 3 (omega arith)
   each (suc (suc zero)) d lt = small.tails 4 (omega arith)
@@ -287,3 +242,78 @@ pub small_still : (locals : List ℕ) (replica to : ℕ) → replica < length lo
 small_still locals replica to inside all le k d lt = dite (ℕ_discrete k replica)
     (λ e. omega (arith, le, ap (λ (z : ℕ). get_or (set locals replica to) z d) e ∙ get_or-set_same locals replica to d inside))
     (λ other. omega (arith, all k d (omega (arith, lt, length-set locals replica to)), get_or-set_other locals replica k to d other))
+
+-- the code of small tails is small
+item_small : (locals : List ℕ) (k : ℕ) → All (λ local. local ≤ 65536) locals → get_or locals k 0 ≤ 65536
+item_small [] k all = omega arith
+item_small (x ∷ xs) zero all = all 0 0 (omega arith)
+item_small (x ∷ xs) (suc k) all = item_small xs k (λ i d lt. all (suc i) d (omega arith))
+
+room_small : (tail local : ℕ) (b : Bool) → local ≤ 65536 → room_of tail local b ≤ 65552
+room_small tail local true le = omega arith
+room_small tail local false le = omega arith
+
+rooms_small : (tail count first : ℕ) (locals : List ℕ) (k : ℕ) → All (λ local. local ≤ 65536) locals → get_or (rooms_of tail locals first count) k 0 ≤ 65552
+rooms_small tail count first locals k all = dite (dec_le (length locals) k)
+    (λ high. let none = beyond (rooms_of tail locals first count) k (omega (arith, rooms_long tail locals first count, high)) in omega (arith, none))
+    (λ low.
+    let lt : k < length locals = omega (arith, low) in
+    let b = nat_le (first + k + 1) count in
+    omega (arith, room_in tail locals first count k lt, room_small tail (get_or locals k 0) b (item_small locals k all)))
+
+pub low_codes : (tail count first : ℕ) (locals : List ℕ) → tail ≤ 65536 → length locals ≤ 4 → All (λ local. local ≤ 65536) locals
+    → packed tail (rooms_of tail locals first count) < 2 ^ 40
+low_codes tail count first locals low few all =
+    few_low tail (rooms_of tail locals first count) low (omega (arith, rooms_long tail locals first count, few))
+    (λ k. rooms_small tail count first locals k all)
+
+pub small_codes : (tail count : ℕ) (locals : List ℕ) → tail ≤ 65536 → count ≤ 4 → length locals ≤ 4 → All (λ local. local ≤ 65536) locals
+    → code_of tail locals count < 2 ^ 48
+small_codes tail count locals low few long all =
+    let packed_low = low_codes tail count 0 locals low long all in
+    eight (packed tail (rooms_of tail locals 0 count)) count packed_low few where
+      eight : (p count : ℕ) → p < 2 ^ 40 → count ≤ 4 → p * 8 + count < 2 ^ 48
+      eight p count low few = omega arith
+
+pub all_taken : (n : ℕ) (xs : List ℕ) → All (λ local. local ≤ 65536) xs → All (λ local. local ≤ 65536) (take n xs)
+all_taken zero xs all k d lt = absurd (omega arith)
+all_taken (suc n) [] all k d lt = absurd (omega arith)
+all_taken (suc n) (x ∷ xs) all zero d lt = all 0 d (omega arith)
+all_taken (suc n) (x ∷ xs) all (suc k) d lt = all_taken n xs (λ j e le. all (suc j) e (omega arith)) k d (omega arith)
+
+few_taken : (n : ℕ) (xs : List ℕ) → length (take n xs) ≤ n
+few_taken zero xs = omega arith
+few_taken (suc n) [] = omega arith
+few_taken (suc n) (x ∷ xs) = let rest = few_taken n xs in omega arith
+
+-- and so is that of the first local tails, so many
+pub low_start : (tail count n : ℕ) (locals : List ℕ) → tail ≤ 65536 → n ≤ 4 → All (λ local. local ≤ 65536) locals
+    → packed tail (rooms_of tail (take n locals) 0 count) < 2 ^ 40
+low_start tail count n locals low few all = low_codes tail count 0 (take n locals) low (omega (arith, few_taken n locals, few)) (all_taken n locals all)
+
+pub low_room : (tail count k : ℕ) (locals : List ℕ) → All (λ local. local ≤ 65536) locals → room_of tail (get_or locals k 0) (nat_le (k + 1) count) ≤ 65552
+low_room tail count k locals all = room_small tail (get_or locals k 0) (nat_le (k + 1) count) (item_small locals k all)
+
+-- one local tail more
+pub one_room_more : (tail count n : ℕ) (locals : List ℕ) → n < length locals
+    → packed tail (rooms_of tail (take (n + 1) locals) 0 count)
+    ≡ packed tail (rooms_of tail (take n locals) 0 count) * 32 + room_of tail (get_or locals n 0) (nat_le (n + 1) count)
+one_room_more tail count n locals lt =
+    let at : 0 + n + 1 ≡ n + 1 = omega arith in
+    let Rooms : ℕ → List ℕ = λ k. rooms_of tail (take n locals) 0 count ++ room_of tail (get_or locals n 0) (nat_le k count) ∷ [] in
+    ap (packed tail) (rooms_more tail count n 0 locals lt ∙ ap Rooms at)
+    ∙ packed_end tail (rooms_of tail (take n locals) 0 count) (room_of tail (get_or locals n 0) (nat_le (n + 1) count)) where
+      rooms_more : (tail count n first : ℕ) (locals : List ℕ) → n < length locals
+          → rooms_of tail (take (n + 1) locals) first count
+          ≡ rooms_of tail (take n locals) first count ++ room_of tail (get_or locals n 0) (nat_le (first + n + 1) count) ∷ []
+      rooms_more tail count n first [] lt = absurd (omega arith)
+      rooms_more tail count zero first (l ∷ ls) lt = ap (λ (k : ℕ). room_of tail l (nat_le k count) ∷ []) (omega arith)
+      rooms_more tail count (suc n) first (l ∷ ls) lt =
+          let room = room_of tail l (nat_le (first + 1) count) in
+          let at : suc n + 1 ≡ suc (n + 1) = omega arith in
+          ap (λ (k : ℕ). rooms_of tail (take k (l ∷ ls)) first count) at
+          ∙ ap (λ (r : List ℕ). room ∷ r) (rooms_more tail count n (first + 1) ls (omega arith))
+          ∙ ap (λ (k : ℕ). room ∷ (rooms_of tail (take n ls) (first + 1) count ++ room_of tail (get_or ls n 0) (nat_le k count) ∷ [])) (omega arith)
+
+pub test_same : (n count : ℕ) → nat_lt n count ≡ nat_le (n + 1) count
+test_same n count = let at : suc n ≡ n + 1 = omega arith in ap (λ (k : ℕ). nat_le k count) at

@@ -1,25 +1,26 @@
--- Of what two passes have seen of one history, one begins with the other; and the codes of their words say which.
+-- Of what two passes have seen of one history, one begins with the other; and the codes of their values say which.
 use Rattle.std.proofs.Common.{◌≡◌, ℕ, zero, suc, ◌+◌, ◌<◌, ◌≤◌, ◌⊎◌, List, [], ◌∷◌, ◌++◌, All, Option, drop, length, get_or, ⊎_elim, inl, inr, refl, ap, sym, subst, ◌∙◌, arith}
-use Rattle.std.specs.Prelude.{slice_index_or}
+use Rattle.std.specs.Prelude.{slice_index_or, slice_set}
 use Rattle.std.proofs.lemmas.List.{append-nil, append_assoc, append_cancel_left}
 use Rattle.std.proofs.lemmas.List.Elements.{All-cons}
 use mathlib.Core.Option.{some}
 use lib.ListN.{get_elem?}
 use Rattle.version_cell.specs.Meetings.{HaveComeFurther, Recalls}
+use Rattle.version_cell.specs.Passes.{CellPass}
 use Rattle.vs_types.specs.declared.depth.Depth.{Depth}
 use Rattle.nr_ring.specs.Calls.{Looks, joint_view}
-use Rattle.nr_ring.specs.Laws.{FitsTheRing}
-use Rattle.nr_ring.specs.LogHistory.{IsLogHistory, log_after, new_log}
+use Rattle.nr_ring.specs.Laws.{FitsTheRing, HasSameTails}
+use Rattle.nr_ring.specs.LogHistory.{IsLogHistory, log_after, new_log, tail}
 use Rattle.nr_ring.specs.Rule.{IsKept}
 use Rattle.nr_ring.specs.View.{HasSeenAdvances, IsElse, IsTrueOf, StartsWith, made_by_pass}
-use Rattle.nr_ring.specs.Words.{IsWordsOf}
+use Rattle.nr_ring.specs.Words.{last_ring, ring_before}
 use Rattle.nr_ring.specs.declared.log_event.LogEvent.{LogEvent}
+use Rattle.nr_ring.specs.declared.stored.Stored.{Stored}
 use Rattle.nr_ring.specs.declared.view.View.{View}
 use Rattle.nr_ring.specs.inside.Codes.{code_in, code_of_log}
 use Rattle.nr_ring.specs.inside.Held.{Remembers}
-use Rattle.nr_ring.proofs.Appends.{begins}
-use Rattle.nr_ring.proofs.Codes.{code_is, event_raises}
-use Rattle.nr_ring.proofs.Histories.{as_many_locals, goes_on_after, goes_on_before, history_fits}
+use Rattle.nr_ring.proofs.Codes.{event_raises, same_tails}
+use Rattle.nr_ring.proofs.Histories.{as_many_locals, begins, goes_on_after, goes_on_before, history_fits}
 use Rattle.nr_ring.proofs.Turns.{seeing, seeing_kept}
 use Rattle.nr_ring.proofs.Views.{after_one_more, whole}
 
@@ -79,19 +80,20 @@ between replica whole middle seen all last first =
       (first.0, first.1, all_of_first (IsElse replica) first.0 last.0 each),
     )
 
--- a pass that was given another's sees as much as one of the two, of which both were a beginning, and the words are those of then
-sees : (depth : Depth) (replicas passes pass : ℕ) (told other : View) (seen : List LogEvent) (words x : List ℕ) (views : List View) → replicas ≤ 4
+-- a pass that was given another's sees as much as one of the two, of which both were a beginning, and the value is that
+sees : (depth : Depth) (replicas passes pass : ℕ) (told other : View) (value x : Stored) (views : List View)
     → (kept : IsKept depth replicas passes x views) → get_elem? views pass ≡ some (joint_view told other)
-    → StartsWith kept.history seen → StartsWith seen told.seen → StartsWith seen other.seen → All (StartsWith told.seen) told.told
-    → IsLogHistory depth replicas seen → IsWordsOf (log_after replicas seen) words
-    → (w : View) × IsKept depth replicas passes x (Rattle.std.specs.Prelude.slice_set views pass w) × Looks depth replicas words (joint_view told other) w
-sees depth replicas passes pass told other seen words x views few kept at here mine its told_all is now =
+    → StartsWith x.history value.history → StartsWith value.history told.seen → StartsWith value.history other.seen → All (StartsWith told.seen) told.told
+    → IsLogHistory depth replicas value.history → length value.rings ≡ tail (log_after replicas value.history) → All (λ ring. ring < passes) value.rings
+    → (w : View) × IsKept depth replicas passes x (slice_set views pass w) × Looks depth replicas passes value (joint_view told other) w
+sees depth replicas passes pass told other value x views kept at here mine its told_all is each below =
     let v : View = joint_view told other in
+    let seen = value.history in
     let w : View = seeing seen v in
-    let old : IsTrueOf kept.history (made_by_pass pass kept.makers) v = kept.each_view pass v at in
+    let old : IsTrueOf x.history (made_by_pass pass kept.makers) v = kept.each_view pass v at in
     let own : (k d : ℕ) → k < length v.owns
-    → HasSeenAdvances (slice_index_or v.owns k d) kept.history seen × HasSeenAdvances (slice_index_or v.owns k d) seen told.seen =
-    λ k d lt. between (slice_index_or v.owns k d) kept.history seen told.seen (old.owns k d lt) here mine in (
+    → HasSeenAdvances (slice_index_or v.owns k d) x.history seen × HasSeenAdvances (slice_index_or v.owns k d) seen told.seen =
+    λ k d lt. between (slice_index_or v.owns k d) x.history seen told.seen (old.owns k d lt) here mine in (
       w,
       seeing_kept depth replicas passes pass v seen x views kept at (record { seen = here; told = old.told; owns = λ k d lt. (own k d lt).0; mine = old.mine }),
       record {
@@ -105,51 +107,98 @@ sees depth replicas passes pass told other seen words x views few kept at here m
           owns = refl;
           rights = refl;
         };
-        words_are = now;
+        found_is = refl;
+        each_ring = each;
+        rings_below = below;
       },
     )
 
-pub meeting_recalls : (depth : Depth) (replicas passes pass : ℕ) (told other given : View) (first second words : List ℕ) (own its : Option ℕ)
-    → Remembers depth replicas first own told → Remembers depth replicas second its other → given.seen ≡ other.seen → HaveComeFurther code_in first second words
-    → Recalls (IsKept depth replicas passes) pass (joint_view told given) words (λ before words' words'' after. Looks depth replicas words'' before after)
-meeting_recalls depth replicas passes pass told other given first second words own its is they same further x views kept at =
-    let old : IsTrueOf kept.history (made_by_pass pass kept.makers) (joint_view told given) = kept.each_view pass (joint_view told given) at in
-    let Now : List LogEvent → Type 0 = λ l. StartsWith kept.history l in
-    let hers : StartsWith kept.history other.seen = subst Now same (old.told 0 [] (omega arith)) in
-    let mine : StartsWith kept.history told.seen = old.seen in
-    let one = code_is (log_after replicas told.seen) first is.words_are in
-    let two = code_is (log_after replicas other.seen) second they.words_are in
-    let Of : List ℕ → List LogEvent → Type 0 = λ ws l. IsWordsOf (log_after replicas l) ws in
-    let Ends : List LogEvent → Type 0 = λ l. StartsWith told.seen l in
-    let Begins : List LogEvent → Type 0 = λ l. StartsWith other.seen l in
-    let as_told : StartsWith told.seen other.seen → code_in second ≤ code_in first → words ≡ first
-    → (w : View) × IsKept depth replicas passes x (Rattle.std.specs.Prelude.slice_set views pass w) × Looks depth replicas words (joint_view told given) w =
-    λ after le chosen. sees depth replicas passes pass told given told.seen words x views is.few kept at mine (whole told.seen)
-    (subst Ends (sym same) after) is.told is.is_history
-    (subst (λ (ws : List ℕ). Of ws told.seen) (sym chosen) is.words_are) in
-    let as_other : StartsWith other.seen told.seen → words ≡ second
-    → (w : View) × IsKept depth replicas passes x (Rattle.std.specs.Prelude.slice_set views pass w) × Looks depth replicas words (joint_view told given) w =
-    λ after chosen. sees depth replicas passes pass told given other.seen words x views is.few kept at hers after
-    (subst Begins (sym same) (whole other.seen)) is.told they.is_history
-    (subst (λ (ws : List ℕ). Of ws other.seen) (sym chosen) they.words_are) in
-    let order = either_begins told.seen other.seen mine.0 hers.0 (sym mine.1 ∙ hers.1) in
-    ⊎_elim
-    (λ (t : (code_in first < code_in second) × (words ≡ second)).
-    let lt = t.0 in
-    ⊎_elim
-    (λ (o : StartsWith other.seen told.seen). as_other o t.1)
-    (λ (o : StartsWith told.seen other.seen). absurd (omega (arith, lt, one, two, code_rises depth replicas told.seen other.seen is.few is.is_history o)))
-    order)
-    (λ (t : (code_in second ≤ code_in first) × (words ≡ first)).
-    let le = t.0 in
-    ⊎_elim
-    (λ (o : StartsWith other.seen told.seen).
-    let rises = code_rises depth replicas other.seen told.seen is.few they.is_history o in
-    let none : length o.0 ≡ 0 = omega (arith, le, one, two, rises) in
-    as_told ([], sym (o.1 ∙ ap (λ (l : List LogEvent). told.seen ++ l) (no_items o.0 none) ∙ append-nil told.seen) ∙ sym (append-nil other.seen)) le t.1)
-    (λ (o : StartsWith told.seen other.seen). as_told o le t.1)
-    order)
-    further where
-      no_items : (l : List LogEvent) → length l ≡ 0 → l ≡ []
-      no_items [] e = refl
-      no_items (x ∷ xs) e = absurd (omega arith)
+no_items : (l : List LogEvent) → length l ≡ 0 → l ≡ []
+no_items [] e = refl
+no_items (x ∷ xs) e = absurd (omega arith)
+
+-- where nothing goes on after a beginning, it is all
+all_of : (events seen : List LogEvent) (b : StartsWith events seen) → length b.0 ≡ 0 → StartsWith seen events
+all_of events seen b none =
+    ([], sym (b.1 ∙ ap (λ (l : List LogEvent). seen ++ l) (no_items b.0 none) ∙ append-nil seen) ∙ sym (append-nil events))
+
+-- the rings of entries are few
+pub last_below : (n : ℕ) (rings : List ℕ) (k : ℕ) → 1 ≤ n → All (λ ring. ring < n) rings → ring_before rings k < n
+last_below n rings zero one below = one
+last_below n [] (suc k) one below = one
+last_below n (r ∷ rings) (suc zero) one below = below 0 0 (omega arith)
+last_below n (r ∷ rings) (suc (suc k)) one below = last_below n rings (suc k) one (λ i d lt. below (suc i) d (omega arith))
+
+-- a code determines the tails and the last ring
+pub codes_tell : (depth : Depth) (replicas : ℕ) (x y : Stored) → replicas ≤ 4 → IsLogHistory depth replicas x.history → IsLogHistory depth replicas y.history
+    → last_ring x < 128 → last_ring y < 128 → code_in replicas x ≡ code_in replicas y
+    → HasSameTails (log_after replicas x.history) (log_after replicas y.history) × (last_ring x ≡ last_ring y)
+codes_tell depth replicas x y few is is' low low' same =
+    let p = log_after replicas x.history in
+    let q = log_after replicas y.history in
+    let many = as_many_locals depth replicas x.history is in
+    let many' = as_many_locals depth replicas y.history is' in
+    let code : code_of_log p ≡ code_of_log q = omega (arith, same, low, low') in (
+      same_tails p q (history_fits depth replicas x.history is) (history_fits depth replicas y.history is') (omega (arith, many, few))
+          (omega (arith, many', few)) code,
+      omega (arith, same, low, low'),
+    )
+
+module _ (depth : Depth) (replicas passes : ℕ) where
+  pub last_few : (own : Option ℕ) (mine : ℕ) (p : CellPass View Stored) → Remembers depth replicas passes own mine p → last_ring p.value < 128
+  last_few own mine p is =
+      omega (arith, last_below passes p.value.rings (length p.value.rings) (omega (arith, is.ring_below)) is.rings_below, is.few_rings)
+
+  known_history : (own : Option ℕ) (mine : ℕ) (p : CellPass View Stored) → Remembers depth replicas passes own mine p
+      → IsLogHistory depth replicas p.value.history
+  known_history own mine p is = let Is : List LogEvent → Type 0 = λ l. IsLogHistory depth replicas l in subst Is (sym is.value_is) is.is_history
+
+  known_rings : (own : Option ℕ) (mine : ℕ) (p : CellPass View Stored) → Remembers depth replicas passes own mine p
+      → length p.value.rings ≡ tail (log_after replicas p.value.history)
+  known_rings own mine p is = is.each_ring ∙ ap (λ (l : List LogEvent). tail (log_after replicas l)) (sym is.value_is)
+
+  pub meeting_recalls : (pass : ℕ) (own its : Option ℕ) (mine theirs : ℕ) (told other : CellPass View Stored) (given : View) (value : Stored)
+      → Remembers depth replicas passes own mine told → Remembers depth replicas passes its theirs other → given.seen ≡ other.view.seen
+      → HaveComeFurther (code_in replicas) told.value other.value value
+      → Recalls (IsKept depth replicas passes) pass (joint_view told.view given) value (λ before x found after. Looks depth replicas passes found before after)
+  meeting_recalls pass own its mine theirs told other given value is they same further x views kept at =
+      let old : IsTrueOf x.history (made_by_pass pass kept.makers) (joint_view told.view given) = kept.each_view pass (joint_view told.view given) at in
+      let Now : List LogEvent → Type 0 = λ l. StartsWith x.history l in
+      let first = told.value.history in
+      let second = other.value.history in
+      let given_is : given.seen ≡ second = same ∙ sym they.value_is in
+      let hers : StartsWith x.history second = subst Now given_is (old.told 0 [] (omega arith)) in
+      let my : StartsWith x.history first = subst Now (sym is.value_is) old.seen in
+      let Found : Stored → Type 0 = λ z. (w : View) × IsKept depth replicas passes x (slice_set views pass w)
+      × Looks depth replicas passes z (joint_view told.view given) w in
+      let as_told : StartsWith first second → Found told.value =
+      λ after. sees depth replicas passes pass told.view given told.value x views kept at my
+      (subst (λ (l : List LogEvent). StartsWith first l) is.value_is (whole first))
+      (subst (λ (l : List LogEvent). StartsWith first l) (sym given_is) after) is.told (known_history own mine told is)
+      (known_rings own mine told is) is.rings_below in
+      let as_other : StartsWith second first → Found other.value =
+      λ after. sees depth replicas passes pass told.view given other.value x views kept at hers
+      (subst (λ (l : List LogEvent). StartsWith second l) is.value_is after)
+      (subst (λ (l : List LogEvent). StartsWith second l) (sym given_is) (whole second)) is.told (known_history its theirs other they)
+      (known_rings its theirs other they) they.rings_below in
+      let order = either_begins first second my.0 hers.0 (sym my.1 ∙ hers.1) in
+      let few = last_few own mine told is in
+      let few' = last_few its theirs other they in
+      let up = λ (o : StartsWith first second). code_rises depth replicas first second is.few (known_history own mine told is) o in
+      let up' = λ (o : StartsWith second first). code_rises depth replicas second first is.few (known_history its theirs other they) o in
+      ⊎_elim
+      (λ (t : (code_in replicas told.value < code_in replicas other.value) × (value ≡ other.value)).
+      let lt = t.0 in
+      subst Found (sym t.1)
+      (⊎_elim
+      (λ (o : StartsWith second first). as_other o)
+      (λ (o : StartsWith first second). as_other (all_of first second o (omega (arith, lt, few, few', up o))))
+      order))
+      (λ (t : (code_in replicas other.value ≤ code_in replicas told.value) × (value ≡ told.value)).
+      let le = t.0 in
+      subst Found (sym t.1)
+      (⊎_elim
+      (λ (o : StartsWith second first). as_told (all_of second first o (omega (arith, le, few, few', up' o))))
+      (λ (o : StartsWith first second). as_told o)
+      order))
+      further

@@ -1,5 +1,5 @@
 -- What events change.
-use Rattle.std.proofs.Common.{◌≡◌, ℕ, zero, suc, ◌+◌, ◌<◌, ◌≤◌, List, [], ◌∷◌, ◌++◌, All, length, get_or, replicate, subst, ◌⊎◌, inl, inr, ⊎_elim, refl, ap}
+use Rattle.std.proofs.Common.{◌≡◌, ℕ, zero, suc, ◌+◌, ◌≤◌, List, [], ◌∷◌, ◌++◌, All, length, get_or, replicate, subst, ◌⊎◌, inl, inr, ⊎_elim, refl, ap}
 use Rattle.std.proofs.Common.{sym, ◌∙◌, le_refl, le_trans, arith}
 use Rattle.std.proofs.Math.ListN.{length-append, length-set, length-replicate}
 use Rattle.std.proofs.lemmas.List.{append-nil, append_assoc, get_or-set_other, get_or-set_same}
@@ -9,7 +9,6 @@ use Rattle.vs_types.specs.declared.limits.TheConstants.{LOG_PLACES}
 use Rattle.vs_types.specs.declared.log_entry.LogEntry.{LogEntry}
 use Rattle.nr_ring.specs.LogHistory.{Log, new_log, tail, local_of, completed, MayAppend, MayFollow, MayGoOn, IsLogHistory, IsEnded, IsFull, log_after_event, log_after_events}
 use Rattle.nr_ring.specs.LogHistory.{log_after}
-use Rattle.nr_ring.specs.Words.{IsWordsOf}
 use Rattle.nr_ring.specs.View.{HasSeenAdvances, IsElse, StartsWith}
 use Rattle.nr_ring.specs.Laws.{HasGoneOn, HasSameTails, FitsTheRing}
 use Rattle.nr_ring.specs.declared.log_event.LogEvent.{LogEvent}
@@ -47,7 +46,7 @@ events_go_on depth log (event ∷ events) may =
     goes_on log (log_after_event log event) (log_after_events (log_after_event log event) events) (one_event depth log event may.0)
     (events_go_on depth (log_after_event log event) events may.1)
 
-tail_rises : (p q : Log) → HasGoneOn p q → tail p ≤ tail q
+pub tail_rises : (p q : Log) → HasGoneOn p q → tail p ≤ tail q
 tail_rises p q on = omega (arith, length-append p.entries on.entries.0, ap (λ (l : List LogEntry). length l) on.entries.1)
 
 pub no_event : (depth : Depth) (log : Log) (events : List LogEvent) → MayGoOn depth log events → HasSameTails (log_after_events log events) log → events ≡ []
@@ -132,28 +131,20 @@ pub as_many_locals : (depth : Depth) (replicas : ℕ) (events : List LogEvent) �
     → length (log_after replicas events).locals ≡ replicas
 as_many_locals depth replicas events is = (events_go_on depth (new_log replicas) events is).replicas ∙ length-replicate replicas 0
 
-past_end : (xs : List ℕ) (i : ℕ) → length xs ≤ i → get_or xs i 0 ≡ 0
-past_end [] i le = refl
-past_end (x ∷ xs) zero le = absurd (omega arith)
-past_end (x ∷ xs) (suc i) le = past_end xs i (omega arith)
+pub beginning_is : (depth : Depth) (replicas : ℕ) (events seen : List LogEvent) → IsLogHistory depth replicas events → StartsWith events seen
+    → IsLogHistory depth replicas seen
+beginning_is depth replicas events seen is begins =
+    let Is : List LogEvent → Type 0 = λ l. IsLogHistory depth replicas l in
+    goes_on_before depth (new_log replicas) seen begins.0 (subst Is begins.1 is)
 
--- where the words are those after what was seen, all was seen
-pub seen_all : (depth : Depth) (replicas : ℕ) (history seen : List LogEvent) (words : List ℕ) → replicas ≤ 4 → IsLogHistory depth replicas history
-    → StartsWith history seen
-    → IsWordsOf (log_after replicas seen) words → IsWordsOf (log_after replicas history) words → history ≡ seen
-seen_all depth replicas history seen words few is begins before now =
-    let all : IsLogHistory depth replicas (seen ++ begins.0) = rw begins.1 at is in
-    let first : IsLogHistory depth replicas seen = goes_on_before depth (new_log replicas) seen begins.0 all in
-    let later : MayGoOn depth (log_after replicas seen) begins.0 = goes_on_after depth (new_log replicas) seen begins.0 all in
-    let log : log_after replicas history ≡ log_after_events (log_after replicas seen) begins.0 =
-    ap (log_after replicas) begins.1 ∙ after_both (new_log replicas) seen begins.0 in
-    let low : (r : ℕ) → r < 4 → local_of (log_after replicas history) r ≡ local_of (log_after replicas seen) r =
-    λ r lt. sym (now.locals_are r lt) ∙ before.locals_are r lt in
-    let high : (r : ℕ) → 4 ≤ r → local_of (log_after replicas history) r ≡ local_of (log_after replicas seen) r = λ r le.
-    past_end (log_after replicas history).locals r (omega (arith, as_many_locals depth replicas history is))
-    ∙ sym (past_end (log_after replicas seen).locals r (omega (arith, as_many_locals depth replicas seen first))) in
-    let same : HasSameTails (log_after replicas history) (log_after replicas seen) =
-    record { tail = sym now.tail_is ∙ before.tail_is; locals = λ r. ⊎_elim (high r) (low r) (le_or_lt 4 r) } in
-    let P : Log → Type 0 = λ l. HasSameTails l (log_after replicas seen) in
-    let none : begins.0 ≡ [] = no_event depth (log_after replicas seen) begins.0 later (subst P log same) in
-    begins.1 ∙ ap (λ (l : List LogEvent). seen ++ l) none ∙ append-nil seen
+pub beginning_goes_on : (depth : Depth) (replicas : ℕ) (events seen : List LogEvent) → IsLogHistory depth replicas events → StartsWith events seen
+    → HasGoneOn (log_after replicas seen) (log_after replicas events)
+beginning_goes_on depth replicas events seen is begins =
+    let Is : List LogEvent → Type 0 = λ l. IsLogHistory depth replicas l in
+    let To : Log → Type 0 = λ log. HasGoneOn (log_after replicas seen) log in
+    let rest = goes_on_after depth (new_log replicas) seen begins.0 (subst Is begins.1 is) in
+    subst To (sym (ap (log_after replicas) begins.1 ∙ after_both (new_log replicas) seen begins.0))
+    (events_go_on depth (log_after replicas seen) begins.0 rest)
+
+unfoldable pub begins : (a b c : List LogEvent) → StartsWith b a → StartsWith c b → StartsWith c a
+begins a b c first second = (first.0 ++ second.0, second.1 ∙ ap (λ (l : List LogEvent). l ++ second.0) first.1 ∙ append_assoc a first.0 second.0)

@@ -1,96 +1,102 @@
--- What each exchange leads to: the events that the pass makes, with the code of the words after them.
-use Rattle.std.proofs.Common.{◌≡◌, ℕ, ◌+◌, ◌<◌, ◌≤◌, List, [], ◌∷◌, Contains, Option, length, length-append, length-set, set, ap, ◌∙◌, sym, arith}
+-- The code of what is there after the events of an exchange, and that the pass may make them.
+use Rattle.std.proofs.Common.{◌≡◌, ℕ, ◌+◌, ◌-◌, ◌*◌, ◌≤◌, suc, List, [], ◌∷◌, ◌++◌, Option, Some, length, replicate, set, refl, ap, sym, subst, ◌∙◌, arith}
 use Rattle.std.specs.Prelude.{slice_index}
-use Rattle.version_cell.specs.Changes.{with_head}
-use Rattle.version_cell.proofs.Heads.{has_head}
+use Rattle.std.proofs.Math.ListN.{length-append, length-replicate}
+use Rattle.std.proofs.lemmas.List.{get_or-append_right, get_or-replicate}
+use Rattle.version_cell.specs.Passes.{CellPass}
 use Rattle.vs_types.specs.declared.depth.Depth.{Depth}
 use Rattle.vs_types.specs.declared.log_entry.LogEntry.{LogEntry}
-use Rattle.nr_ring.specs.LogHistory.{MayAdvance, MayAppend, log_after, log_after_event, tail}
+use Rattle.nr_ring.specs.LogHistory.{Log, MayAdvance, MayAppend, log_after, log_after_event, new_log, tail}
+use Rattle.nr_ring.specs.Words.{last_ring, ring_before, stored_after}
 use Rattle.nr_ring.specs.declared.log_event.LogEvent.{LogEvent}
 use Rattle.nr_ring.specs.declared.log_event.LogEvent.TheVariants.{Append, Advance}
+use Rattle.nr_ring.specs.declared.stored.Stored.{Stored}
 use Rattle.nr_ring.specs.declared.view.View.{View}
-use Rattle.nr_ring.specs.inside.Batch.{IsWritten}
-use Rattle.nr_ring.specs.inside.Codes.{code_in, code_of, locals_in, word_in}
+use Rattle.nr_ring.specs.inside.Codes.{code_in, code_of, code_of_log, locals_in}
 use Rattle.nr_ring.specs.inside.Held.{LeadTo, Remembers}
+use Rattle.nr_ring.proofs.Advances.{may_make}
 use Rattle.nr_ring.proofs.Codes.{advance_code, append_code, both_code}
-use Rattle.nr_ring.proofs.Exchanges.{one_leads, two_lead}
-use Rattle.nr_ring.proofs.FirstWords.{Begins, head_of}
-use Rattle.nr_ring.proofs.Histories.{as_many_locals, fits_after, history_fits}
-use Rattle.nr_ring.proofs.NextWords.{after_advance, after_append, after_both, coded_next}
+use Rattle.nr_ring.proofs.FirstWords.{Tells, head_is}
+use Rattle.nr_ring.proofs.Histories.{as_many_locals, history_fits}
+use Rattle.nr_ring.proofs.Views.{after_one_more}
 
-pub record Leads (depth : Depth) (replicas : ℕ) (v : View) (events : List LogEvent) (code : ℕ) (next : List ℕ) : Type 0 where
-  pub has_code : code ≡ code_in next
-  pub lead : LeadTo depth replicas v events next
+-- the last entry of a batch that was appended lies in the pass's ring
+last_of_batch : (rings : List ℕ) (n ring : ℕ) → 1 ≤ n → ring_before (rings ++ replicate n ring) (length (rings ++ replicate n ring)) ≡ ring
+last_of_batch rings n ring some =
+    let long : length (rings ++ replicate n ring) ≡ suc (length rings + (n - 1)) =
+    omega (arith, length-append rings (replicate n ring), length-replicate n ring, some) in
+    ap (ring_before (rings ++ replicate n ring)) long
+    ∙ get_or-append_right rings (replicate n ring) (length rings) (length rings + (n - 1)) 0 refl (omega arith)
+    ∙ get_or-replicate n (length rings + (n - 1) - length rings) ring 0 (omega (arith, some))
 
-module _ (depth : Depth) (replicas : ℕ) (head words : List ℕ) (own : Option ℕ) (v : View) (is : Remembers depth replicas words own v)
-    (same : Begins head words) where
-  few : length (log_after replicas v.seen).locals ≤ 4
-  few = omega (arith, as_many_locals depth replicas v.seen is.is_history, is.few)
+module _ (depth : Depth) (replicas passes : ℕ) (own : Option ℕ) (mine : ℕ) (p : CellPass View Stored) (is : Remembers depth replicas passes own mine p) where
+  count : length (log_after replicas p.view.seen).locals ≤ 4
+  count = omega (arith, as_many_locals depth replicas p.view.seen is.is_history, is.few)
 
-  right : 1 ≤ v.rights
-  right = omega (arith, is.rights)
+  -- the log after what was stored, and one event more
+  after : (event : LogEvent) → log_after replicas (p.value.history ++ event ∷ []) ≡ log_after_event (log_after replicas p.view.seen) event
+  after event = ap (λ (seen : List LogEvent). log_after replicas (seen ++ event ∷ [])) is.value_is ∙ after_one_more (new_log replicas) p.view.seen event
 
-  pub advance_leads : (replica to t code : ℕ) → MayAdvance (log_after replicas v.seen) replica to → Contains v.owns replica
-      → t ≡ tail (log_after replicas v.seen) → code ≡ code_of t (set (locals_in head) replica to) (slice_index head 6)
-      → Leads depth replicas v (Advance replica to ∷ []) code (with_head word_in code 7 words)
-  advance_leads replica to t code may owns tail_is code_is =
-      let log = log_after replicas v.seen in
-      let are = head_of log head words same is.words_are in
-      let has_code = code_is ∙ advance_code log head replica to t are may.there few tail_is in
-      let fits = fits_after depth log (Advance replica to) may (history_fits depth replicas v.seen is.is_history) in
-      let fewer : length (log_after_event log (Advance replica to)).locals ≤ 4 = omega (arith, few, length-set log.locals replica to) in
-      let next = with_head word_in code 7 words in
-      let now = after_advance log replica to code words next fits fewer is.words_are has_code
-      (has_head word_in code 7 words (omega (arith, is.words_are.long))) in
-      record {
-        has_code = coded_next (log_after_event log (Advance replica to)) code next has_code now;
-        lead = one_leads depth replicas v (Advance replica to) next may (right, owns) now;
-      }
+  pub append_leads : (batch : List LogEntry) → MayAppend depth (log_after replicas p.view.seen) batch → LeadTo depth replicas p.view (Append batch ∷ [])
+  append_leads batch may = (may, omega (arith, is.rights), tt)
 
-  pub append_leads : (batch : List LogEntry) (t code : ℕ) (written : List ℕ) → MayAppend depth (log_after replicas v.seen) batch
-      → IsWritten (slice_index head 0) (length batch) batch words written
-      → t ≡ slice_index head 0 + length batch → code ≡ code_of t (locals_in head) (slice_index head 6)
-      → Leads depth replicas v (Append batch ∷ []) code (with_head word_in code 7 written)
-  append_leads batch t code written may writes tail_is code_is =
-      let log = log_after replicas v.seen in
-      let are = head_of log head words same is.words_are in
-      let At : ℕ → Type 0 = λ place. IsWritten place (length batch) batch words written in
-      let has_code = code_is ∙ append_code log head batch t are tail_is in
-      let fits = fits_after depth log (Append batch) may (history_fits depth replicas v.seen is.is_history) in
-      let next = with_head word_in code 7 written in
-      let now = after_append depth log batch code words written next fits few is.words_are may (Rattle.std.proofs.Common.subst At are.tail_is writes) has_code
-      (has_head word_in code 7 written (omega (arith, writes.long))) in
-      record {
-        has_code = coded_next (log_after_event log (Append batch)) code next has_code now;
-        lead = one_leads depth replicas v (Append batch) next may right now;
-      }
+  pub append_coded : (head : List ℕ) (batch : List LogEntry) (t code : ℕ) → Tells replicas p.value head → 1 ≤ length batch
+      → t ≡ slice_index head 0 + length batch → code ≡ code_of t (locals_in head) (slice_index head 6) * 128 + mine
+      → code ≡ code_in replicas (stored_after mine p.value (Append batch ∷ []))
+  append_coded head batch t code tells some end code_is =
+      let log = log_after replicas p.view.seen in
+      let are = head_is depth replicas passes own mine p is head tells in
+      let tails = append_code log (last_ring p.value) head batch t are end ∙ ap code_of_log (sym (after (Append batch))) in
+      let last = last_of_batch p.value.rings (length batch) mine some in
+      code_is ∙ (λ i. tails i * 128 + sym last i)
 
-  -- the pass appends a batch, and its replica takes all
-  pub both_lead : (batch : List LogEntry) (replica t code : ℕ) (written : List ℕ) → MayAppend depth (log_after replicas v.seen) batch
-      → replica < length (log_after replicas v.seen).locals
-      → Contains v.owns replica → IsWritten (slice_index head 0) (length batch) batch words written
-      → t ≡ slice_index head 0 + length batch → code ≡ code_of t (set (locals_in head) replica t) (slice_index head 6)
-      → Leads depth replicas v (Append batch ∷ Advance replica (tail (log_after replicas v.seen) + length batch) ∷ []) code (with_head word_in code 7 written)
-  both_lead batch replica t code written may there owns writes tail_is code_is =
-      let log = log_after replicas v.seen in
-      let to = tail log + length batch in
-      let after = log_after_event log (Append batch) in
-      let are = head_of log head words same is.words_are in
-      let end : t ≡ to = omega (arith, tail_is, are.tail_is) in
-      let At : ℕ → Type 0 = λ place. IsWritten place (length batch) batch words written in
-      let raised = ap (λ (z : ℕ). code_of t (set (locals_in head) replica z) (slice_index head 6)) end in
-      let has_code = code_is ∙ (raised ∙ both_code log head batch replica to t are there few end) in
-      let fits = history_fits depth replicas v.seen is.is_history in
-      let first = fits_after depth log (Append batch) may fits in
+module _ (depth : Depth) (replicas passes r mine : ℕ) (p : CellPass View Stored) (is : Remembers depth replicas passes (Some r) mine p) where
+  pub advance_leads : (to : ℕ) → MayAdvance (log_after replicas p.view.seen) r to → LeadTo depth replicas p.view (Advance r to ∷ [])
+  advance_leads to may = (may, may_make depth replicas passes r mine p is to, tt)
+
+  pub advance_coded : (ring : ℕ) (head : List ℕ) (to t code : ℕ) → Tells replicas p.value head → MayAdvance (log_after replicas p.view.seen) r to
+      → t ≡ slice_index head 0 → code ≡ code_of t (set (locals_in head) r to) (slice_index head 6) * 128 + slice_index head 7
+      → code ≡ code_in replicas (stored_after ring p.value (Advance r to ∷ []))
+  advance_coded ring head to t code tells may end code_is =
+      let log = log_after replicas p.view.seen in
+      let are = head_is depth replicas passes (Some r) mine p is head tells in
+      let tails = advance_code log (last_ring p.value) head r to t are may.there (count depth replicas passes (Some r) mine p is) (end ∙ are.tail_is)
+      ∙ ap code_of_log (sym (after depth replicas passes (Some r) mine p is (Advance r to))) in
+      code_is ∙ (λ i. tails i * 128 + are.last_is i)
+
+  -- after the batch the replica takes all
+  pub can_take : (batch : List LogEntry) → MayAppend depth (log_after replicas p.view.seen) batch
+      → MayAdvance (log_after_event (log_after replicas p.view.seen) (Append batch)) r (tail (log_after replicas p.view.seen) + length batch)
+  can_take batch may =
+      let log = log_after replicas p.view.seen in
       let longer = length-append log.entries batch in
-      let can : MayAdvance after replica to =
-      record { there = there; some = omega (arith, fits.written replica, may.some); written = omega (arith, longer) } in
-      let second = fits_after depth after (Advance replica to) can first in
-      let fewer : length (log_after_event log (Advance replica to)).locals ≤ 4 = omega (arith, few, length-set log.locals replica to) in
-      let next = with_head word_in code 7 written in
-      let both = after_both depth log batch replica to code words written next first second few fewer is.words_are may
-      (Rattle.std.proofs.Common.subst At are.tail_is writes) has_code (has_head word_in code 7 written (omega (arith, writes.long))) in
+      let fits = history_fits depth replicas p.view.seen is.is_history in
       record {
-        has_code = coded_next (log_after_event after (Advance replica to)) code next has_code both.advanced;
-        lead = two_lead depth replicas v (Append batch) (Advance replica to) both.between next may right both.appended can (right, owns) both.advanced;
+        there = omega (arith, as_many_locals depth replicas p.view.seen is.is_history, is.owned_below r refl);
+        some = omega (arith, fits.written r, may.some);
+        written = omega (arith, longer);
       }
+
+  pub both_lead : (batch : List LogEntry) → MayAppend depth (log_after replicas p.view.seen) batch
+      → LeadTo depth replicas p.view (Append batch ∷ Advance r (tail (log_after replicas p.view.seen) + length batch) ∷ [])
+  both_lead batch may =
+      let to = tail (log_after replicas p.view.seen) + length batch in
+      let May : Log → Type 0 = λ log. MayAdvance log r to in
+      let can = subst May (sym (after_one_more (new_log replicas) p.view.seen (Append batch))) (can_take batch may) in
+      (may, omega (arith, is.rights), (can, may_make depth replicas passes r mine p is to, tt))
+
+  pub both_coded : (head : List ℕ) (batch : List LogEntry) (t code : ℕ) → Tells replicas p.value head → MayAppend depth (log_after replicas p.view.seen) batch
+      → t ≡ slice_index head 0 + length batch → code ≡ code_of t (set (locals_in head) r t) (slice_index head 6) * 128 + mine
+      → code ≡ code_in replicas (stored_after mine p.value (Append batch ∷ Advance r (tail (log_after replicas p.view.seen) + length batch) ∷ []))
+  both_coded head batch t code tells may end code_is =
+      let log = log_after replicas p.view.seen in
+      let to = tail log + length batch in
+      let are = head_is depth replicas passes (Some r) mine p is head tells in
+      let end_is : t ≡ to = end ∙ ap (λ (n : ℕ). n + length batch) are.tail_is in
+      let raised = ap (λ (z : ℕ). code_of t (set (locals_in head) r z) (slice_index head 6)) end_is in
+      let there = (can_take batch may).there in
+      let tails = raised ∙ both_code log (last_ring p.value) head batch r to t are there (count depth replicas passes (Some r) mine p is) end_is
+      ∙ ap code_of_log (sym (after_one_more (new_log replicas) (p.value.history ++ Append batch ∷ []) (Advance r to)
+      ∙ ap (λ (l : Log). log_after_event l (Advance r to)) (after depth replicas passes (Some r) mine p is (Append batch)))) in
+      let last = last_of_batch p.value.rings (length batch) mine may.some in
+      code_is ∙ (λ i. tails i * 128 + sym last i)

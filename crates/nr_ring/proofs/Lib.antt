@@ -4,6 +4,7 @@ pub mod Rounds
 pub mod Views
 pub mod Rights
 pub mod Turns
+pub mod Needed
 pub mod CellWords
 pub mod SameWords
 pub mod Exchanges
@@ -19,9 +20,10 @@ pub mod Appends
 pub mod OwnTails
 pub mod Makers
 mod Codes
-mod NextWords
+mod Packing
 mod Leads
 mod BothDone
 pub mod FirstWords
 pub mod Further
 pub mod Gathers
+pub mod PackedWords

@@ -8,6 +8,7 @@ use Rattle.vs_types.specs.declared.depth.Depth.{Depth}
 use Rattle.nr_ring.specs.Laws.{IsMaker}
 use Rattle.nr_ring.specs.Rule.{IsKept}
 use Rattle.nr_ring.specs.View.{made_from, made_by_pass}
+use Rattle.nr_ring.specs.declared.stored.Stored.{Stored}
 use Rattle.nr_ring.specs.declared.view.View.{View}
 
 view_below : (views : List View) (pass : ℕ) → pass < length views → (v : View) × (get_elem? views pass ≡ some v)
@@ -48,9 +49,9 @@ right_of : (v : View) (n number : ℕ) → v.rights ≡ n → (v.rights ≡ 0 �
 right_of v zero number is idle has = absurd (has_made v number has (idle is))
 right_of v (suc n) number is idle has = omega (arith, is)
 
-pub maker_of : (depth : Depth) (replicas passes : ℕ) (words : List ℕ) (views : List View) (kept : IsKept depth replicas passes words views)
-    → (number : ℕ) → number < length kept.history → (pass : ℕ) × IsMaker views number pass
-maker_of depth replicas passes words views kept number lt =
+pub maker_of : (depth : Depth) (replicas passes : ℕ) (stored : Stored) (views : List View) (kept : IsKept depth replicas passes stored views)
+    → (number : ℕ) → number < length stored.history → (pass : ℕ) × IsMaker views number pass
+maker_of depth replicas passes stored views kept number lt =
     let pass = get_or kept.makers number 0 in
     let here : number < length kept.makers = omega (arith, kept.each_made) in
     let v = view_below views pass (kept.by_passes number 0 here) in
@@ -67,9 +68,9 @@ one_at_most : (b : Bool) (n : ℕ) → leb 1 n ≡ b → cond b 1 0 ≤ n
 one_at_most true n is = let one = leb-true 1 n is in omega arith
 one_at_most false n is = omega arith
 
-pub few_makers : (depth : Depth) (replicas passes : ℕ) (words : List ℕ) (views : List View) → IsKept depth replicas passes words views
+pub few_makers : (depth : Depth) (replicas passes : ℕ) (stored : Stored) (views : List View) → IsKept depth replicas passes stored views
     → count_by (λ (v : View). leb 1 v.rights) views ≤ passes
-few_makers depth replicas passes words views kept =
+few_makers depth replicas passes stored views kept =
     omega (
       arith,
       kept.all_rights,

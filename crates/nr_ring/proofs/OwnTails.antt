@@ -2,36 +2,22 @@
 use Rattle.std.proofs.Common.{◌≡◌, ℕ, zero, suc, ◌<◌, ◌≤◌, List, [], ◌∷◌, ◌++◌, All, Contains, Option, None, Some, length, length-append, ⊎_elim, refl, ap, sym, subst, ◌∙◌, arith}
 use Rattle.std.proofs.lemmas.List.{get_or-set_same}
 use Rattle.std.proofs.lemmas.Bool.Decides.{eqb_tells}
+use Rattle.version_cell.specs.Passes.{CellPass}
 use Rattle.vs_types.specs.declared.depth.Depth.{Depth}
 use Rattle.vs_types.specs.declared.log_entry.LogEntry.{LogEntry}
 use Rattle.nr_ring.specs.LogHistory.{Log, IsLogHistory, MayGoOn, MayFollow, local_of, log_after, log_after_event, log_after_events, new_log, tail}
-use Rattle.nr_ring.specs.Laws.{HasGoneOn}
-use Rattle.nr_ring.specs.View.{HasSeenAdvances, StartsWith}
+use Rattle.nr_ring.specs.View.{HasSeenAdvances}
 use Rattle.nr_ring.specs.Calls.{HasLooked, HasTaken, LiesAhead, with_event}
 use Rattle.nr_ring.specs.Entries.{HasAppended}
 use Rattle.nr_ring.specs.declared.log_event.LogEvent.{LogEvent}
 use Rattle.nr_ring.specs.declared.log_event.LogEvent.TheVariants.{Append, Advance}
+use Rattle.nr_ring.specs.declared.stored.Stored.{Stored}
 use Rattle.nr_ring.specs.declared.view.View.{View}
 use Rattle.nr_ring.specs.inside.Held.{Remembers, owned, IsBelow}
 use Rattle.nr_ring.proofs.Advances.{same_replica}
-use Rattle.nr_ring.proofs.Histories.{after_both, events_go_on, goes_on_after, goes_on_before, local_since}
+use Rattle.nr_ring.proofs.Histories.{beginning_goes_on, goes_on_after, local_since}
 use Rattle.nr_ring.proofs.Splits.{holds_of}
 use Rattle.nr_ring.proofs.Views.{after_one_more}
-
-pub beginning_is : (depth : Depth) (replicas : ℕ) (events seen : List LogEvent) → IsLogHistory depth replicas events → StartsWith events seen
-    → IsLogHistory depth replicas seen
-beginning_is depth replicas events seen is begins =
-    let Is : List LogEvent → Type 0 = λ l. IsLogHistory depth replicas l in
-    goes_on_before depth (new_log replicas) seen begins.0 (subst Is begins.1 is)
-
-pub beginning_goes_on : (depth : Depth) (replicas : ℕ) (events seen : List LogEvent) → IsLogHistory depth replicas events → StartsWith events seen
-    → HasGoneOn (log_after replicas seen) (log_after replicas events)
-beginning_goes_on depth replicas events seen is begins =
-    let Is : List LogEvent → Type 0 = λ l. IsLogHistory depth replicas l in
-    let To : Log → Type 0 = λ log. HasGoneOn (log_after replicas seen) log in
-    let rest = goes_on_after depth (new_log replicas) seen begins.0 (subst Is begins.1 is) in
-    subst To (sym (ap (log_after replicas) begins.1 ∙ after_both (new_log replicas) seen begins.0))
-    (events_go_on depth (log_after replicas seen) begins.0 rest)
 
 pub look_keeps : (depth : Depth) (replicas replica : ℕ) (before after : View) → HasLooked depth replicas before after → Contains before.owns replica
     → local_of (log_after replicas after.seen) replica ≡ local_of (log_after replicas before.seen) replica
@@ -98,8 +84,8 @@ below replicas None is k d lt = absurd (omega arith)
 below replicas (Some r) is zero d lt = is r refl
 below replicas (Some r) is (suc k) d lt = absurd (omega arith)
 
-pub owned_below : (depth : Depth) (replicas : ℕ) (words : List ℕ) (replica : Option ℕ) (view : View) → Remembers depth replicas words replica view
-    → All (λ r. r < replicas) view.owns
-owned_below depth replicas words replica view is =
+pub owned_below : (depth : Depth) (replicas passes : ℕ) (replica : Option ℕ) (ring : ℕ) (p : CellPass View Stored)
+    → Remembers depth replicas passes replica ring p → All (λ r. r < replicas) p.view.owns
+owned_below depth replicas passes replica ring p is =
     let Below : List ℕ → Type 0 = λ l. All (λ r. r < replicas) l in
     subst Below (sym is.owns) (below replicas replica is.owned_below)

@@ -1,44 +1,17 @@
 -- What a pass holds beside its view: at the start, after a look, after a split.
-use Rattle.std.proofs.Common.{◌≡◌, ℕ, zero, suc, ◌+◌, ◌-◌, ◌^◌, ◌<◌, ◌≤◌, List, [], ◌∷◌, ◌++◌, All, Contains, Option, None, Some, take, drop, length, get_or}
+use Rattle.std.proofs.Common.{◌≡◌, ℕ, zero, suc, ◌+◌, ◌-◌, ◌*◌, ◌<◌, ◌≤◌, List, [], ◌∷◌, ◌++◌, All, Contains, Option, None, Some, take, drop, length, get_or}
 use Rattle.std.proofs.Common.{refl, ap, sym, subst, ◌∙◌, le_trans, arith}
 use Rattle.std.specs.List.{range_with_len}
-use Rattle.std.specs.Prelude.{slice_index}
 use Rattle.std.proofs.lemmas.List.FromFn.{get_or-range_with_len, length-range_with_len}
+use Rattle.version_cell.specs.Passes.{CellPass}
 use Rattle.vs_types.specs.declared.depth.Depth.{Depth}
-use Rattle.vs_types.specs.declared.limits.TheConstants.{LOG_PLACES}
-use Rattle.nr_ring.specs.LogHistory.{Log, tail, local_of, IsLogHistory, log_after}
-use Rattle.nr_ring.specs.Words.{IsWordsOf, new_words}
+use Rattle.nr_ring.specs.LogHistory.{log_after, tail}
 use Rattle.nr_ring.specs.View.{StartsWith}
 use Rattle.nr_ring.specs.Calls.{Looks, IsCut}
-use Rattle.nr_ring.specs.Pass.{tails_of}
 use Rattle.nr_ring.specs.declared.log_event.LogEvent.{LogEvent}
+use Rattle.nr_ring.specs.declared.stored.Stored.{Stored}
 use Rattle.nr_ring.specs.declared.view.View.{View}
-use Rattle.nr_ring.specs.inside.Held.{IsBelow, IsHeadOf, Remembers, left_from, new_view, owned, rest_of, tails_of_words}
-use Rattle.nr_ring.proofs.Histories.{history_fits}
-use Rattle.nr_ring.proofs.LocalTails.{greatest_least}
-use Rattle.nr_ring.proofs.NewLog.{new_is}
-
--- the tails are small
-pub small_words : (depth : Depth) (replicas : ℕ) (seen : List LogEvent) (words : List ℕ) → IsLogHistory depth replicas seen
-    → IsWordsOf (log_after replicas seen) words → (word : ℕ) → word < 6 → slice_index words word ≤ LOG_PLACES
-small_words depth replicas seen words is are word lt =
-    let log = log_after replicas seen in
-    let fits = history_fits depth replicas seen is in
-    let local : (r : ℕ) → local_of log r ≤ LOG_PLACES = λ r. le_trans (fits.written r) fits.ends in
-    by_word word lt log are fits.ends local where
-      by_word : (word : ℕ) → word < 6 → (log : Log) → IsWordsOf log words → tail log ≤ LOG_PLACES → ((r : ℕ) → local_of log r ≤ LOG_PLACES)
-          → slice_index words word ≤ LOG_PLACES
-      by_word zero lt log are ends local = omega (arith, are.tail_is)
-      by_word (suc zero) lt log are ends local = omega (arith, are.completed_is, greatest_least log.locals LOG_PLACES local)
-      by_word (suc (suc r)) lt log are ends local = let e : suc (suc r) ≡ 2 + r = omega arith in
-          omega (arith, ap (slice_index words) e, are.locals_are r (omega arith), local r)
-
-pub tails_are : (log : Log) (words : List ℕ) → IsHeadOf log words → tails_of_words words ≡ tails_of log
-tails_are log words are = λ i. record {
-  tail = are.tail_is i;
-  completed = are.completed_is i;
-  local = are.locals_are 0 (omega arith) i ∷ are.locals_are 1 (omega arith) i ∷ are.locals_are 2 (omega arith) i ∷ are.locals_are 3 (omega arith) i ∷ [];
-}
+use Rattle.nr_ring.specs.inside.Held.{IsBelow, Remembers, left_from, new_view, nothing_stored, owned, rest_of}
 
 pub longer : (after before : List LogEvent) → StartsWith after before → length before ≤ length after
 longer after before begins = omega (arith, ap (λ (l : List LogEvent). length l) begins.1, Rattle.std.proofs.Common.length-append before begins.0)
@@ -47,34 +20,78 @@ longer after before begins = omega (arith, ap (λ (l : List LogEvent). length l)
 pub told_before : (after before : View) → after.told ≡ before.told → All (StartsWith after.seen) before.told → All (StartsWith after.seen) after.told
 told_before after before same told = let P : List (List LogEvent) → Type 0 = λ l. All (StartsWith after.seen) l in subst P (sym same) told
 
-pub look_remembers : (depth : Depth) (replicas : ℕ) (words words' : List ℕ) (replica : Option ℕ) (before after : View)
-    → Remembers depth replicas words replica before → Looks depth replicas words' before after → Remembers depth replicas words' replica after
-look_remembers depth replicas words words' replica before after is looks = record {
+-- a pass remembers what it did where it knows as much, and its ring is where it was
+pub remembers_still : (depth : Depth) (replicas passes : ℕ) (replica : Option ℕ) (ring : ℕ) (p q : CellPass View Stored)
+    → Remembers depth replicas passes replica ring p → q.view ≡ p.view → q.value ≡ p.value → q.from ≡ p.from → length q.own ≡ length p.own
+    → Remembers depth replicas passes replica ring q
+remembers_still depth replicas passes replica ring p q is view value from own =
+    let Is : View × Stored → Type 0 = λ z.
+    Remembers depth replicas passes replica ring
+    (record { cell = p.cell; number = p.number; view = z.0; value = z.1; fresh = p.fresh; from = p.from; own = p.own }) in
+    let at : Is (q.view, q.value) = subst Is (λ i. (sym view i, sym value i)) is in
+    record {
+      few = is.few;
+      few_rings = is.few_rings;
+      is_history = at.is_history;
+      value_is = at.value_is;
+      each_ring = at.each_ring;
+      rings_below = at.rings_below;
+      from_is = from ∙ is.from_is;
+      own_long = own ∙ is.own_long;
+      ring_below = is.ring_below;
+      owns = at.owns;
+      owned_below = is.owned_below;
+      rights = at.rights;
+      mine = at.mine;
+      told = at.told;
+    }
+
+pub look_remembers : (depth : Depth) (replicas passes : ℕ) (replica : Option ℕ) (ring : ℕ) (p q : CellPass View Stored)
+    → Remembers depth replicas passes replica ring p → q.from ≡ p.from → q.own ≡ p.own → Looks depth replicas passes q.value p.view q.view
+    → Remembers depth replicas passes replica ring q
+look_remembers depth replicas passes replica ring p q is from own looks = record {
   few = is.few;
+  few_rings = is.few_rings;
   is_history = looks.looked.is_history;
-  words_are = looks.words_are;
+  value_is = looks.found_is;
+  each_ring = looks.each_ring ∙ ap (λ (l : List LogEvent). tail (log_after replicas l)) looks.found_is;
+  rings_below = looks.rings_below;
+  from_is = from ∙ is.from_is;
+  own_long = ap (λ (l : List ℕ). length l) own ∙ is.own_long;
+  ring_below = is.ring_below;
   owns = looks.looked.owns ∙ is.owns;
   owned_below = is.owned_below;
   rights = looks.looked.rights ∙ is.rights;
   mine =
-      let P : List ℕ → Type 0 = λ l. All (λ number. number < length after.seen) l in
-      let more = longer after.seen before.seen looks.looked.seen in
+      let P : List ℕ → Type 0 = λ l. All (λ number. number < length q.view.seen) l in
+      let more = longer q.view.seen p.view.seen looks.looked.seen in
       subst P (sym looks.looked.mine) (λ k d lt. omega (arith, is.mine k d lt, more));
-  told = told_before after before looks.looked.told_stays looks.looked.told;
+  told = told_before q.view p.view looks.looked.told_stays looks.looked.told;
 }
 
-pub new_remembers : (depth : Depth) (replicas : ℕ) (replica : Option ℕ) → replicas ≤ 4 → IsBelow replicas replica
-    → Remembers depth replicas (new_words replicas) replica (new_view (owned replica) 1)
-new_remembers depth replicas replica few below = record {
-  few = few;
-  is_history = tt;
-  words_are = new_is replicas;
-  owns = refl;
-  owned_below = below;
-  rights = refl;
-  mine = λ k d lt. absurd (omega arith);
-  told = λ k d lt. absurd (omega arith);
-}
+pub new_remembers : (depth : Depth) (replicas passes : ℕ) (replica : Option ℕ) (ring : ℕ) (p : CellPass View Stored) → replicas ≤ 4 → passes ≤ 128
+    → IsBelow replicas replica → ring < passes → p.view ≡ new_view (owned replica) 1 → p.value ≡ nothing_stored → p.from ≡ 32 * ring → length p.own ≡ 32
+    → Remembers depth replicas passes replica ring p
+new_remembers depth replicas passes replica ring p few few_rings below low view value from own =
+    let start : CellPass View Stored =
+    record { cell = p.cell; number = p.number; view = new_view (owned replica) 1; value = nothing_stored; fresh = p.fresh; from = p.from; own = p.own } in
+    let first : Remembers depth replicas passes replica ring start = record {
+      few = few;
+      few_rings = few_rings;
+      is_history = tt;
+      value_is = refl;
+      each_ring = refl;
+      rings_below = λ k d lt. absurd (omega arith);
+      from_is = from;
+      own_long = own;
+      ring_below = low;
+      owns = refl;
+      owned_below = below;
+      rights = refl;
+      mine = λ k d lt. absurd (omega arith);
+      told = λ k d lt. absurd (omega arith);
+    } in
+    remembers_still depth replicas passes replica ring start p first view value refl refl
 
 -- the first pass gives away the first of the replicas that it owns
 above : (a n replica : ℕ) → Contains (range_with_len a n) replica → a ≤ replica

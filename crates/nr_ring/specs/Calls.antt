@@ -2,10 +2,10 @@
 use Rattle.std.specs.Prelude.{◌≡◌, ◌≢◌, ℕ, ◌+◌, ◌<◌, ◌≤◌, List, [], ◌∷◌, ◌++◌, All, Contains, length}
 use Rattle.vs_types.specs.declared.depth.Depth.{Depth}
 use Rattle.nr_ring.specs.LogHistory.{IsLogHistory, local_of, log_after, tail}
-use Rattle.nr_ring.specs.Words.{IsWordsOf}
 use Rattle.nr_ring.specs.View.{HasSeenAdvances, StartsWith}
 use Rattle.nr_ring.specs.declared.log_event.LogEvent.{LogEvent}
 use Rattle.nr_ring.specs.declared.log_event.LogEvent.TheVariants.{Append, Advance}
+use Rattle.nr_ring.specs.declared.stored.Stored.{Stored}
 use Rattle.nr_ring.specs.declared.view.View.{View}
 
 -- after a look: the pass has seen a history that begins with all that it had seen and was given; it made no event, and nobody advanced a
@@ -20,10 +20,12 @@ pub record HasLooked (depth : Depth) (replicas : ℕ) (before after : View) : Ty
   pub owns : after.owns ≡ before.owns
   pub rights : after.rights ≡ before.rights
 
--- and the words that it found are those of the log after that history
-pub record Looks (depth : Depth) (replicas : ℕ) (words : List ℕ) (before after : View) : Type 0 where
+-- and the value that it found is that history, with the ring of each entry
+pub record Looks (depth : Depth) (replicas passes : ℕ) (found : Stored) (before after : View) : Type 0 where
   pub looked : HasLooked depth replicas before after
-  pub words_are : IsWordsOf (log_after replicas after.seen) words
+  pub found_is : found.history ≡ after.seen
+  pub each_ring : length found.rings ≡ tail (log_after replicas found.history)
+  pub rings_below : All (λ ring. ring < passes) found.rings
 
 -- a pass that makes an event has a right to; and only the owner of a replica advances it
 abbrev pub MayMake : View → LogEvent → Type 0

@@ -1,23 +1,26 @@
-//! Batches of entries and the words of the cell.
-ghost use Rattle.std.specs.Prelude.{◌≡◌, ◌<◌, ◌≤◌, ◌+◌, ◌-◌, ℕ, List, All, MatchResult, [], drop, length};
-ghost use Rattle.version_cell.specs.Changes.{changed};
+//! Batches of entries, and the rings that they lie in.
+ghost use Rattle.std.specs.Prelude.{◌≡◌, ◌<◌, ◌≤◌, ◌+◌, ◌*◌, ℕ, true, List, All, MatchResult, Option, Some, [], length};
 ghost use Rattle.vs_types.specs.LogEntry.{IsLogEntry};
-ghost use Rattle.vs_types.specs.declared.depth.Depth.{Depth};
-ghost use Rattle.vs_types.specs.declared.limits.TheConstants.{CALLS, LOG_PLACES};
-ghost use Rattle.nr_ring.specs.LogHistory.{AllKeepUp, HasRoom, Log, tail as tail_of};
-ghost use Rattle.nr_ring.specs.Words.{word_of};
-ghost use Rattle.nr_ring.specs.inside.Batch.{ArePlaces, AreSmall, Bars, CanBeRead, Explains, HaveEntries, IsWritten};
-ghost use Rattle.nr_ring.specs.inside.Held.{IsHeadOf};
+ghost use Rattle.vs_types.specs.declared.limits.TheConstants.{RING};
+ghost use Rattle.nr_ring.specs.Entries.{to_take};
+ghost use Rattle.nr_ring.specs.LogHistory.{AllKeepUp, HasRoom, Log, MayAppend, log_after, tail};
+ghost use Rattle.nr_ring.specs.Words.{last_ring, spot};
+ghost use Rattle.nr_ring.specs.inside.Batch.{AreSmall, Bars, Explains, IsWritten};
+ghost use Rattle.nr_ring.specs.inside.Held.{IsHeadOf, Remembers};
 
+use crate::name::LogName;
+use crate::packed::PackedEntry;
+use crate::pass::Inner;
+use crate::ring_log::RingLog;
 use crate::tails::{AppendFault, tails_in};
-use crate::words::{CELL_WORDS, CHANGES, COUNT_WORD, LOADS, LOCAL_WORDS, RING_WORDS, TAIL_WORD};
+use crate::words::{COUNT_WORD, HEAD_WORDS, LAST_WORD, LOCAL_WORDS, TAIL_WORD};
 use arrayvec::ArrayVec;
-use vs_types::{LOG_PLACES, LogEntry, RING, entry_of, pack};
+use vs_types::{LOG_PLACES, RING};
 
 /// Tests that so many entries may be appended: the log does not end before, and each replica has the room.
-pub(crate) fn test_room(head: &[u64; RING_WORDS], count: u64) -> Result<(), AppendFault>
+pub(crate) fn test_room(head: &[u64; HEAD_WORDS], count: u64) -> Result<(), AppendFault>
     requires { AreSmall head.now × (count ≤ RING) }
-    ensures { (log : Log) → IsHeadOf log head.now
+    ensures { (log : Log) (last : ℕ) → IsHeadOf log last head.now
         → MatchResult result (λ _. HasRoom log count × AllKeepUp log count) (Bars log count) }
 {
     let end = head[TAIL_WORD] + count;
@@ -33,9 +36,9 @@ pub(crate) fn test_room(head: &[u64; RING_WORDS], count: u64) -> Result<(), Appe
 }
 
 /// Why a batch of so many entries was not appended to the log with these first words, which another pass changed.
-pub(crate) fn why_not(head: &[u64; RING_WORDS], count: u64) -> AppendFault
+pub(crate) fn why_not(head: &[u64; HEAD_WORDS], count: u64) -> AppendFault
     requires { AreSmall head.now × (count ≤ RING) }
-    ensures { (log : Log) → IsHeadOf log head.now → Explains log count result }
+    ensures { (log : Log) (last : ℕ) → IsHeadOf log last head.now → Explains log count result }
 {
     match test_room(head, count) {
         Ok(()) => AppendFault::Moved(tails_in(head)),
@@ -43,65 +46,69 @@ pub(crate) fn why_not(head: &[u64; RING_WORDS], count: u64) -> AppendFault
     }
 }
 
-/// Where the first of the two words of a place is.
-fn first_word(place: u64) -> usize
-    ensures { result ≡ word_of place }
+/// Where the first of the two words of an entry is, which lies in this ring at this place of the log.
+fn spot(ring: u64, place: u64) -> usize
+    requires { ring < 128 }
+    ensures { result ≡ spot ring place }
 {
-    RING_WORDS + 2 * (place % RING as u64) as usize
+    2 * RING * ring as usize + 2 * (place % RING as u64) as usize
 }
 
-/// Adds the changes of the ring that an append makes to a log with this tail: each entry is put at its place.
-pub(crate) fn list_changes(
-    tail: u64,
-    batch: &[LogEntry],
-    changes: &mut ArrayVec<(usize, u64), CHANGES>,
-)
-    requires small { (tail ≤ LOG_PLACES) × (length batch.now ≤ RING) }
-    requires calls { All (λ entry. entry.call < CALLS) batch.now }
-    requires empty { changes.old.items ≡ [] }
-    ensures places { All (λ change. (RING_WORDS ≤ change.0) × (change.0 < CELL_WORDS))
-        changes.new.items }
-    ensures written { (words : List ℕ) → length words ≡ CELL_WORDS
-        → IsWritten tail (length batch.now) batch.now words (changed words changes.new.items) }
-{
-    let mut place = tail;
-    for entry in batch {
-        let [operation, rest] = pack(*entry);
-        let at = first_word(place);
-        changes.push((at, operation));
-        changes.push((at + 1, rest));
-        place += 1;
+impl<J: LogName> RingLog<J> {
+    /// Stores a batch in the pass's ring, at the places from the tail on. Each entry has the ring of the one before it beside it.
+    pub(crate) fn write(&self, pass: &mut Inner<J>, ring: u8, batch: &[PackedEntry])
+        requires log { pass.old.cell ≡ self.now }
+        requires known { (replica : Option ℕ)
+            × Remembers J.depth J.replicas J.passes replica ring pass.old }
+        requires fresh { pass.old.fresh ≡ true }
+        requires may { MayAppend J.depth (log_after J.replicas pass.old.view.seen) batch.now }
+        ensures same { (pass.new.cell ≡ pass.old.cell) × (pass.new.number ≡ pass.old.number)
+            × (pass.new.view ≡ pass.old.view) × (pass.new.value ≡ pass.old.value)
+            × (pass.new.fresh ≡ true) × (pass.new.from ≡ pass.old.from) }
+        ensures written { IsWritten ring (last_ring pass.old.value)
+            (tail (log_after J.replicas pass.old.view.seen)) (length batch.now)
+            batch.now pass.new.own }
+    {
+        let own = u64::from(ring);
+        let head = pass.head();
+        let (mut place, mut before) = (head[TAIL_WORD], head[LAST_WORD]);
+        for entry in batch {
+            let [operation, rest] = entry.words();
+            let at = spot(own, place);
+            self.cell.store(pass, at, operation);
+            self.cell.store(pass, at + 1, rest + before * (1 << 56));
+            before = own;
+            place += 1;
+        }
     }
-}
 
-/// Adds the places of the words of the entries from one place of the log to another.
-pub(crate) fn list_places(from: u64, to: u64, places: &mut ArrayVec<usize, LOADS>)
-    requires few { (from ≤ to) × (to ≤ from + RING) }
-    requires empty { places.old.items ≡ [] }
-    ensures within { All (λ place. (RING_WORDS ≤ place) × (place < CELL_WORDS)) places.new.items }
-    ensures listed { ArePlaces from (to - from) places.new.items }
-{
-    for place in from..to {
-        let at = first_word(place);
-        places.push(at);
-        places.push(at + 1);
-    }
-}
-
-/// Adds the entries from one place of the log to another, in order, whose words are among these.
-pub(crate) fn read_entries(
-    words: &[u64; CELL_WORDS],
-    from: u64,
-    to: u64,
-    entries: &mut ArrayVec<LogEntry, RING>,
-)
-    requires words { (depth : Depth) × CanBeRead depth words.now from to }
-    requires empty { entries.old.items ≡ [] }
-    ensures { (depth : Depth) (log : Log) → HaveEntries log from words.now → tail_of log ≡ to
-        → All (IsLogEntry depth) log.entries → entries.new.items ≡ drop from log.entries }
-{
-    for place in from..to {
-        let at = first_word(place);
-        entries.push(entry_of([words[at], words[at + 1]]));
+    /// Adds the entries that a replica has still to take, as far as its owner has seen. From the last one on, each names the ring that
+    /// the one before it lies in.
+    pub(crate) fn read(
+        &self,
+        pass: &mut Inner<J>,
+        replica: u8,
+        entries: &mut ArrayVec<PackedEntry, RING>,
+    )
+        requires log { pass.old.cell ≡ self.now }
+        requires known { (ring : ℕ)
+            × Remembers J.depth J.replicas J.passes (Some replica) ring pass.old }
+        requires fresh { pass.old.fresh ≡ true }
+        requires empty { entries.old.items ≡ [] }
+        ensures same { pass.new ≡ pass.old }
+        ensures read { entries.new.items
+            ≡ to_take (log_after J.replicas pass.old.view.seen) replica }
+    {
+        let head = pass.head();
+        let from = head[LOCAL_WORDS + usize::from(replica)];
+        let (to, mut ring) = (head[TAIL_WORD], head[LAST_WORD]);
+        for place in (from..to).rev() {
+            let at = spot(ring, place);
+            let operation = self.cell.load(pass, at);
+            let rest = self.cell.load(pass, at + 1);
+            entries.push(PackedEntry::of([operation, rest % (1 << 56)]));
+            ring = rest / (1 << 56);
+        }
+        entries.as_mut_slice().reverse();
     }
 }

@@ -13,11 +13,14 @@ ghost use Rattle.nr_ring.specs.declared.view.View.{View};
 ghost use Rattle.vs_types.specs.declared.limits.TheConstants.{RING};
 
 pub use crate::cell_words::{
-    advances_change_two_words, appends_keep_needed_entries, words_are_a_function_of_the_log,
+    advances_change_two_words, advances_need_nothing_new, appends_keep_needed_entries,
+    appends_need_their_batch, codes_determine_tails_and_ring, codes_determine_the_first_words,
+    needed_words_are_unique, new_logs_have_new_words, places_of_a_batch_are_free,
+    rings_hold_the_words_of_the_log, words_are_a_function_of_the_log,
 };
 pub use crate::steps::{
-    events_keep_the_rule, joins_keep_the_rule, looks_keep_the_rule, makers_have_rights,
-    new_logs_keep_the_rule, own_words_mean_all_seen, splits_keep_the_rule,
+    events_keep_the_rule, events_leave_what_lasts, joins_keep_the_rule, looks_keep_the_rule,
+    makers_have_rights, new_logs_keep_the_rule, splits_keep_the_rule,
 };
 
 /// Events only add entries at the end, and no tail falls.

@@ -6,24 +6,24 @@ ghost use Rattle.nr_ring.specs.View.{StartsWith};
 ghost use Rattle.nr_ring.specs.inside.Held.{Remembers};
 
 use crate::name::LogName;
+use crate::rule::LogRule;
+use crate::stored::Stored;
 use crate::tails::{Tails, tails_in};
 use crate::view::View;
-use crate::words::{CELL_WORDS, CHANGES, LOADS, RING_WORDS};
-use arrayvec::ArrayVec;
-use std::marker::{Model, PhantomData};
+use crate::words::HEAD_WORDS;
+use std::marker::Model;
 use version_cell::Pass;
 
-/// What one thread knows of a log: its pass to the cell, with the tails that it saw last, and the replica that it owns, if any.
-/// Contracts see which log it is and what the pass knows of it.
+/// A pass to the cell of a log.
+pub(crate) type Inner<J> = Pass<View, Stored, LogRule<J>, HEAD_WORDS>;
+
+/// What one thread knows of a log: its pass to the cell, with the tails that it saw last; the replica that it owns, if any; and the ring
+/// that it stores its entries in. Contracts see which log it is and what the pass knows of it.
 #[derive(Drop)]
 pub struct LogPass<J: LogName> {
-    pub(crate) inner: Pass<View, RING_WORDS, CELL_WORDS>,
+    pub(crate) inner: Inner<J>,
     pub(crate) replica: Option<u8>,
-    // Room for what an append changes and what a fetch or a take loads, so that no call has to fill an array of its own.
-    pub(crate) changes: ArrayVec<(usize, u64), CHANGES>,
-    pub(crate) places: ArrayVec<usize, LOADS>,
-    pub(crate) loaded: [u64; CELL_WORDS],
-    pub(crate) of: PhantomData<J>,
+    pub(crate) ring: u8,
 }
 
 impl<J: LogName> Model for LogPass<J> {
@@ -34,22 +34,19 @@ impl<J: LogName> Model for LogPass<J> {
 
     ghost view = { λ p. record { log = p.inner.cell; view = p.inner.view } };
 
-    ghost invariant = { λ p. Remembers J.depth J.replicas p.inner.words p.replica p.inner.view };
+    ghost invariant = { λ p. Remembers J.depth J.replicas J.passes p.replica p.ring p.inner };
 }
 
 impl<J: LogName> LogPass<J> {
     /// The pass to a log over one to its cell.
-    pub(crate) fn new(inner: Pass<View, RING_WORDS, CELL_WORDS>, replica: Option<u8>) -> LogPass<J>
-        requires { Remembers J.depth J.replicas inner.words replica inner.view }
+    pub(crate) fn new(inner: Inner<J>, replica: Option<u8>, ring: u8) -> LogPass<J>
+        requires { Remembers J.depth J.replicas J.passes replica ring inner }
         ensures { (result.log ≡ inner.cell) × (result.view ≡ inner.view) }
     {
         LogPass {
             inner,
             replica,
-            changes: ArrayVec::new(),
-            places: ArrayVec::new(),
-            loaded: [0; CELL_WORDS],
-            of: PhantomData,
+            ring,
         }
     }
 

@@ -1,51 +1,53 @@
 //! The log: one cell that its threads share.
-ghost use Rattle.std.specs.Prelude.{◌≡◌, ◌≤◌, ◌+◌, ◌-◌, ◌<◌, ℕ, All, Contains, IfErr, IfOk, IsFalse, IsTrue, OnErr, OnOk, Option, [], ◌∷◌, ◌++◌, length, map, slice_index};
+ghost use Rattle.std.specs.Prelude.{◌≡◌, ◌≤◌, ◌+◌, ◌-◌, ◌*◌, ◌<◌, ◌⊎◌, ℕ, true, All, Contains, IfErr, IfOk, MatchResult, OnErr, OnOk, Option, Some, [], ◌∷◌, ◌++◌, length, map};
 ghost use Rattle.std.specs.List.{range_with_len};
-ghost use Rattle.version_cell.specs.Changes.{exchanged};
+ghost use Rattle.version_cell.specs.Passes.{beside};
 ghost use Rattle.vs_types.specs.LogEntry.{IsLogEntry};
-ghost use Rattle.nr_ring.specs.Calls.{HasLooked, HasMoved, HasTaken, LiesAhead, MayTake, copy_of, joint_view};
+ghost use Rattle.nr_ring.specs.Calls.{HasLooked, HasMoved, HasTaken, LiesAhead, Looks, MayTake, copy_of, joint_view};
 ghost use Rattle.nr_ring.specs.LogHistory.{IsLogHistory, MayAdvance, MayAppend, local_of, log_after, tail};
 ghost use Rattle.nr_ring.specs.declared.log_event.LogEvent.TheVariants.{Append, Advance};
 ghost use Rattle.nr_ring.specs.Entries.{HasAppended, HasAppendedAndTaken, HasTakenAll, IsReason, to_take};
 ghost use Rattle.nr_ring.specs.Pass.{AreApart, new_pass, new_passes, tails_of};
 ghost use Rattle.nr_ring.specs.View.{HasSeenAdvances, StartsWith};
-ghost use Rattle.nr_ring.specs.Words.{new_words};
-ghost use Rattle.nr_ring.specs.inside.Codes.{code_in, word_in};
-ghost use Rattle.nr_ring.specs.inside.Held.{IsBelow, LeadTo, MadeOrMoved, Remembers, left_from, new_view, owned, rest_of};
+ghost use Rattle.nr_ring.specs.Words.{stored_after};
+ghost use Rattle.nr_ring.specs.inside.Codes.{code_in};
+ghost use Rattle.nr_ring.specs.inside.Batch.{AreStored};
+ghost use Rattle.nr_ring.specs.inside.Held.{IsBelow, LeadTo, MadeOrMoved, Remembers, left_from, new_view, nothing_stored, owned, rest_of};
 
-use crate::batch::{list_changes, list_places, read_entries, test_room, why_not};
+use crate::batch::{test_room, why_not};
 use crate::code::{advanced_code, appended_code, code_of};
 use crate::name::LogName;
-use crate::pass::LogPass;
+use crate::packed::PackedEntry;
+use crate::pass::{Inner, LogPass};
 use crate::rule::{Copies, Existing, FirstOwned, Gathers, Happening, LogRule, Looking, Making};
+use crate::stored::Stored;
 use crate::tails::{AppendFault, Moved, Tails};
 use crate::view::View;
-use crate::words::{CELL_WORDS, COUNT_WORD, LOCAL_WORDS, OTHERS, RING_WORDS, TAIL_WORD};
+use crate::words::{HEAD_WORDS, LAST_WORD, LOCAL_WORDS, OTHERS, RING_WORDS, RINGS, TAIL_WORD};
 use arrayvec::ArrayVec;
-use crossbeam_utils::Backoff;
 use std::alloc::Global;
-use std::marker::{Brand, Model, PhantomData};
-use std::sync::Wait;
-use version_cell::{Pass, VersionCell};
-use vs_types::{Depth, LogEntry, Memory, REPLICAS, RING};
+use std::marker::{Brand, Model};
+use version_cell::VersionCell;
+use vs_types::{Depth, Memory, REPLICAS, RING};
 
-/// The shared log: a ring of 16 entries and the tails, in one cell. Contracts see which log it is.
+/// The shared log: a cell with the tails, and for each pass a ring of 16 entries beside it. Contracts see which log it is.
 #[derive(Drop)]
 pub struct RingLog<J: LogName> {
-    cell: VersionCell<View, LogRule<J>, RING_WORDS, CELL_WORDS>,
+    pub(crate) cell: VersionCell<View, Stored, LogRule<J>, HEAD_WORDS>,
     depth: Depth,
-    of: PhantomData<J>,
 }
 
 impl<J: LogName> Model for RingLog<J> {
-    ghost use Rattle.std.specs.Prelude.{◌≡◌};
+    ghost use Rattle.std.specs.Prelude.{◌≡◌, ◌*◌};
     ghost use Rattle.atomic_table.specs.Seated.{TableId};
+    ghost use Rattle.version_cell.specs.Passes.{beside};
+    ghost use Rattle.nr_ring.specs.declared.words.TheConstants.{RING_WORDS};
 
     ghost Value = { TableId };
 
     ghost view = { λ l. l.cell };
 
-    ghost invariant = { λ l. l.depth ≡ J.depth };
+    ghost invariant = { λ l. (l.depth ≡ J.depth) × (beside l.cell ≡ RING_WORDS * J.passes) };
 }
 
 impl<J: LogName> RingLog<J> {
@@ -68,26 +70,20 @@ impl<J: LogName> RingLog<J> {
         requires passes { J.passes ≡ replicas + others }
         ensures { IfOk result (λ made. made.1.items ≡ new_passes made.0 replicas others) }
     {
-        let mut words = [0; CELL_WORDS];
-        let count = u64::from(replicas);
-        words[COUNT_WORD] = count;
-        let code = code_of(0, [0; 4], count);
-        let (cell, mut first) = VersionCell::<View, LogRule<J>, RING_WORDS, CELL_WORDS>::new(
-            alloc, &words, code,
+        let code = code_of(0, [0; 4], u64::from(replicas)) * RINGS;
+        let words = RING_WORDS * (usize::from(replicas) + usize::from(others));
+        let (cell, mut first) = VersionCell::<View, Stored, LogRule<J>, HEAD_WORDS>::new(
+            alloc, code, words,
         )?;
-        let log = RingLog {
-            cell,
-            depth,
-            of: PhantomData,
-        };
+        let log = RingLog { cell, depth };
         let mut passes = Vec::new(alloc);
         passes.reserve(usize::from(replicas) + usize::from(others))?;
         for replica in 0..replicas {
-            let pass = log.split_off(&mut first, Some(replica));
+            let pass = log.split_off(&mut first, Some(replica), replica);
             passes.push(pass)?;
         }
-        for _ in 0..others {
-            let pass = log.split_off(&mut first, None);
+        for other in 0..others {
+            let pass = log.split_off(&mut first, None, replicas + other);
             passes.push(pass)?;
         }
         Ok((log, passes))
@@ -100,55 +96,58 @@ impl<J: LogName> RingLog<J> {
         self.depth
     }
 
-    /// Splits a pass off the first one, which gives it the first replica that it owns and one of its rights.
-    fn split_off(
-        &self,
-        first: &mut Pass<View, RING_WORDS, CELL_WORDS>,
-        replica: Option<u8>,
-    ) -> LogPass<J>
+    /// Splits a pass off the first one, which gives it the first replica that it owns, one of its rights and the first of its rings.
+    fn split_off(&self, first: &mut Inner<J>, replica: Option<u8>, ring: u8) -> LogPass<J>
         requires first { (first.old.cell ≡ self.now)
             × (first.old.view ≡ new_view (left_from J.replicas replica) first.old.view.rights) }
         requires right { 1 ≤ first.old.view.rights }
-        requires words { first.old.words ≡ new_words J.replicas }
-        requires few { (J.replicas ≤ REPLICAS) × IsBelow J.replicas replica }
-        ensures first { (first.new.cell ≡ first.old.cell) × (first.new.words ≡ first.old.words)
+        requires value { first.old.value ≡ nothing_stored }
+        requires rings { (first.old.from ≡ RING_WORDS * ring)
+            × (RING_WORDS ≤ length first.old.own) × (ring < J.passes) }
+        requires few { (J.replicas ≤ REPLICAS) × IsBelow J.replicas replica
+            × (J.passes ≤ REPLICAS + OTHERS) }
+        ensures first { (first.new.cell ≡ first.old.cell) × (first.new.value ≡ first.old.value)
             × (first.new.view
             ≡ new_view (rest_of J.replicas replica) (first.old.view.rights - 1)) }
+        ensures rings { (first.new.from ≡ first.old.from + RING_WORDS)
+            × (length first.new.own ≡ length first.old.own - RING_WORDS) }
         ensures pass { result ≡ new_pass self.now (owned replica) }
     {
-        let pass = self.cell.split_pass::<FirstOwned>(first);
-        LogPass::new(pass, replica)
+        let pass = self.cell.split_pass::<FirstOwned, RING_WORDS>(first);
+        LogPass::new(pass, replica, ring)
     }
 
-    /// The tails of the log after all that the pass has then seen. One load of the cell.
+    /// The tails of the log after all that the pass has then seen. One load of the cell; it never waits.
     pub fn look(&self, pass: &mut LogPass<J>) -> Tails
         requires { pass.old.log ≡ self.now }
         ensures log { pass.new.log ≡ pass.old.log }
         ensures looked { HasLooked J.depth J.replicas pass.old.view pass.new.view }
         ensures tails { result ≡ tails_of (log_after J.replicas pass.new.view.seen) }
     {
-        self.refresh(pass);
+        self.refresh(&mut pass.inner);
         pass.tails()
     }
 
-    /// Has the words of the pass be those of the cell.
-    pub(crate) fn refresh(&self, pass: &mut LogPass<J>)
-        requires { pass.old.log ≡ self.now }
-        ensures log { pass.new.log ≡ pass.old.log }
+    /// Has a pass see the whole history, so that it may load and store.
+    pub(crate) fn refresh(&self, pass: &mut Inner<J>)
+        requires { pass.old.cell ≡ self.now }
+        ensures log { pass.new.cell ≡ pass.old.cell }
         ensures looked { HasLooked J.depth J.replicas pass.old.view pass.new.view }
+        ensures known { (replica : Option ℕ) (ring : ℕ)
+            → Remembers J.depth J.replicas J.passes replica ring pass.old
+            → Remembers J.depth J.replicas J.passes replica ring pass.new }
+        ensures fresh { pass.new.fresh ≡ true }
     {
-        self.cell.look_as::<Looking<J>>(&mut pass.inner);
+        self.cell.look_as::<Looking<J>>(pass);
     }
 
     /// Raises the local tail of the replica that the pass owns to a place, and the completed tail to it where that is lower.
-    /// Where the local tail is there already, nothing is exchanged.
-    ///
-    /// Waits for another pass's append that is under way.
+    /// Where the local tail is there already, nothing is exchanged. It never waits.
     ///
     /// # Errors
     ///
     /// `Moved` where another pass's event has come since this pass last saw the cell. The pass has made no event then.
-    pub fn advance<R: Wait>(&self, rt: &R, pass: &mut LogPass<J>, to: u32) -> Result<(), Moved>
+    pub fn advance(&self, pass: &mut LogPass<J>, to: u32) -> Result<(), Moved>
         requires log { pass.old.log ≡ self.now }
         requires to { MayTake J.replicas pass.old.view to }
         ensures log { pass.new.log ≡ pass.old.log }
@@ -166,49 +165,44 @@ impl<J: LogName> RingLog<J> {
         if pass.inner.head()[local] == place {
             return Ok(());
         }
-        if self.try_advance::<Brand, R>(rt, pass, replica, to) {
-            Ok(())
-        } else {
-            Err(Moved)
+        if self.try_advance::<Brand>(&mut pass.inner, replica, to) {
+            return Ok(());
         }
+        Err(Moved)
     }
 
-    fn try_advance<E: Happening, R: Wait>(
-        &self,
-        rt: &R,
-        pass: &mut LogPass<J>,
-        replica: u8,
-        to: u32,
-    ) -> bool
-        requires log { pass.old.log ≡ self.now }
-        requires event { E.events ≡ Advance replica to ∷ [] }
-        requires may { (replica < REPLICAS)
-            × MayAdvance (log_after J.replicas pass.old.view.seen) replica to
-            × Contains pass.old.view.owns replica }
-        ensures log { pass.new.log ≡ pass.old.log }
+    /// Raises the local tail of a replica to a place.
+    fn try_advance<E: Happening>(&self, pass: &mut Inner<J>, replica: u8, to: u32) -> bool
+        requires log { pass.old.cell ≡ self.now }
+        requires known { (ring : ℕ)
+            × Remembers J.depth J.replicas J.passes (Some replica) ring pass.old }
+        requires event { (E.events ≡ Advance replica to ∷ []) × (E.ring < J.passes) }
+        requires may { MayAdvance (log_after J.replicas pass.old.view.seen) replica to }
+        ensures log { pass.new.cell ≡ pass.old.cell }
         ensures view { MadeOrMoved J.depth J.replicas E.events pass.old.view pass.new.view result }
-        ensures history { IsLogHistory J.depth J.replicas pass.new.view.seen }
+        ensures known { (ring : ℕ)
+            → Remembers J.depth J.replicas J.passes (Some replica) ring pass.old
+            → Remembers J.depth J.replicas J.passes (Some replica) ring pass.new }
     {
-        let head = pass.inner.head();
-        let code = advanced_code(head, head[TAIL_WORD], replica, u64::from(to));
-        self.exchange::<E, R>(rt, &mut pass.inner, &[], &mut pass.loaded, code, &[])
+        let head = pass.head();
+        let code = advanced_code(
+            head,
+            head[TAIL_WORD],
+            replica,
+            u64::from(to),
+            head[LAST_WORD],
+        );
+        self.exchange::<E>(pass, code)
     }
 
-    /// Looks, and then appends 1 to 16 entries at the log's depth: the place of the first.
-    ///
-    /// Waits for another pass's append that is under way.
+    /// Looks, and then appends 1 to 16 entries at the log's depth: the place of the first. It never waits.
     ///
     /// # Errors
     ///
     /// `LogEnded` where the log would go past 65,536 entries; `Full` where some replica would have more than 16 entries to take;
     /// `Moved` where neither holds, but another pass's event has come since this pass last saw the log. The tails are those of
     /// the log that the pass has then seen, and it has made no event.
-    pub fn append<R: Wait>(
-        &self,
-        rt: &R,
-        pass: &mut LogPass<J>,
-        batch: &[LogEntry],
-    ) -> Result<u32, AppendFault>
+    pub fn append(&self, pass: &mut LogPass<J>, batch: &[PackedEntry]) -> Result<u32, AppendFault>
         requires log { pass.old.log ≡ self.now }
         requires count { (1 ≤ length batch.now) × (length batch.now ≤ RING) }
         requires entries { All (IsLogEntry J.depth) batch.now }
@@ -223,53 +217,39 @@ impl<J: LogName> RingLog<J> {
         ensures history { IsLogHistory J.depth J.replicas pass.new.view.seen }
     {
         let count = batch.len() as u64;
-        self.refresh(pass);
-        let place = pass.tails().tail;
+        self.refresh(&mut pass.inner);
+        let place = pass.inner.head()[TAIL_WORD] as u32;
         test_room(pass.inner.head(), count)?;
-        if self.try_append::<Brand, R>(rt, pass, batch) {
+        if self.try_append::<Brand>(&mut pass.inner, pass.ring, batch) {
             return Ok(place);
         }
         Err(why_not(pass.inner.head(), count))
     }
 
-    fn try_append<E: Happening, R: Wait>(
-        &self,
-        rt: &R,
-        pass: &mut LogPass<J>,
-        batch: &[LogEntry],
-    ) -> bool
-        requires log { pass.old.log ≡ self.now }
-        requires event { E.events ≡ Append batch.now ∷ [] }
+    /// Appends a batch, whose entries lie in the pass's ring.
+    fn try_append<E: Happening>(&self, pass: &mut Inner<J>, ring: u8, batch: &[PackedEntry]) -> bool
+        requires log { pass.old.cell ≡ self.now }
+        requires known { (replica : Option ℕ)
+            × Remembers J.depth J.replicas J.passes replica ring pass.old }
+        requires fresh { pass.old.fresh ≡ true }
+        requires event { (E.events ≡ Append batch.now ∷ []) × (E.ring ≡ ring) }
         requires may { MayAppend J.depth (log_after J.replicas pass.old.view.seen) batch.now }
-        ensures log { pass.new.log ≡ pass.old.log }
+        ensures log { pass.new.cell ≡ pass.old.cell }
         ensures view { MadeOrMoved J.depth J.replicas E.events pass.old.view pass.new.view result }
-        ensures history { IsLogHistory J.depth J.replicas pass.new.view.seen }
+        ensures known { (replica : Option ℕ)
+            → Remembers J.depth J.replicas J.passes replica ring pass.old
+            → Remembers J.depth J.replicas J.passes replica ring pass.new }
     {
-        let head = pass.inner.head();
-        let tail = head[TAIL_WORD];
-        let code = appended_code(head, tail + batch.len() as u64);
-        pass.changes.clear();
-        list_changes(tail, batch, &mut pass.changes);
-        self.exchange::<E, R>(
-            rt,
-            &mut pass.inner,
-            &[],
-            &mut pass.loaded,
-            code,
-            pass.changes.as_slice(),
-        )
+        self.write(pass, ring, batch);
+        let head = pass.head();
+        let tail = head[TAIL_WORD] + batch.len() as u64;
+        let code = appended_code(head, tail, u64::from(ring));
+        self.exchange::<E>(pass, code)
     }
 
     /// Looks, and gives all entries from the local tail of the replica that the pass owns to the tail, in order. The vector is
-    /// empty.
-    ///
-    /// Waits for another pass's append that is under way, and while others' events come.
-    pub fn fetch<R: Wait>(
-        &self,
-        rt: &R,
-        pass: &mut LogPass<J>,
-        entries: &mut ArrayVec<LogEntry, RING>,
-    )
+    /// empty. It never waits.
+    pub fn fetch(&self, pass: &mut LogPass<J>, entries: &mut ArrayVec<PackedEntry, RING>)
         requires log { pass.old.log ≡ self.now }
         requires owner { (replica : ℕ) × (pass.old.view.owns ≡ replica ∷ []) }
         requires empty { entries.old.items ≡ [] }
@@ -278,80 +258,31 @@ impl<J: LogName> RingLog<J> {
         ensures fetched { (replica : ℕ) → pass.old.view.owns ≡ replica ∷ []
             → entries.new.items ≡ to_take (log_after J.replicas pass.new.view.seen) replica }
     {
-        self.refresh(pass);
-        let backoff = Backoff::new();
-        for _ in rt.forever() {
-            if self.try_fetch(pass, entries) {
-                return;
-            }
-            backoff.snooze();
-        }
-        unreachable!()
-    }
-
-    /// Gives the entries that the replica which the pass owns has still to take, as far as the pass has seen, and then looks. Where
-    /// another pass's event has come, or is about to, it gives none: their words in the cell may be those of others already.
-    fn try_fetch(&self, pass: &mut LogPass<J>, entries: &mut ArrayVec<LogEntry, RING>) -> bool
-        requires log { pass.old.log ≡ self.now }
-        requires owner { (replica : ℕ) × (pass.old.view.owns ≡ replica ∷ []) }
-        requires empty { entries.old.items ≡ [] }
-        ensures log { pass.new.log ≡ pass.old.log }
-        ensures looked { HasLooked J.depth J.replicas pass.old.view pass.new.view }
-        ensures fetched { IsTrue result → (replica : ℕ) → pass.old.view.owns ≡ replica ∷ []
-            → entries.new.items ≡ to_take (log_after J.replicas pass.new.view.seen) replica }
-        ensures none { IsFalse result → entries.new.items ≡ [] }
-    {
         let Some(replica) = pass.replica else {
             unreachable!()
         };
-        let head = pass.inner.head();
-        let from = head[LOCAL_WORDS + usize::from(replica)];
-        let to = head[TAIL_WORD];
-        pass.places.clear();
-        list_places(from, to, &mut pass.places);
-        let places = pass.places.as_slice();
-        if !self
-            .cell
-            .load_as::<Looking<J>>(&mut pass.inner, places, &mut pass.loaded)
-        {
-            return false;
-        }
-        read_entries(&pass.loaded, from, to, entries);
-        true
+        self.refresh(&mut pass.inner);
+        self.read(&mut pass.inner, replica, entries);
     }
 
-    /// Loads the words at these places, and exchanges the words that a pass saw last for those after events, which have this code and
-    /// these changes of the ring, where the cell still has them; else it looks.
-    pub(crate) fn exchange<E: Happening, R: Wait>(
-        &self,
-        rt: &R,
-        pass: &mut Pass<View, RING_WORDS, CELL_WORDS>,
-        places: &[usize],
-        loaded: &mut [u64; CELL_WORDS],
-        code: u64,
-        changes: &[(usize, u64)],
-    ) -> bool
+    /// Exchanges what a pass saw last for what is there after events, which has this code, where the cell has it still; else it looks. The
+    /// entries of the events lie in the pass's ring already.
+    pub(crate) fn exchange<E: Happening>(&self, pass: &mut Inner<J>, code: u64) -> bool
         requires log { pass.old.cell ≡ self.now }
-        requires known { (replica : Option ℕ)
-            × Remembers J.depth J.replicas pass.old.words replica pass.old.view }
+        requires known { (replica : Option ℕ) × (ring : ℕ)
+            × Remembers J.depth J.replicas J.passes replica ring pass.old }
         requires some { 1 ≤ length E.events }
-        requires loads { All (λ place. (RING_WORDS ≤ place) × (place < CELL_WORDS)) places.now }
-        requires places { All (λ change. (RING_WORDS ≤ change.0) × (change.0 < CELL_WORDS))
-            changes.now }
-        requires code { code
-            ≡ code_in (exchanged word_in RING_WORDS code pass.old.words changes.now) }
-        requires events { LeadTo J.depth J.replicas pass.old.view E.events
-            (exchanged word_in RING_WORDS code pass.old.words changes.now) }
+        requires ring { E.ring < J.passes }
+        requires code { code ≡ code_in J.replicas (stored_after E.ring pass.old.value E.events) }
+        requires events { LeadTo J.depth J.replicas pass.old.view E.events }
+        requires stored { AreStored J.replicas E.ring E.events pass.old }
         ensures log { pass.new.cell ≡ pass.old.cell }
         ensures view { MadeOrMoved J.depth J.replicas E.events pass.old.view pass.new.view result }
-        ensures known { (replica : Option ℕ)
-            → Remembers J.depth J.replicas pass.old.words replica pass.old.view
-            → Remembers J.depth J.replicas pass.new.words replica pass.new.view }
-        ensures loaded { IsTrue result → All
-            (λ place. slice_index loaded.new place ≡ slice_index pass.old.words place) places.now }
+        ensures known { (replica : Option ℕ) (ring : ℕ)
+            → Remembers J.depth J.replicas J.passes replica ring pass.old
+            → Remembers J.depth J.replicas J.passes replica ring pass.new }
     {
-        self.cell
-            .exchange_as::<Making<E>, Looking<J>, R>(rt, pass, places, loaded, code, changes)
+        self.cell.exchange_as::<Making<E>, Looking<J>>(pass, code)
     }
 
     /// Hands one pass what another has seen: what `told` has then seen begins with all that either had seen, and nobody has
@@ -386,7 +317,7 @@ impl<J: LogName> RingLog<J> {
     }
 
     /// Takes over the replicas that a pass owns.
-    fn take_over(&self, owner: &mut Pass<View, RING_WORDS, CELL_WORDS>, other: LogPass<J>)
+    fn take_over(&self, owner: &mut Inner<J>, other: LogPass<J>)
         requires log { (owner.old.cell ≡ self.now) × (other.log ≡ self.now) }
         requires seen { StartsWith owner.old.view.seen other.view.seen }
         ensures log { owner.new.cell ≡ owner.old.cell }

@@ -1,27 +1,38 @@
 //! The rule of the cell, and what each kind of step shows its pass.
 use crate::code::head_word;
 use crate::name::LogName;
+use crate::stored::Stored;
 use crate::view::View;
 use atomic_table::{Join, Split};
 use std::marker::{Brand, PhantomData};
-use version_cell::{CellOutcome, CellRule};
+use version_cell::{CellChange, CellOutcome, CellRule};
 
 /// The rule of the cell of a log.
 pub struct LogRule<J: LogName> {
     of: PhantomData<J>,
 }
 
-impl<J: LogName> CellRule<View> for LogRule<J> {
+impl<J: LogName> CellRule<View, Stored> for LogRule<J> {
     ghost use Rattle.nr_ring.specs.Rule.{IsKept};
+    ghost use Rattle.nr_ring.specs.Words.{Lasts, Needs};
     ghost use Rattle.nr_ring.specs.inside.Codes.{code_in, word_in};
-    ghost use Rattle.nr_ring.specs.inside.Held.{new_view};
+    ghost use Rattle.nr_ring.specs.inside.Held.{new_view, nothing_stored};
     ghost use Rattle.std.specs.List.{range_with_len};
+    ghost use Rattle.std.specs.Prelude.{length};
 
     ghost holds = { IsKept J.depth J.replicas J.passes };
 
+    ghost start = { nothing_stored };
+
     ghost first = { new_view (range_with_len 0 J.replicas) J.passes };
 
-    ghost code = { code_in };
+    ghost code = { code_in J.replicas };
+
+    ghost age = { λ x. length x.history };
+
+    ghost needs = { Needs J.replicas };
+
+    ghost lasts = { Lasts J.replicas };
 
     ghost head = { word_in };
 
@@ -36,36 +47,44 @@ pub struct Looking<J: LogName> {
     of: PhantomData<J>,
 }
 
-impl<J: LogName> CellOutcome<View> for Looking<J> {
+impl<J: LogName> CellOutcome<View, Stored> for Looking<J> {
     ghost use Rattle.nr_ring.specs.Calls.{Looks};
 
-    ghost then = { λ before words words' after. Looks J.depth J.replicas words' before after };
+    ghost then = { λ before x found after.
+        Looks J.depth J.replicas J.passes found before after };
 }
 
-/// Names the events that an exchange makes, one after another.
+/// Names the events that an exchange makes, one after another, and the ring of the pass that makes them.
 pub trait Happening {
-    ghost use Rattle.std.specs.Prelude.{List};
+    ghost use Rattle.std.specs.Prelude.{ℕ, List};
     ghost use Rattle.nr_ring.specs.declared.log_event.LogEvent.{LogEvent};
 
     ghost events: { List LogEvent };
+
+    ghost ring: { ℕ };
 }
 
 impl Happening for Brand {
     ghost use Rattle.std.specs.Prelude.{[]};
 
     ghost events = { [] };
+
+    ghost ring = { 0 };
 }
 
-/// An exchange of the words of the cell for those after events.
+/// An exchange of the value of the cell for that after events.
 pub struct Making<E: Happening> {
     of: PhantomData<E>,
 }
 
-impl<E: Happening> CellOutcome<View> for Making<E> {
+impl<E: Happening> CellChange<View, Stored> for Making<E> {
     ghost use Rattle.std.specs.Prelude.{◌≡◌};
     ghost use Rattle.nr_ring.specs.Calls.{with_events};
+    ghost use Rattle.nr_ring.specs.Words.{stored_after};
 
-    ghost then = { λ before words words' after. after ≡ with_events before E.events };
+    ghost next = { λ x. stored_after E.ring x E.events };
+
+    ghost then = { λ before x next after. after ≡ with_events before E.events };
 }
 
 /// The new pass takes the first replica that the other owns, and one right.
@@ -124,9 +143,9 @@ impl Join<View> for Gathers {
 /// That the view is one that a pass has.
 pub struct Existing;
 
-impl CellOutcome<View> for Existing {
+impl CellOutcome<View, Stored> for Existing {
     ghost use Rattle.std.specs.Prelude.{◌≡◌, ◌≢◌};
     ghost use Rattle.nr_ring.specs.inside.Gathering.{no_view};
 
-    ghost then = { λ before words words' after. (before ≢ no_view) × (after ≡ before) };
+    ghost then = { λ before x same after. (before ≢ no_view) × (after ≡ before) };
 }

@@ -3,43 +3,43 @@ ghost use Rattle.std.specs.Prelude.{◌≡◌, ℕ, ◌<◌, ◌≤◌, List, []
 ghost use mathlib.Core.Option.{some};
 ghost use lib.ListN.{get_elem?};
 ghost use Rattle.crossbeam_utils.specs.Register.{Forks, Merges, Turns};
+ghost use Rattle.version_cell.specs.Words.{Leaves};
 ghost use Rattle.vs_types.specs.declared.depth.Depth.{Depth};
-ghost use Rattle.vs_types.specs.declared.limits.TheConstants.{REPLICAS};
 ghost use Rattle.nr_ring.specs.Calls.{AreCut, IsCut, Looks, MayMake, joint_view, left_view, offshoot, empty_view, with_event};
-ghost use Rattle.nr_ring.specs.LogHistory.{IsLogHistory, MayFollow, log_after_event, log_after};
+ghost use Rattle.nr_ring.specs.LogHistory.{MayFollow, log_after};
 ghost use Rattle.nr_ring.specs.Laws.{IsMaker};
 ghost use Rattle.nr_ring.specs.Rule.{IsKept};
-ghost use Rattle.nr_ring.specs.View.{StartsWith};
-ghost use Rattle.nr_ring.specs.Words.{IsWordsOf, new_words};
+ghost use Rattle.nr_ring.specs.Words.{Lasts, Needs, stored_after_event};
 ghost use Rattle.nr_ring.specs.declared.log_event.LogEvent.{LogEvent};
+ghost use Rattle.nr_ring.specs.declared.stored.Stored.{Stored};
 ghost use Rattle.nr_ring.specs.declared.view.View.{View};
 
 /// A load of the cell keeps the rule, and is a look.
 pub fn looks_keep_the_rule()
     ensures { (depth : Depth) (replicas passes pass : ℕ) (v : View)
-        → Turns (IsKept depth replicas passes) pass v (λ words. words)
-        (λ before words words' after. Looks depth replicas words' before after) }
+        → Turns (IsKept depth replicas passes) pass v (λ x. x)
+        (λ before x found after. Looks depth replicas passes found before after) }
 {}
 
-/// Where the words are those after what a pass has seen, it has seen the whole history.
-pub fn own_words_mean_all_seen()
-    ensures { (depth : Depth) (replicas : ℕ) (history seen : List LogEvent) (words : List ℕ)
-        → replicas ≤ REPLICAS → IsLogHistory depth replicas history → StartsWith history seen
-        → IsWordsOf (log_after replicas seen) words
-        → IsWordsOf (log_after replicas history) words → history ≡ seen }
-{}
-
-/// An exchange of the words after what a pass has seen, by the words after one event more, keeps the rule: the event may follow,
-/// the pass has a right, and where it is an advance the pass owns the replica.
+/// Where the value is what a pass has seen, an exchange of it for that after one event more keeps the rule: the event may follow, the
+/// pass has a right, where it is an advance the pass owns the replica, and the ring is that of a pass.
 pub fn events_keep_the_rule()
-    ensures { (depth : Depth) (replicas passes pass : ℕ) (v : View) (event : LogEvent)
-        (words words' : List ℕ) (views : List View)
-        → replicas ≤ REPLICAS
-        → IsKept depth replicas passes words views → get_elem? views pass ≡ some v
-        → IsWordsOf (log_after replicas v.seen) words
+    ensures { (depth : Depth) (replicas passes pass ring : ℕ) (v : View) (event : LogEvent)
+        (stored : Stored) (views : List View)
+        → IsKept depth replicas passes stored views → get_elem? views pass ≡ some v
+        → stored.history ≡ v.seen → ring < passes
         → MayFollow depth (log_after replicas v.seen) event → MayMake v event
-        → IsWordsOf (log_after_event (log_after replicas v.seen) event) words'
-        → IsKept depth replicas passes words' (slice_set views pass (with_event v event)) }
+        → IsKept depth replicas passes (stored_after_event ring stored event)
+        (slice_set views pass (with_event v event)) }
+{}
+
+/// And it leaves each word that another pass counts on: one that a replica of that pass needs, which nobody else advances.
+pub fn events_leave_what_lasts()
+    ensures { (depth : Depth) (replicas passes pass ring : ℕ) (v : View) (event : LogEvent)
+        (stored : Stored)
+        → MayFollow depth (log_after replicas v.seen) event → MayMake v event
+        → Leaves (IsKept depth replicas passes) (Needs replicas) (Lasts replicas) pass v stored
+        (stored_after_event ring stored event) }
 {}
 
 /// Splitting a pass keeps the rule: the new pass has seen as much, has made nothing, and takes some of the replicas and of the
@@ -62,15 +62,15 @@ pub fn joins_keep_the_rule()
 pub fn new_logs_keep_the_rule()
     ensures { (depth : Depth) (replicas : ℕ) (v : View)
         → v.seen ≡ [] → v.mine ≡ [] → v.told ≡ []
-        → IsKept depth replicas v.rights (new_words replicas) (v ∷ []) }
+        → IsKept depth replicas v.rights (record { history = []; rings = [] }) (v ∷ []) }
 {}
 
 /// Each event was made by a pass that has a right, and no more passes have one than the log has rights.
 pub fn makers_have_rights()
-    ensures maker { (depth : Depth) (replicas passes : ℕ) (words : List ℕ) (views : List View)
-        → (kept : IsKept depth replicas passes words views)
-        → (number : ℕ) → number < length kept.history → (pass : ℕ) × IsMaker views number pass }
-    ensures few { (depth : Depth) (replicas passes : ℕ) (words : List ℕ) (views : List View)
-        → IsKept depth replicas passes words views
+    ensures maker { (depth : Depth) (replicas passes : ℕ) (stored : Stored) (views : List View)
+        → IsKept depth replicas passes stored views → (number : ℕ)
+        → number < length stored.history → (pass : ℕ) × IsMaker views number pass }
+    ensures few { (depth : Depth) (replicas passes : ℕ) (stored : Stored) (views : List View)
+        → IsKept depth replicas passes stored views
         → count_by (λ view. nat_le 1 view.rights) views ≤ passes }
 {}

@@ -1,7 +1,7 @@
 ghost use Rattle.std.specs.Prelude.{◌≡◌, ◌<◌, ◌^◌, ℕ, slice_index};
-ghost use Rattle.nr_ring.specs.inside.Held.{tails_of_words};
+ghost use Rattle.nr_ring.specs.inside.Held.{tails_of_head};
 
-use crate::words::{COMPLETED_WORD, COUNT_WORD, LOCAL_WORDS, RING_WORDS, TAIL_WORD};
+use crate::words::{COMPLETED_WORD, COUNT_WORD, HEAD_WORDS, LOCAL_WORDS, TAIL_WORD};
 
 /// The tails of a log: how many entries it has, and how many of them have been taken. All are at most 65,536.
 #[derive(Clone, Copy, Debug, PartialEq, Eq)]
@@ -29,10 +29,10 @@ pub enum AppendFault {
     Moved(Tails),
 }
 
-/// The tails that the first words of a log's cell have.
-pub(crate) fn tails_in(head: &[u64; RING_WORDS]) -> Tails
+/// The tails that a head has.
+pub(crate) fn tails_in(head: &[u64; HEAD_WORDS]) -> Tails
     requires { (word : ℕ) → word < COUNT_WORD → slice_index head.now word < 2 ^ 32 }
-    ensures { result ≡ tails_of_words head.now }
+    ensures { result ≡ tails_of_head head.now }
 {
     Tails {
         tail: head[TAIL_WORD] as u32,

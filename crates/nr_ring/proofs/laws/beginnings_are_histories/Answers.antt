@@ -1,4 +1,4 @@
-use Rattle.nr_ring.proofs.OwnTails.{beginning_is}
+use Rattle.nr_ring.proofs.Histories.{beginning_is}
 use Rattle.nr_ring.proofs.laws.beginnings_are_histories.Goals as goal
 
 pub returns : goal.returns

@@ -1,4 +1,4 @@
-use Rattle.nr_ring.proofs.Appends.{begins}
+use Rattle.nr_ring.proofs.Histories.{begins}
 use Rattle.nr_ring.proofs.laws.beginnings_of_beginnings.Goals as goal
 
 pub returns : goal.returns

@@ -1,51 +1,114 @@
-use Rattle.std.proofs.Common.{◌≡◌, ◌+◌, ◌<◌, ◌≤◌, ℕ, List, All, Some, length, ap, ◌∙◌, sym, subst, arith}
-use Rattle.std.specs.Prelude.{slice_index}
+use Rattle.std.proofs.Common.{rules, Some, refl, ap, subst, sym, ◌∙◌, arith}
+use Rattle.std.proofs.lemmas.Result.{err_from_is_err_and}
+use Rattle.nr_ring.specs.Calls.{HasLooked}
 use Rattle.nr_ring.specs.LogHistory.{MayAppend, log_after}
 use Rattle.nr_ring.specs.Pass.{Known}
-use Rattle.nr_ring.specs.Words.{IsWordsOf}
-use Rattle.nr_ring.specs.declared.tails.Tails.{Tails}
+use Rattle.nr_ring.specs.Words.{last_ring}
 use Rattle.nr_ring.specs.declared.view.View.{View}
 use Rattle.nr_ring.proofs.Advances.{owner_remembers}
-use Rattle.nr_ring.proofs.Appends.{are_small, from_local, looked_twice, moved_later, reason}
+use Rattle.nr_ring.proofs.Appends.{barred, looked_twice, moved_later, reason}
 use Rattle.nr_ring.proofs.BothDone.{both_done}
-use Rattle.nr_ring.proofs.FirstWords.{head_of, small_head}
+use Rattle.nr_ring.proofs.FirstWords.{head_is, head_small}
 use Rattle.nr_ring.proofs.ring_log.RingLog.append_and_take.Goals as goal
 
+pub overflow_cast-place : goal.overflow_cast-place
+overflow_cast-place g c =
+    let is = c.refresh.ensures.known c.pass.inside.replica c.pass.inside.ring c.pass.invariant in
+    let small = head_small _ _ _ c.pass.inside.replica c.pass.inside.ring c.refresh.new.pass is c.head.result.now c.head.ensures in
+    omega (arith, small.tails 0 (omega arith))
+
 pub test_room-requires : goal.test_room-requires
-test_room-requires g c = (small_head _ _ c.head-head.ensures (are_small _ _ _ _ _ c.pass.invariant), c.requires.count.1)
+test_room-requires g c =
+    let is = c.refresh.ensures.known c.pass.inside.replica c.pass.inside.ring c.pass.invariant in
+    (head_small _ _ _ c.pass.inside.replica c.pass.inside.ring c.refresh.new.pass is c.head-2.result.now c.head-2.ensures, c.requires.count.1)
+
+pub invariant_of-pass : goal.invariant_of-pass
+invariant_of-pass g c = c.refresh.ensures.known c.pass.inside.replica c.pass.inside.ring c.pass.invariant
+
+pub returns-in_err-test_room-clause-refused : goal.returns-in_err-test_room-clause-refused
+returns-in_err-test_room-clause-refused g c =
+    let depth = g.J.LogName.depth in
+    let replicas = g.J.LogName.replicas in
+    let p = c.refresh.new.pass in
+    let is = c.refresh.ensures.known c.pass.inside.replica c.pass.inside.ring c.pass.invariant in
+    let head = head_is _ _ _ c.pass.inside.replica c.pass.inside.ring p is c.head-2.result.now c.head-2.ensures in
+    let log = log_after replicas p.view.seen in
+    let bars = c.in_err-test_room.ensures log (last_ring p.value) head in
+    let Looked : View → Type 0 = λ v. HasLooked depth replicas v p.view in
+    let looked = subst Looked (ap (λ (k : Known). k.view) c.pass.view_is) c.refresh.ensures.looked in
+    let e = err_from_is_err_and c.from_residual.result c.from_residual.ensures.1 in
+    rw (e.1, e.2) (looked, barred log _ c.args.pass.now.view p.view c.in_err-test_room.field-0.0 bars)
+
+pub try_append_and_take-requires : goal.try_append_and_take-requires
+try_append_and_take-requires g c =
+    let replicas = g.J.LogName.replicas in
+    let p = c.refresh.new.pass in
+    let known = c.refresh.ensures.known c.pass.inside.replica c.pass.inside.ring c.pass.invariant in
+    let is = owner_remembers _ _ _ c.pass.inside.replica (Some c.in-Some.replica) c.pass.inside.ring p known c.in-Some.is in
+    let head = head_is _ _ _ c.pass.inside.replica c.pass.inside.ring p known c.head-2.result.now c.head-2.ensures in
+    let room = c.in_ok-test_room.ensures (log_after replicas p.view.seen) (last_ring p.value) head in
+    let may : MayAppend g.J.LogName.depth (log_after replicas p.view.seen) c.args.batch.now =
+    record { some = c.requires.count.0; few = c.requires.count.1; entries = c.requires.entries; room = room.0; kept_up = room.1 } in (
+      search rules,
+      (
+        c.refresh.ensures.log ∙ ap (λ (k : Known). k.log) c.pass.view_is ∙ c.requires.log,
+        (is, (c.refresh.ensures.fresh, (may, ((refl, refl), c.requires.empty)))),
+      ),
+    )
+
+pub invariant_of-pass-then-try_append_and_take : goal.invariant_of-pass-then-try_append_and_take
+invariant_of-pass-then-try_append_and_take g c =
+    owner_remembers _ _ _ (Some c.in-Some.replica) c.pass.inside.replica c.pass.inside.ring c.try_append_and_take.new.pass c.try_append_and_take.ensures.known
+    (sym c.in-Some.is)
+
+pub returns-then-try_append_and_take-clause-done : goal.returns-then-try_append_and_take-clause-done
+returns-then-try_append_and_take-clause-done g c =
+    let depth = g.J.LogName.depth in
+    let replicas = g.J.LogName.replicas in
+    let p = c.refresh.new.pass in
+    let r = c.in-Some.replica in
+    let ring = c.pass.inside.ring in
+    let known = c.refresh.ensures.known c.pass.inside.replica ring c.pass.invariant in
+    let is = owner_remembers _ _ _ c.pass.inside.replica (Some r) ring p known c.in-Some.is in
+    let head = head_is _ _ _ (Some r) ring p is c.head-2.result.now c.head-2.ensures in
+    let at = head_is _ _ _ (Some r) ring p is c.head.result.now c.head.ensures in
+    let room = c.in_ok-test_room.ensures (log_after replicas p.view.seen) (last_ring p.value) head in
+    let may : MayAppend depth (log_after replicas p.view.seen) c.args.batch.now =
+    record { some = c.requires.count.0; few = c.requires.count.1; entries = c.requires.entries; room = room.0; kept_up = room.1 } in
+    let Looked : View → Type 0 = λ v. HasLooked depth replicas v p.view in
+    let looked = subst Looked (ap (λ (k : Known). k.view) c.pass.view_is) c.refresh.ensures.looked in
+    both_done depth replicas _ r ring c.args.pass.now.view c.try_append_and_take.new.pass.view p c.args.batch.now c.try_append_and_take.new.before.items _
+    looked is may c.try_append_and_take.ensures.known.is_history at.tail_is c.if-try_append_and_take.ensures.view
+    (c.try_append_and_take.ensures.taken c.if-try_append_and_take.true)
+
+pub returns-then-try_append_and_take-clause-history : goal.returns-then-try_append_and_take-clause-history
+returns-then-try_append_and_take-clause-history g c = c.try_append_and_take.ensures.known.is_history
 
 pub why_not-requires : goal.why_not-requires
-why_not-requires g c = (small_head _ _ c.head.ensures (are_small _ _ _ _ _ c.pass-2.invariant), c.requires.count.1)
+why_not-requires g c = (
+  head_small _ _ _ (Some c.in-Some.replica) c.pass.inside.ring c.try_append_and_take.new.pass c.try_append_and_take.ensures.known c.head-3.result.now
+      c.head-3.ensures,
+  c.requires.count.1,
+)
+
+pub invariant_of-pass-2 : goal.invariant_of-pass-2
+invariant_of-pass-2 g c =
+    owner_remembers _ _ _ (Some c.in-Some.replica) c.pass.inside.replica c.pass.inside.ring c.try_append_and_take.new.pass c.try_append_and_take.ensures.known
+    (sym c.in-Some.is)
 
 pub returns-clause-refused : goal.returns-clause-refused
 returns-clause-refused g c =
     let depth = g.J.LogName.depth in
     let replicas = g.J.LogName.replicas in
     let old = c.args.pass.now.view in
-    let middle = c.refresh.new.pass.view in
-    let new = c.try_append_and_take.new.pass.view in
-    let log = log_after replicas new.seen in
-    let Is : View → Type 0 = λ v. IsWordsOf (log_after replicas v.seen) c.pass-2.inside.inner.words in
-    let are = head_of log c.head.result.now _ c.head.ensures (subst Is (ap (λ (k : Known). k.view) c.pass-2.view_is) c.pass-2.invariant.words_are) in
-    let first = c.refresh.ensures.looked in
+    let q = c.try_append_and_take.new.pass in
+    let is = c.try_append_and_take.ensures.known in
+    let log = log_after replicas q.view.seen in
+    let head = head_is _ _ _ (Some c.in-Some.replica) c.pass.inside.ring q is c.head-3.result.now c.head-3.ensures in
+    let Looked : View → Type 0 = λ v. HasLooked depth replicas v c.refresh.new.pass.view in
+    let first = subst Looked (ap (λ (k : Known). k.view) c.pass.view_is) c.refresh.ensures.looked in
     let second = c.if-try_append_and_take.ensures.view in (
-      looked_twice depth replicas old middle new first second.0,
-      reason log _ old new c.why_not.result (c.why_not.ensures log are) (moved_later depth replicas old middle new first second.1),
+      looked_twice depth replicas old c.refresh.new.pass.view q.view first second.0,
+      reason log _ old q.view c.why_not.result (c.why_not.ensures log (last_ring q.value) head)
+          (moved_later depth replicas old c.refresh.new.pass.view q.view first second.1),
     )
-
-pub returns-then-try_append_and_take-clause-done : goal.returns-then-try_append_and_take-clause-done
-returns-then-try_append_and_take-clause-done g c =
-    let depth = g.J.LogName.depth in
-    let replicas = g.J.LogName.replicas in
-    let r = c.in-Some.replica in
-    let view = c.refresh.new.pass.view in
-    let words = c.pass.inside.inner.words in
-    let is = owner_remembers _ _ words _ r _ view c.pass.invariant (ap (λ (k : Known). k.view) c.pass.view_is) c.in-Some.is in
-    let log = log_after replicas view.seen in
-    let room = c.in_ok-test_room.ensures log (head_of log c.head-head.result.now _ c.head-head.ensures is.words_are) in
-    let may : MayAppend depth log c.args.batch.now =
-    record { some = c.requires.count.0; few = c.requires.count.1; entries = c.requires.entries; room = room.0; kept_up = room.1 } in
-    both_done depth replicas words r c.args.pass.now.view view c.try_append_and_take.new.pass.view c.args.batch.now
-    c.try_append_and_take.new.before.items c.tails-place.result.tail c.refresh.ensures.looked is may c.try_append_and_take.ensures.history
-    (ap (λ (t : Tails). t.tail) c.tails-place.ensures) c.if-try_append_and_take.ensures.view
-    (c.try_append_and_take.ensures.taken c.if-try_append_and_take.true)

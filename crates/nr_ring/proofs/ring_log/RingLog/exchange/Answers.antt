@@ -1,7 +1,5 @@
-use Rattle.std.proofs.Common.{rules}
-use Rattle.version_cell.specs.Changes.{exchanged}
-use Rattle.nr_ring.specs.inside.Codes.{word_in}
-use Rattle.nr_ring.proofs.Exchanges.{events_coded, events_turn, exchange_tells}
+use Rattle.std.proofs.Common.{rules, arith, sym, ◌∙◌}
+use Rattle.nr_ring.proofs.Exchanges.{events_age, events_leave, events_rise, events_turn, exchange_tells}
 use Rattle.nr_ring.proofs.Turns.{look_turns}
 use Rattle.nr_ring.proofs.ring_log.RingLog.exchange.Goals as goal
 
@@ -9,26 +7,35 @@ pub exchange_as-requires : goal.exchange_as-requires
 exchange_as-requires g c =
     let depth = g.J.LogName.depth in
     let replicas = g.J.LogName.replicas in
+    let passes = g.J.LogName.passes in
+    let ring = g.E.Happening.ring in
     let events = g.E.Happening.events in
-    let is = c.requires.known.1 in
-    let view = c.args.pass.now.view in
-    let words = c.args.pass.now.words in
-    let next = exchanged word_in 7 c.args.code words c.args.changes.now in
-    let coded = events_coded depth replicas words next _ view events c.args.code is c.requires.events c.requires.some c.requires.code in
-    let turns = events_turn depth replicas _ _ view events words next is.few is.words_are c.requires.events in (
+    let pass = c.args.pass.now in
+    let is = c.requires.known.2 in
+    let own = c.requires.known.0 in
+    let mine = c.requires.known.1 in
+    let turns = events_turn depth replicas passes own mine pass.number ring pass events is c.requires.ring c.requires.events in
+    let rises = events_rise depth replicas passes own mine ring pass events is c.requires.ring c.requires.events c.requires.some in
+    let ages = events_age depth replicas passes own mine ring pass events c.requires.some in
+    let leaves = events_leave depth replicas passes pass.number ring pass.view events pass.value c.requires.events in (
       search rules,
       (
         search rules,
-        (search rules, (search rules, (c.requires.loads, (c.requires.places, (coded.0, (turns, (coded.1, look_turns _ _ _ _ _))))))),
+        (
+          c.requires.log ∙ sym c.self.view_is,
+          (c.requires.code, ((omega (arith, rises, c.requires.code), ages), (turns, (c.requires.stored, (leaves, look_turns _ _ _ _ _))))),
+        ),
       ),
     )
 
 pub returns-clause-view : goal.returns-clause-view
 returns-clause-view g c =
-    (exchange_tells g.J.LogName.depth g.J.LogName.replicas _ _ _ _ _ _ g.E.Happening.events c.exchange_as.result c.requires.known.1
-    c.requires.events c.exchange_as.ensures.rule).1
+    (exchange_tells g.J.LogName.depth g.J.LogName.replicas g.J.LogName.passes c.requires.known.0 c.requires.known.1 g.E.Happening.ring c.args.pass.now
+    c.exchange_as.new.pass g.E.Happening.events c.exchange_as.result c.requires.known.2 c.requires.ring c.requires.events c.exchange_as.ensures.same.2
+    c.exchange_as.ensures.same.3 c.exchange_as.ensures.rule).1
 
 pub returns-clause-known : goal.returns-clause-known
-returns-clause-known g c = λ replica is.
-    (exchange_tells g.J.LogName.depth g.J.LogName.replicas _ _ _ _ _ _ g.E.Happening.events c.exchange_as.result is c.requires.events
-    c.exchange_as.ensures.rule).0
+returns-clause-known g c = λ replica ring is.
+    (exchange_tells g.J.LogName.depth g.J.LogName.replicas g.J.LogName.passes replica ring g.E.Happening.ring c.args.pass.now
+    c.exchange_as.new.pass g.E.Happening.events c.exchange_as.result is c.requires.ring c.requires.events c.exchange_as.ensures.same.2
+    c.exchange_as.ensures.same.3 c.exchange_as.ensures.rule).0

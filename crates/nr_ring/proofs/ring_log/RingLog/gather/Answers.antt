@@ -22,10 +22,16 @@ loop-other-init g c =
       λ apart. subst Apart same (subst Rest rest apart),
     )
 
-pub take_over-requires-clause-seen : goal.take_over-requires-clause-seen
-take_over-requires-clause-seen g c =
+pub take_over-requires : goal.take_over-requires
+take_over-requires g c =
     let Begins : List Known → Type 0 = λ l. All (λ pass. StartsWith c.loop-other.owner.view.seen pass.view.seen) l in
-    (subst Begins c.in-Some.ensures.steps.0 c.loop-other.invariant.2) 0 c.in-Some.other (omega arith)
+    let Of : List Known → Type 0 = λ l. All (λ pass. pass.log ≡ c.args.self.now) l in (
+      omega arith,
+      (
+        (c.loop-other.invariant.0, (subst Of c.in-Some.ensures.steps.0 c.loop-other.invariant.1) 0 c.in-Some.other (omega arith)),
+        (subst Begins c.in-Some.ensures.steps.0 c.loop-other.invariant.2) 0 c.in-Some.other (omega arith),
+      ),
+    )
 
 pub loop-other-preserved : goal.loop-other-preserved
 loop-other-preserved g c =

@@ -1,8 +1,8 @@
-use Rattle.std.proofs.Common.{rules, ℕ, ◌-◌, List, ap, ◌∙◌, sym, subst, drop, take, arith}
+use Rattle.std.proofs.Common.{rules, ℕ, ◌-◌, List, length, ap, ◌∙◌, sym, subst, drop, take, arith, length-drop}
+use Rattle.std.proofs.lemmas.List.{length-take-le}
 use Rattle.nr_ring.specs.declared.view.View.{View}
 use Rattle.nr_ring.specs.Calls.{AreCut, IsCut, left_view, offshoot}
-use Rattle.nr_ring.specs.inside.Held.{new_view, Remembers}
-use Rattle.nr_ring.specs.Words.{new_words}
+use Rattle.nr_ring.specs.inside.Held.{new_view}
 use Rattle.nr_ring.proofs.Splits.{split_forks}
 use Rattle.nr_ring.proofs.Passes.{cut_owned, gives_first, keeps_rest, new_remembers}
 use Rattle.nr_ring.proofs.ring_log.RingLog.split_off.Goals as goal
@@ -17,30 +17,40 @@ split_pass-pass-requires g c =
       search rules,
       (
         search rules,
-        (c.requires.first.0 ∙ sym c.self.view_is, split_forks _ _ _ _ _ _ _ _ _ (subst P (sym c.requires.first.1) (cut_owned replicas c.args.replica)) shares),
+        (
+          c.requires.first.0 ∙ sym c.self.view_is,
+          (c.requires.rings.1, split_forks _ _ _ _ _ _ _ _ _ (subst P (sym c.requires.first.1) (cut_owned replicas c.args.replica)) shares),
+        ),
       ),
     )
 
 pub new-requires : goal.new-requires
 new-requires g c =
     let replicas = g.J.LogName.replicas in
-    let view = c.split_pass-pass.ensures.given.1 ∙ ap (λ (v : View). offshoot v (take 1 v.owns) 1) c.requires.first.1
-    ∙ ap (λ owns. new_view owns 1) (gives_first replicas c.args.replica c.requires.few.1) in
-    let P : View → Type 0 = λ v. Remembers g.J.LogName.depth replicas (new_words replicas) c.args.replica v in
-    let Q : List ℕ → Type 0 = λ ws. Remembers g.J.LogName.depth replicas ws c.args.replica
-    c.split_pass-pass.result.view in
-    subst Q (sym (c.split_pass-pass.ensures.given.2 ∙ c.requires.words))
-    (subst P (sym view) (new_remembers g.J.LogName.depth replicas c.args.replica c.requires.few.0 c.requires.few.1))
+    let given = c.split_pass-pass.ensures.given in
+    let view = given.1 ∙ ap (λ (v : View). offshoot v (take 1 v.owns) 1) c.requires.first.1
+    ∙ ap (λ owns. new_view owns 1) (gives_first replicas c.args.replica c.requires.few.1) in (
+      omega arith,
+      new_remembers g.J.LogName.depth replicas g.J.LogName.passes c.args.replica c.args.ring c.split_pass-pass.result c.requires.few.0
+          (omega (arith, c.requires.few.2)) c.requires.few.1 c.requires.rings.2 view (given.2 ∙ c.requires.value) (given.3 ∙ c.requires.rings.0)
+          (ap (λ (l : List ℕ). length l) given.4 ∙ length-take-le 32 c.args.first.now.own c.requires.rings.1),
+    )
 
 pub returns-clause-first : goal.returns-clause-first
 returns-clause-first g c =
     let replicas = g.J.LogName.replicas in
-    let rights = c.args.first.now.view.rights in (
-      c.split_pass-pass.ensures.same.0,
-      c.split_pass-pass.ensures.same.2,
-      c.split_pass-pass.ensures.kept ∙ ap (λ (v : View). left_view v (drop 1 v.owns) (rights - 1)) c.requires.first.1
+    let rights = c.args.first.now.view.rights in
+    let same = c.split_pass-pass.ensures.same in (
+      same.0,
+      same.2,
+      c.split_pass-pass.ensures.kept.0 ∙ ap (λ (v : View). left_view v (drop 1 v.owns) (rights - 1)) c.requires.first.1
           ∙ ap (λ owns. new_view owns (rights - 1)) (keeps_rest replicas c.args.replica c.requires.few.1),
     )
+
+pub returns-clause-rings : goal.returns-clause-rings
+returns-clause-rings g c =
+    let kept = c.split_pass-pass.ensures.kept in
+    (kept.1, ap (λ (l : List ℕ). length l) kept.2 ∙ length-drop 32 c.args.first.now.own)
 
 pub returns-clause-pass : goal.returns-clause-pass
 returns-clause-pass g c =

@@ -1,65 +1,63 @@
-use Rattle.std.proofs.Common.{◌≡◌, ℕ, List, [], ◌∷◌, Contains, length, set, ap, ◌∙◌, sym, subst, arith}
+use Rattle.std.proofs.Common.{rules, ◌≡◌, ◌+◌, ◌*◌, ℕ, List, Some, length, set, refl, ap, sym, subst, ◌∙◌, arith}
 use Rattle.std.specs.Prelude.{slice_index}
-use Rattle.version_cell.specs.Changes.{exchanged}
-use Rattle.nr_ring.specs.LogHistory.{MayAdvance, log_after}
-use Rattle.nr_ring.specs.Pass.{Known}
+use Rattle.nr_ring.specs.Words.{stored_after}
 use Rattle.nr_ring.specs.declared.log_event.LogEvent.{LogEvent}
-use Rattle.nr_ring.specs.declared.log_event.LogEvent.TheVariants.{Advance}
-use Rattle.nr_ring.specs.declared.view.View.{View}
-use Rattle.nr_ring.specs.inside.Codes.{code_of, locals_in, word_in}
-use Rattle.nr_ring.specs.inside.Held.{LeadTo, MadeOrMoved}
-use Rattle.nr_ring.proofs.Appends.{are_small}
-use Rattle.nr_ring.proofs.FirstWords.{head_of, small_head}
-use Rattle.nr_ring.proofs.Leads.{advance_leads}
+use Rattle.nr_ring.specs.inside.Batch.{AreStored}
+use Rattle.nr_ring.specs.inside.Codes.{code_in, code_of, locals_in}
+use Rattle.nr_ring.specs.inside.Held.{LeadTo}
+use Rattle.nr_ring.proofs.Advances.{low_replica}
+use Rattle.nr_ring.proofs.Exchanges.{advance_stored}
+use Rattle.nr_ring.proofs.FirstWords.{head_is, head_small}
+use Rattle.nr_ring.proofs.Leads.{advance_coded, advance_leads}
 use Rattle.nr_ring.proofs.ring_log.RingLog.try_advance.Goals as goal
+
+pub advanced_code-code-requires-clause-replica : goal.advanced_code-code-requires-clause-replica
+advanced_code-code-requires-clause-replica g c = low_replica _ _ _ c.args.replica c.requires.known.0 c.args.pass.now c.requires.known.1
 
 pub advanced_code-code-requires-clause-small : goal.advanced_code-code-requires-clause-small
 advanced_code-code-requires-clause-small g c =
-    let May : View → Type 0 = λ v. MayAdvance (log_after g.J.LogName.replicas v.seen) c.args.replica c.args.to in
-    let may = subst May (sym (ap (λ (k : Known). k.view) c.pass.view_is)) c.requires.may.1 in
-    let small = small_head _ _ c.head-head.ensures (are_small _ _ _ _ _ c.pass.invariant) in
-    let are = head_of _ c.head-head.result.now _ c.head-head.ensures c.pass.invariant.words_are in
-    (small, small.tails 0 (omega arith), omega (arith, may.written, are.tail_is, small.tails 0 (omega arith), c.from.ensures))
+    let is = c.requires.known.1 in
+    let mine = c.requires.known.0 in
+    let p = c.args.pass.now in
+    let small = head_small _ _ _ (Some c.args.replica) mine p is c.head-head.result.now c.head-head.ensures in
+    let head = head_is _ _ _ (Some c.args.replica) mine p is c.head-head.result.now c.head-head.ensures in
+    let tail = small.tails 0 (omega arith) in
+    (small, tail, omega (arith, tail, head.tail_is, c.requires.may.written, c.from.ensures), small.last)
 
-pub exchange-requires-clause-some : goal.exchange-requires-clause-some
-exchange-requires-clause-some g c = omega (arith, ap (λ (es : List LogEvent). length es) c.requires.event)
-
-pub exchange-requires-clause-code : goal.exchange-requires-clause-code
-exchange-requires-clause-code g c =
+pub exchange-requires : goal.exchange-requires
+exchange-requires g c =
+    let depth = g.J.LogName.depth in
     let replicas = g.J.LogName.replicas in
-    let view = c.pass.inside.inner.view in
+    let passes = g.J.LogName.passes in
+    let r = c.args.replica in
+    let ring = g.E.Happening.ring in
+    let p = c.args.pass.now in
+    let is = c.requires.known.1 in
+    let mine = c.requires.known.0 in
     let head = c.head-head.result.now in
-    let words = c.pass.inside.inner.words in
-    let shown = sym (ap (λ (k : Known). k.view) c.pass.view_is) in
-    let May : View → Type 0 = λ v. MayAdvance (log_after replicas v.seen) c.args.replica c.args.to in
-    let Owns : View → Type 0 = λ v. Contains v.owns c.args.replica in
-    let are = head_of (log_after replicas view.seen) head words c.head-head.ensures c.pass.invariant.words_are in
-    let code_is : c.advanced_code-code.result ≡ code_of (slice_index head 0) (set (locals_in head) c.args.replica c.args.to) (slice_index head 6) =
+    let code = c.advanced_code-code.result in
+    let event = sym c.requires.event.0 in
+    let code_is : code ≡ code_of (slice_index head 0) (set (locals_in head) r c.args.to) (slice_index head 6) * 128 + slice_index head 7 =
     c.advanced_code-code.ensures
-    ∙ ap (λ (z : ℕ). code_of (slice_index head 0) (set (locals_in head) c.args.replica z) (slice_index head 6)) c.from.ensures in
-    let leads = advance_leads g.J.LogName.depth replicas head words _ view c.pass.invariant c.head-head.ensures c.args.replica c.args.to
-    (slice_index head 0) c.advanced_code-code.result (subst May shown c.requires.may.1) (subst Owns shown c.requires.may.2) are.tail_is code_is in
-    leads.has_code
+    ∙ ap (λ (z : ℕ). code_of (slice_index head 0) (set (locals_in head) r z) (slice_index head 6) * 128 + slice_index head 7) c.from.ensures in
+    let coded = advance_coded depth replicas passes r mine p is ring head c.args.to (slice_index head 0) code c.head-head.ensures c.requires.may refl code_is in
+    let leads = advance_leads depth replicas passes r mine p is c.args.to c.requires.may in
+    let stored = advance_stored depth replicas passes (Some r) mine ring p r c.args.to is c.requires.may in
+    let Coded : List LogEvent → Type 0 = λ events. code ≡ code_in replicas (stored_after ring p.value events) in
+    let Leads : List LogEvent → Type 0 = λ events. LeadTo depth replicas p.view events in
+    let Stored : List LogEvent → Type 0 = λ events. AreStored replicas ring events p in (
+      search rules,
+      (
+        c.requires.log,
+        (
+          (Some r, mine, is),
+          (
+            omega (arith, ap (λ (es : List LogEvent). length es) c.requires.event.0),
+            (c.requires.event.1, (subst Coded event coded, (subst Leads event leads, subst Stored event stored))),
+          ),
+        ),
+      ),
+    )
 
-pub exchange-requires-clause-events : goal.exchange-requires-clause-events
-exchange-requires-clause-events g c =
-    let replicas = g.J.LogName.replicas in
-    let view = c.pass.inside.inner.view in
-    let head = c.head-head.result.now in
-    let words = c.pass.inside.inner.words in
-    let shown = sym (ap (λ (k : Known). k.view) c.pass.view_is) in
-    let May : View → Type 0 = λ v. MayAdvance (log_after replicas v.seen) c.args.replica c.args.to in
-    let Owns : View → Type 0 = λ v. Contains v.owns c.args.replica in
-    let are = head_of (log_after replicas view.seen) head words c.head-head.ensures c.pass.invariant.words_are in
-    let code_is : c.advanced_code-code.result ≡ code_of (slice_index head 0) (set (locals_in head) c.args.replica c.args.to) (slice_index head 6) =
-    c.advanced_code-code.ensures
-    ∙ ap (λ (z : ℕ). code_of (slice_index head 0) (set (locals_in head) c.args.replica z) (slice_index head 6)) c.from.ensures in
-    let leads = advance_leads g.J.LogName.depth replicas head words _ view c.pass.invariant c.head-head.ensures c.args.replica c.args.to
-    (slice_index head 0) c.advanced_code-code.result (subst May shown c.requires.may.1) (subst Owns shown c.requires.may.2) are.tail_is code_is in
-    let Leads : List LogEvent → Type 0 = λ events. LeadTo g.J.LogName.depth replicas view events (exchanged word_in 7 c.advanced_code-code.result words []) in
-    subst Leads (sym c.requires.event) leads.lead
-
-pub returns-clause-view : goal.returns-clause-view
-returns-clause-view g c =
-    let Tells : View → Type 0 = λ v. MadeOrMoved g.J.LogName.depth g.J.LogName.replicas g.E.Happening.events v c.exchange.new.pass.view c.exchange.result in
-    subst Tells (ap (λ (k : Known). k.view) c.pass.view_is) c.exchange.ensures.view
+pub returns-clause-known : goal.returns-clause-known
+returns-clause-known g c = λ ring is. c.exchange.ensures.known (Some c.args.replica) ring is

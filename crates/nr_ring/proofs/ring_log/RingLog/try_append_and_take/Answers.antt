@@ -1,134 +1,146 @@
-use Rattle.std.proofs.Common.{◌≡◌, ◌+◌, ◌<◌, ◌≤◌, ℕ, true, List, [], ◌∷◌, All, Contains, drop, length, refl, ap, sym, subst, ◌∙◌, arith}
+use Rattle.std.proofs.Common.{rules, ◌≡◌, ◌+◌, ◌*◌, ◌≤◌, ℕ, List, [], ◌∷◌, Some, length, set, refl, ap, sym, subst, ◌∙◌, arith}
 use Rattle.std.specs.Prelude.{slice_index}
-use Rattle.version_cell.specs.Changes.{changed, exchanged}
-use Rattle.nr_ring.specs.Entries.{to_take}
-use Rattle.nr_ring.specs.LogHistory.{MayAppend, local_of, log_after, tail}
-use Rattle.nr_ring.specs.Pass.{Known}
+use Rattle.version_cell.specs.Passes.{CellPass}
+use Rattle.nr_ring.specs.Calls.{HasLooked, HasMoved, with_events}
+use Rattle.nr_ring.specs.LogHistory.{MayAppend, log_after, tail}
+use Rattle.nr_ring.specs.Words.{last_ring, stored_after}
 use Rattle.nr_ring.specs.declared.log_event.LogEvent.{LogEvent}
-use Rattle.nr_ring.specs.declared.log_event.LogEvent.TheVariants.{Append, Advance}
+use Rattle.nr_ring.specs.declared.log_event.LogEvent.TheVariants.{Advance, Append}
+use Rattle.nr_ring.specs.declared.stored.Stored.{Stored}
 use Rattle.nr_ring.specs.declared.view.View.{View}
-use Rattle.nr_ring.specs.inside.Batch.{AreSmall, IsWritten}
-use Rattle.nr_ring.specs.inside.Codes.{word_in}
-use Rattle.nr_ring.specs.inside.Held.{LeadTo, MadeOrMoved}
-use Rattle.nr_ring.proofs.Appends.{are_small, have_loaded, ring_from}
-use Rattle.nr_ring.proofs.Fetches.{history_entries}
-use Rattle.nr_ring.proofs.Batches.{Within}
-use Rattle.nr_ring.proofs.FirstWords.{head_of, small_head}
-use Rattle.nr_ring.proofs.Histories.{as_many_locals}
-use Rattle.nr_ring.proofs.Leads.{both_lead}
+use Rattle.nr_ring.specs.inside.Batch.{AreStored, IsWritten}
+use Rattle.nr_ring.specs.inside.Codes.{code_in, code_of, locals_in}
+use Rattle.nr_ring.specs.inside.Held.{LeadTo, Remembers}
+use Rattle.nr_ring.proofs.Advances.{low_replica}
+use Rattle.nr_ring.proofs.Exchanges.{both_stored}
+use Rattle.nr_ring.proofs.FirstWords.{head_is, head_small}
+use Rattle.nr_ring.proofs.Leads.{both_coded, both_lead, can_take}
+use Rattle.nr_ring.proofs.Passes.{remembers_still}
 use Rattle.nr_ring.proofs.ring_log.RingLog.try_append_and_take.Goals as goal
 
-pub advanced_code-code-requires-clause-small : goal.advanced_code-code-requires-clause-small
-advanced_code-code-requires-clause-small g c =
-    let May : View → Type 0 = λ v. MayAppend g.J.LogName.depth (log_after g.J.LogName.replicas v.seen) c.args.batch.now in
-    let may = subst May (sym (ap (λ (k : Known). k.view) c.pass.view_is)) c.requires.may in
-    let small : AreSmall c.head-head.result.now = small_head _ _ c.head-head.ensures (are_small _ _ _ _ _ c.pass.invariant) in
-    let are = head_of _ c.head-head.result.now _ c.head-head.ensures c.pass.invariant.words_are in
-    let low : slice_index c.head-head.result.now 0 + length c.args.batch.now ≤ 65536 = omega (arith, may.room, are.tail_is) in
-    (small, low, low)
-
-pub list_places-requires-clause-few : goal.list_places-requires-clause-few
-list_places-requires-clause-few g c =
-    let From : View → Type 0 = λ v. c.args.from ≡ local_of (log_after g.J.LogName.replicas v.seen) c.args.replica in
-    let from = subst From (sym (ap (λ (k : Known). k.view) c.pass.view_is)) c.requires.from in
-    let ring = ring_from g.J.LogName.depth g.J.LogName.replicas c.head-head.result.now _ _ c.args.replica c.args.from c.pass.inside.inner.view
-    c.pass.invariant c.head-head.ensures c.requires.there from in
-    (ring.low, ring.near)
-
-pub exchange-requires-clause-places : goal.exchange-requires-clause-places
-exchange-requires-clause-places g c = subst Within (sym c.as_slice.ensures.value) c.list_changes.ensures.places
-
-pub exchange-requires-clause-code : goal.exchange-requires-clause-code
-exchange-requires-clause-code g c =
-    let depth = g.J.LogName.depth in
-    let replicas = g.J.LogName.replicas in
-    let batch = c.args.batch.now in
-    let view = c.pass.inside.inner.view in
-    let head = c.head-head.result.now in
-    let words = c.pass.inside.inner.words in
-    let code = c.advanced_code-code.result in
-    let is = c.pass.invariant in
-    let shown = sym (ap (λ (k : Known). k.view) c.pass.view_is) in
-    let May : View → Type 0 = λ v. MayAppend depth (log_after replicas v.seen) batch in
-    let Owns : List ℕ → Type 0 = λ l. Contains l c.args.replica in
-    let owns : view.owns ≡ c.args.replica ∷ [] = sym (ap (λ (v : View). v.owns) shown) ∙ c.requires.owner in
-    let there : c.args.replica < length (log_after replicas view.seen).locals =
-    omega (arith, as_many_locals depth replicas view.seen is.is_history, c.requires.there) in
-    let Written : List (ℕ × ℕ) → Type 0 = λ changes. IsWritten (slice_index head 0) (length batch) batch words (changed words changes) in
-    let writes = subst Written (sym c.as_slice.ensures.value) (c.list_changes.ensures.written words is.words_are.long) in
-    let leads = both_lead depth replicas head words _ view is c.head-head.ensures batch c.args.replica (slice_index head 0 + length batch) code
-    (changed words c.as_slice.result.now) (subst May shown c.requires.may) there (subst Owns (sym owns) (0, omega arith, refl)) writes refl
-    c.advanced_code-code.ensures in
-    leads.has_code
-
-pub exchange-requires-clause-events : goal.exchange-requires-clause-events
-exchange-requires-clause-events g c =
-    let depth = g.J.LogName.depth in
-    let replicas = g.J.LogName.replicas in
-    let batch = c.args.batch.now in
-    let view = c.pass.inside.inner.view in
-    let head = c.head-head.result.now in
-    let words = c.pass.inside.inner.words in
-    let code = c.advanced_code-code.result in
-    let is = c.pass.invariant in
-    let shown = sym (ap (λ (k : Known). k.view) c.pass.view_is) in
-    let May : View → Type 0 = λ v. MayAppend depth (log_after replicas v.seen) batch in
-    let Owns : List ℕ → Type 0 = λ l. Contains l c.args.replica in
-    let owns : view.owns ≡ c.args.replica ∷ [] = sym (ap (λ (v : View). v.owns) shown) ∙ c.requires.owner in
-    let there : c.args.replica < length (log_after replicas view.seen).locals =
-    omega (arith, as_many_locals depth replicas view.seen is.is_history, c.requires.there) in
-    let Written : List (ℕ × ℕ) → Type 0 = λ changes. IsWritten (slice_index head 0) (length batch) batch words (changed words changes) in
-    let writes = subst Written (sym c.as_slice.ensures.value) (c.list_changes.ensures.written words is.words_are.long) in
-    let leads = both_lead depth replicas head words _ view is c.head-head.ensures batch c.args.replica (slice_index head 0 + length batch) code
-    (changed words c.as_slice.result.now) (subst May shown c.requires.may) there (subst Owns (sym owns) (0, omega arith, refl)) writes refl
-    c.advanced_code-code.ensures in
-    let Leads : List LogEvent → Type 0 = λ events. LeadTo depth replicas view events (exchanged word_in 7 code words c.as_slice.result.now) in
-    let Both : View → List LogEvent = λ v. Append batch ∷ Advance c.args.replica (tail (log_after replicas v.seen) + length batch) ∷ [] in
-    subst Leads (sym (c.requires.event ∙ ap Both shown)) leads.lead
-
-pub read_entries-requires-clause-words : goal.read_entries-requires-clause-words
-read_entries-requires-clause-words g c =
-    let depth = g.J.LogName.depth in
-    let replicas = g.J.LogName.replicas in
-    let seen = c.pass.inside.inner.view.seen in
-    let log = log_after replicas seen in
-    let words = c.pass.inside.inner.words in
-    let loaded = c.exchange.new.loaded in
-    let From : View → Type 0 = λ v. c.args.from ≡ local_of (log_after replicas v.seen) c.args.replica in
-    let from = subst From (sym (ap (λ (k : Known). k.view) c.pass.view_is)) c.requires.from in
-    let ring = ring_from depth replicas c.head-head.result.now words _ c.args.replica c.args.from c.pass.inside.inner.view
-    c.pass.invariant c.head-head.ensures c.requires.there from in
-    let Alike : List ℕ → Type 0 = λ places. All (λ place. slice_index loaded place ≡ slice_index words place) places in (
-      depth,
-      record {
-        log = log;
-        have = have_loaded log c.args.from (slice_index c.head-head.result.now 0) c.list_places.new.places.items loaded words ring
-            c.list_places.ensures.listed
-            (subst Alike c.as_slice-places.ensures.value (c.exchange.ensures.loaded c.if-not-exchange.false)) c.pass.invariant.words_are;
-        fit = history_entries depth replicas seen c.pass.invariant.is_history;
-        ends_at = ring.ends_at;
-        low = ring.low;
-        near = ring.near;
-      },
+pub write-requires : goal.write-requires
+write-requires g c =
+    let back = sym c.read.ensures.same in
+    let Is : CellPass View Stored → Type 0 = λ p.
+    Remembers g.J.LogName.depth g.J.LogName.replicas g.J.LogName.passes (Some c.args.replica) c.args.ring p in
+    let May : CellPass View Stored → Type 0 = λ p. MayAppend g.J.LogName.depth (log_after g.J.LogName.replicas p.view.seen) c.args.batch.now in (
+      search rules,
+      (
+        ap (λ (p : CellPass View Stored). p.cell) c.read.ensures.same ∙ c.requires.log,
+        (
+          (Some c.args.replica, subst Is back c.requires.known),
+          (ap (λ (p : CellPass View Stored). p.fresh) c.read.ensures.same ∙ c.requires.fresh, subst May back c.requires.may),
+        ),
+      ),
     )
 
-pub returns-clause-taken : goal.returns-clause-taken
-returns-clause-taken g c = λ _.
+pub overflow_add-tail : goal.overflow_add-tail
+overflow_add-tail g c =
+    let back = sym c.read.ensures.same in
+    let same = c.write.ensures.same in
+    let Is : CellPass View Stored → Type 0 = λ p.
+    Remembers g.J.LogName.depth g.J.LogName.replicas g.J.LogName.passes (Some c.args.replica) c.args.ring p in
+    let old = subst Is back c.requires.known in
+    let is = remembers_still _ _ _ (Some c.args.replica) c.args.ring c.read.new.pass c.write.new.pass old same.2 same.3 same.5
+    (c.write.ensures.written.long ∙ sym old.own_long) in
+    let small = head_small _ _ _ (Some c.args.replica) c.args.ring c.write.new.pass is c.head-head.result.now c.head-head.ensures in
+    omega (arith, small.tails 0 (omega arith), c.requires.may.few)
+
+pub advanced_code-code-requires : goal.advanced_code-code-requires
+advanced_code-code-requires g c =
+    let back = sym c.read.ensures.same in
+    let same = c.write.ensures.same in
+    let Is : CellPass View Stored → Type 0 = λ p.
+    Remembers g.J.LogName.depth g.J.LogName.replicas g.J.LogName.passes (Some c.args.replica) c.args.ring p in
+    let old = subst Is back c.requires.known in
+    let is = remembers_still _ _ _ (Some c.args.replica) c.args.ring c.read.new.pass c.write.new.pass old same.2 same.3 same.5
+    (c.write.ensures.written.long ∙ sym old.own_long) in
+    let small = head_small _ _ _ (Some c.args.replica) c.args.ring c.write.new.pass is c.head-head.result.now c.head-head.ensures in
+    let head = head_is _ _ _ (Some c.args.replica) c.args.ring c.write.new.pass is c.head-head.result.now c.head-head.ensures in
+    let end = ap (λ (v : View). tail (log_after g.J.LogName.replicas v.seen)) (same.2 ∙ ap (λ (p : CellPass View Stored). p.view) c.read.ensures.same) in
+    let low : slice_index c.head-head.result.now 0 + length c.args.batch.now ≤ 65536 = omega (arith, c.requires.may.room, head.tail_is, end) in
+    record {
+      replica = low_replica _ _ _ c.args.replica c.args.ring c.write.new.pass is;
+      small = (small, low, low, omega (arith, c.from.ensures, is.ring_below, is.few_rings));
+    }
+
+pub exchange-requires : goal.exchange-requires
+exchange-requires g c =
     let depth = g.J.LogName.depth in
     let replicas = g.J.LogName.replicas in
-    let seen = c.pass.inside.inner.view.seen in
-    let log = log_after replicas seen in
-    let words = c.pass.inside.inner.words in
-    let loaded = c.exchange.new.loaded in
-    let From : View → Type 0 = λ v. c.args.from ≡ local_of (log_after replicas v.seen) c.args.replica in
-    let from = subst From (sym (ap (λ (k : Known). k.view) c.pass.view_is)) c.requires.from in
-    let ring = ring_from depth replicas c.head-head.result.now words _ c.args.replica c.args.from c.pass.inside.inner.view
-    c.pass.invariant c.head-head.ensures c.requires.there from in
-    let Alike : List ℕ → Type 0 = λ places. All (λ place. slice_index loaded place ≡ slice_index words place) places in
-    let have = have_loaded log c.args.from (slice_index c.head-head.result.now 0) c.list_places.new.places.items loaded words ring
-    c.list_places.ensures.listed
-    (subst Alike c.as_slice-places.ensures.value (c.exchange.ensures.loaded c.if-not-exchange.false)) c.pass.invariant.words_are in
-    let Takes : View → Type 0 = λ v. c.read_entries.new.entries.items ≡ to_take (log_after replicas v.seen) c.args.replica in
-    subst Takes (ap (λ (k : Known). k.view) c.pass.view_is)
-    (c.read_entries.ensures depth log have ring.ends_at (history_entries depth replicas seen c.pass.invariant.is_history)
-    ∙ ap (λ n. drop n log.entries) from)
+    let passes = g.J.LogName.passes in
+    let r = c.args.replica in
+    let ring = c.args.ring in
+    let batch = c.args.batch.now in
+    let p = c.read.new.pass in
+    let q = c.write.new.pass in
+    let head = c.head-head.result.now in
+    let code = c.advanced_code-code.result in
+    let back = sym c.read.ensures.same in
+    let same = c.write.ensures.same in
+    let Is : CellPass View Stored → Type 0 = λ p. Remembers depth replicas passes (Some r) ring p in
+    let old = subst Is back c.requires.known in
+    let is = remembers_still depth replicas passes (Some r) ring p q old same.2 same.3 same.5 (c.write.ensures.written.long ∙ sym old.own_long) in
+    let shown : q.view ≡ c.args.pass.now.view = same.2 ∙ ap (λ (p : CellPass View Stored). p.view) c.read.ensures.same in
+    let May : View → Type 0 = λ v. MayAppend depth (log_after replicas v.seen) batch in
+    let may = subst May (sym shown) c.requires.may in
+    let Written : View × Stored → Type 0 = λ z. IsWritten ring (last_ring z.1) (tail (log_after replicas z.0.seen)) (length batch) batch q.own in
+    let written = subst Written (λ i. (sym same.2 i, sym same.3 i)) c.write.ensures.written in
+    let t = slice_index head 0 + length batch in
+    let code_is : code ≡ code_of t (set (locals_in head) r t) (slice_index head 6) * 128 + ring =
+    c.advanced_code-code.ensures ∙ ap (λ (z : ℕ). code_of t (set (locals_in head) r t) (slice_index head 6) * 128 + z) c.from.ensures in
+    let coded = both_coded depth replicas passes r ring q is head batch t code c.head-head.ensures may refl code_is in
+    let leads = both_lead depth replicas passes r ring q is batch may in
+    let to = tail (log_after replicas q.view.seen) + length batch in
+    let can = can_take depth replicas passes r ring q is batch may in
+    let stored = both_stored depth replicas passes (Some r) ring q batch r to is written can in
+    let Both : View → List LogEvent = λ v. Append batch ∷ Advance r (tail (log_after replicas v.seen) + length batch) ∷ [] in
+    let events = ap Both shown ∙ sym c.requires.event.0 in
+    let event : ◌≡◌ {A = ℕ × List LogEvent} (ring, Both q.view) (g.E.Happening.ring, g.E.Happening.events) = λ i. (sym c.requires.event.1 i, events i) in
+    let Coded : ℕ × List LogEvent → Type 0 = λ z. code ≡ code_in replicas (stored_after z.0 q.value z.1) in
+    let Leads : ℕ × List LogEvent → Type 0 = λ z. LeadTo depth replicas q.view z.1 in
+    let Are : ℕ × List LogEvent → Type 0 = λ z. AreStored replicas z.0 z.1 q in (
+      search rules,
+      (
+        same.0 ∙ ap (λ (p : CellPass View Stored). p.cell) c.read.ensures.same ∙ c.requires.log,
+        (
+          (Some r, ring, is),
+          (
+            omega (arith, ap (λ (es : List LogEvent). length es) c.requires.event.0),
+            (omega (arith, c.requires.event.1, is.ring_below), (subst Coded event coded, (subst Leads event leads, subst Are event stored))),
+          ),
+        ),
+      ),
+    )
+
+pub returns-then-exchange-clause-view : goal.returns-then-exchange-clause-view
+returns-then-exchange-clause-view g c =
+    let shown = c.write.ensures.same.2 ∙ ap (λ (p : CellPass View Stored). p.view) c.read.ensures.same in
+    c.if-exchange.ensures.view ∙ ap (λ (v : View). with_events v g.E.Happening.events) shown
+
+pub returns-then-exchange-clause-known : goal.returns-then-exchange-clause-known
+returns-then-exchange-clause-known g c =
+    let Is : CellPass View Stored → Type 0 = λ p.
+    Remembers g.J.LogName.depth g.J.LogName.replicas g.J.LogName.passes (Some c.args.replica) c.args.ring p in
+    let same = c.write.ensures.same in
+    let old = subst Is (sym c.read.ensures.same) c.requires.known in
+    c.exchange.ensures.known (Some c.args.replica) c.args.ring
+    (remembers_still _ _ _ (Some c.args.replica) c.args.ring c.read.new.pass c.write.new.pass old same.2 same.3 same.5
+    (c.write.ensures.written.long ∙ sym old.own_long))
+
+pub returns-clause-view : goal.returns-clause-view
+returns-clause-view g c =
+    let after = c.exchange.new.pass.view in
+    let shown = c.write.ensures.same.2 ∙ ap (λ (p : CellPass View Stored). p.view) c.read.ensures.same in
+    let Moved : View → Type 0 = λ v. HasLooked g.J.LogName.depth g.J.LogName.replicas v after × HasMoved v after in
+    subst Moved shown c.if-exchange.ensures.view
+
+pub returns-clause-known : goal.returns-clause-known
+returns-clause-known g c =
+    let Is : CellPass View Stored → Type 0 = λ p.
+    Remembers g.J.LogName.depth g.J.LogName.replicas g.J.LogName.passes (Some c.args.replica) c.args.ring p in
+    let same = c.write.ensures.same in
+    let old = subst Is (sym c.read.ensures.same) c.requires.known in
+    c.exchange.ensures.known (Some c.args.replica) c.args.ring
+    (remembers_still _ _ _ (Some c.args.replica) c.args.ring c.read.new.pass c.write.new.pass old same.2 same.3 same.5
+    (c.write.ensures.written.long ∙ sym old.own_long))
