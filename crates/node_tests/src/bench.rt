@@ -6,12 +6,11 @@ ghost use Rattle.vs_types.specs.Operation.{IsAction};
 use arrayvec::ArrayVec;
 use nr_dump::check;
 use nr_node::{Held, Node};
-use nr_ring::{AppendFault, LogName, RingLog, Tails};
+use nr_ring::{AppendFault, LogName, PackedEntry, RingLog, Tails};
 use nr_slots::{Answered, Slots, Waiting};
 use std::alloc::Global;
 use std::marker::Model;
 use std::process::Abort;
-use std::sync::Wait;
 use vs_arena::FrameStore;
 use vs_plain::PlainSpace;
 use vs_types::{Access, Answer, CALLS, Depth, LogEntry, Mode, Op, Rights, Size};
@@ -44,6 +43,13 @@ impl Update {
         let op = self.op(rt, depth);
         assert!(rt; call < CALLS);
         LogEntry { call, op }
+    }
+
+    /// The same, in its two words.
+    pub fn packed(self, rt: &impl Abort, depth: Depth, call: u32) -> PackedEntry
+        ensures { IsLogEntry depth result }
+    {
+        PackedEntry::new(self.entry(rt, depth, call))
     }
 }
 
@@ -79,10 +85,10 @@ pub enum Does {
 
 /// A batch of two updates that are well formed at this depth.
 fn pair(first: Waiting, second: Waiting, depth: Depth) -> ArrayVec<Waiting, 16>
-    requires first { IsAction depth first.op }
-    requires second { IsAction depth second.op }
+    requires first { IsAction depth first.entry.op }
+    requires second { IsAction depth second.entry.op }
     ensures items { result.items ≡ first ∷ second ∷ [] }
-    ensures fit { All (λ waiting. IsAction depth waiting.op) result.items }
+    ensures fit { All (λ waiting. IsAction depth waiting.entry.op) result.items }
 {
     let mut batch = ArrayVec::new();
     batch.push(first);
@@ -125,14 +131,14 @@ impl<'a, S: FrameStore, J: LogName> Bench<'a, S, J> {
     }
 
     /// Takes steps one after another.
-    pub fn take_all<R: Wait + Abort>(&mut self, rt: &R, steps: &[Does]) {
+    pub fn take_all(&mut self, rt: &impl Abort, steps: &[Does]) {
         for (place, does) in steps.iter().enumerate() {
             assert!(rt; self.take(rt, *does), "step {place}");
         }
     }
 
     /// One step: whether the node answers so.
-    fn take<R: Wait + Abort>(&mut self, rt: &R, does: Does) -> bool {
+    fn take(&mut self, rt: &impl Abort, does: Does) -> bool {
         match does {
             Does::Has(held) => self.node.held() == held,
             Does::HasApplied(count) => self.node.applied() == count,
@@ -168,37 +174,46 @@ impl<'a, S: FrameStore, J: LogName> Bench<'a, S, J> {
 
     fn hold(&mut self, rt: &impl Abort, updates: [(u16, u32, Update); 2]) {
         let [first, second] = updates;
-        assert!(rt; first.1 < CALLS && second.1 < CALLS);
-        let first = Waiting::new(first.0, first.1, first.2.op(rt, self.depth));
-        let second = Waiting::new(second.0, second.1, second.2.op(rt, self.depth));
+        let first = self.waiting(rt, first);
+        let second = self.waiting(rt, second);
         let batch = pair(first, second, self.depth);
         assert!(rt; self.node.held() == Held::Nothing);
         self.node.hold(&batch);
     }
 
+    /// An update of a thread, by its call.
+    fn waiting(&self, rt: &impl Abort, update: (u16, u32, Update)) -> Waiting
+        ensures { IsAction J.depth result.entry.op }
+    {
+        let entry = update.2.packed(rt, self.depth, update.1);
+        Waiting {
+            thread: update.0,
+            entry,
+        }
+    }
+
     /// Puts the batch that it holds.
-    fn put<R: Wait + Abort>(&mut self, rt: &R) -> Result<u32, AppendFault> {
+    fn put(&mut self, rt: &impl Abort) -> Result<u32, AppendFault> {
         match self.node.held() {
-            Held::Unplaced(_) => self.node.put_batch(rt, self.log),
+            Held::Unplaced(_) => self.node.put_batch(self.log),
             _ => panic!(rt; "no batch without a place"),
         }
     }
 
     /// Whether it catches up by so many entries, and gives these answers.
-    fn catches_up<R: Wait + Abort>(&mut self, rt: &R, count: u32, wanted: &[Given]) -> bool {
+    fn catches_up(&mut self, rt: &impl Abort, count: u32, wanted: &[Given]) -> bool {
         let mut answers = ArrayVec::new();
-        if self.node.catch_up(rt, self.log, &mut answers) != Ok(count)
+        if self.node.catch_up(self.log, &mut answers) != Ok(count)
             || answers.len() != wanted.len()
         {
             return false;
         }
         for at in 0..wanted.len() {
             let Given(thread, call, update, place, answer) = wanted[at];
-            let op = update.op(rt, self.depth);
+            let entry = update.packed(rt, self.depth, call);
             let given = Answered {
                 thread,
-                call,
-                op,
+                entry,
                 place,
                 answer,
             };
@@ -212,9 +227,9 @@ impl<'a, S: FrameStore, J: LogName> Bench<'a, S, J> {
     /// Has the slots of the threads be taken with their updates, as where a combiner has collected them.
     fn collect(&self, rt: &impl Abort, updates: [Given; 2]) {
         for Given(thread, call, update, _, _) in updates {
-            let op = update.op(rt, self.depth);
-            assert!(rt; thread < 8 && call < CALLS);
-            assert!(rt; self.slots.post(thread, call, op).is_ok());
+            let entry = update.packed(rt, self.depth, call);
+            assert!(rt; thread < 8);
+            assert!(rt; self.slots.post(thread, entry).is_ok());
         }
         let mut batch = ArrayVec::new();
         self.slots.collect(&mut batch);
@@ -222,22 +237,21 @@ impl<'a, S: FrameStore, J: LogName> Bench<'a, S, J> {
     }
 
     /// Whether it puts its batch and catches up at once, gives the answer of the first update, and leaves the other one in its slot.
-    fn puts_and_catches_up<R: Wait + Abort>(&mut self, rt: &R, answers: [Given; 2]) -> bool {
+    fn puts_and_catches_up(&mut self, rt: &impl Abort, answers: [Given; 2]) -> bool {
         let [first, second] = answers;
-        let entry = first.2.entry(rt, self.depth, first.1);
+        let entry = first.2.packed(rt, self.depth, first.1);
         let mut own = None;
         let put = match self.node.held() {
             Held::Unplaced(_) => {
                 let (log, slots) = (self.log, &self.slots);
                 self.node
-                    .put_and_catch_up(rt, log, slots, first.0, &entry, &mut own)
+                    .put_and_catch_up(log, slots, first.0, entry, &mut own)
             }
             _ => panic!(rt; "no batch without a place"),
         };
         let left = Answered {
             thread: second.0,
-            call: second.1,
-            op: second.2.op(rt, self.depth),
+            entry: second.2.packed(rt, self.depth, second.1),
             place: second.3,
             answer: second.4,
         };

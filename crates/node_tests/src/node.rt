@@ -8,7 +8,6 @@ use nr_slots::Slots;
 use std::alloc::Global;
 use std::marker::Brand;
 use std::process::Abort;
-use std::sync::Wait;
 use vs_arena::{FrameStore, RawArena, VecArena};
 use vs_space::NoRoot;
 use vs_types::{Access, Answer, Depth, Rights, Size};
@@ -88,7 +87,7 @@ static HAS_ROOM: [Does; 6] = [
 ];
 
 /// Has a node alone on a new log take its steps: whether the store has a frame for its root. Its dump then has so many tables.
-fn node_alone<S: FrameStore + Drop, R: Wait + Abort>(
+fn node_alone<S: FrameStore + Drop, R: Abort>(
     rt: &R,
     alloc: Global,
     store: S,
@@ -101,7 +100,7 @@ fn node_alone<S: FrameStore + Drop, R: Wait + Abort>(
 }
 
 /// The same, where the log has a name.
-fn node_on_log<S: FrameStore + Drop, J: LogName, R: Wait + Abort>(
+fn node_on_log<S: FrameStore + Drop, J: LogName, R: Abort>(
     rt: &R,
     alloc: Global,
     store: S,
@@ -165,21 +164,21 @@ impl LogName for Two {
 }
 
 /// A pass appends 16 entries of call 100 to a new log.
-fn append_others<R: Wait + Abort>(rt: &R, log: &RingLog<Two>, pass: &mut LogPass<Two>)
+fn append_others(rt: &impl Abort, log: &RingLog<Two>, pass: &mut LogPass<Two>)
     requires { pass.old.log ≡ log.now }
 {
-    let others = [Update::Unmap.entry(rt, Depth::Four, 100); 16];
-    assert!(rt; log.append(rt, pass, &others) == Ok(0));
+    let others = [Update::Unmap.packed(rt, Depth::Four, 100); 16];
+    assert!(rt; log.append(pass, &others) == Ok(0));
 }
 
 /// The other replica takes the 16 entries that there are.
-fn take_others<R: Wait + Abort>(rt: &R, log: &RingLog<Two>, pass: &mut LogPass<Two>)
+fn take_others(rt: &impl Abort, log: &RingLog<Two>, pass: &mut LogPass<Two>)
     requires log { pass.old.log ≡ log.now }
     requires owner { pass.old.view.owns ≡ 1 ∷ [] }
 {
     let tails = log.look(pass);
     assert!(rt; tails.local[1] <= 16 && 16 <= tails.tail);
-    assert!(rt; log.advance(rt, pass, 16).is_ok());
+    assert!(rt; log.advance(pass, 16).is_ok());
 }
 
 /// A node whose log is full holds its batch as before, and puts it once both replicas have taken what was there.

@@ -1,17 +1,20 @@
 -- What an entry that was applied is answered stays so as more are applied.
-use Rattle.std.proofs.Common.{◌≡◌, ℕ, ◌+◌, ◌<◌, List, [], ◌∷◌, ◌++◌, Option, Some, None, IfSome, length, take, get_or, ap, sym, subst, ◌∙◌, arith, append_assoc}
-use Rattle.std.specs.Prelude.{slice_get}
-use Rattle.std.proofs.lemmas.List.{take-append-le}
-use Rattle.std.proofs.lemmas.Option.{slice_get_within}
+use Rattle.std.proofs.Common.{◌≡◌, ◌≢◌, ℕ, ◌+◌, ◌<◌, List, [], ◌∷◌, ◌++◌, All, Option, Some, None, IfNone, IfSome, length, length-append, take, get_or, refl, ap, sym, subst, ◌∙◌, arith, append_assoc}
+use Rattle.std.specs.Prelude.{slice_get, slice_set}
+use Rattle.std.proofs.lemmas.List.{length-map, length-take-le, take-append-le, take_more_set}
+use Rattle.std.proofs.lemmas.List.Elements.{All-append}
+use Rattle.std.proofs.lemmas.Option.{slice_get_read, slice_get_within}
+use Rattle.vs_types.specs.LogEntry.{IsLogEntry}
 use Rattle.vs_types.specs.Step.{step}
 use Rattle.vs_types.specs.declared.answer.Answer.{Answer}
 use Rattle.vs_types.specs.declared.depth.Depth.{Depth}
+use Rattle.vs_types.specs.declared.depth.Depth.TheVariants.{Five}
 use Rattle.vs_types.specs.declared.log_entry.LogEntry.{LogEntry}
 use Rattle.nr_slots.specs.declared.waiting.Waiting.{Waiting}
-use Rattle.nr_node.specs.Calls.{IsAnsweredIn, entries_of, entry_of}
+use Rattle.nr_node.specs.Calls.{IsAnsweredIn, IsOwnPlace, LacksUpdate, entries_of, entry_of}
 use Rattle.nr_node.specs.Spaces.{answer_at, space_of}
 use Rattle.nr_node.specs.inside.Replica.{ReplicaState}
-use Rattle.nr_node.proofs.Lists.{map_one_more}
+use Rattle.nr_node.proofs.Lists.{all_one, map_one_more, take_to_one_more}
 use Rattle.nr_node.proofs.Nodes.{slice_after, slice_more}
 
 pub if_some_on : {T : Type 0} (o : Option T) (P Q : T → Type 0) → ((x : T) → P x → Q x) → IfSome o P → IfSome o Q
@@ -40,6 +43,50 @@ answered_last depth tables entries entry place answer at made =
           ∙ ap (λ (l : List LogEntry). (step depth tables (space_of depth tables l) entry.op).answer)
           (sym (take-append-le place entries (entry ∷ []) (omega arith)));
     }
+
+pub if_none_on : {T : Type 0} (o : Option T) (P Q : Type 0) → (P → Q) → IfNone o P → IfNone o Q
+if_none_on (Some x) P Q on is = tt
+if_none_on None P Q on is = on is
+
+-- the next entry of a batch is asked for
+pub asked_more : (asked : List LogEntry) (batch : List Waiting) (i : ℕ) (x : Waiting) → i < length asked → i < length batch → x ≡ get_or batch i x
+    → IsLogEntry Five x.entry → take i asked ≡ entries_of (take i batch) → All (IsLogEntry Five) (take i asked)
+    → (take (i + 1) (slice_set asked i x.entry) ≡ entries_of (take (i + 1) batch)) × All (IsLogEntry Five) (take (i + 1) (slice_set asked i x.entry))
+asked_more asked batch i x room lt here fits same all =
+    let now : take (i + 1) (slice_set asked i x.entry) ≡ take i asked ++ x.entry ∷ [] = take_more_set asked i x.entry room in (
+      now ∙ ap (λ (l : List LogEntry). l ++ x.entry ∷ []) same ∙ sym (map_one_more entry_of batch i x lt here),
+      subst (All (IsLogEntry Five)) (sym now)
+          (All-append (IsLogEntry Five) (take i asked) (x.entry ∷ []) all (all_one (IsLogEntry Five) x.entry fits)),
+    )
+
+-- the next update of a batch isn't the one either that a thread asks for
+pub lacks_more : (thread : ℕ) (entry : LogEntry) (batch : List Waiting) (i : ℕ) (x : Waiting) → i < length batch → x ≡ get_or batch i x
+    → (x.thread ≡ thread → entry_of x ≢ entry) → LacksUpdate thread entry (take i batch) → LacksUpdate thread entry (take (i + 1) batch)
+lacks_more thread entry batch i x lt here other before =
+    let Other : Waiting → Type 0 = λ w. w.thread ≡ thread → entry_of w ≢ entry in
+    subst (LacksUpdate thread entry) (sym (take_to_one_more batch i x lt here))
+    (All-append Other (take i batch) (x ∷ []) before (all_one Other x other))
+
+-- the next update of a batch is the one that a thread asks for, and its place is the next
+pub own_placed : (start now : ReplicaState) (batch : List Waiting) (i : ℕ) (x : Waiting) (thread : ℕ) (entry wanted : LogEntry) (place : ℕ)
+    → i < length batch → x ≡ get_or batch i x → x.thread ≡ thread → entry ≡ entry_of x → entry ≡ wanted
+    → now ≡ record start { entries = start.entries ++ entries_of (take i batch) } → place ≡ length now.entries
+    → IsOwnPlace thread wanted batch (length start.entries) place
+own_placed start now batch i x thread entry wanted place lt here its is same was at = record {
+  waiting = x;
+  i = i;
+  there = slice_get_read batch (length batch) i x refl lt here;
+  its = its;
+  asks = sym is ∙ same;
+  at = omega (
+    arith,
+    at,
+    ap (λ (r : ReplicaState). length r.entries) was,
+    length-append start.entries (entries_of (take i batch)),
+    length-map (take i batch) entry_of,
+    length-take-le i batch (omega (arith, lt)),
+  );
+}
 
 -- an entry more is applied, and is the one that is wanted
 pub own_made : (start now next : ReplicaState) (mid : List LogEntry) (entry wanted : LogEntry) (place : ℕ) (answer : Answer)

@@ -1,6 +1,5 @@
 pub mod Lists
 pub mod Spaces
-pub mod EntryEquality
 pub mod Replicas
 pub mod Looks
 pub mod Nodes

@@ -1,7 +1,5 @@
 -- Lists that grow by one, and what is left of one.
 use Rattle.std.proofs.Common.{◌≡◌, ℕ, zero, suc, ◌+◌, ◌<◌, List, [], ◌∷◌, ◌++◌, All, Some, length, map, get_or, take, drop, ap, sym, ◌∙◌, refl, arith}
-use Rattle.vs_types.specs.LogEntry.{log_words}
-use Rattle.vs_types.specs.declared.log_entry.LogEntry.{LogEntry}
 use Rattle.std.proofs.lemmas.List.{map-append, take_more}
 
 pub all_one : {X : Type 0} (P : X → Type 0) (x : X) → P x → All P (x ∷ [])
@@ -33,8 +31,3 @@ drop_whole (x ∷ xs) (suc i) e = drop_whole xs i (omega arith)
 
 pub same_some : {X : Type 0} {x y : X} → Some x ≡ Some y → x ≡ y
 same_some e = cc
-
--- two entries whose two words are the same have the same words
-pub same_words : (a b : LogEntry) → get_or (log_words a) 0 0 ≡ get_or (log_words b) 0 0 → get_or (log_words a) 1 0 ≡ get_or (log_words b) 1 0
-    → log_words a ≡ log_words b
-same_words a b first second = λ i. first i ∷ second i ∷ []

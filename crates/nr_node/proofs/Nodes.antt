@@ -7,9 +7,10 @@ use Rattle.std.proofs.Math.Seq.{take-length}
 use Rattle.std.proofs.lemmas.List.{length-take-le, take-append-drop, take-append-le}
 use Rattle.std.proofs.lemmas.Option.{slice_get_within, slice_get-map, get_or_from_slice_get, slice_get-get_or}
 use Rattle.vs_types.specs.LogEntry.{IsLogEntry}
+use Rattle.vs_types.specs.declared.depth.Depth.TheVariants.{Five}
 use Rattle.vs_types.specs.Operation.{IsAction}
 use Rattle.vs_types.specs.declared.depth.Depth.{Depth}
-use Rattle.vs_types.specs.declared.limits.TheConstants.{CALLS, LOG_PLACES}
+use Rattle.vs_types.specs.declared.limits.TheConstants.{LOG_PLACES}
 use Rattle.vs_types.specs.declared.log_entry.LogEntry.{LogEntry}
 use Rattle.nr_ring.specs.Calls.{HasLooked, with_event}
 use Rattle.nr_ring.specs.Entries.{HasAppended, HasAppendedAndTaken, HasTakenAll}
@@ -62,7 +63,7 @@ take_still entries later more n on le = ap (take n) on ∙ take-append-le n entr
 
 -- a node that holds nothing holds these calls instead
 pub holding_node : (depth : Depth) (replicas : ℕ) (known : Known) (replica : ReplicaState) (before batch : List Waiting) (first : Option ℕ)
-    → before ≡ [] → length batch ≤ RING → All (λ waiting. IsAction depth waiting.op) batch
+    → before ≡ [] → length batch ≤ RING → All (λ waiting. IsAction depth waiting.entry.op) batch
     → IsNode depth replicas (node_state known replica before first) → IsNode depth replicas (node_state known replica batch first)
 holding_node depth replicas known replica before batch first none few fit is = record {
   owner = is.owner;
@@ -155,7 +156,7 @@ took_node depth replicas known after replica next batch first entries took is =
     record {
       owner = subst P (sym took.owns) is.owner;
       written = omega (arith, took.all);
-      fit = left_holds (λ waiting. IsAction depth waiting.op) first batch is.fit;
+      fit = left_holds (λ waiting. IsAction depth waiting.entry.op) first batch is.fit;
       few = left_few first batch is.few;
       placed = λ place at. absurd (cc);
     }
@@ -243,11 +244,11 @@ took_room depth replicas known after replica batch first entries took is follows
 -- ---- an append
 
 -- the entries of a batch fit
-pub batch_fits : (depth : Depth) (batch : List Waiting) → All (λ waiting. IsAction depth waiting.op) batch
-    → All (λ entry. entry.call < CALLS) (entries_of batch)
+pub batch_fits : (depth : Depth) (batch : List Waiting) → All (λ waiting. IsAction depth waiting.entry.op) batch
+    → All (IsLogEntry Five) (entries_of batch)
     → All (IsLogEntry depth) (entries_of batch)
 batch_fits depth [] fit calls k d lt = absurd (omega arith)
-batch_fits depth (w ∷ ws) fit calls zero d lt = record { well_formed = fit zero w (omega arith); in_range = calls zero d (omega arith) }
+batch_fits depth (w ∷ ws) fit calls zero d lt = record { well_formed = fit zero w (omega arith); in_range = (calls zero d (omega arith)).in_range }
 batch_fits depth (w ∷ ws) fit calls (suc k) d lt =
     batch_fits depth ws (λ j e l. fit (suc j) e (omega arith)) (λ j e l. calls (suc j) e (omega arith)) k d (omega arith)
 

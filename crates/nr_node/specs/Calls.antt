@@ -1,5 +1,5 @@
 -- What the calls of a node answer.
-use Rattle.std.specs.Prelude.{◌≡◌, ℕ, ◌+◌, ◌≤◌, List, [], ◌∷◌, Option, Some, None, length, map, slice_get}
+use Rattle.std.specs.Prelude.{◌≡◌, ◌≢◌, ℕ, ◌+◌, ◌≤◌, List, [], ◌∷◌, All, Option, Some, None, length, map, slice_get}
 use Rattle.vs_types.specs.declared.answer.Answer.{Answer}
 use Rattle.vs_types.specs.declared.depth.Depth.{Depth}
 use Rattle.vs_types.specs.declared.log_entry.LogEntry.{LogEntry}
@@ -14,7 +14,7 @@ use Rattle.nr_node.specs.Node.{NodeState, StandFrom, applied_of, log_of}
 
 -- the entry that a call asks for
 abbrev pub entry_of : Waiting → LogEntry
-entry_of waiting = record { call = waiting.call; op = waiting.op }
+entry_of waiting = waiting.entry
 
 -- the entries that a batch asks for
 abbrev pub entries_of : List Waiting → List LogEntry
@@ -24,10 +24,9 @@ entries_of batch = map entry_of batch
 abbrev pub answered : Depth → ℕ → List LogEntry → ℕ → Waiting → Answered
 answered depth tables entries place waiting = record {
   thread = waiting.thread;
-  call = waiting.call;
-  op = waiting.op;
+  entry = waiting.entry;
   place = place;
-  answer = answer_at depth tables entries place waiting.op;
+  answer = answer_at depth tables entries place waiting.entry.op;
 }
 
 -- calls that are one after another from a place on
@@ -82,3 +81,16 @@ pub record HasPutAndCaughtUp (depth : Depth) (replicas : ℕ) (before after : No
 pub record IsAnsweredIn (depth : Depth) (tables : ℕ) (entries : List LogEntry) (entry : LogEntry) (place : ℕ) (answer : Answer) : Type 0 where
   pub stands : slice_get entries place ≡ Some entry
   pub answered : answer ≡ answer_at depth tables entries place entry.op
+
+-- an update of a batch that has its places from this one on is at this place: it is this thread's, and asks for this entry
+pub record IsOwnPlace (thread : ℕ) (entry : LogEntry) (batch : List Waiting) (first place : ℕ) : Type 0 where
+  pub waiting : Waiting
+  pub i : ℕ
+  pub there : slice_get batch i ≡ Some waiting
+  pub its : waiting.thread ≡ thread
+  pub asks : entry_of waiting ≡ entry
+  pub at : place ≡ first + i
+
+-- no update of a batch is this thread's and asks for this entry
+abbrev pub LacksUpdate : ℕ → LogEntry → List Waiting → Type 0
+LacksUpdate thread entry batch = All (λ waiting. waiting.thread ≡ thread → entry_of waiting ≢ entry) batch

@@ -1,4 +1,3 @@
 -- Loop invariants and the insides of models: no public clause cites them.
-pub mod Told
 pub mod Replica
 pub mod Node

@@ -1,4 +1,4 @@
-ghost use Rattle.std.specs.Prelude.{◌≡◌, ◌≢◌, ◌<◌, ◌≤◌, ◌+◌, ℕ, All, IfErr, IfOk, IfSome, MatchOption, None, OnErr, OnOk, Some, [], ◌∷◌, length, slice_get};
+ghost use Rattle.std.specs.Prelude.{◌≡◌, ◌≢◌, ◌<◌, ◌≤◌, ◌+◌, ◌-◌, ℕ, All, IfErr, IfNone, IfOk, IfSome, MatchOption, None, OnErr, OnOk, Some, [], ◌∷◌, length, slice_get};
 ghost use Rattle.std.specs.FinMap as finite;
 ghost use Rattle.vs_types.specs.Depth.{IsCanonical};
 ghost use Rattle.vs_types.specs.LogEntry.{IsLogEntry};
@@ -15,7 +15,7 @@ ghost use Rattle.nr_ring.specs.View.{HasSeenAdvances, StartsWith};
 ghost use Rattle.nr_slots.specs.Batch.{Rises};
 ghost use Rattle.nr_slots.specs.declared.answered.Answered.{Answered};
 ghost use Rattle.nr_slots.specs.declared.waiting.Waiting.{Waiting};
-ghost use Rattle.nr_node.specs.Calls.{HasCaughtUp, HasPutAndCaughtUp, HasStayed, IsAnsweredIn, answers_of, entries_of};
+ghost use Rattle.nr_node.specs.Calls.{HasCaughtUp, HasPutAndCaughtUp, HasStayed, IsAnsweredIn, IsOwnPlace, LacksUpdate, answers_of, entries_of};
 ghost use Rattle.nr_node.specs.Node.{IsNode, applied_of, held_of, log_of, new_node, node_space, replica_of, taken_by};
 ghost use Rattle.nr_node.specs.Spaces.{answer_at};
 
@@ -23,11 +23,10 @@ use crate::batch::{ask_for, keep_unplaced};
 use crate::held::Held;
 use crate::replica::Replica;
 use arrayvec::ArrayVec;
-use nr_ring::{AppendFault, LogName, LogPass, Moved, RingLog};
+use nr_ring::{AppendFault, LogName, LogPass, Moved, PackedEntry, RingLog};
 use nr_slots::{Answered, SlotRule, Slots, Waiting};
 use std::alloc::Global;
 use std::marker::Model;
-use std::sync::Wait;
 use vs_arena::FrameStore;
 use vs_space::NoRoot;
 use vs_types::{Access, Answer, Depth, Fail, LogEntry, Memory, Mode, RING};
@@ -44,8 +43,8 @@ pub struct Node<S: FrameStore, J: LogName> {
     replica: Replica<S>,
     batch: ArrayVec<Waiting, RING>,
     first: Option<u32>,
-    asked: [LogEntry; RING],
-    entries: ArrayVec<LogEntry, RING>,
+    asked: [PackedEntry; RING],
+    entries: ArrayVec<PackedEntry, RING>,
 }
 
 impl<S: FrameStore, J: LogName> Model for Node<S, J> {
@@ -90,7 +89,7 @@ impl<S: FrameStore + Drop, J: LogName> Node<S, J> {
             replica,
             batch: ArrayVec::new(),
             first: None,
-            asked: [LogEntry::default(); RING],
+            asked: [PackedEntry::default(); RING],
             entries: ArrayVec::new(),
         })
     }
@@ -139,7 +138,7 @@ impl<S: FrameStore, J: LogName> Node<S, J> {
     pub fn hold(&mut self, batch: &ArrayVec<Waiting, RING>)
         requires nothing { self.old.batch ≡ [] }
         requires some { 1 ≤ length batch.now.items }
-        requires fit { All (λ waiting. IsAction J.depth waiting.op) batch.now.items }
+        requires fit { All (λ waiting. IsAction J.depth waiting.entry.op) batch.now.items }
         ensures { self.new ≡ record self.old { batch = batch.now.items } }
     {
         match self.batch.try_extend_from_slice(batch.as_slice()) {
@@ -154,11 +153,11 @@ impl<S: FrameStore, J: LogName> Node<S, J> {
     pub fn collect<P: SlotRule>(&mut self, slots: &Slots<P>)
         requires nothing { self.old.batch ≡ [] }
         requires fit { (waiting : Waiting)
-            → ∥ P.posted waiting.thread waiting.call waiting.op ∥₁ → IsAction J.depth waiting.op }
+            → ∥ P.posted waiting.thread waiting.entry ∥₁ → IsAction J.depth waiting.entry.op }
         ensures held { self.new ≡ record self.old { batch = self.new.batch } }
         ensures rising { Rises self.new.batch }
         ensures below { All (λ waiting. waiting.thread < slots.now) self.new.batch }
-        ensures rule { All (λ waiting. ∥ P.posted waiting.thread waiting.call waiting.op ∥₁)
+        ensures rule { All (λ waiting. ∥ P.posted waiting.thread waiting.entry ∥₁)
             self.new.batch }
     {
         slots.collect(&mut self.batch);
@@ -167,12 +166,10 @@ impl<S: FrameStore, J: LogName> Node<S, J> {
 
     /// Appends the batch, which has no place yet, to the log: the place of its first update.
     ///
-    /// Waits for the log's cell.
-    ///
     /// # Errors
     ///
     /// Those of `RingLog::append`. The batch then has no place still, and the node has only looked.
-    pub fn put_batch<R: Wait>(&mut self, rt: &R, log: &RingLog<J>) -> Result<u32, AppendFault>
+    pub fn put_batch(&mut self, log: &RingLog<J>) -> Result<u32, AppendFault>
         requires log { self.old.known.log ≡ log.now }
         requires some { 1 ≤ length self.old.batch }
         requires unplaced { self.old.first ≡ None }
@@ -189,7 +186,7 @@ impl<S: FrameStore, J: LogName> Node<S, J> {
     {
         ask_for(&self.batch, &mut self.asked);
         let asked = &self.asked[..self.batch.len()];
-        let first = log.append(rt, &mut self.pass, asked)?;
+        let first = log.append(&mut self.pass, asked)?;
         self.first = Some(first);
         Ok(first)
     }
@@ -198,19 +195,16 @@ impl<S: FrameStore, J: LogName> Node<S, J> {
     /// exchange of the log's cell, as by `put_batch` and then `catch_up`. The answers are left in the slots of their threads, but for
     /// that of this entry of this thread: its place and its answer, where it is in the batch.
     ///
-    /// Waits for the log's cell.
-    ///
     /// # Errors
     ///
     /// Those of `RingLog::append`. The batch then has no place still, no answer is given, and the node has only looked.
     #[inline(always)]
-    pub fn put_and_catch_up<P: SlotRule, R: Wait>(
+    pub fn put_and_catch_up<P: SlotRule>(
         &mut self,
-        rt: &R,
         log: &RingLog<J>,
         slots: &Slots<P>,
         thread: u16,
-        wanted: &LogEntry,
+        wanted: PackedEntry,
         own: &mut Option<(u32, Answer)>,
     ) -> Result<(), AppendFault>
         requires log { self.old.known.log ≡ log.now }
@@ -222,7 +216,12 @@ impl<S: FrameStore, J: LogName> Node<S, J> {
         ensures caught_up { OnOk result (HasPutAndCaughtUp J.depth J.replicas self.old self.new) }
         ensures own { IfSome own.new (λ update.
             IsAnsweredIn J.depth self.old.tables (log_of J.replicas self.new).entries
-            wanted.now update.0 update.1) }
+            wanted update.0 update.1) }
+        ensures placed { IfSome own.new (λ update.
+            IsOwnPlace thread wanted self.old.batch
+            (tail (log_of J.replicas self.new) - length self.old.batch) update.0) }
+        ensures given { OnOk result
+            (IfNone own.new (LacksUpdate thread wanted self.old.batch)) }
         ensures none { OnErr result (own.new ≡ None) }
         ensures stayed { OnErr result (HasStayed J.depth J.replicas self.old self.new) }
         ensures refused { IfErr result
@@ -232,7 +231,7 @@ impl<S: FrameStore, J: LogName> Node<S, J> {
         ask_for(&self.batch, &mut self.asked);
         let asked = &self.asked[..self.batch.len()];
         self.entries.clear();
-        log.append_and_take(rt, &mut self.pass, asked, &mut self.entries)?;
+        log.append_and_take(&mut self.pass, asked, &mut self.entries)?;
         self.replica.apply_all(self.entries.as_slice());
         self.replica
             .apply_batch(&self.batch, slots, thread, wanted, own);
@@ -243,15 +242,12 @@ impl<S: FrameStore, J: LogName> Node<S, J> {
     /// Takes all entries that the log then has and applies them: how many they are. The answers of the held updates among them
     /// are added to the vector, which is empty, by place.
     ///
-    /// Waits for the log's cell.
-    ///
     /// # Errors
     ///
     /// `Moved` where there were entries to take, but another pass's event came between. No answer is given then, and what it has
     /// applied and holds is as before.
-    pub fn catch_up<R: Wait>(
+    pub fn catch_up(
         &mut self,
-        rt: &R,
         log: &RingLog<J>,
         answers: &mut ArrayVec<Answered, RING>,
     ) -> Result<u32, Moved>
@@ -270,7 +266,7 @@ impl<S: FrameStore, J: LogName> Node<S, J> {
         ensures no_answer { OnErr result (answers.new.items ≡ []) }
     {
         self.entries.clear();
-        log.take(rt, &mut self.pass, &mut self.entries)?;
+        log.take(&mut self.pass, &mut self.entries)?;
         self.replica.apply_all(self.entries.as_slice());
         self.replica.answer(self.first, &self.batch, answers);
         keep_unplaced(&mut self.batch, self.first);
@@ -312,8 +308,7 @@ impl<S: FrameStore, J: LogName> Node<S, J> {
 
     /// What this entry of the log was answered, where it is the one at a place and the node has applied it.
     #[inline(always)]
-    pub fn answer_to(&self, place: u32, entry: LogEntry) -> Option<Answer>
-        requires { IsLogEntry J.depth entry }
+    pub fn answer_to(&self, place: u32, entry: PackedEntry) -> Option<Answer>
         ensures { MatchOption result (place < applied_of J.replicas self.now
             → slice_get (log_of J.replicas self.now).entries place ≢ Some entry) (λ answer.
             (slice_get (log_of J.replicas self.now).entries place ≡ Some entry)

@@ -1,4 +1,4 @@
-ghost use Rattle.std.specs.Prelude.{◌≡◌, ◌≢◌, ℕ, ◌+◌, ◌<◌, ◌≤◌, All, [], ◌∷◌, ◌++◌, IfErr, IfOk, IfSome, MatchOption, None, Some, length, slice_get};
+ghost use Rattle.std.specs.Prelude.{◌≡◌, ◌≢◌, ℕ, ◌+◌, ◌<◌, ◌≤◌, All, [], ◌∷◌, ◌++◌, IfErr, IfNone, IfOk, IfSome, MatchOption, None, Some, length, slice_get};
 ghost use Rattle.std.specs.FinMap as finite;
 ghost use Rattle.vs_types.specs.Depth.{IsCanonical};
 ghost use Rattle.vs_types.specs.LogEntry.{IsLogEntry};
@@ -9,12 +9,13 @@ ghost use Rattle.vs_types.specs.declared.limits.TheConstants.{LOG_PLACES, TABLES
 ghost use Rattle.vs_types.specs.declared.log_entry.LogEntry.{LogEntry};
 ghost use Rattle.vs_walk.specs.Walk.{TranslatesAs};
 ghost use Rattle.nr_slots.specs.declared.answered.Answered.{Answered};
-ghost use Rattle.nr_node.specs.Calls.{IsAnsweredIn, answered_from, answers_of, entries_of};
+ghost use Rattle.nr_node.specs.Calls.{IsAnsweredIn, IsOwnPlace, LacksUpdate, answered_from, answers_of, entries_of};
 ghost use Rattle.nr_node.specs.Node.{StandFrom};
 ghost use Rattle.nr_node.specs.Spaces.{answer_at, space_of};
 
 use crate::told::Told;
 use arrayvec::ArrayVec;
+use nr_ring::PackedEntry;
 use nr_slots::{Answered, SlotRule, Slots, Waiting};
 use std::alloc::Global;
 use std::marker::Model;
@@ -74,27 +75,28 @@ impl<S: FrameStore> Replica<S> {
     }
 
     /// Applies the next entry of the log: its answer.
-    pub(crate) fn apply(&mut self, entry: &LogEntry) -> Answer
-        requires fits { IsLogEntry self.old.depth entry.now }
+    pub(crate) fn apply(&mut self, entry: PackedEntry) -> Answer
+        requires fits { IsLogEntry self.old.depth entry }
         requires room { length self.old.entries < LOG_PLACES }
         ensures applied { self.new
-            ≡ record self.old { entries = self.old.entries ++ entry.now ∷ [] } }
+            ≡ record self.old { entries = self.old.entries ++ entry ∷ [] } }
         ensures answer { result ≡ answer_at self.old.depth self.old.tables self.old.entries
-            (length self.old.entries) entry.now.op }
+            (length self.old.entries) entry.op }
     {
-        let answer = self.space.apply(entry.op);
-        self.told.push_reserved(Told::new(*entry, answer));
+        let LogEntry { op, .. } = entry.entry();
+        let answer = self.space.apply(op);
+        self.told.push_reserved(Told { entry, answer });
         answer
     }
 
     /// Applies entries of the log, in order.
-    pub(crate) fn apply_all(&mut self, entries: &[LogEntry])
+    pub(crate) fn apply_all(&mut self, entries: &[PackedEntry])
         requires fit { All (IsLogEntry self.old.depth) entries.now }
         requires room { length self.old.entries + length entries.now ≤ LOG_PLACES }
         ensures { self.new ≡ record self.old { entries = self.old.entries ++ entries.now } }
     {
         for entry in entries {
-            let _answer = self.apply(entry);
+            let _answer = self.apply(*entry);
         }
     }
 
@@ -106,7 +108,7 @@ impl<S: FrameStore> Replica<S> {
         batch: &ArrayVec<Waiting, RING>,
         slots: &Slots<P>,
         thread: u16,
-        wanted: &LogEntry,
+        wanted: PackedEntry,
         own: &mut Option<(u32, Answer)>,
     )
         requires fit { All (IsLogEntry self.old.depth) (entries_of batch.now.items) }
@@ -116,19 +118,21 @@ impl<S: FrameStore> Replica<S> {
         ensures applied { self.new
             ≡ record self.old { entries = self.old.entries ++ entries_of batch.now.items } }
         ensures own { IfSome own.new (λ update. IsAnsweredIn self.old.depth self.old.tables
-            self.new.entries wanted.now update.0 update.1) }
+            self.new.entries wanted update.0 update.1) }
+        ensures placed { IfSome own.new (λ update. IsOwnPlace thread wanted batch.now.items
+            (length self.old.entries) update.0) }
+        ensures given { IfNone own.new (LacksUpdate thread wanted batch.now.items) }
     {
         for waiting in batch.as_slice() {
             let place = self.applied();
-            let entry = waiting.entry();
-            let answer = self.apply(&entry);
-            if waiting.thread == thread && entry == *wanted {
+            let entry = waiting.entry;
+            let answer = self.apply(entry);
+            if waiting.thread == thread && entry.is(wanted) {
                 *own = Some((place, answer));
             } else {
                 let _taken = slots.answer(Answered {
                     thread: waiting.thread,
-                    call: waiting.call,
-                    op: waiting.op,
+                    entry: waiting.entry,
                     place,
                     answer,
                 });
@@ -173,8 +177,7 @@ impl<S: FrameStore> Replica<S> {
             };
             answers.push(Answered {
                 thread: waiting.thread,
-                call: waiting.call,
-                op: waiting.op,
+                entry: waiting.entry,
                 place,
                 answer,
             });
@@ -208,7 +211,7 @@ impl<S: FrameStore> Replica<S> {
         ensures within { IfSome result (λ _. place < LOG_PLACES) }
     {
         let told = self.told.get(place as usize)?;
-        Some((told.entry(), told.answer()))
+        Some((told.entry.entry(), told.answer))
     }
 
     /// What the entry at a place was answered; `None` where the place is not below the number of entries.
@@ -220,21 +223,20 @@ impl<S: FrameStore> Replica<S> {
         ensures within { IfSome result (λ _. place < LOG_PLACES) }
     {
         let told = self.told.get(place as usize)?;
-        Some(told.answer())
+        Some(told.answer)
     }
 
     /// What this entry was answered, where it is the one at a place.
     #[inline(always)]
-    pub(crate) fn answer_to(&self, place: u32, entry: LogEntry) -> Option<Answer>
-        requires { IsLogEntry self.now.depth entry }
+    pub(crate) fn answer_to(&self, place: u32, entry: PackedEntry) -> Option<Answer>
         ensures { MatchOption result (slice_get self.now.entries place ≢ Some entry)
             (λ answer. (slice_get self.now.entries place ≡ Some entry)
             × (answer
             ≡ answer_at self.now.depth self.now.tables self.now.entries place entry.op)) }
     {
         let told = self.told.get(place as usize)?;
-        if told.is(entry) {
-            Some(told.answer())
+        if told.entry.is(entry) {
+            Some(told.answer)
         } else {
             None
         }

@@ -16,19 +16,19 @@ use crate::name::ReplicasName;
 use crate::question::Question;
 use arrayvec::ArrayVec;
 use nr_node::{Held, Node};
-use nr_ring::{AppendFault, LogName, LogPass, RingLog};
+use nr_ring::{AppendFault, LogName, LogPass, PackedEntry, RingLog};
 use nr_slots::{Answered, Slots};
 use std::marker::{Model, PhantomData};
-use std::sync::{Arc, Wait};
+use std::sync::Arc;
 use vs_arena::RawArena;
-use vs_types::{Answer, LogEntry, RING};
+use vs_types::{Answer, RING};
 
 /// An update that a thread waits for: the thread, its slot, the update's entry, and a place that is not above its own.
 #[derive(Clone, Copy)]
 pub(crate) struct Wanted {
     pub(crate) thread: u16,
     pub(crate) slot: u16,
-    pub(crate) entry: LogEntry,
+    pub(crate) entry: PackedEntry,
     pub(crate) from: u32,
 }
 
@@ -79,9 +79,8 @@ impl<J: LogName, K: ReplicasName> Local<J, K> {
     /// entries that the log has. Whether it appended one; and the place and the answer of the combiner's own update, where this turn
     /// answered it: that is confirmed here, and its slot stays taken.
     #[inline(always)]
-    pub(crate) fn combine<R: Wait>(
+    pub(crate) fn combine(
         &mut self,
-        rt: &R,
         log: &RingLog<J>,
         pass: &mut LogPass<J>,
         wanted: &Wanted,
@@ -101,7 +100,7 @@ impl<J: LogName, K: ReplicasName> Local<J, K> {
         if self.node.held() == Held::Nothing {
             self.collect();
         }
-        match self.put_and_catch_up(rt, log, wanted, own) {
+        match self.put_and_catch_up(log, wanted, own) {
             Ok(appended) => {
                 self.confirm_own(log, pass, wanted, own);
                 Ok(appended)
@@ -116,9 +115,8 @@ impl<J: LogName, K: ReplicasName> Local<J, K> {
     /// Appends the batch, where it has no place yet, takes all entries that the log has, and leaves the answers of the held updates in
     /// their slots. Whether it appended one; and of the update that is wanted its place and answer, in place of an answer in its slot.
     #[inline(always)]
-    fn put_and_catch_up<R: Wait>(
+    fn put_and_catch_up(
         &mut self,
-        rt: &R,
         log: &RingLog<J>,
         wanted: &Wanted,
         own: &mut Option<(u32, Answer)>,
@@ -137,16 +135,13 @@ impl<J: LogName, K: ReplicasName> Local<J, K> {
         match self.node.held() {
             Held::Unplaced(_) => {
                 let Wanted { slot, entry, .. } = wanted;
-                match self
-                    .node
-                    .put_and_catch_up(rt, log, slots, *slot, entry, own)
-                {
+                match self.node.put_and_catch_up(log, slots, *slot, *entry, own) {
                     Ok(()) => Ok(true),
                     Err(fault) => Err(fault),
                 }
             }
             _ => {
-                self.catch_up(rt, log);
+                self.catch_up(log);
                 Ok(false)
             }
         }
@@ -161,11 +156,11 @@ impl<J: LogName, K: ReplicasName> Local<J, K> {
     }
 
     /// Takes all entries that the log has, and leaves the answers of the held updates in their slots.
-    pub(crate) fn catch_up<R: Wait>(&mut self, rt: &R, log: &RingLog<J>)
+    pub(crate) fn catch_up(&mut self, log: &RingLog<J>)
         requires log { log.now ≡ K.log }
     {
         self.answers.clear();
-        if self.node.catch_up(rt, log, &mut self.answers).is_err() {
+        if self.node.catch_up(log, &mut self.answers).is_err() {
             return;
         }
         for answered in self.answers.as_slice() {
@@ -209,7 +204,6 @@ impl<J: LogName, K: ReplicasName> Local<J, K> {
     /// The answer of an update, where the log has it at this place, which is not below the one that it may have at the least.
     #[inline(always)]
     fn recall(&self, wanted: &Wanted, place: u32) -> Option<Answer>
-        requires { IsLogEntry J.depth wanted.now.entry }
         ensures { IfSome result (λ answer. IsAnsweredAt J.depth K.tables wanted.now.from
             (log_of J.replicas self.now) wanted.now.entry place answer) }
     {
@@ -231,7 +225,6 @@ impl<J: LogName, K: ReplicasName> Local<J, K> {
         place: u32,
     ) -> Option<(u32, Answer)>
         requires log { (log.now ≡ K.log) × (pass.old.log ≡ K.log) }
-        requires fits { IsLogEntry J.depth wanted.now.entry }
         ensures log { pass.new.log ≡ pass.old.log }
         ensures heard { HasHeard J.depth J.replicas pass.old.view pass.new.view }
         ensures confirmed { IfSome result (λ update.
@@ -245,9 +238,8 @@ impl<J: LogName, K: ReplicasName> Local<J, K> {
     }
 
     /// Reads, where the node has applied so many entries, and hands the pass what the node has seen; else it catches up.
-    pub(crate) fn read<R: Wait>(
+    pub(crate) fn read(
         &mut self,
-        rt: &R,
         log: &RingLog<J>,
         pass: &mut LogPass<J>,
         completed: u32,
@@ -265,7 +257,7 @@ impl<J: LogName, K: ReplicasName> Local<J, K> {
             (answer_in question address) read.0 read.1) }
     {
         if self.node.applied() < completed {
-            self.catch_up(rt, log);
+            self.catch_up(log);
             return None;
         }
         let read = self.answer(address, question);

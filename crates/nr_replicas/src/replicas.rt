@@ -19,7 +19,7 @@ use crate::patience::Patience;
 use crate::question::Question;
 use crate::shared::Shared;
 use crate::update_fault::{Stopped, UpdateFault};
-use nr_ring::{AppendFault, LogName, LogPass, RingLog};
+use nr_ring::{AppendFault, LogName, LogPass, PackedEntry, RingLog};
 use std::alloc::Global;
 use std::marker::Model;
 use std::sync::Wait;
@@ -104,7 +104,7 @@ impl<J: LogName, K: ReplicasName> Replicas<J, K> {
     /// which the thread combined and answered its update itself, and else by one hold more after its turns. The gate is asked after
     /// each batch that this thread appends.
     ///
-    /// Waits for locks and for the log's cell. Allocates no memory.
+    /// Waits for locks. Allocates no memory.
     ///
     /// # Errors
     ///
@@ -136,13 +136,14 @@ impl<J: LogName, K: ReplicasName> Replicas<J, K> {
         let from = self.log.look(pass).tail;
         let home = self.home(thread);
         let slot = self.slot_of(thread);
-        if home.slots.post(slot, call, op).is_err() {
+        let entry = PackedEntry::new(LogEntry { call, op });
+        if home.slots.post(slot, entry).is_err() {
             return Err(UpdateFault::Occupied);
         }
         let wanted = Wanted {
             thread,
             slot,
-            entry: LogEntry { call, op },
+            entry,
             from,
         };
         let mut own = None;
@@ -184,7 +185,7 @@ impl<J: LogName, K: ReplicasName> Replicas<J, K> {
             (IsFaultOf wanted.now.entry.call (log_after J.replicas pass.new.view.seen)) }
     {
         pass.has_seen_a_history();
-        let call = wanted.entry.call;
+        let call = wanted.entry.call();
         let mut patience = Patience::new();
         let mut turn = Turn::Combine;
         for taken in 0..turns {
@@ -275,7 +276,7 @@ impl<J: LogName, K: ReplicasName> Replicas<J, K> {
             pass.has_seen_a_history();
             return Combined::Went;
         };
-        match local.combine(rt, &self.log, pass, wanted, own) {
+        match local.combine(&self.log, pass, wanted, own) {
             Ok(true) => Combined::Appended,
             Ok(false) => Combined::Went,
             Err(AppendFault::Moved(_)) => Combined::Went,
@@ -294,7 +295,7 @@ impl<J: LogName, K: ReplicasName> Replicas<J, K> {
             return Turn::Poll;
         };
         if let Some(mut local) = patience.attempt(rt, &shared.local) {
-            local.catch_up(rt, &self.log);
+            local.catch_up(&self.log);
         }
         if replica + 1 < self.shared.len() {
             Turn::CatchUp(replica + 1)
@@ -307,7 +308,7 @@ impl<J: LogName, K: ReplicasName> Replicas<J, K> {
     /// or `NotMapped`. They are all that was completed when the call began, or more. The number of the call is not used: a read
     /// leaves nothing behind.
     ///
-    /// Waits for locks and for the log's cell. Allocates no memory.
+    /// Waits for locks. Allocates no memory.
     ///
     /// # Errors
     ///
@@ -336,7 +337,7 @@ impl<J: LogName, K: ReplicasName> Replicas<J, K> {
     /// Whether an access of a canonical address is allowed: how many entries of the log the thread's replica had applied, and
     /// `Allowed` with the physical address, or `Fault` with the page fault's error code. Else as `read`.
     ///
-    /// Waits for locks and for the log's cell. Allocates no memory.
+    /// Waits for locks. Allocates no memory.
     ///
     /// # Errors
     ///
@@ -396,7 +397,7 @@ impl<J: LogName, K: ReplicasName> Replicas<J, K> {
         let mut patience = Patience::new();
         for _ in 0..turns {
             if let Some(mut local) = patience.attempt(rt, &home.local) {
-                let read = local.read(rt, &self.log, pass, completed, address, question);
+                let read = local.read(&self.log, pass, completed, address, question);
                 if let Some(read) = read {
                     return Ok(read);
                 }

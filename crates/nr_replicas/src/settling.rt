@@ -16,7 +16,6 @@ use arrayvec::ArrayVec;
 use nr_node::Node;
 use nr_ring::{LogName, LogPass, RingLog};
 use std::alloc::Global;
-use std::sync::Wait;
 use vs_arena::RawArena;
 use vs_types::Memory;
 use vs_walk::Dump;
@@ -26,16 +25,12 @@ impl<J: LogName, K: ReplicasName> Replicas<J, K> {
     /// after just the entries that it has applied. That log begins with all that each of these passes has seen; they are left as
     /// they were.
     ///
-    /// Waits for the log's cell. It allocates memory for the nodes, passes, calls and dumps.
+    /// It allocates memory for the nodes, passes, calls and dumps.
     ///
     /// # Errors
     ///
     /// Out of memory. The replicas are given up then too.
-    pub fn settle<R: Wait>(
-        self,
-        rt: &R,
-        passes: &mut [LogPass<J>],
-    ) -> Result<(Vec<u32>, Vec<Dump>), Memory>
+    pub fn settle(self, passes: &mut [LogPass<J>]) -> Result<(Vec<u32>, Vec<Dump>), Memory>
         requires { All (λ pass. pass.log ≡ K.log) passes.old }
         ensures passes { passes.new ≡ passes.old }
         ensures settled { IfOk result (λ settled.
@@ -53,7 +48,7 @@ impl<J: LogName, K: ReplicasName> Replicas<J, K> {
         let mut first = others.remove(0);
         hear_all(&log, &mut first, &mut others);
         hear_all(&log, &mut first, passes);
-        add_rest(rt, &log, &mut first, &mut calls)?;
+        add_rest(&log, &mut first, &mut calls)?;
         gather_all(&log, first, others);
         Ok((calls, dumps))
     }
@@ -160,8 +155,7 @@ fn hear_all<J: LogName>(log: &RingLog<J>, first: &mut LogPass<J>, passes: &mut [
 }
 
 /// Adds the call numbers of the entries that a replica has still to take.
-fn add_rest<J: LogName, R: Wait>(
-    rt: &R,
+fn add_rest<J: LogName>(
     log: &RingLog<J>,
     pass: &mut LogPass<J>,
     calls: &mut Vec<u32>,
@@ -175,9 +169,9 @@ fn add_rest<J: LogName, R: Wait>(
         (log_after J.replicas pass.new.view.seen).entries)) }
 {
     let mut entries = ArrayVec::new();
-    log.fetch(rt, pass, &mut entries);
+    log.fetch(pass, &mut entries);
     for entry in entries.as_slice() {
-        calls.push(entry.call)?;
+        calls.push(entry.call())?;
     }
     Ok(())
 }

@@ -1,13 +1,13 @@
-use vs_types::{Answer, LogEntry, Op};
+use nr_ring::PackedEntry;
+use vs_types::Answer;
 
 /// An update with its place in the log and what it was answered.
 #[derive(Clone, Copy, Debug, PartialEq, Eq)]
 pub struct Answered {
     /// The thread that posted the update.
     pub thread: u16,
-    /// The number of its call.
-    pub call: u32,
-    pub op: Op,
+    /// What it asked the log for.
+    pub entry: PackedEntry,
     /// Its place in the log.
     pub place: u32,
     pub answer: Answer,
@@ -16,11 +16,9 @@ pub struct Answered {
 impl Default for Answered {
     /// Fills the unused places of an `ArrayVec`.
     fn default() -> Answered {
-        let LogEntry { op, .. } = LogEntry::default();
         Answered {
             thread: 0,
-            call: 0,
-            op,
+            entry: PackedEntry::default(),
             place: 0,
             answer: Answer::Done,
         }

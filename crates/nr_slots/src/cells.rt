@@ -51,7 +51,7 @@ impl<P: SlotRule> Cells<P> {
     #[tactic(auto, using(crate::proofs::Goes::posts_on))]
     pub(crate) fn post(&self, waiting: Waiting) -> Result<(), Occupied>
         requires thread { waiting.thread < self.now.table.shared.table_id.words }
-        requires rule { ∥ P.posted waiting.thread waiting.call waiting.op ∥₁ }
+        requires rule { ∥ P.posted waiting.thread waiting.entry ∥₁ }
     {
         let place = usize::from(waiting.thread);
         let Some(mut loan) = self.claim(place, EMPTY) else {
@@ -69,7 +69,7 @@ impl<P: SlotRule> Cells<P> {
         requires { place < self.now.table.shared.table_id.words }
         ensures thread { IfSome result (λ waiting. waiting.thread ≡ place) }
         ensures rule { IfSome result (λ waiting.
-            ∥ P.posted waiting.thread waiting.call waiting.op ∥₁) }
+            ∥ P.posted waiting.thread waiting.entry ∥₁) }
     {
         let mut loan = self.claim(place, POSTED)?;
         let taken = loan.seat.slot_mut(&self.table.shared, place).take();
@@ -138,7 +138,7 @@ impl<P: SlotRule> Cells<P> {
             loan.seat.table_id ≡ self.now.table.shared.table_id) }
         ensures from { IfSome result (λ loan. loan.from ≡ word) }
         ensures out { IfSome result (λ loan.
-            HasSlot (λ waiting. ∥ P.posted waiting.thread waiting.call waiting.op ∥₁)
+            HasSlot (λ waiting. ∥ P.posted waiting.thread waiting.entry ∥₁)
             (λ answered. ∥ P.answered answered ∥₁) place word loan.seat.me.1) }
     {
         let shared = &self.table.shared;
@@ -159,7 +159,7 @@ impl<P: SlotRule> Cells<P> {
         requires place { place < self.now.table.shared.table_id.words }
         requires table { loan.seat.table_id ≡ self.now.table.shared.table_id }
         requires goes { GoesTo loan.from word }
-        requires out { HasSlot (λ waiting. ∥ P.posted waiting.thread waiting.call waiting.op ∥₁)
+        requires out { HasSlot (λ waiting. ∥ P.posted waiting.thread waiting.entry ∥₁)
             (λ answered. ∥ P.answered answered ∥₁) place word loan.seat.me.1 }
     {
         let Loan { mut seat, from: _ } = loan;

@@ -49,13 +49,13 @@ impl Slot {
     /// Takes the update that waits, if one does.
     pub fn take(&mut self) -> Option<Waiting>
         ensures taken { IfSome result (λ waiting.
-            (self.old ≡ Posted waiting) × (self.new ≡ Taken waiting.call)) }
+            (self.old ≡ Posted waiting) × (self.new ≡ Taken waiting.entry.call)) }
         ensures none { IfNone result
             (((waiting : _) → self.old ≢ Posted waiting) × (self.new ≡ self.old)) }
     {
         match *self {
             Slot::Posted(waiting) => {
-                *self = Slot::Taken(waiting.call);
+                *self = Slot::Taken(waiting.entry.call());
                 Some(waiting)
             }
             _ => None,
@@ -69,12 +69,12 @@ impl Slot {
     /// `NotTaken` where the slot is not taken with that call; it stays as it was.
     pub fn answer(&mut self, answered: Answered) -> Result<(), NotTaken>
         ensures answered { OnOk result
-            ((self.old ≡ Taken answered.call) × (self.new ≡ Ready answered)) }
+            ((self.old ≡ Taken answered.entry.call) × (self.new ≡ Ready answered)) }
         ensures not_taken { OnErr result
-            ((self.old ≢ Taken answered.call) × (self.new ≡ self.old)) }
+            ((self.old ≢ Taken answered.entry.call) × (self.new ≡ self.old)) }
     {
         match *self {
-            Slot::Taken(call) if call == answered.call => {
+            Slot::Taken(call) if call == answered.entry.call() => {
                 *self = Slot::Ready(answered);
                 Ok(())
             }

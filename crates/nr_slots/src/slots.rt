@@ -1,5 +1,4 @@
 ghost use Rattle.std.specs.Prelude.{◌≡◌, ◌<◌, ◌≤◌, ◌^◌, ℕ, [], All, IfOk, IfSome, IsErr};
-ghost use Rattle.vs_types.specs.declared.limits.TheConstants.{CALLS};
 
 use crate::answered::Answered;
 use crate::cells::Cells;
@@ -7,9 +6,10 @@ use crate::rule::{Anything, SlotRule};
 use crate::slot::{NotTaken, Occupied};
 use crate::waiting::Waiting;
 use arrayvec::ArrayVec;
+use nr_ring::PackedEntry;
 use std::alloc::Global;
 use std::marker::Model;
-use vs_types::{Memory, Op, RING};
+use vs_types::{Memory, RING};
 
 /// A slot for each thread of a replica, each beside a word that says what lies in it. Contracts see how many there are.
 #[derive(Drop)]
@@ -45,12 +45,11 @@ impl<P: SlotRule> Slots<P> {
     /// # Errors
     ///
     /// `Occupied` where the slot is not empty.
-    pub fn post(&self, thread: u16, call: u32, op: Op) -> Result<(), Occupied>
+    pub fn post(&self, thread: u16, entry: PackedEntry) -> Result<(), Occupied>
         requires thread { thread < self.now }
-        requires call { call < CALLS }
-        requires rule { ∥ P.posted thread call op ∥₁ }
+        requires rule { ∥ P.posted thread entry ∥₁ }
     {
-        self.cells.post(Waiting::new(thread, call, op))
+        self.cells.post(Waiting { thread, entry })
     }
 
     /// Takes updates that wait into the batch, by rising thread, until the batch is full: of each thread its own.
@@ -60,7 +59,7 @@ impl<P: SlotRule> Slots<P> {
         requires { batch.old.items ≡ [] }
         ensures rising { Rises batch.new.items }
         ensures below { All (λ waiting. waiting.thread < self.now) batch.new.items }
-        ensures rule { All (λ waiting. ∥ P.posted waiting.thread waiting.call waiting.op ∥₁)
+        ensures rule { All (λ waiting. ∥ P.posted waiting.thread waiting.entry ∥₁)
             batch.new.items }
     {
         for thread in 0..self.cells.count() {

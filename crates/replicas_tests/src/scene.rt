@@ -98,7 +98,7 @@ fn run_named<
     let callers = callers_of(rt, alloc, &replicas, config, passes);
     let (callers, made) = make_calls(rt, alloc, callers, test);
     let mut passes = passes_of(rt, alloc, callers);
-    let (calls, dumps) = replicas.settle(rt, &mut passes).expect(rt, "memory");
+    let (calls, dumps) = replicas.settle(&mut passes).expect(rt, "memory");
     Settled { calls, dumps, made }
 }
 

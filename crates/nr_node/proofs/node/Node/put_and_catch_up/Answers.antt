@@ -1,14 +1,14 @@
-use Rattle.std.proofs.Common.{◌≡◌, ◌<◌, ◌≤◌, ℕ, List, [], All, IfSome, None, Option, length, take, ap, sym, subst, ◌∙◌, refl, arith}
+use Rattle.std.proofs.Common.{◌≡◌, ◌-◌, ◌<◌, ◌≤◌, ℕ, List, [], All, IfNone, IfSome, None, Option, length, take, ap, sym, subst, ◌∙◌, refl, arith}
 use Rattle.std.proofs.Math.ListN.{length-append}
 use Rattle.std.proofs.lemmas.List.{length-map}
 use Rattle.std.proofs.lemmas.Result.{err_from_is_err_and}
 use Rattle.vs_types.specs.LogEntry.{IsLogEntry}
 use Rattle.vs_types.specs.declared.depth.Depth.{Depth}
-use Rattle.vs_types.specs.declared.limits.TheConstants.{CALLS}
+use Rattle.vs_types.specs.declared.depth.Depth.TheVariants.{Five}
 use Rattle.vs_types.specs.declared.log_entry.LogEntry.{LogEntry}
 use Rattle.nr_ring.specs.LogHistory.{log_after}
 use Rattle.nr_slots.specs.declared.waiting.Waiting.{Waiting}
-use Rattle.nr_node.specs.Calls.{HasPutAndCaughtUp, HasStayed, IsAnsweredIn, entries_of, entry_of}
+use Rattle.nr_node.specs.Calls.{HasPutAndCaughtUp, HasStayed, IsAnsweredIn, IsOwnPlace, LacksUpdate, entries_of, entry_of}
 use Rattle.nr_node.specs.Node.{IsNode, NodeState}
 use Rattle.nr_node.specs.inside.Node.{Follows, node_state}
 use Rattle.nr_node.specs.inside.Replica.{ReplicaState}
@@ -22,9 +22,9 @@ append_and_take-requires-clause-entries g c =
     let self = c.self.inside in
     let same = ap (λ (n : ℕ). take n c.ask_for.new.asked) c.len.ensures.value ∙ c.ask_for.ensures.entries in
     let Fit : List LogEntry → Type 0 = λ l. All (IsLogEntry g.J.LogName.depth) l in
-    let Low : List LogEntry → Type 0 = λ l. All (λ entry. entry.call < CALLS) l in
+    let Low : List LogEntry → Type 0 = λ l. All (IsLogEntry Five) l in
     subst Fit (sym same)
-    (batch_fits g.J.LogName.depth self.batch.items c.self.invariant.0.fit (subst Low c.ask_for.ensures.entries c.ask_for.ensures.in_range))
+    (batch_fits g.J.LogName.depth self.batch.items c.self.invariant.0.fit (subst Low c.ask_for.ensures.entries c.ask_for.ensures.fit))
 
 pub invariant_of-self : goal.invariant_of-self
 invariant_of-self g c =
@@ -161,10 +161,42 @@ returns-clause-own g c =
     c.in_ok-append_and_take.ensures.done some is.0 is.1 in
     let both = both_applied self.replica mid next _ _ _ c.apply_all.ensures c.as_slice.ensures.value c.apply_batch.ensures.applied in
     let Own : Depth → ℕ → List LogEntry → Type 0 = λ d t l.
-    IfSome c.apply_batch.new.own (λ update. IsAnsweredIn d t l c.args.wanted.now update.0 update.1) in
+    IfSome c.apply_batch.new.own (λ update. IsAnsweredIn d t l c.args.wanted update.0 update.1) in
     let ByDepth : Depth → Type 0 = λ d. Own d mid.tables next.entries in
     let ByTables : ℕ → Type 0 = λ t. Own depth t next.entries in
     let ByEntries : List LogEntry → Type 0 = λ l. Own depth c.args.self.now.tables l in
     subst ByEntries (put_entries _ _ _ _ _ _ _ _ did next both)
     (subst ByTables (ap (λ (r : ReplicaState). r.tables) c.apply_all.ensures ∙ ap (λ (n : NodeState). n.tables) c.self.view_is)
     (subst ByDepth (ap (λ (r : ReplicaState). r.depth) c.apply_all.ensures ∙ is.1.depth_is) c.apply_batch.ensures.own))
+
+pub returns-clause-given : goal.returns-clause-given
+returns-clause-given g c =
+    let Given : NodeState → Type 0 = λ n. IfNone c.apply_batch.new.own (LacksUpdate c.args.thread c.args.wanted n.batch) in
+    subst Given c.self.view_is c.apply_batch.ensures.given
+
+pub returns-clause-placed : goal.returns-clause-placed
+returns-clause-placed g c =
+    let self = c.self.inside in
+    let is = c.self.invariant in
+    let after = c.append_and_take.new.pass in
+    let mid = c.apply_all.new.self in
+    let next = c.apply_batch.new.self in
+    let later = log_after g.J.LogName.replicas after.view.seen in
+    let batch = self.batch.items in
+    let same = ap (λ (n : ℕ). take n c.ask_for.new.asked) c.len.ensures.value ∙ c.ask_for.ensures.entries in
+    let Some : NodeState → Type 0 = λ n. 1 ≤ length n.batch in
+    let some = subst Some (sym c.self.view_is) c.requires.some in
+    let did = put_and_took _ _ self.pass after self.replica batch self.first _ c.append_and_take.new.before.items _ same
+    c.in_ok-append_and_take.ensures.done some is.0 is.1 in
+    let both = both_applied self.replica mid next _ _ _ c.apply_all.ensures c.as_slice.ensures.value c.apply_batch.ensures.applied in
+    let first : length mid.entries ≡ length later.entries - length batch = omega (
+      arith,
+      ap (λ (l : List LogEntry). length l) (put_entries _ _ _ _ _ _ _ _ did next both),
+      ap (λ (r : ReplicaState). length r.entries) c.apply_batch.ensures.applied,
+      length-append mid.entries (entries_of batch),
+      length-map batch entry_of,
+    ) in
+    let By : ℕ × List Waiting → Type 0 = λ z. IfSome c.apply_batch.new.own (λ update. IsOwnPlace c.args.thread c.args.wanted z.1 z.0 update.0) in
+    let At : ℕ → Type 0 = λ n. By (n, batch) in
+    let Held : NodeState → Type 0 = λ n. By (length later.entries - length n.batch, n.batch) in
+    subst Held c.self.view_is (subst At first c.apply_batch.ensures.placed)

@@ -1,7 +1,7 @@
 use Rattle.std.proofs.Common.{◌≡◌, ◌<◌, ◌≤◌, ℕ, List, All, length, take, ap, sym, subst, ◌∙◌}
 use Rattle.std.proofs.lemmas.Result.{err_from_is_err_and}
 use Rattle.vs_types.specs.LogEntry.{IsLogEntry}
-use Rattle.vs_types.specs.declared.limits.TheConstants.{CALLS}
+use Rattle.vs_types.specs.declared.depth.Depth.TheVariants.{Five}
 use Rattle.vs_types.specs.declared.log_entry.LogEntry.{LogEntry}
 use Rattle.nr_ring.specs.Entries.{HasAppended}
 use Rattle.nr_node.specs.Calls.{HasStayed}
@@ -16,9 +16,9 @@ append-requires-clause-entries g c =
     let self = c.self.inside in
     let same = ap (λ (n : ℕ). take n c.ask_for.new.asked) c.len.ensures.value ∙ c.ask_for.ensures.entries in
     let Fit : List LogEntry → Type 0 = λ l. All (IsLogEntry g.J.LogName.depth) l in
-    let Low : List LogEntry → Type 0 = λ l. All (λ entry. entry.call < CALLS) l in
+    let Low : List LogEntry → Type 0 = λ l. All (IsLogEntry Five) l in
     subst Fit (sym same)
-    (batch_fits g.J.LogName.depth self.batch.items c.self.invariant.0.fit (subst Low c.ask_for.ensures.entries c.ask_for.ensures.in_range))
+    (batch_fits g.J.LogName.depth self.batch.items c.self.invariant.0.fit (subst Low c.ask_for.ensures.entries c.ask_for.ensures.fit))
 
 pub invariant_of-self : goal.invariant_of-self
 invariant_of-self g c =
