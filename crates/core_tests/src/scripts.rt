@@ -1,5 +1,5 @@
 //! Scripts, and what is said of their recordings.
-ghost use Rattle.std.specs.Prelude.{◌≡◌, All, map};
+ghost use Rattle.std.specs.Prelude.{All, map};
 ghost use Rattle.vs_types.specs.Query.{IsQuery};
 ghost use Rattle.vs_types.specs.Query.{AreScripts};
 

@@ -1,10 +1,9 @@
 -- The parts of a state: what is read of one, and that a change of one keeps the others.
 use Rattle.std.proofs.Common.{◌≡◌, ℕ, ◌+◌, ◌<◌, ◌≤◌, List, [], ◌∷◌, ◌++◌, length, map, Some, None, slice_set, slice_index_or, refl, sym, ap, subst, ◌∙◌, arith, nat_lt, true, false, inl, inr}
-use Rattle.std.proofs.lemmas.Bool.{false≢true}
-use Rattle.std.specs.Prelude.{All, slice_get, option_map, IsSome, MatchBool}
+use Rattle.std.specs.Prelude.{All, slice_get, option_map, MatchBool}
 use Rattle.std.proofs.lemmas.Bool.Decides.{nat_tests}
 use Rattle.std.proofs.lemmas.List.{length-set, map-set, length-map, length-append, set-get_or}
-use Rattle.std.proofs.lemmas.List.Elements.{All-set, All-get_or, All-push, All-append}
+use Rattle.std.proofs.lemmas.List.Elements.{All-set, All-get_or, All-append}
 use Rattle.std.proofs.lemmas.List.Sums.{sum_by-set}
 use Rattle.std.proofs.lemmas.Option.{slice_get-map, slice_get_read, slice_get_past, slice_get_within, slice_get_cases, get_or_from_slice_get}
 use Rattle.vs_types.specs.Config.{Layout}
@@ -130,12 +129,6 @@ there_or_not {A} {B} f xs i n is =
           let past : length xs ≤ i = grind (arith, nat_tests, e, is) in
           seen_past f xs i past
     ] refl
-
-pub some_seen : {A B : Type 0} (f : A → B) (xs : List A) (i : ℕ) → IsSome (slice_get (map f xs) i) → i < length xs
-some_seen f xs i is = elim (slice_get_cases xs i).1 [
-  | inl here ↦ here.1
-  | inr past ↦ absurd (false≢true (subst IsSome (seen_past f xs i past.0) is))
-]
 
 -- a replica in its own place changes nothing
 pub same_replica : (state : State) (r : ℕ) (before : Replica) → slice_get state.replicas r ≡ Some before → with_replica state r before ≡ state

@@ -53,16 +53,6 @@ pub none_more : {A : Type 0} (p : A → Bool) (xs : List A) (i : ℕ) (d : A) �
     → find p (take (i + 1) xs) ≡ None
 none_more p xs i d none within fails = subst (λ n. find p (take n xs) ≡ None) (more i) (none_next p xs i d none within fails)
 
--- one that fails is enough
-pub fails_at : {A : Type 0} (p : A → Bool) (xs : List A) (i : ℕ) (d : A) → i < length xs → p (get_or xs i d) ≡ false → list_all p xs ≡ false
-fails_at p [] i d within fails = absurd (omega (arith, within))
-fails_at p (x ∷ xs) zero d within fails = rw fails refl
-fails_at p (x ∷ xs) (suc i) d within fails =
-    elim (p x) as (λ b. (b && list_all p xs) ≡ false) [
-      | true ↦ fails_at p xs i d (omega (arith, within)) fails
-      | false ↦ refl
-    ]
-
 pub list_all-map : {A B : Type 0} (p : B → Bool) (f : A → B) (xs : List A) → list_all p (map f xs) ≡ list_all (λ x. p (f x)) xs
 list_all-map p f [] = refl
 list_all-map p f (x ∷ xs) = ap (λ b. p (f x) && b) (list_all-map p f xs)

@@ -1,5 +1,5 @@
 //! What the steps read and write of replicas and of the log.
-ghost use Rattle.std.specs.Prelude.{◌≡◌, ◌<◌, ◌≤◌, ℕ, None, Some, Option, IsSome, MatchBool, MatchOption, slice_get};
+ghost use Rattle.std.specs.Prelude.{◌≡◌, ◌<◌, ◌≤◌, None, Some, IsSome, MatchBool, slice_get};
 ghost use Rattle.vs_types.specs.declared.limits.TheConstants.{LOG_PLACES};
 ghost use Rattle.nr_core.specs.State as states;
 ghost use Rattle.nr_core.specs.State.{home, tail, with_replica};

@@ -1,5 +1,5 @@
 //! A whole run of steps.
-ghost use Rattle.std.specs.Prelude.{◌≡◌, ℕ, IfOk, map};
+ghost use Rattle.std.specs.Prelude.{ℕ, IfOk, map};
 ghost use Rattle.nr_trace.specs.Faults.{HasFault};
 ghost use Rattle.nr_trace.specs.FirstFault.{HasFormatFault};
 ghost use Rattle.nr_trace.specs.Laws.{HasCleanLog, IsFaultless};

@@ -1,6 +1,5 @@
 //! The start of the protocol.
-ghost use Rattle.std.specs.Prelude.{◌≡◌, List, map, replicate, All, IfOk};
-ghost use Rattle.vs_types.specs.Config.{IsLayout};
+ghost use Rattle.std.specs.Prelude.{◌≡◌, map, replicate, All, IfOk};
 ghost use Rattle.vs_types.specs.Query.{AreScripts};
 ghost use Rattle.nr_core.specs.State.{new_replica, start};
 ghost use Rattle.nr_core.specs.inside.Parts.{replica_in, thread_of, IsReplica};

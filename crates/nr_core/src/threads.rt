@@ -1,8 +1,8 @@
 //! What the steps read and write of threads.
-ghost use Rattle.std.specs.Prelude.{◌≡◌, ◌<◌, ◌≤◌, ℕ, None, Some, Option, IsSome, MatchOption, slice_get};
+ghost use Rattle.std.specs.Prelude.{◌≡◌, ◌<◌, ℕ, None, Some, Option, IsSome, MatchOption, slice_get};
 ghost use Rattle.nr_core.specs.State as states;
 ghost use Rattle.nr_core.specs.State.{with_thread};
-ghost use Rattle.nr_core.specs.Steps.{by_holder, by_thread};
+ghost use Rattle.nr_core.specs.Steps.{by_holder};
 ghost use Rattle.nr_core.specs.inside.Views.{IsAt, MayGoTo, HoldsJust, HoldsLock};
 
 use crate::stage::Stage;

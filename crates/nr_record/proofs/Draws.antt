@@ -1,5 +1,5 @@
 -- The steps on the word of a clock keep its rule.
-use Rattle.std.proofs.Common.{◌≡◌, ◌≢◌, ℕ, zero, suc, ◌+◌, ◌-◌, ◌*◌, ◌%◌, ◌<◌, ◌≤◌, List, [], ◌∷◌, ◌++◌, All, length, get_or, set, eqb, cond, eq-eqb, get_or-set_same, refl, ap, sym, ◌∙◌, subst, arith}
+use Rattle.std.proofs.Common.{◌≡◌, ℕ, zero, suc, ◌+◌, ◌-◌, ◌*◌, ◌%◌, ◌<◌, ◌≤◌, List, [], ◌∷◌, ◌++◌, length, get_or, set, eqb, cond, eq-eqb, get_or-set_same, refl, ap, sym, ◌∙◌, subst, arith}
 use Rattle.std.proofs.Math.ListN.{length-append, length-set}
 use Rattle.std.specs.List.{sum_by}
 use Rattle.std.proofs.lemmas.List.Sums.{sum_by-cons, sum_by-append, count_by-le-length}
@@ -9,7 +9,7 @@ use mathlib.Core.Option.{some}
 use lib.ListN.{get_elem?}
 use Rattle.atomic_table.specs.Table.{State, Me, Allows, keeps}
 use Rattle.atomic_table.proofs.Lists.{set_else}
-use Rattle.vs_types.specs.declared.limits.TheConstants.{CALLS, LOG_PLACES}
+use Rattle.vs_types.specs.declared.limits.TheConstants.{CALLS}
 use Rattle.nr_record.specs.Rule.{HasDrawn, IsKept, given, joint_seat, left_seat, empty_seat, with_stamp}
 use Rattle.nr_record.specs.Stamps.{AreBelow, once_below, times}
 use Rattle.nr_record.specs.declared.view.View.{View}

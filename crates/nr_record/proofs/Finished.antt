@@ -1,8 +1,8 @@
 -- The events of a run are what the pens were given, at their stamps and thread by thread.
 use Rattle.std.proofs.Common.{◌≡◌, ◌≢◌, ℕ, zero, suc, ◌+◌, ◌-◌, ◌<◌, ◌≤◌, Bool, true, false, List, [], ◌∷◌, ◌++◌, All, Contains, length, get_or, map, replicate, eqb, cond, eq-eqb, refl, ap, sym, ◌∙◌, subst, arith}
-use Rattle.std.specs.Prelude.{Option, None, Some, slice_get, option_and_then, filter}
+use Rattle.std.specs.Prelude.{None, Some, slice_get, option_and_then, filter}
 use Rattle.std.specs.Option.{option_map_or}
-use Rattle.std.specs.List.{flat_map, range_with_len}
+use Rattle.std.specs.List.{flat_map}
 use Rattle.std.proofs.lemmas.List.{map-append, get_or-map, get_or_default, length-map, length-replicate}
 use Rattle.std.proofs.lemmas.List.Elements.{All-cons, All-contains, All-head, All-tail, Contains-get_or}
 use Rattle.std.proofs.lemmas.List.Concat.{flat_map-cons}
@@ -25,6 +25,7 @@ use Rattle.nr_record.specs.inside.Placed.{placed}
 use Rattle.nr_record.specs.declared.stamped.Stamped.{Stamped}
 use Rattle.nr_record.proofs.Draws.{once_some, times_append, times_cons, times_item}
 use Rattle.nr_record.proofs.Placing.{all_flat, length_placed, placed_there}
+use Rattle.vs_types.proofs.Lists.{Contains-head, Contains-tail}
 
 abbrev pub all_notes : List PenState → List Stamped
 all_notes pens = flat_map (λ pen. pen.made) pens
@@ -69,12 +70,6 @@ run_has_notes n filler pens below =
     all_flat (λ (item : Stamped). slice_get events item.stamp ≡ Some item.event) (λ (pen : PenState). pen.made) pens
     (placed_there (replicate n filler) (all_notes pens) (λ stamp. omega (arith, below' stamp, once_at_most n stamp)) inside)
 
-contains_first : {X : Type 0} (x : X) (xs : List X) → Contains (x ∷ xs) x
-contains_first x xs = (zero, omega arith, refl)
-
-contains_rest : {X : Type 0} (x y : X) (xs : List X) → Contains xs y → Contains (x ∷ xs) y
-contains_rest x y xs has = (suc has.0, omega (arith, has.1), has.2)
-
 not_here : (a b : ℕ) → a ≢ b → cond (eqb a b) 1 0 ≡ zero
 not_here a b differ = grind (arith, nat_tests)
 
@@ -82,9 +77,9 @@ note_of : (made : List Stamped) (stamp : ℕ) → 1 ≤ times stamp (stamps made
 note_of [] stamp there = absurd (omega arith)
 note_of (x ∷ xs) stamp there =
     dite (ℕ_discrete x.stamp stamp)
-    (λ same. (x, contains_first x xs, same))
+    (λ same. (x, Contains-head x xs, same))
     (λ differ. let c = times_cons stamp x.stamp (stamps xs) in let none = not_here x.stamp stamp differ in
-    let r = note_of xs stamp (omega (arith, there, c, none)) in (r.0, contains_rest x r.0 xs r.1, r.2))
+    let r = note_of xs stamp (omega (arith, there, c, none)) in (r.0, Contains-tail x xs r.0 r.1, r.2))
 
 pub pen_of_stamp : (pens : List PenState) (stamp : ℕ) → 1 ≤ times stamp (flat_map stamps_of pens)
     → (pen : PenState) × Contains pens pen × ((item : Stamped) × Contains pen.made item × (item.stamp ≡ stamp))
@@ -93,8 +88,8 @@ pen_of_stamp (p ∷ ps) stamp there =
     let both : times stamp (flat_map stamps_of (p ∷ ps)) ≡ times stamp (stamps_of p) + times stamp (flat_map stamps_of ps) =
     ap (λ (xs : List ℕ). times stamp xs) (flat_map-cons stamps_of p ps) ∙ times_append stamp (stamps_of p) (flat_map stamps_of ps) in
     dite (dec_le 1 (times stamp (stamps_of p)))
-    (λ here. (p, contains_first p ps, note_of p.made stamp here))
-    (λ gone. let r = pen_of_stamp ps stamp (omega (arith, both, there, gone)) in (r.0, contains_rest p r.0 ps r.1, r.2))
+    (λ here. (p, Contains-head p ps, note_of p.made stamp here))
+    (λ gone. let r = pen_of_stamp ps stamp (omega (arith, both, there, gone)) in (r.0, Contains-tail p ps r.0 r.1, r.2))
 
 -- an item of a list that rises from k on: where its event is in the rest of the events, which begin at k
 abbrev Fits : (Event → Bool) → ℕ → List Event → Stamped → Type 0

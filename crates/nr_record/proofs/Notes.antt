@@ -1,9 +1,8 @@
 -- What a pen holds stays true as it draws stamps.
-use Rattle.std.proofs.Common.{◌≡◌, ℕ, zero, suc, ◌+◌, ◌-◌, ◌*◌, ◌<◌, ◌≤◌, ◌^◌, List, [], ◌∷◌, ◌++◌, All, Contains, length, get_or, take, drop, map, cond, refl, ap, sym, ◌∙◌, subst, arith}
+use Rattle.std.proofs.Common.{◌≡◌, ℕ, zero, suc, ◌+◌, ◌<◌, ◌≤◌, List, [], ◌∷◌, ◌++◌, All, Contains, length, get_or, take, drop, map, cond, refl, ap, sym, ◌∙◌, subst, arith, ◌*◌, Option}
 use Rattle.std.specs.Prelude.{None, Some, sum}
-use Rattle.std.proofs.Math.ListN.{length-append, length-map}
-use Rattle.std.proofs.Math.Seq.{get_or-append_seam}
-use Rattle.std.proofs.lemmas.List.{map-append, get_or-map}
+use Rattle.std.proofs.Math.ListN.{length-append}
+use Rattle.std.proofs.lemmas.List.{map-append}
 use Rattle.std.proofs.lemmas.List.Sums.{sum_by-append, sum_by-drop_more}
 use Rattle.std.proofs.lemmas.List.Elements.{All-push, Contains-append_left, Contains-push}
 use Rattle.vs_types.specs.Config.{Layout}
@@ -13,12 +12,12 @@ use Rattle.vs_types.specs.declared.request.Query.{Query}
 use Rattle.nr_trace.proofs.LawsOfLists.{All-unmap}
 use Rattle.nr_trace.specs.Recording.{IsEvent}
 use Rattle.nr_trace.specs.declared.event.Event.{Event}
-use Rattle.nr_trace.specs.declared.event.Event.TheVariants.{Call, Reply, Touch}
+use Rattle.nr_trace.specs.declared.event.Event.TheVariants.{Call, Reply}
 use Rattle.nr_trace.specs.declared.version.Version.TheVariants.{V2}
-use Rattle.nr_record.specs.Pen.{ClockId, PenState, call_by, calls_in, is_call, new_pen, new_pens, home_of, stamped}
-use Rattle.nr_record.specs.Rule.{HasDrawn, with_stamp}
+use Rattle.nr_record.specs.Pen.{ClockId, PenState, call_by, calls_in, is_call, new_pen, new_pens, stamped}
+use Rattle.nr_record.specs.Rule.{HasDrawn}
 use Rattle.nr_record.specs.Stamps.{Rise}
-use Rattle.nr_record.specs.inside.Held.{HasMade, IsHeld, IsOwn}
+use Rattle.nr_record.specs.inside.Held.{IsHeld, IsOwn, IsWaiting, waits}
 use Rattle.nr_record.specs.declared.stamped.Stamped.{Stamped}
 use Rattle.nr_record.specs.declared.view.View.{View}
 
@@ -40,60 +39,52 @@ pub later_made : (made : List Stamped) (stamps : List ℕ) (stamp : ℕ) → map
 later_made made stamps stamp same below =
     All-unmap (λ s. s < stamp) (λ (item : Stamped). item.stamp) made (subst (λ (xs : List ℕ). All (λ s. s < stamp) xs) (sym same) below)
 
--- a pen that holds its notes has drawn one more stamp, for a call of its thread
+-- a pen that holds its notes has drawn one more stamp, and notes an event with it
+held_more : (view after : View) (replica thread stamp room room' : ℕ) (waiting waiting' : Option ℕ) (made : List Stamped) (event : Event)
+    → IsHeld view replica thread waiting room made → HasDrawn view stamp after → IsEvent V2 view.plan.config event
+    → IsOwn view.plan.config thread (made ++ stamped stamp event ∷ []) event → IsWaiting view.plan.config thread (made ++ stamped stamp event ∷ []) waiting'
+    → 1 + waits waiting' ≡ waits waiting + 2 * cond (is_call event) 1 0 → calls_in made + cond (is_call event) 1 0 ≤ view.quota → room ≤ room'
+    → IsHeld after replica thread waiting' room' (made ++ stamped stamp event ∷ [])
+held_more view after replica thread stamp room room' waiting waiting' made event is drawn fits own waits_on pair left more =
+    let item : Stamped = stamped stamp event in
+    let long = length-append made (item ∷ []) in
+    let calls = calls_more made item in
+    subst (λ (v : View). IsHeld v replica thread waiting' room' (made ++ item ∷ [])) (sym drawn.view) (record {
+      same = map-append (λ (other : Stamped). other.stamp) made (item ∷ []) ∙ ap (λ (xs : List ℕ). xs ++ stamp ∷ []) is.same;
+      replica_is = is.replica_is;
+      is_replica = is.is_replica;
+      is_thread = is.is_thread;
+      room_is = omega (arith, is.room_is, more);
+      pairs = omega (arith, is.pairs, long, calls, pair);
+      within = omega (arith, calls, left);
+      rising = rise_push view.stamps stamp is.rising drawn.later;
+      events = All-push (λ (other : Stamped). IsEvent V2 view.plan.config other.event) made item is.events fits;
+      own = All-push (λ (other : Stamped). IsOwn view.plan.config thread (made ++ item ∷ []) other.event) made item
+          (λ k d lt. own_more view.plan.config thread made item (get_or made k d).event (is.own k d lt)) own;
+      is_waiting = waits_on;
+    })
+
+-- for a call of its thread
 pub held_call : (view after : View) (replica thread stamp room room' : ℕ) (made : List Stamped) (request : Query)
     → IsHeld view replica thread None room made → HasDrawn view stamp after → calls_in made < view.quota → IsQuery view.plan.config.depth request
     → room ≤ room' → IsHeld after replica thread (Some stamp) room' (made ++ stamped stamp (Call replica thread request) ∷ [])
 held_call view after replica thread stamp room room' made request is drawn left fits more =
     let item : Stamped = stamped stamp (Call replica thread request) in
-    let layout : Layout = view.plan.config in
-    let event : Event → Type 0 = λ e. Contains (made ++ item ∷ []) (stamped stamp e) in
-    let long = length-append made (item ∷ []) in
-    let calls = calls_more made item in
-    let pairs = is.pairs in
-    let room_is = is.room_is in
-    subst (λ (v : View). IsHeld v replica thread (Some stamp) room' (made ++ item ∷ [])) (sym drawn.view) (record {
-      same = map-append (λ (other : Stamped). other.stamp) made (item ∷ []) ∙ ap (λ (xs : List ℕ). xs ++ stamp ∷ []) is.same;
-      replica_is = is.replica_is;
-      is_replica = is.is_replica;
-      is_thread = is.is_thread;
-      room_is = omega arith;
-      pairs = omega arith;
-      within = omega arith;
-      rising = rise_push view.stamps stamp is.rising drawn.later;
-      events = All-push (λ (other : Stamped). IsEvent V2 layout other.event) made item is.events (is.is_replica, is.is_thread, fits, tt);
-      own = All-push (λ (other : Stamped). IsOwn layout thread (made ++ item ∷ []) other.event) made item
-          (λ k d lt. own_more layout thread made item (get_or made k d).event (is.own k d lt)) (is.replica_is, refl);
-      is_waiting = (request, subst (λ (n : ℕ). Contains (made ++ item ∷ []) (stamped stamp (Call n thread request))) is.replica_is (Contains-push made item));
-    })
+    held_more view after replica thread stamp room room' None (Some stamp) made item.event is drawn (is.is_replica, is.is_thread, fits, tt)
+    (is.replica_is, refl)
+    (request, subst (λ (n : ℕ). Contains (made ++ item ∷ []) (stamped stamp (Call n thread request))) is.replica_is (Contains-push made item))
+    refl (omega (arith, left)) more
 
--- and one for the reply to its call
+-- and for the reply to its call
 pub held_reply : (view after : View) (replica thread stamp room room' call at : ℕ) (made : List Stamped) (answer : Answer)
     → IsHeld view replica thread (Some call) room made → HasDrawn view stamp after → IsEvent V2 view.plan.config (Reply call at answer)
     → room ≤ room' → IsHeld after replica thread None room' (made ++ stamped stamp (Reply call at answer) ∷ [])
 held_reply view after replica thread stamp room room' call at made answer is drawn fits more =
-    let item : Stamped = stamped stamp (Reply call at answer) in
-    let layout : Layout = view.plan.config in
-    let long = length-append made (item ∷ []) in
-    let calls = calls_more made item in
-    let pairs = is.pairs in
-    let room_is = is.room_is in
-    let within = is.within in
-    subst (λ (v : View). IsHeld v replica thread None room' (made ++ item ∷ [])) (sym drawn.view) (record {
-      same = map-append (λ (other : Stamped). other.stamp) made (item ∷ []) ∙ ap (λ (xs : List ℕ). xs ++ stamp ∷ []) is.same;
-      replica_is = is.replica_is;
-      is_replica = is.is_replica;
-      is_thread = is.is_thread;
-      room_is = omega arith;
-      pairs = omega arith;
-      within = omega arith;
-      rising = rise_push view.stamps stamp is.rising drawn.later;
-      events = All-push (λ (other : Stamped). IsEvent V2 layout other.event) made item is.events fits;
-      own = All-push (λ (other : Stamped). IsOwn layout thread (made ++ item ∷ []) other.event) made item
-          (λ k d lt. own_more layout thread made item (get_or made k d).event (is.own k d lt))
-          (is.is_waiting.0, Contains-append_left made (item ∷ []) (stamped call (call_by layout thread is.is_waiting.0)) is.is_waiting.1);
-      is_waiting = tt;
-    })
+    held_more view after replica thread stamp room room' (Some call) None made (Reply call at answer) is drawn fits (
+      is.is_waiting.0,
+      Contains-append_left made (stamped stamp (Reply call at answer) ∷ []) (stamped call (call_by view.plan.config thread is.is_waiting.0))
+          is.is_waiting.1,
+    ) tt refl (omega (arith, is.within)) more
 
 new_pens_next : (clock : ClockId) (thread : ℕ) (quotas : List ℕ) (k : ℕ) → k < length quotas
     → new_pens clock thread (take (suc k) quotas) ≡ new_pens clock thread (take k quotas) ++ new_pen clock (thread + k) (get_or quotas k 0) ∷ []

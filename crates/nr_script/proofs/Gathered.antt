@@ -1,7 +1,7 @@
 -- What a line more makes of what was kept.
 use Rattle.std.proofs.Common.{◌≡◌, ℕ, ◌+◌, ◌<◌, ◌≤◌, ◌++◌, max, Bool, true, false, cond, List, [], ◌∷◌, length, refl, sym, ap, subst, ◌∙◌, arith, append-nil, length-append}
 use Rattle.std.proofs.Common.{Option, Some, None, suc, add-zero}
-use Rattle.std.specs.List.{fold, position_from, AllZip}
+use Rattle.std.specs.List.{fold, position_from}
 use Rattle.std.specs.Option.{option_or}
 use Rattle.std.proofs.lemmas.Grind.{flat_map-append}
 use Rattle.std.proofs.lemmas.List.Sums.{fold-append}
@@ -150,18 +150,12 @@ read_more said old new it number kept is asked_is threads_is lists_are steps_is 
       };
     }
 
--- a request or a step past the limit
+-- a request past the limit
 pub past_requests : (said : List Line) (old : Reading) (thread : ℕ) (query : Query) (it : Line) → request_in it ≡ (thread, query) ∷ []
     → IsReadSoFar said old → LOG_PLACES ≤ old.asked
     → IsWithinLimits (said ++ it ∷ []) → ⊥
 past_requests said old thread query it is kept full within =
     omega (arith, ap length (asked_more said it), ap length is, kept.asked_is, within.requests, length-append {A = ℕ × Query})
-
-pub past_steps : (said : List Line) (old : Reading) (step : Step) (it : Line) → step_in it ≡ step ∷ [] → IsReadSoFar said old
-    → SCRIPT_STEPS ≤ length old.steps.items
-    → IsWithinLimits (said ++ it ∷ []) → ⊥
-past_steps said old step it is kept full within =
-    omega (arith, ap length (steps_more said it), ap length is, ap length kept.steps_are, within.steps, length-append {A = Step})
 
 few_steps_kept : (said : List Line) (reading : Reading) → IsReadSoFar said reading → length reading.steps.items ≤ SCRIPT_STEPS
 few_steps_kept said reading kept = subst (λ (them : List Step). length them ≤ SCRIPT_STEPS) (sym kept.steps_are) kept.within_limits.steps

@@ -7,7 +7,7 @@ use Rattle.vs_types.specs.Finds.{Finds}
 use Rattle.vs_types.specs.declared.depth.Depth.{Depth}
 use Rattle.vs_types.specs.declared.request.Query.{Query}
 use Rattle.nr_core.specs.declared.step.Act.{Act}
-use Rattle.nr_core.specs.declared.step.Act.TheVariants.{Call, Post, Take, Collect, Append, Advance, Apply, Answer, Release, Look, Read, Reply}
+use Rattle.nr_core.specs.declared.step.Act.TheVariants.{Call}
 use Rattle.nr_core.specs.declared.step.Step.{Step}
 use Rattle.nr_script.specs.Lines.{act_words, Says, SpellsRequest, SpellsStep}
 use Rattle.vs_text.specs.Words.{texts, words}

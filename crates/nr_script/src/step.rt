@@ -1,5 +1,5 @@
 //! Steps in words.
-ghost use Rattle.std.specs.Prelude.{◌≡◌, ◌<◌, [], ◌∷◌, codes, decimal};
+ghost use Rattle.std.specs.Prelude.{◌<◌, [], ◌∷◌, codes, decimal};
 ghost use Rattle.vs_types.specs.Finds.{Finds};
 ghost use Rattle.nr_script.specs.Lines.{SpellsAct, SpellsStep};
 ghost use Rattle.vs_text.specs.Words.{texts};

@@ -7,21 +7,21 @@ use Rattle.std.specs.Option.{option_map_or}
 use Rattle.std.proofs.lemmas.List.{get_or-map, length-map}
 use Rattle.std.proofs.lemmas.List.Elements.{All-contains, All-head, All-map, All-tail}
 use Rattle.std.proofs.lemmas.Option.{get_or_from_slice_get, slice_get-get_or, slice_get_within, slice_get-map}
-use Rattle.std.proofs.lemmas.Bool.Decides.{Decides-eqb, nat_tests}
+use Rattle.std.proofs.lemmas.Bool.Decides.{Decides-eqb}
 use Rattle.vs_types.specs.Config.{Layout}
 use Rattle.vs_types.specs.declared.op.Action.{Action}
 use Rattle.vs_types.specs.declared.request.Query.{Query}
-use Rattle.vs_types.specs.declared.request.Query.TheVariants.{Update, Resolve, Access}
+use Rattle.vs_types.specs.declared.request.Query.TheVariants.{Update}
 use Rattle.nr_ring.specs.LogHistory.{Log, log_after}
 use Rattle.nr_ring.specs.Pass.{Known, TableId}
 use Rattle.nr_trace.proofs.LawsOfLists.{slice_get-unmap}
 use Rattle.nr_trace.specs.Calls.{Invocation, Response, read_address, call_of, made_by, operation_in, reply_to}
 use Rattle.nr_trace.specs.Recording.{Recording}
 use Rattle.nr_trace.specs.declared.event.Event.{Event}
-use Rattle.nr_trace.specs.declared.event.Event.TheVariants.{Call, Reply, Touch}
+use Rattle.nr_trace.specs.declared.event.Event.TheVariants.{Call, Touch}
 use Rattle.nr_record.specs.Events.{HasNotes, caller, events_of}
 use Rattle.nr_record.specs.Pen.{ClockId, PenState, call_by, stamps_of}
-use Rattle.nr_record.specs.Stamps.{Rise, once_below}
+use Rattle.nr_record.specs.Stamps.{Rise}
 use Rattle.nr_record.specs.declared.stamped.Stamped.{Stamped}
 use Rattle.nr_record.proofs.Finished.{pen_of_stamp, once_in}
 use Rattle.nr_serve.specs.inside.Calls.{AreServed, IsServed, IsTrueOf, MadeCall, WorkerState}

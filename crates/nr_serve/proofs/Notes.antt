@@ -5,7 +5,7 @@ use Rattle.std.specs.Prelude.{Option, None, Some, slice_get, option_and_then, fi
 use Rattle.std.specs.Option.{option_map_or}
 use Rattle.std.specs.List.{cons_option, flat_map}
 use Rattle.std.proofs.lemmas.List.{get_or-map, length-map}
-use Rattle.std.proofs.lemmas.List.Elements.{All-cons, All-head, All-tail, Contains-append_cases}
+use Rattle.std.proofs.lemmas.List.Elements.{All-cons, All-head, All-tail, Contains-append_cases, All-map}
 use Rattle.std.proofs.lemmas.List.Concat.{flat_map-cons}
 use Rattle.std.proofs.lemmas.Bool.Decides.{nat_tests}
 use mathlib.Core.Logic.{dite}
@@ -15,7 +15,7 @@ use Rattle.vs_types.specs.declared.answer.Answer as given
 use Rattle.vs_types.specs.declared.request.Query.{Query}
 use Rattle.nr_trace.specs.Calls.{Response, reply_in}
 use Rattle.nr_trace.specs.declared.event.Event.{Event}
-use Rattle.nr_trace.specs.declared.event.Event.TheVariants.{Call, Reply, Touch}
+use Rattle.nr_trace.specs.declared.event.Event.TheVariants.{Reply}
 use Rattle.nr_record.specs.Events.{caller, events_of, is_of}
 use Rattle.nr_record.specs.Pen.{call_by, stamped}
 use Rattle.nr_record.specs.Stamps.{Rise}
@@ -23,6 +23,7 @@ use Rattle.nr_record.specs.declared.stamped.Stamped.{Stamped}
 use Rattle.nr_serve.specs.inside.Calls.{MadeCall, notes_of, reply_notes}
 use Rattle.nr_serve.specs.declared.said.Said.{Said}
 use Rattle.nr_serve.specs.declared.said.Said.TheVariants.{Answer, Stopped}
+use Rattle.nr_trace.proofs.LawsOfLists.{All-unmap}
 
 abbrev pub stamps : List Stamped → List ℕ
 stamps made = map (λ item. item.stamp) made
@@ -38,32 +39,9 @@ notes_cons : (layout : Layout) (thread : ℕ) (c : MadeCall) (cs : List MadeCall
     ≡ stamped c.number (call_by layout thread c.request) ∷ (reply_notes c.number c.replied c.said ++ notes layout thread cs)
 notes_cons layout thread c cs = flat_map-cons (notes_of layout thread) c cs
 
-rest_all : (P : ℕ → Type 0) (number replied : ℕ) (said : Said) (xs : List Stamped) → All P (stamps (reply_notes number replied said ++ xs))
-    → All P (stamps xs)
-rest_all P number replied (Answer at answer) xs all = All-tail P replied (stamps xs) all
-rest_all P number replied Stopped xs all = all
-
 rest_rises : (number replied : ℕ) (said : Said) (xs : List Stamped) → Rise (stamps (reply_notes number replied said ++ xs)) → Rise (stamps xs)
 rest_rises number replied (Answer at answer) xs rise = rise.1
 rest_rises number replied Stopped xs rise = rise
-
-all_numbers : (P : ℕ → Type 0) (layout : Layout) (thread : ℕ) (calls : List MadeCall) → All P (stamps (notes layout thread calls)) → All P (numbers calls)
-all_numbers P layout thread [] all = λ k d lt. absurd (omega arith)
-all_numbers P layout thread (c ∷ cs) all =
-    let all' = subst (λ (xs : List Stamped). All P (stamps xs)) (notes_cons layout thread c cs) all in
-    let others = reply_notes c.number c.replied c.said ++ notes layout thread cs in
-    All-cons P c.number (numbers cs) (All-head P c.number (stamps others) all')
-    (all_numbers P layout thread cs (rest_all P c.number c.replied c.said (notes layout thread cs) (All-tail P c.number (stamps others) all')))
-
--- the numbers of the calls rise as the stamps do
-pub rise_numbers : (layout : Layout) (thread : ℕ) (calls : List MadeCall) → Rise (stamps (notes layout thread calls)) → Rise (numbers calls)
-rise_numbers layout thread [] rise = tt
-rise_numbers layout thread (c ∷ cs) rise =
-    let rise' = subst (λ (xs : List Stamped). Rise (stamps xs)) (notes_cons layout thread c cs) rise in
-    let later = λ (s : ℕ). c.number < s in (
-      all_numbers later layout thread cs (rest_all later c.number c.replied c.said (notes layout thread cs) rise'.0),
-      rise_numbers layout thread cs (rest_rises c.number c.replied c.said (notes layout thread cs) rise'.1),
-    )
 
 rest_notes : (P : Stamped → Type 0) (number replied : ℕ) (said : Said) (xs : List Stamped) → All P (reply_notes number replied said ++ xs) → All P xs
 rest_notes P number replied (Answer at answer) xs all = All-tail P (stamped replied (Reply number at answer)) xs all
@@ -79,6 +57,19 @@ firsts P layout thread (c ∷ cs) all =
     let all' = subst (λ (xs : List Stamped). All P xs) (notes_cons layout thread c cs) all in
     All-cons (λ (call : MadeCall). P (stamped call.number (call_by layout thread call.request))) c cs (All-head P first others all')
     (firsts P layout thread cs (rest_notes P c.number c.replied c.said (notes layout thread cs) (All-tail P first others all')))
+
+-- the numbers of the calls rise as the stamps do
+pub rise_numbers : (layout : Layout) (thread : ℕ) (calls : List MadeCall) → Rise (stamps (notes layout thread calls)) → Rise (numbers calls)
+rise_numbers layout thread [] rise = tt
+rise_numbers layout thread (c ∷ cs) rise =
+    let rise' = subst (λ (xs : List Stamped). Rise (stamps xs)) (notes_cons layout thread c cs) rise in
+    let later = λ (s : ℕ). c.number < s in
+    let others = reply_notes c.number c.replied c.said ++ notes layout thread cs in (
+      All-map later (λ (call : MadeCall). call.number) cs (firsts (λ (item : Stamped). later item.stamp) layout thread cs
+          (rest_notes (λ (item : Stamped). later item.stamp) c.number c.replied c.said (notes layout thread cs)
+          (All-unmap later (λ (item : Stamped). item.stamp) others rise'.0))),
+      rise_numbers layout thread cs (rest_rises c.number c.replied c.said (notes layout thread cs) rise'.1),
+    )
 
 -- a note that a call is made is one of these calls, by the thread
 pub record IsOneOf (thread who : ℕ) (calls : List MadeCall) (number : ℕ) : Type 0 where

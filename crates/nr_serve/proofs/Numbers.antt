@@ -1,8 +1,8 @@
 -- Numbers in a rising list are those below a bound that pass its test.
-use Rattle.std.proofs.Common.{◌≡◌, ℕ, zero, suc, ◌<◌, ◌≤◌, Bool, true, false, List, [], ◌∷◌, ◌++◌, All, Contains, length, get_or, cond, ltb, refl, ap, sym, ◌∙◌, arith}
+use Rattle.std.proofs.Common.{◌≡◌, ℕ, zero, suc, ◌<◌, ◌≤◌, Bool, true, false, List, [], ◌∷◌, ◌++◌, All, Contains, cond, ltb, refl, ap, sym, ◌∙◌, arith}
 use Rattle.std.proofs.lemmas.Bool.{false≢true}
 use Rattle.std.specs.Prelude.{filter}
-use Rattle.std.proofs.lemmas.List.{append-nil}
+use Rattle.std.proofs.lemmas.List.{append-nil, get_or_default}
 use Rattle.std.proofs.lemmas.List.Elements.{filter-append, All-head, All-tail, All-contains}
 use Rattle.std.proofs.lemmas.Bool.Decides.{nat_tests}
 use mathlib.Core.Logic.{dite}
@@ -10,6 +10,7 @@ use native.Mathlib.Decide.{ℕ_discrete}
 use Rattle.std.proofs.Math.Decide.{dec_lt}
 use Rattle.nr_trace.specs.Orders.{below}
 use Rattle.nr_record.specs.Stamps.{Rise}
+use Rattle.std.proofs.lemmas.Map.Made.{Contains-tail}
 
 -- the numbers of a list that are below a bound
 abbrev pub cut : ℕ → List ℕ → List ℕ
@@ -31,18 +32,12 @@ all_below n [] all = refl
 all_below n (x ∷ xs) all =
     kept n x xs (All-head (λ (y : ℕ). y < n) x xs all) ∙ ap (λ (ys : List ℕ). x ∷ ys) (all_below n xs (All-tail (λ (y : ℕ). y < n) x xs all))
 
-contains_tail : (x y : ℕ) (xs : List ℕ) → (x ≡ y → ⊥) → Contains (x ∷ xs) y → Contains xs y
-contains_tail x y xs differ has = at has.0 has.1 has.2 where
-  at : (k : ℕ) → k < length (x ∷ xs) → get_or (x ∷ xs) k y ≡ y → Contains xs y
-  at zero lt is = absurd (differ is)
-  at (suc k) lt is = (k, omega arith, is)
-
 cut_more : (n : ℕ) (xs : List ℕ) → Rise xs → Contains xs n → cut (suc n) xs ≡ cut n xs ++ n ∷ []
 cut_more n [] rise has = absurd (omega (arith, has.1))
 cut_more n (x ∷ xs) rise has =
     dite (dec_lt x n)
     (λ lt.
-    let rest = cut_more n xs rise.1 (contains_tail x n xs (λ e. omega arith) has) in
+    let rest = cut_more n xs rise.1 (Contains-tail x xs n (λ e. omega arith) has) in
     kept (suc n) x xs (omega arith) ∙ ap (λ (ys : List ℕ). x ∷ ys) rest ∙ ap (λ (ys : List ℕ). ys ++ n ∷ []) (sym (kept n x xs lt)))
     (λ ge.
     let above : All (λ y. suc n ≤ y) xs = λ k d l. omega (arith, rise.0 k d l, ge) in
@@ -52,7 +47,7 @@ cut_more n (x ∷ xs) rise has =
     kept (suc n) x xs (omega arith) ∙ ap (λ (ys : List ℕ). x ∷ ys) (none_below (suc n) xs above) ∙ ap (λ (y : ℕ). y ∷ []) same
     ∙ ap (λ (ys : List ℕ). ys ++ n ∷ []) (sym (left n x xs (omega arith) ∙ none_below n xs above')))
     (λ differ.
-    let there = contains_tail x n xs differ has in
+    let there = Contains-tail x xs n differ has in
     let later = All-contains (λ (y : ℕ). x < y) xs n rise.0 there in absurd (omega (arith, later, ge))))
 
 cut_same : (n : ℕ) (xs : List ℕ) → All (λ x. x ≡ n → ⊥) xs → cut (suc n) xs ≡ cut n xs
@@ -66,11 +61,6 @@ cut_same n (x ∷ xs) none =
     let more : suc n ≤ x = dite (ℕ_discrete x n) (λ same. absurd (differ same)) (λ other. omega arith) in
     left (suc n) x xs more ∙ rest ∙ sym (left n x xs (omega arith)))
 
-item_of : (xs : List ℕ) (k d n : ℕ) → k < length xs → get_or xs k d ≡ n → Contains xs n
-item_of [] k d n lt is = absurd (omega arith)
-item_of (x ∷ xs) zero d n lt is = (zero, omega arith, is)
-item_of (x ∷ xs) (suc k) d n lt is = let r = item_of xs k d n (omega arith) is in (suc r.0, omega (arith, r.1), r.2)
-
 -- what passes a test below n is a rising list cut at n, where just its numbers pass
 filter_cut : (p : ℕ → Bool) (xs : List ℕ) → Rise xs → ((i : ℕ) → p i ≡ true → Contains xs i) → ((i : ℕ) → Contains xs i → p i ≡ true) → (n : ℕ)
     → filter p (below n) ≡ cut n xs
@@ -82,7 +72,7 @@ filter_cut p xs rise only all (suc n) =
       cases before true holds =
           before ∙ ap (λ b. cut n xs ++ cond b (n ∷ []) []) holds ∙ sym (cut_more n xs rise (only n holds))
       cases before false fails =
-          let none : All (λ x. x ≡ n → ⊥) xs = λ k d lt same. absurd (false≢true (sym fails ∙ all n (item_of xs k d n lt same))) in
+          let none : All (λ x. x ≡ n → ⊥) xs = λ k d lt same. absurd (false≢true (sym fails ∙ all n (k, lt, get_or_default xs k n d lt ∙ same))) in
           before ∙ ap (λ b. cut n xs ++ cond b (n ∷ []) []) fails ∙ append-nil (cut n xs) ∙ sym (cut_same n xs none)
 
 -- where just the numbers of a rising list pass a test, and all are below n, these are what passes below n

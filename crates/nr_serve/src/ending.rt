@@ -1,5 +1,5 @@
 //! The end of a run: its threads have ended, and what they hand back is settled, written down and audited.
-ghost use Rattle.std.specs.Prelude.{◌≡◌, ℕ, List, All, IfOk, length, map};
+ghost use Rattle.std.specs.Prelude.{◌≡◌, List, All, IfOk, length, map};
 ghost use Rattle.vs_types.specs.declared.request.Query.{Query};
 ghost use Rattle.nr_audit.specs.Headline.{AreRightWith};
 ghost use Rattle.nr_audit.specs.Verdict.{IsVerdictOf};
@@ -19,7 +19,6 @@ use nr_replicas::{Replicas, ReplicasName};
 use nr_ring::{LogName, LogPass};
 use nr_trace::write;
 use std::alloc::Global;
-use std::sync::Wait;
 use vs_types::{Config, Memory};
 
 /// What the threads have handed back, by kind.
@@ -53,8 +52,7 @@ fn parts_of<J: LogName>(alloc: Global, workers: Vec<Worker<J>>) -> Result<Parts<
 }
 
 /// The bytes of the run's trace: what the pens were given, the log, and a dump of each replica.
-fn written<J: LogName, K: ReplicasName, R: Wait>(
-    rt: &R,
+fn written<J: LogName, K: ReplicasName>(
     alloc: Global,
     clock: Clock,
     replicas: Replicas<J, K>,
@@ -69,7 +67,7 @@ fn written<J: LogName, K: ReplicasName, R: Wait>(
     ensures passes { passes.new ≡ passes.old }
     ensures written { IfOk result (λ bytes. IsWrittenOf config pens.items passes.old bytes.items) }
 {
-    let (log, dumps) = replicas.settle(rt, passes)?;
+    let (log, dumps) = replicas.settle(passes)?;
     let trace = finish(alloc, clock, pens, config, log, dumps)?;
     write(alloc, &trace)
 }
@@ -107,13 +105,12 @@ fn judged<J: LogName>(
 /// What came of a run whose threads have ended: their passes, pens and answers are settled with the replicas and the clock, the
 /// trace is written, and its bytes are audited.
 ///
-/// Waits for the log's cell. It allocates memory.
+/// It allocates memory.
 ///
 /// # Errors
 ///
 /// Out of memory.
-pub(crate) fn ending<J: LogName, K: ReplicasName, R: Wait>(
-    rt: &R,
+pub(crate) fn ending<J: LogName, K: ReplicasName>(
     alloc: Global,
     clock: Clock,
     replicas: Replicas<J, K>,
@@ -136,6 +133,6 @@ pub(crate) fn ending<J: LogName, K: ReplicasName, R: Wait>(
         mut passes,
         answers,
     } = parts_of(alloc, workers)?;
-    let bytes = written(rt, alloc, clock, replicas, config, pens, &mut passes)?;
+    let bytes = written(alloc, clock, replicas, config, pens, &mut passes)?;
     judged(alloc, answers, bytes, passes)
 }

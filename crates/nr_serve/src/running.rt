@@ -118,7 +118,7 @@ fn go_on<
         turns,
     };
     let workers = serve_all(rt, alloc, &team, scripts, pens, passes)?;
-    let outcome = ending(rt, alloc, clock, replicas, config, workers)?;
+    let outcome = ending(alloc, clock, replicas, config, workers)?;
     Ok(outcome)
 }
 
@@ -131,7 +131,7 @@ fn go_on<
 /// There is a script for each thread of the configuration, with at most 65,536 requests in all; the log's name has the depth, the
 /// replicas, and as many passes as there are replicas and threads.
 ///
-/// Waits for the threads, for locks and for the log's cell. It allocates the memory of the replicas and of the record, and at the end
+/// Waits for the threads and for locks. It allocates the memory of the replicas and of the record, and at the end
 /// that of the trace and of its audit; the threads take none.
 ///
 /// # Errors

@@ -1,5 +1,5 @@
 -- Call.
-use Rattle.std.proofs.Common.{◌≡◌, ℕ, ◌<◌, ◌⊎◌, inl, inr, List, [], ◌∷◌, ◌++◌, length, slice_get, Some, refl, ap, sym, ◌∙◌, subst, arith}
+use Rattle.std.proofs.Common.{◌≡◌, ℕ, ◌⊎◌, inl, inr, List, [], ◌∷◌, ◌++◌, length, Some, refl, ap, sym, ◌∙◌, subst, arith}
 use Rattle.std.specs.Prelude.{slice_set}
 use Rattle.std.proofs.lemmas.Option.{same_Some, none-some}
 use Rattle.vs_types.specs.declared.log_entry.LogEntry.{LogEntry}
@@ -10,7 +10,7 @@ use Rattle.nr_trace.specs.declared.event.Event.TheVariants as events
 use Rattle.nr_trace.proofs.LawsOfLists.{In}
 use Rattle.nr_core.specs.State.{State, Thread, home, with_thread}
 use Rattle.nr_core.specs.declared.stage.Stage.TheVariants.{Idle, Called}
-use Rattle.nr_core.specs.inside.Reached.{At, call_at, RepliesTo, made_of, open_in, IsUnanswered, HasOpen, IsFresh, AreCalls, IsReached}
+use Rattle.nr_core.specs.inside.Reached.{At, RepliesTo, made_of, open_in, IsUnanswered, HasOpen, IsFresh, AreCalls, IsReached}
 use Rattle.nr_core.proofs.reached.Places.{at_set, at_in, in_map}
 use Rattle.nr_core.proofs.reached.Growth.{Longer, read_within, read_stays}
 use Rattle.nr_core.proofs.reached.Events.{one_longer, answer_last, last_read, calls_go_on, event_recorded}

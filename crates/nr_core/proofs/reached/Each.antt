@@ -14,7 +14,7 @@ use Rattle.nr_core.specs.Run.{after_steps}
 use Rattle.nr_core.specs.State.{State, Thread, Replica, home, tail, has_applied_all, with_thread, with_replica}
 use Rattle.nr_core.specs.Steps.{act, after_step, when, by_thread, by_holder, call, with_call, post, with_post, take_lock, collect, has_place, with_collected, with_update}
 use Rattle.nr_core.specs.Steps.{append, may_append, has_room, advance, apply, with_entry, answer, noted_for, with_answer, without, release, look, with_look}
-use Rattle.nr_core.specs.Steps.{read, with_read, reply, reply_at, with_reply}
+use Rattle.nr_core.specs.Steps.{read, with_read, reply, reply_at}
 use Rattle.nr_core.specs.declared.stage.Answered.{Answered}
 use Rattle.nr_core.specs.declared.stage.Collected.{Collected}
 use Rattle.nr_core.specs.declared.stage.Stage.{Stage}

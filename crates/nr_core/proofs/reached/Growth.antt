@@ -14,7 +14,7 @@ use Rattle.nr_trace.specs.Orders.{answer_in}
 use Rattle.nr_trace.specs.declared.event.Event.{Event}
 use Rattle.nr_core.specs.State.{Replica}
 use Rattle.nr_core.specs.declared.stage.Stage.{Stage}
-use Rattle.nr_core.specs.declared.stage.Stage.TheVariants.{Idle, Called, Posted, Taken, Ready, Looked, HasRead}
+use Rattle.nr_core.specs.declared.stage.Stage.TheVariants.{Called, Posted, Ready, Looked, HasRead}
 use Rattle.nr_core.specs.inside.Reached.{At, call_at, reply_at, RepliesTo, made_of, reach, Behind, space_at, Shared, IsRight, FitsStage, AreReplies}
 use Rattle.nr_core.proofs.reached.Places.{same_front}
 

@@ -7,7 +7,7 @@ use Rattle.nr_trace.proofs.LawsOfLists.{In}
 use Rattle.nr_core.specs.State.{State, Thread, Replica}
 use Rattle.nr_core.specs.declared.stage.Collected.{Collected}
 use Rattle.nr_core.specs.declared.stage.Stage.{Stage}
-use Rattle.nr_core.specs.declared.stage.Stage.TheVariants.{Idle, Called, Posted, Taken, Ready, Looked, HasRead}
+use Rattle.nr_core.specs.declared.stage.Stage.TheVariants.{Called, Posted, Taken}
 use Rattle.nr_core.specs.inside.Reached.{At, call_at, made_of, open_in, waiting_in, IsReached}
 
 -- a waiting call is open

@@ -1,4 +1,4 @@
-use Rattle.std.proofs.Common.{◌≡◌, ℕ, [], ◌∷◌, ◌++◌, ap, arith, cond, ◌∙◌}
+use Rattle.std.proofs.Common.{ℕ, [], ◌∷◌, ◌++◌, ap, arith, cond, ◌∙◌}
 use Rattle.std.proofs.lemmas.List.Sums.{sum_by-append}
 use Rattle.vs_types.specs.declared.answer.Answer.TheVariants.{NotMapped}
 use Rattle.nr_trace.specs.declared.event.Event.TheVariants.{Reply}

@@ -1,5 +1,5 @@
-use Rattle.std.proofs.Common.{◌≡◌, ℕ, ◌+◌, List, [], ◌∷◌, ◌++◌, ap, sym, subst, ◌∙◌, take, arith}
-use Rattle.nr_record.specs.Pen.{PenState, clock_of, new_pen, new_pens}
+use Rattle.std.proofs.Common.{◌+◌, List, [], ◌∷◌, ◌++◌, ap, sym, ◌∙◌, take, arith}
+use Rattle.nr_record.specs.Pen.{PenState, clock_of, new_pens}
 use Rattle.nr_record.specs.declared.view.Plan.{Plan}
 use Rattle.nr_record.specs.declared.view.View.{View}
 use Rattle.nr_record.proofs.Notes.{new_pens_more, sum_drop}

@@ -1,4 +1,4 @@
-use Rattle.std.proofs.Common.{All, length, take, subst, rules}
+use Rattle.std.proofs.Common.{All, subst, rules}
 use Rattle.std.proofs.lemmas.List.{take_all}
 use Rattle.std.proofs.lemmas.List.Elements.{All-more}
 use Rattle.vs_types.specs.Query.{IsQuery}

@@ -1,4 +1,4 @@
-use Rattle.std.proofs.Common.{◌≡◌, ℕ, ◌≤◌, ap, sym, subst, ◌∙◌, arith, get_or, List}
+use Rattle.std.proofs.Common.{◌≡◌, ℕ, ap, sym, subst, ◌∙◌, arith, get_or, List}
 use Rattle.nr_record.specs.Pen.{ClockId}
 use Rattle.nr_record.specs.Stamps.{AreBelow}
 use Rattle.nr_record.proofs.Draws.{close_tells, few_stamps}

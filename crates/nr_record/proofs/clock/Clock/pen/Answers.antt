@@ -1,4 +1,4 @@
-use Rattle.std.proofs.Common.{rules, arith, sym, ◌∙◌}
+use Rattle.std.proofs.Common.{rules, arith}
 use Rattle.nr_record.proofs.Draws.{split_keeps}
 use Rattle.nr_record.proofs.clock.Clock.pen.Goals as goal
 

@@ -1,5 +1,5 @@
 use Rattle.std.proofs.Common.{◌≡◌, ℕ, List, [], ◌∷◌, ◌++◌, ◌<◌, All, ap, sym, subst, ◌∙◌}
-use Rattle.std.specs.Prelude.{None, Some, Option, vec_capacity}
+use Rattle.std.specs.Prelude.{None, Option, vec_capacity}
 use Rattle.nr_trace.specs.declared.event.Event.{Event}
 use Rattle.nr_trace.specs.declared.event.Event.TheVariants.{Reply}
 use Rattle.nr_record.specs.Pen.{PenState, stamped}
