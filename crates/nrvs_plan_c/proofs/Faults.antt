@@ -7,7 +7,7 @@ use Rattle.vs_types.specs.Page.{bytes_of}
 use Rattle.vs_types.specs.declared.page.Page.{Page}
 use Rattle.vs_plan.specs.declared.request.BadRequest.{BadRequest}
 use Rattle.vs_plan.specs.declared.request.Request.{Request}
-use Rattle.vs_plan.specs.declared.request.Request.TheVariants.{Map, Unmap, Protect, Ask, Remap, Split, Join}
+use Rattle.vs_plan.specs.declared.request.Request.TheVariants.{Map, Ask}
 use Rattle.vs_plan.specs.declared.target.Target.{Target}
 use Rattle.vs_plan.specs.Bits.{AreBits}
 use Rattle.vs_plan.specs.Request.{IsRequest, IsMapped, IsWhole, address_of, are_bits, request_fault, page_fault, base_fault, whole_fault}
@@ -51,12 +51,8 @@ no_base_fault base is = ends (base % 4096 == 0) _ (ap (λ (n : ℕ). n == 0) is)
 
 no_whole_fault : (target : Target) (request : Request) → IsWhole target request → whole_fault target request ≡ None
 no_whole_fault target (Map page bits) is = no_page_fault target page bits is
-no_whole_fault target (Unmap base) is = no_base_fault base is
-no_whole_fault target (Protect base rights) is = no_base_fault base is
 no_whole_fault target (Ask address) is = refl
-no_whole_fault target (Remap base phys rights) is = no_base_fault base is
-no_whole_fault target (Split base) is = no_base_fault base is
-no_whole_fault target (Join base) is = no_base_fault base is
+no_whole_fault target request is = no_base_fault (address_of request) is
 
 pub no_fault : (target : Target) (request : Request) → IsRequest target request → request_fault target request ≡ None
 no_fault target request is =

@@ -20,13 +20,10 @@ use Rattle.nrvs_plan_c.specs.Kept.{request_in, rights_in}
 
 bits_back : (w u x : Bool) → rights_in (rights_code (record { write = w; user = u; exec = x })) ≡ record { write = w; user = u; exec = x }
 bits_back true true true = refl
-bits_back true true false = refl
 bits_back true false true = refl
-bits_back true false false = refl
 bits_back false true true = refl
-bits_back false true false = refl
 bits_back false false true = refl
-bits_back false false false = refl
+bits_back _ _ _ = refl
 
 pub rights_back : (rights : Rights) → rights_in (rights_code rights) ≡ rights
 rights_back rights = bits_back rights.write rights.user rights.exec
@@ -38,11 +35,8 @@ with_parts p target request phase rights stores =
 
 pub parts_back : (p : Planner) (target : Target) (request : Request) (phase : Phase) (rights : Rights) (stores : List Store) → target ≡ p.target
     → request ≡ p.request → phase ≡ p.phase → rights ≡ p.rights → stores ≡ p.stores.items → with_parts p target request phase rights stores ≡ p
-parts_back p target request phase rights stores a b c d e =
-    ap (λ (t : Target). with_parts p t request phase rights stores) a ∙ ap (λ (r : Request). with_parts p p.target r phase rights stores) b
-    ∙ ap (λ (h : Phase). with_parts p p.target p.request h rights stores) c
-    ∙ ap (λ (r : Rights). with_parts p p.target p.request p.phase r stores) d
-    ∙ ap (λ (s : List Store). with_parts p p.target p.request p.phase p.rights s) e
+parts_back p target request phase rights stores a b c d e = λ i.
+    record p { target = a i; request = b i; phase = c i; rights = d i; stores = record { items = e i } }
 
 -- what was copied to the front of an array
 pub front_back : (items copied rest : List Store) (n : ℕ) → copied ≡ items → n ≡ length items → take n (copied ++ rest) ≡ items

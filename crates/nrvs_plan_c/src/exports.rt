@@ -1,5 +1,5 @@
 //! The calls for C.
-ghost use Rattle.std.specs.Prelude.{◌≡◌, ◌≢◌, ◌↔◌, ◌<◌, ◌-◌, ◌⊎◌, ◌≤◌, ℕ, [], ◌∷◌, ◌++◌, Some, None, IfSome, IsFalse, nat_lt, if◌then◌else◌};
+ghost use Rattle.std.specs.Prelude.{◌≡◌, ◌≢◌, ◌↔◌, ◌<◌, ◌-◌, ◌⊎◌, ◌≤◌, [], ◌∷◌, ◌++◌, Some, None, IfSome, IsFalse, nat_lt, if◌then◌else◌};
 ghost use Rattle.std.specs.FinMap as finite;
 ghost use Rattle.vs_walk.specs.Memory.{Memory};
 ghost use Rattle.vs_plan.specs.declared.request.Request.{Request};

@@ -1,5 +1,5 @@
 -- A plan one of whose stores found other flags is right for the memory with them.
-use Rattle.std.proofs.Common.{◌≡◌, ◌≢◌, ℕ, zero, suc, ◌+◌, ◌%◌, ◌^◌, ◌<◌, ◌≤◌, Bool, true, false, cond, List, [], ◌∷◌, All, length, Option, Some, None, inl, inr, refl, sym, ap, subst, ◌∙◌, arith}
+use Rattle.std.proofs.Common.{◌≡◌, ◌≢◌, ℕ, zero, suc, ◌+◌, ◌%◌, ◌^◌, ◌<◌, ◌≤◌, List, [], ◌∷◌, All, length, Option, Some, None, inl, inr, refl, sym, ap, subst, ◌∙◌, arith}
 use Rattle.std.specs.Prelude.{slice_index_or, slice_set}
 use Rattle.std.specs.Int.{bit_at}
 use Rattle.std.specs.List.{AllZip}
@@ -32,7 +32,7 @@ use Rattle.vs_plan.specs.Premise.{IsPremise}
 use Rattle.vs_plan.specs.Request.{address_of, refusal, stepped}
 use Rattle.vs_plan.specs.Right.{IsEntryOf, IsPut, IsReply, IsRight, IsTold, IsWritten, begun, refusal_in}
 use Rattle.vs_plan.specs.Stores.{filled, FindTheirWords}
-use Rattle.vs_plan.proofs.FillsAgain.{same_fills, second_low, split_again, third_low}
+use Rattle.vs_plan.proofs.FillsAgain.{same_fills, split_again}
 use Rattle.vs_plan.proofs.FlaggedEntries.{ArePaired, alike_zero, place_stays, rights_stay, same_store, same_stores, same_word, alike_back, zip_both}
 use Rattle.vs_plan.proofs.Given.{changed_answer}
 use Rattle.vs_plan.proofs.OtherFlags.{flags_kept, flags_set, protect_again, remap_again}
@@ -43,6 +43,8 @@ use Rattle.vs_plan.proofs.PutAgain.{IsRewritten, filled_alike, put_moved, rewrit
 use Rattle.vs_plan.proofs.RightAgain.{parts_moved, remap_low}
 use Rattle.vs_plan.proofs.Splitting.{are_bits_in}
 use Rattle.vs_plan.proofs.ToldAgain.{bits_moved, never_done, told_moved}
+use Rattle.vs_plan.proofs.Addresses.{cond_most}
+use Rattle.vs_plan.proofs.Words.{times, times_not}
 
 -- ---- words
 
@@ -55,27 +57,16 @@ table_small level word number own low says bit = grind arith
 link_small : (number : ℕ) → bit_at (table_word number) 7 ≡ 0
 link_small number = omega arith
 
-first_even : (b : Bool) → cond b (2 ^ 1) 0 % 2 ≡ 0
-first_even true = refl
-first_even false = refl
-
-second_even : (b : Bool) → cond b (2 ^ 2) 0 % 2 ≡ 0
-second_even true = refl
-second_even false = refl
-
-last_even : (b : Bool) → cond b 0 (2 ^ 63) % 2 ^ 8 ≡ 0
-last_even true = refl
-last_even false = refl
-
 whole_large : (size : Size) (phys : ℕ) (rights : Rights) (bits : ℕ) → size ≢ K4 → phys % 2 ^ 12 ≡ 0 → bits % 2 ^ 3 ≡ 0
     → bit_at (leaf_word size phys rights + placed size bits) 7 ≡ 1
 whole_large K4 phys rights bits large at low = absurd (large refl)
-whole_large _ phys rights bits large at low = omega (arith, at, low, second_low rights.write, third_low rights.user, last_even rights.exec)
+whole_large _ phys rights bits large at low =
+    omega (arith, at, low, cond_most rights.write (2 ^ 1), cond_most rights.user (2 ^ 2), times_not rights.exec (2 ^ 63))
 
 part_odd : (size : Size) (phys : ℕ) (rights : Rights) (bits : ℕ) → phys % 2 ^ 12 ≡ 0 → bits % 2 ^ 3 ≡ 0
     → (leaf_word size phys rights + placed size bits) % 2 ≡ 1
-part_odd K4 phys rights bits at low = omega (arith, at, low, first_even rights.write, second_even rights.user, last_even rights.exec)
-part_odd _ phys rights bits at low = omega (arith, at, low, first_even rights.write, second_even rights.user, last_even rights.exec)
+part_odd K4 phys rights bits at low = omega (arith, at, low, times rights.write (2 ^ 1), times rights.user (2 ^ 2), times_not rights.exec (2 ^ 63))
+part_odd _ phys rights bits at low = omega (arith, at, low, times rights.write (2 ^ 1), times rights.user (2 ^ 2), times_not rights.exec (2 ^ 63))
 
 part_step : (size : Size) → bytes_of (smaller size) % 2 ^ 7 ≡ 0
 part_step K4 = refl
@@ -284,7 +275,7 @@ module _ (target : Target) {old new : Memory} (same : AreSameButFlags old new) (
       let said : answer.0 ≡ (stepped target.depth space request).answer = subst (IsReply target request old space offered) answer.1 was.reply in
       subst (IsTold target new base next) (sym answer.1)
       (told_moved target same base answer.0 answer.2
-      (λ done. never_done target space request no_map (ap changes (sym said) ∙ answer.2) (sym said ∙ done)) before now moves
+      (λ done. never_done target space request no_map (sym said ∙ done)) before now moves
       (subst (IsTold target old base bits) answer.1 told))
 
   abbrev next_bits : ℕ → Store → ℕ

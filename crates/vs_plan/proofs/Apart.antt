@@ -8,7 +8,6 @@ use Rattle.vs_types.specs.declared.depth.Depth.{Depth}
 use Rattle.vs_types.specs.declared.op.Action.TheVariants.{Unmap, Protect}
 use Rattle.vs_types.specs.declared.page.Page.{Page}
 use Rattle.vs_types.specs.declared.page.Rights.{Rights}
-use Rattle.vs_types.specs.declared.page.Size.{Size}
 use Rattle.vs_types.proofs.Pages.{covers_means}
 use Rattle.vs_types.proofs.Spaces.{page_at_means, page_at_after_insert, page_at_after_remove, look_same, look_of_none}
 use Rattle.vs_types.proofs.Steps.{unmap_cases, protect_cases, protect_space}
@@ -16,7 +15,7 @@ use Rattle.vs_walk.specs.Memory.{Memory}
 use Rattle.vs_walk.specs.Walk.{walk, as_walk, TranslatesAs}
 use Rattle.vs_walk.specs.declared.walk.Walk.TheVariants.{Mapped}
 use Rattle.vs_space.proofs.Regions.{in_block}
-use Rattle.vs_plan.proofs.Stays.{ChangesPageAlone}
+use Rattle.vs_plan.proofs.Stays.{ChangesPageAlone, mapped_same}
 
 -- an address of a page has the quotient of its base
 pub in_page : {depth : Depth} {space : Space} → IsSpace depth space → (page : Page) (address : ℕ) → Holds space page → covers page address ≡ true
@@ -70,9 +69,6 @@ protect_apart {depth} {space} is limit base rights address =
     one : (q p : Page) → Holds space q → Holds space p → p.base ≡ q.base → p ≡ q
     one q p here h same = let at : finite.get space q.base ≡ Some p = subst (λ z. finite.get space z ≡ Some p) same h in cc
 
-size_of : (a b : ℕ) (s t : Size) (q r : Rights) → Mapped a s q ≡ Mapped b t r → s ≡ t
-size_of a b s t q r e = cc
-
 -- walks, by what the two memories translate as
 pub changes_alone : (depth : Depth) (old new : Memory) (root : ℕ) (before after : Space) (base : ℕ) → TranslatesAs depth old root before
     → TranslatesAs depth new root after → ((address : ℕ) → LooksApart before after base address) → ChangesPageAlone depth root old new base
@@ -89,5 +85,5 @@ changes_alone depth old new root before after base is_before is_after apart addr
           sym (ap (λ (o : Option Page). as_walk (look_in_page address o)) at) ∙ walked in
           ⊎_elim
           (λ same. inl (is_after address canonical ∙ ap as_walk same ∙ sym (is_before address canonical)))
-          (λ there. inr (subst (λ s. address / bytes_of s ≡ base / bytes_of s) (size_of _ _ _ _ _ _ found) there))
+          (λ there. inr (subst (λ s. address / bytes_of s ≡ base / bytes_of s) (mapped_same found).1 there))
           (apart address page at)

@@ -50,9 +50,7 @@ stepped_none target space (Map page bits) no_map none = absurd no_map
 stepped_none target space (Unmap base) no_map none = unmap_none target.depth 0 space base none
 stepped_none target space (Protect base rights) no_map none = protect_none target.depth 0 space base rights none
 stepped_none target space (Ask address) no_map none = ap (λ a. let s : Stepped = record { space = space; answer = a } in s) (look_of_none space address none)
-stepped_none target space (Remap base phys rights) no_map none = change_none space base _ none
-stepped_none target space (Split base) no_map none = change_none space base _ none
-stepped_none target space (Join base) no_map none = change_none space base _ none
+stepped_none target space request no_map none = change_none space (address_of request) _ none
 
 -- no refusal is due where no page begins at the address
 pub no_refusal : (target : Target) (space : Space) (request : Request)
@@ -62,6 +60,21 @@ no_refusal target space (Split base) begins = why_none base _ (page_at space bas
 no_refusal target space (Join base) begins = why_none base _ (page_at space base) begins
 no_refusal target space _ begins = refl
 
+-- a request that changes a page that is there
+abbrev pub IsOfPage : Request → Type 0
+IsOfPage (Map page bits) = ⊥
+IsOfPage (Ask address) = ⊥
+IsOfPage _ = Unit {0}
+
+-- which begins elsewhere
+stepped_inside : (target : Target) (space : Space) (request : Request) → IsOfPage request → (q : Page) → page_at space (address_of request) ≡ Some q
+    → q.base ≢ address_of request → stepped target.depth space request ≡ record { space = space; answer = answers.Inside q.base }
+stepped_inside target space (Map page bits) of_page q here apart = absurd of_page
+stepped_inside target space (Unmap base) of_page q here apart = unmap_inside target.depth 0 space base q here apart
+stepped_inside target space (Protect base rights) of_page q here apart = protect_inside target.depth 0 space base rights q here apart
+stepped_inside target space (Ask address) of_page q here apart = absurd of_page
+stepped_inside target space request of_page q here apart = change_inside space (address_of request) _ q here apart
+
 lowest_no_map : (request : Request) → IsNoMap request → lowest_of request ≡ 1
 lowest_no_map (Map page bits) no_map = absurd no_map
 lowest_no_map _ no_map = refl
@@ -70,7 +83,7 @@ module _ {p : Planner} {word : ℕ} (end : IsAtEnd p) where
   module _ {memory : Memory} {space : Space} (ended : HasEnded memory p word)
       (premise : IsPremise p.target.depth memory p.target.root (address_of p.request) space) where
     pub never_reserved : meaning p.level word ≡ entry.Reserved → ⊥
-    never_reserved says = reserved_never ended.way end.some ended.word_is premise.is_space premise.translates end.request.canonical says
+    never_reserved says = reserved_never ended.way end.some ended.word_is premise end.request.canonical says
 
     -- what is no leaf and not reserved is absent
     absent_end : IsNoMap p.request → (e : Meaning) → meaning p.level word ≡ e → ((phys : ℕ) (own : Rights) → e ≢ entry.Leaf phys own) → e ≡ entry.Absent
@@ -91,7 +104,7 @@ module _ {p : Planner} {word : ℕ} (end : IsAtEnd p) where
       → ChangesNothing (replies.Answer answers.NotMapped) 0 plan → IsRightAt p word plan
   absent_right no_map other plan none memory ended space premise =
       let absent = absent_end ended premise no_map (meaning p.level word) refl other in
-      let nothing = absent_here ended.way end.some ended.word_is premise.is_space premise.translates end.request.canonical absent in
+      let nothing = absent_here ended.way end.some ended.word_is premise end.request.canonical absent in
       let stays = stepped_none p.target space p.request no_map nothing in
       nothing_right premise (no_refusal p.target space p.request (λ q here. let both : Some q ≡ None = sym here ∙ nothing in absurd (cc))) plan none tt
       (sym (ap (λ (s : Stepped). s.answer) stays))
@@ -131,7 +144,7 @@ module _ {p : Planner} {word : ℕ} (end : IsAtEnd p) {phys : ℕ} {own : Rights
       (replies.Answer (answers.Mapped (phys + address % bytes_of (size_at p.level)) (size_at p.level) (intersection p.rights own)))
       (bits_in (size_at p.level) word) plan → IsRightAt p word plan
   ask_right {address} is plan none memory ended space premise =
-      let here = page_here ended.way end.some ended.word_is premise.is_space premise.translates end.request.canonical says in
+      let here = page_here ended.way end.some ended.word_is premise end.request.canonical says in
       let place : address_of p.request ≡ address = ap address_of is in
       nothing_right premise (due_as p.target space is refl) plan none tt
       (subst (λ r. answers.Mapped (phys + address % bytes_of (size_at p.level)) (size_at p.level) (intersection p.rights own)
@@ -145,46 +158,24 @@ module _ {p : Planner} {word : ℕ} (end : IsAtEnd p) {phys : ℕ} {own : Rights
   module _ {memory : Memory} {space : Space} (ended : HasEnded memory p word)
       (premise : IsPremise p.target.depth memory p.target.root (address_of p.request) space) where
     pub page_met : (q : Page) × IsLeafPage p.target.depth space (address_of p.request) p.level phys (intersection p.rights own) q
-    page_met = page_here ended.way end.some ended.word_is premise.is_space premise.translates end.request.canonical says
+    page_met = page_here ended.way end.some ended.word_is premise end.request.canonical says
 
     pub offset_met : address_of p.request % bytes_of page_met.0.size ≡ address_of p.request % bytes_of (size_at p.level)
     offset_met = ap (λ n. address_of p.request % n) (ap bytes_of page_met.1.size)
 
-  pub inside_right : ((base : ℕ) (space : Space) (q : Page) → address_of p.request ≡ base → page_at space base ≡ Some q → (q.base ≡ base → ⊥)
-      → stepped p.target.depth space p.request ≡ record { space = space; answer = answers.Inside q.base })
-      → {base : ℕ} → address_of p.request ≡ base → base % bytes_of (size_at p.level) ≢ 0 → (plan : Plan)
-      → ChangesNothing (replies.Answer (answers.Inside (base - base % bytes_of (size_at p.level)))) 0 plan → IsRightAt p word plan
-  inside_right steps {base} place inside plan none memory ended space premise =
+  pub inside_right : {request : Request} → p.request ≡ request → IsOfPage request → {bytes : ℕ} → bytes ≡ bytes_of (size_at p.level)
+      → address_of request % bytes ≢ 0 → (plan : Plan)
+      → ChangesNothing (replies.Answer (answers.Inside (address_of request - address_of request % bytes))) 0 plan → IsRightAt p word plan
+  inside_right {request} is of_page {bytes} bytes_are inside plan none memory ended space premise =
       let here = page_met ended premise in
       let q = here.0 in
-      let offset = offset_met ended premise in
-      let begins : q.base + base % bytes_of (size_at p.level) ≡ base =
-      subst (λ a. q.base + a % bytes_of (size_at p.level) ≡ a) place (omega (arith, here.1.base, offset)) in
-      let is : stepped p.target.depth space p.request ≡ record { space = space; answer = answers.Inside q.base } =
-      steps base space q place (subst (λ a. page_at space a ≡ Some q) place here.1.here) (λ e. inside (omega (arith, begins, e))) in
-      let base_is : q.base ≡ base - base % bytes_of (size_at p.level) = omega (arith, begins) in
-      let other : (z : Page) → page_at space (address_of p.request) ≡ Some z → z.base ≢ address_of p.request = λ z at same.
-      let one : z ≡ q = cc (at, here.1.here) in inside (omega (arith, begins, place, same, ap (λ (x : Page). x.base) one)) in
-      nothing_right premise (no_refusal p.target space p.request other) plan none tt
-      (sym (ap (λ (s : Stepped). s.answer) is ∙ ap answers.Inside base_is))
-      (subst (λ (s : Space). TranslatesAs p.target.depth memory p.target.root s) (sym (ap (λ (s : Stepped). s.space) is)) premise.translates) refl
-
-  pub unmap_in : {base : ℕ} → p.request ≡ Unmap base → base % bytes_of (size_at p.level) ≢ 0 → (plan : Plan)
-      → ChangesNothing (replies.Answer (answers.Inside (base - base % bytes_of (size_at p.level)))) 0 plan → IsRightAt p word plan
-  unmap_in {base} is = inside_right (λ b space q place here apart.
-      ap (stepped p.target.depth space) (is ∙ ap Unmap (sym (ap address_of is) ∙ place)) ∙ unmap_inside p.target.depth 0 space b q here apart)
-      (ap address_of is)
-
-  pub protect_in : {base : ℕ} {rights : Rights} → p.request ≡ Protect base rights → base % bytes_of (size_at p.level) ≢ 0 → (plan : Plan)
-      → ChangesNothing (replies.Answer (answers.Inside (base - base % bytes_of (size_at p.level)))) 0 plan → IsRightAt p word plan
-  protect_in {base} {rights} is = inside_right (λ b space q place here apart.
-      ap (stepped p.target.depth space) (is ∙ ap (λ x. Protect x rights) (sym (ap address_of is) ∙ place))
-      ∙ protect_inside p.target.depth 0 space b rights q here apart)
-      (ap address_of is)
-
-  pub remap_in : {base other : ℕ} {rights : Rights} → p.request ≡ Remap base other rights → base % bytes_of (size_at p.level) ≢ 0 → (plan : Plan)
-      → ChangesNothing (replies.Answer (answers.Inside (base - base % bytes_of (size_at p.level)))) 0 plan → IsRightAt p word plan
-  remap_in {base} {other} {rights} is = inside_right (λ b space q place here apart.
-      ap (stepped p.target.depth space) (is ∙ ap (λ x. Remap x other rights) (sym (ap address_of is) ∙ place))
-      ∙ change_inside space b _ q here apart)
-      (ap address_of is)
+      let base = address_of request in
+      let at : page_at space base ≡ Some q = subst (λ a. page_at space a ≡ Some q) (ap address_of is) here.1.here in
+      let begins : q.base + base % bytes ≡ base = subst (λ n. q.base + base % n ≡ base) (sym bytes_are)
+      (subst (λ a. q.base + a % bytes_of (size_at p.level) ≡ a) (ap address_of is) (omega (arith, here.1.base, offset_met ended premise))) in
+      let apart : q.base ≢ base = λ e. inside (omega (arith, begins, e)) in
+      let stays = ap (stepped p.target.depth space) is ∙ stepped_inside p.target space request of_page q at apart in
+      let due = no_refusal p.target space request (λ z there same. let one : z ≡ q = cc (there, at) in apart (ap (λ (x : Page). x.base) (sym one) ∙ same)) in
+      let base_is : q.base ≡ base - base % bytes = omega (arith, begins) in
+      nothing_right premise (due_as p.target space is due) plan none tt (sym (ap (λ (s : Stepped). s.answer) stays ∙ ap answers.Inside base_is))
+      (subst (λ (s : Space). TranslatesAs p.target.depth memory p.target.root s) (sym (ap (λ (s : Stepped). s.space) stays)) premise.translates) refl

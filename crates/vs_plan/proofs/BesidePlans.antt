@@ -1,7 +1,7 @@
 -- A right plan, for a root beside its own.
 use Rattle.std.proofs.Common.{◌≡◌, ℕ, ◌-◌, ◌≤◌, List, Contains, Option, Some, None, true, ◌⊎◌, inl, inr, ⊎_elim, refl, sym, ap, ◌∙◌, arith}
 use Rattle.std.specs.Prelude.{if◌then◌else◌}
-use Rattle.std.proofs.lemmas.List.Elements.{All-weaker, All-contains}
+use Rattle.std.proofs.lemmas.List.Elements.{All-contains}
 use Rattle.vs_types.specs.Depth.{levels}
 use Rattle.vs_types.specs.Entry.{meaning}
 use Rattle.vs_types.specs.Space.{Space}
@@ -18,17 +18,17 @@ use Rattle.vs_plan.specs.declared.plan.Store.{Store}
 use Rattle.vs_plan.specs.declared.request.Request.{Request}
 use Rattle.vs_plan.specs.declared.request.Request.TheVariants.{Join}
 use Rattle.vs_plan.specs.declared.target.Target.{Target}
-use Rattle.vs_plan.specs.Other.{HasSameTables, IsShared, MeetsNone, LeadsNotTo, IsBeside, IsRightBeside}
+use Rattle.vs_plan.specs.Other.{HasSameTables, IsShared, MeetsNone, IsBeside, IsRightBeside}
 use Rattle.vs_plan.specs.Premise.{IsPremise}
 use Rattle.vs_plan.specs.Request.{address_of}
 use Rattle.vs_plan.specs.Right.{IsRight, IsMeant, OfPage, OfLink, OfSpare, IsMeantBy, IsOnWay, IsUnlinkedBy, begun}
 use Rattle.vs_plan.specs.Stores.{stored_all, filled}
 use Rattle.vs_plan.specs.Target.{highest_link}
 use Rattle.vs_plan.proofs.Forms.{form_suffices}
-use Rattle.vs_plan.proofs.Given.{WasUnlinked, parts_of, begins_own, was_unlinked, insert_same}
+use Rattle.vs_plan.proofs.Given.{WasUnlinked, parts_of, was_unlinked}
 use Rattle.vs_plan.proofs.OtherRoots.{one_less, IsStore, OnWay, OffWays, AreMeant, IsOther, shared_walk, shared_stays, apart_walk, other_switched, other_freed, for_other}
 use Rattle.vs_plan.proofs.PlansSuffice.{form_of, are_for, switched}
-use Rattle.vs_plan.proofs.Unread.{unread_table, unread_walk}
+use Rattle.vs_plan.proofs.Filled.{own_as, insert_same, table_as, walk_as}
 
 -- ---- the stores of a right plan
 
@@ -90,11 +90,11 @@ beside_keeps target memory base plan other beside = ⊎_elim
 module _ (target : Target) (memory start : Memory) (same : HasSameTables target.depth target.root memory start) where
   root_table : (level address : ℕ) → table_at (levels target.depth) start target.root level address
       ≡ table_at (levels target.depth) memory target.root level address
-  root_table = unread_table target.depth target.root memory start same
+  root_table = table_as target.depth target.root memory start same
 
   module _ (other : ℕ) (other_same : HasSameTables target.depth other memory start) where
     pub other_table : (level address : ℕ) → table_at (levels target.depth) start other level address ≡ table_at (levels target.depth) memory other level address
-    other_table = unread_table target.depth other memory start other_same
+    other_table = table_as target.depth other memory start other_same
 
     root_found : (root address : ℕ) → HasSameTables target.depth root memory start
         → found_at (levels target.depth) start root address ≡ found_at (levels target.depth) memory root address
@@ -133,10 +133,8 @@ module _ (target : Target) (memory start : Memory) (same : HasSameTables target.
     begins_beside base plan beside = record {
       root = λ level at. beside.root level (sym (root_table level base) ∙ at);
       ways = λ address. ⊎_elim (λ shared. inl (begins_shared address shared)) (λ none. inr (begins_none base address none)) (beside.ways address);
-      spare = All-weaker (λ (s : Store). LeadsNotTo target.depth memory target.root s.frame → LeadsNotTo target.depth memory other s.frame)
-          (λ (s : Store). LeadsNotTo target.depth start target.root s.frame → LeadsNotTo target.depth start other s.frame)
-          (λ s too off level address at. too (λ l a on. off l a (root_table l a ∙ on)) level address (sym (other_table level address) ∙ at))
-          plan.stores.items beside.spare;
+      spare = λ k d lt off level address at. beside.spare k d lt (λ l a on. off l a (root_table l a ∙ on)) level address
+          (sym (other_table level address) ∙ at);
     }
 
 -- the fill changes no table of the other root
@@ -145,7 +143,7 @@ fill_same : (target : Target) (memory : Memory) (base : ℕ) (plan : Plan) (othe
 fill_same target memory base plan other beside = by plan.fill refl where
   by : (fill : Option Fill) → plan.fill ≡ fill → HasSameTables target.depth other memory (filled memory fill)
   by None is = λ level address number at. refl
-  by (Some fill) is = insert_same target.depth other memory fill (beside.fill fill is)
+  by (Some fill) is = insert_same target.depth other memory fill.frame _ (beside.fill fill is)
 
 -- ---- all of it
 
@@ -172,11 +170,9 @@ module _ (target : Target) (request : Request) (memory : Memory) (space : Space)
 
   pub are : AreMeant target (begun memory plan) (address_of request) other plan.stores.items plan.unlinked.items
   are = record {
-    own = begins_own target.depth target.root memory (begun memory plan) filled_root (address_of request) premise.own;
-    meant = All-weaker (IsMeantBy target memory request plan.unlinked.items) (IsStore target (begun memory plan) (address_of request) other)
-        (λ s meant. begins_store target memory (begun memory plan) filled_root other filled_other (address_of request) s
-        (store_by target memory request plan.unlinked.items other s (beside_keeps target memory (address_of request) plan other beside) meant))
-        plan.stores.items right.meant;
+    own = own_as target.depth target.root memory (begun memory plan) filled_root (address_of request) premise.own;
+    meant = λ k d lt. begins_store target memory (begun memory plan) filled_root other filled_other (address_of request) _
+        (store_by target memory request plan.unlinked.items other _ (beside_keeps target memory (address_of request) plan other beside) (right.meant k d lt));
     found = right.found;
     gone = gone_there;
   }
@@ -194,7 +190,7 @@ module _ (target : Target) (request : Request) (memory : Memory) (space : Space)
         done address (begins_shared target memory (begun memory plan) filled_root other filled_other address shared));
     apart = λ done address low none. apart_walk target (begun memory plan) (address_of request) plan.stores.items plan.unlinked.items other are is_other
         done address (begins_none target memory (begun memory plan) filled_root other filled_other (address_of request) address none)
-        ∙ unread_walk target.depth other memory (begun memory plan) filled_other address;
+        ∙ walk_as target.depth other memory (begun memory plan) filled_other address;
     freed = λ number named level address at. other_freed target (begun memory plan) (address_of request) plan.stores.items plan.unlinked.items other
         are is_other number named level address at;
     suffices = form_suffices target.depth other (begun memory plan) plan.stores.items plan.flush plan.unlinked.items

@@ -24,7 +24,7 @@ use Rattle.vs_plan.specs.Shown.{frames_of}
 use Rattle.vs_plan.proofs.BesidePlans.{meets_unshared, other_table, begins_shared, begins_none, filled_other, filled_root, are, is_other}
 use Rattle.vs_plan.proofs.Growing.{frame_among}
 use Rattle.vs_plan.proofs.OtherRoots.{shared_alike, shared_after, shared_table, shared_walk, table_after, apart_after}
-use Rattle.vs_plan.proofs.Unread.{unread_walk}
+use Rattle.vs_plan.proofs.Filled.{walk_as}
 
 -- no table on the way of an address from the other root is one that the root leads to
 abbrev IsApart : Depth → Memory → ℕ → ℕ → ℕ → Type 0
@@ -152,7 +152,7 @@ module _ (target : Target) (request : Request) (memory : Memory) (space : Space)
   walk_ended address apart = apart_after target (begun memory plan) (address_of request) plan.stores.items plan.unlinked.items other
       (are target request memory space offered plan other premise right beside) (is_other target request memory space offered plan other premise right beside)
       address (none_begun address apart)
-      ∙ unread_walk target.depth other memory (begun memory plan) (filled_other target request memory space offered plan other premise right beside) address
+      ∙ walk_as target.depth other memory (begun memory plan) (filled_other target request memory space offered plan other premise right beside) address
 
   pub beside_again : AreBeside target.depth after target.root other
   beside_again = record {

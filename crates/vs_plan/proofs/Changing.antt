@@ -1,8 +1,8 @@
 -- What a change of a page does to a space, by the page that covers its address.
-use Rattle.std.proofs.Common.{◌≡◌, ◌≢◌, ℕ, Option, Some, None, refl, ap, ◌∙◌}
-use Rattle.std.specs.Prelude.{Bool, if◌then◌else◌}
-use Rattle.std.proofs.lemmas.Bool.{eq-eqb, ne_eqb}
-use Rattle.vs_types.specs.Space.{Space}
+use Rattle.std.proofs.Common.{◌≡◌, ◌≢◌, ℕ, Option, Some, None, refl, ap, ◌∙◌, sym, subst, ⊎_elim}
+use Rattle.std.specs.Prelude.{Bool, if◌then◌else◌, true, false, ◌==◌}
+use Rattle.std.proofs.lemmas.Bool.{eq-eqb, ne_eqb, cases_eq}
+use Rattle.vs_types.specs.Space.{Space, page_at}
 use Rattle.vs_types.specs.Step.{Stepped}
 use Rattle.vs_types.specs.declared.page.Page.{Page}
 use Rattle.vs_types.specs.declared.answer.Answer.TheVariants as answers
@@ -28,6 +28,24 @@ module _ (space : Space) (base : ℕ) (after : Page → Space) where
       → change_page space base after o ≡ record { space = after q; answer = answers.Changed q.rights }
   unfolding by_test
   change_here q e same = ap (change_page space base after) e ∙ ap (λ b. by_test b q) (eq-eqb q.base base same)
+
+  -- it isn't answered that it is done
+  pub change_not_done : (o : Option Page) → (change_page space base after o).answer ≢ answers.Done
+  unfolding by_test
+  change_not_done None e = cc
+  change_not_done (Some q) e = elim (q.base == base) as (λ b. (by_test b q).answer ≡ answers.Done → ⊥) [ true ↦ λ d. cc | false ↦ λ d. cc ] e
+
+  -- the space is as it was, or changed by the page that begins there
+  pub change_cases : (P : Space → Type 0) → P space → ((q : Page) → page_at space base ≡ Some q → q.base ≡ base → P (after q))
+      → P (change_page space base after (page_at space base)).space
+  change_cases P stays changed =
+      elim (page_at space base) as (λ o. page_at space base ≡ o → P (change_page space base after (page_at space base)).space) [
+        | None ↦ λ e. subst (λ (s : Stepped). P s.space) (sym (change_none e)) stays
+        | Some q ↦ λ e. ⊎_elim
+            (λ (same : q.base ≡ base). subst (λ (s : Stepped). P s.space) (sym (change_here q e same)) (changed q e same))
+            (λ (other : q.base ≢ base). subst (λ (s : Stepped). P s.space) (sym (change_inside q e other)) stays)
+            (cases_eq q.base base)
+      ] refl
 
 module _ (base : ℕ) (reason : Page → Option Reply) where
   by_reason : (b : Bool) (q : Page) → Option Reply

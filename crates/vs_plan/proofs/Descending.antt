@@ -1,5 +1,5 @@
 -- What is met on the way down.
-use Rattle.std.proofs.Common.{◌≡◌, ◌≢◌, ℕ, suc, ◌+◌, ◌-◌, ◌<◌, ◌≤◌, ◌⊎◌, List, length, Some, None, ⊎_elim, sym, ap, subst, ◌∙◌, arith}
+use Rattle.std.proofs.Common.{◌≡◌, ◌≢◌, ℕ, ◌+◌, ◌-◌, ◌<◌, ◌≤◌, ◌⊎◌, List, length, Some, None, ⊎_elim, sym, ap, subst, ◌∙◌, arith}
 use Rattle.std.specs.Prelude.{slice_index, slice_set}
 use Rattle.std.proofs.lemmas.Bool.{cases_eq, cases_lt}
 use Rattle.std.proofs.lemmas.List.{get_or-set_same, get_or-set_other}
@@ -11,7 +11,7 @@ use Rattle.vs_types.specs.declared.page.Rights.{Rights}
 use Rattle.vs_types.specs.declared.entry.Meaning.TheVariants as entry
 use Rattle.vs_walk.specs.Memory.{Memory}
 use Rattle.vs_space.specs.Held.{word_at}
-use Rattle.vs_space.specs.Path.{found_at, table_in}
+use Rattle.vs_space.specs.Path.{table_in}
 use Rattle.vs_space.proofs.Prunes.{word_in}
 use Rattle.vs_plan.specs.declared.planner.Phase.TheVariants as phases
 use Rattle.vs_plan.specs.declared.planner.Planner.{Planner}
@@ -19,9 +19,10 @@ use Rattle.vs_plan.specs.declared.request.Request.TheVariants.{Unmap}
 use Rattle.vs_plan.specs.Request.{address_of, lowest_of}
 use Rattle.vs_plan.specs.Shown.{IsTableMet, HasOneWord, HasOtherWord, HasMet, IsDescended, IsShown, IsShownIn}
 use Rattle.vs_plan.specs.Target.{highest_link}
-use Rattle.vs_plan.specs.Way.{IsWay, Leads}
+use Rattle.vs_plan.specs.Way.{IsWay}
 use Rattle.vs_plan.specs.inside.Ended.{HasEnded}
-use Rattle.vs_plan.proofs.Pages.{found_word}
+use Rattle.vs_plan.proofs.Stored.{found_word}
+use Rattle.vs_plan.proofs.Ways.{way_on}
 
 module _ {memory : Memory} {p : Planner} {words : List ℕ} {index stop : ℕ} (met : HasMet memory p (p.level + 1))
     (way : IsWay p.target.depth memory p.target.root (address_of p.request) p.level p.number p.rights) (there : finite.get memory p.number ≡ Some words)
@@ -122,15 +123,11 @@ module _ {memory : Memory} {p : Planner} {words : List ℕ} {index stop : ℕ} (
   pub goes_on : {next : ℕ} {own rights : Rights} → 1 ≤ p.level → meaning p.level word ≡ entry.Table next own → rights ≡ intersection p.rights own
       → IsDescended memory (record after { level = p.level - 1; number = next; rights = rights })
   goes_on {next} {own} {rights} some says are = record {
-    way = subst (IsWay p.target.depth memory p.target.root (address_of p.request) (p.level - 1) next) (sym are) (down (p.level - 1) (omega arith));
+    way = subst (IsWay p.target.depth memory p.target.root (address_of p.request) (p.level - 1) next) (sym are)
+        (way_on way some (found_word p.level memory p.number (address_of p.request) word word_there ∙ ap Some says));
     met = subst (HasMet memory (record after { level = p.level - 1; number = next; rights = rights })) (let e : p.level ≡ p.level - 1 + 1 = omega arith in e)
         (record { tables = met_more.tables; alone = met_more.alone; stop = met_more.stop; busy = met_more.busy });
-  } where
-    down : (below : ℕ) → p.level ≡ suc below → IsWay p.target.depth memory p.target.root (address_of p.request) below next (intersection p.rights own)
-    down below one = Leads below p.number next p.rights own
-        (subst (λ l. IsWay p.target.depth memory p.target.root (address_of p.request) l p.number p.rights) one way)
-        (subst (λ l. found_at l memory p.number (address_of p.request) ≡ Some (entry.Table next own)) one
-        (found_word p.level memory p.number (address_of p.request) word word_there ∙ ap Some says))
+  }
 
   pub shown_on : {next : ℕ} {own rights : Rights} → 1 ≤ p.level → meaning p.level word ≡ entry.Table next own → rights ≡ intersection p.rights own
       → p.phase ≡ phases.Descent → IsShown memory (record after { level = p.level - 1; number = next; rights = rights })

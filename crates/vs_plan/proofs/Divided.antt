@@ -1,14 +1,12 @@
 -- The split of a page, as the code has it.
-use Rattle.std.proofs.Common.{◌≡◌, ◌≢◌, ℕ, zero, suc, ◌-◌, ◌%◌, ◌^◌, ◌<◌, ◌≤◌, [], ◌∷◌, Option, Some, None, refl, sym, ap, subst, ◌∙◌, arith}
+use Rattle.std.proofs.Common.{◌≡◌, ℕ, zero, suc, ◌-◌, ◌%◌, ◌^◌, ◌<◌, ◌≤◌, [], ◌∷◌, Option, Some, None, refl, sym, ap, subst, ◌∙◌, arith}
 use lib.Pow.{pow_mono}
 use Rattle.std.specs.Prelude.{slice_index}
-use Rattle.std.specs.FinMap as finite
 use Rattle.arrayvec.specs.ArrayVec.{ArrayVec}
 use Rattle.vs_types.specs.Depth.{index_at, IsCanonical}
 use Rattle.vs_types.specs.Entry.{meaning, size_at, all_rights, table_word}
 use Rattle.vs_types.specs.Page.{bytes_of, intersection}
 use Rattle.vs_types.specs.Space.{Space, page_at}
-use Rattle.vs_types.specs.declared.page.Page.{Page}
 use Rattle.vs_types.specs.declared.page.Rights.{Rights}
 use Rattle.vs_types.specs.declared.entry.Meaning.TheVariants as entry
 use Rattle.vs_types.specs.declared.answer.Answer.TheVariants as answers
@@ -26,16 +24,15 @@ use Rattle.vs_plan.specs.declared.planner.Phase.TheVariants as phases
 use Rattle.vs_plan.specs.declared.request.Request.TheVariants.{Split}
 use Rattle.vs_plan.specs.declared.target.Target.{Target}
 use Rattle.vs_plan.specs.Bits.{bits_in}
-use Rattle.vs_plan.specs.Changes.{smaller, split, smallest, with_parts}
+use Rattle.vs_plan.specs.Changes.{smaller, smallest}
 use Rattle.vs_plan.specs.Premise.{IsPremise, IsSpare}
-use Rattle.vs_plan.specs.Request.{IsRequest, address_of, stepped, refusal}
+use Rattle.vs_plan.specs.Request.{IsRequest, address_of, refusal}
 use Rattle.vs_plan.specs.Right.{IsRight}
 use Rattle.vs_plan.specs.Shown.{IsDivided}
 use Rattle.vs_plan.specs.Target.{frames_end, HasPhysBits}
 use Rattle.vs_plan.specs.Way.{IsWay}
 use Rattle.vs_plan.specs.inside.Ended.{IsAtEnd, HasEnded, IsRightAt, ChangesNothing}
-use Rattle.vs_plan.proofs.Asking.{inside_right, page_met, offset_met}
-use Rattle.vs_plan.proofs.Changing.{change_inside}
+use Rattle.vs_plan.proofs.Asking.{page_met, offset_met}
 use Rattle.vs_plan.proofs.Dividing.{never_refused, parts_fill, split_parts}
 use Rattle.vs_plan.proofs.PartSpaces.{refused_there}
 use Rattle.vs_plan.proofs.Parts.{right_as, nothing_right, store_at, EndAt}
@@ -43,19 +40,8 @@ use Rattle.vs_plan.proofs.Parts.{right_as, nothing_right, store_at, EndAt}
 one_base : (base other : ℕ) → Split base ≡ Split other → base ≡ other
 one_base base other e = cc
 
--- the address lies inside of a page
-split_inside : (space : Space) (base : ℕ) (q : Page) → page_at space base ≡ Some q → (q.base ≡ base → ⊥)
-    → split space base ≡ record { space = space; answer = answers.Inside q.base }
-split_inside space base q here apart = change_inside space base (λ page. with_parts (finite.remove space page.base) page 512) q here apart
-
 module _ {p : Planner} {word : ℕ} (end : IsAtEnd p) {phys : ℕ} {own : Rights} (says : meaning p.level word ≡ entry.Leaf phys own) {base : ℕ}
     (is : p.request ≡ Split base) where
-  pub split_in : base % bytes_of (size_at p.level) ≢ 0 → (plan : Plan)
-      → ChangesNothing (replies.Answer (answers.Inside (base - base % bytes_of (size_at p.level)))) 0 plan → IsRightAt p word plan
-  split_in = inside_right end says (λ b space q place here apart.
-      ap (stepped p.target.depth space) (is ∙ ap Split (sym (ap address_of is) ∙ place)) ∙ split_inside space b q here apart)
-      (ap address_of is)
-
   -- a page of 4 KiB has no parts
   pub smallest_right : base % bytes_of (size_at p.level) ≡ 0 → p.level ≡ 1 → (plan : Plan) → ChangesNothing replies.Smallest 0 plan → IsRightAt p word plan
   smallest_right aligned low plan none memory ended space premise =
@@ -120,7 +106,7 @@ module _ {memory : Memory} {p : Planner} (divided : IsDivided memory p) (request
 
   -- a page that has parts is refused nothing
   pub division_due : refusal p.target space p.request ≡ None
-  division_due = ap (refusal p.target space) divided.request ∙ never_refused p.target divided_end divided.large divided.page.2 divided.aligned
+  division_due = ap (refusal p.target space) divided.request ∙ never_refused p.target p.level divided_end divided.large divided.page.2 divided.aligned
 
   pub divided_right : {base number phys : ℕ} {own : Rights} → p.request ≡ Split base → meaning p.level (slice_index p.words p.level) ≡ entry.Leaf phys own
       → number < frames_end p.target → IsSpare p.target.depth memory p.target.root number
@@ -134,5 +120,6 @@ module _ {memory : Memory} {p : Planner} (divided : IsDivided memory p) (request
       let same : divided.base ≡ base = one_base divided.base base (sym divided.request ∙ is) in
       subst (λ r. IsRight p.target r memory space (Some number ∷ []) plan) (sym is)
       (right_as plan reply told fill stores flush unlinked
-      (split_parts p.target (subst (EndAt p.target memory space p.level p.number p.rights (slice_index p.words p.level)) same divided_end) divided.large says
+      (split_parts p.target p.level (subst (EndAt p.target memory space p.level p.number p.rights (slice_index p.words p.level)) same divided_end)
+      divided.large says
       (subst (λ b. b % bytes_of (size_at p.level) ≡ 0) same divided.aligned) number within spare leads))

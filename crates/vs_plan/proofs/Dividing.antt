@@ -17,7 +17,6 @@ use Rattle.vs_walk.specs.Memory.{Memory}
 use Rattle.vs_walk.proofs.Walks.{leaf_level}
 use Rattle.vs_space.specs.Held.{word_at}
 use Rattle.vs_space.specs.Path.{table_in, table_at}
-use Rattle.vs_space.specs.Table.{IsTableOf}
 use Rattle.vs_space.proofs.Numbered.{get-insert_same}
 use Rattle.vs_space.proofs.Regions.{IsLeafPage, level_back}
 use Rattle.vs_plan.specs.declared.plan.Fill.{Fill}
@@ -34,14 +33,16 @@ use Rattle.vs_plan.specs.Stores.{stepping, filled, stored}
 use Rattle.vs_plan.specs.Target.{frames_end}
 use Rattle.vs_plan.proofs.Asking.{entry_of}
 use Rattle.vs_plan.proofs.EntryStores.{IsOwnTable, walk_off, whole_store}
-use Rattle.vs_plan.proofs.Filled.{own_as, table_as, translates_as, unreached_as, walk_as, way_as, whole_as, word_as}
+use Rattle.vs_plan.proofs.Filled.{own_as, table_as, translates_as, walk_as, way_as, whole_as, word_as, insert_same}
 use Rattle.vs_plan.proofs.PartSpaces.{refused_there}
-use Rattle.vs_plan.proofs.Pages.{table_from, page_here}
+use Rattle.vs_plan.proofs.Pages.{page_here, premise_table}
 use Rattle.vs_plan.proofs.Parts.{none_named, Parts, safe_one, store_at, words_apart, EndAt}
 use Rattle.vs_plan.proofs.Runs.{IsRun}
 use Rattle.vs_plan.proofs.Splitting.{LiesLarge, are_bits_in, large_at, own_parts, parts_reached, run_filled, smaller_at, split_is, split_translates, stepping_long, walk_parts}
 use Rattle.vs_plan.proofs.Stored.{used_word}
 use Rattle.vs_plan.proofs.Ways.{way_table}
+use Rattle.vs_plan.specs.Other.{HasSameTables}
+use Rattle.vs_plan.specs.Way.{IsWay}
 
 -- the fill of a split: the entries of the parts of the page of this entry
 abbrev pub parts_fill : ℕ → ℕ → ℕ → ℕ → ℕ → Rights → Fill
@@ -59,10 +60,7 @@ module _ (target : Target) {memory : Memory} {space : Space} {base low number wo
   few = (leaf_level (suc low) word phys own says).0
 
   page : (q : Page) × IsLeafPage target.depth space base (suc low) phys (intersection given own) q
-  page = page_here end.way (omega arith) end.word_is end.premise.is_space end.premise.translates end.canonical says
-
-  table : IsTableOf (table_from target.depth memory target.root) space
-  table = record { is_space = end.premise.is_space; translates = end.premise.translates }
+  page = page_here end.way (omega arith) end.word_is end.premise end.canonical says
 
   lies : LiesLarge low phys
   lies = record {
@@ -106,15 +104,24 @@ module _ (target : Target) {memory : Memory} {space : Space} {base low number wo
     reached : table_at (levels target.depth) memory target.root (suc low) base ≡ Some number
     reached = way_table (suc low) number given end.way
 
+    same : HasSameTables target.depth target.root memory m
+    same = insert_same target.depth target.root memory frame words spare.unreached
+
+    way : IsWay target.depth m target.root base (suc low) number given
+    way = way_as target.depth target.root memory m same end.way
+
+    unreached : (level b : ℕ) → table_at (levels target.depth) m target.root level b ≢ Some frame
+    unreached level b reached = spare.unreached level b (sym (table_as target.depth target.root memory m same level b) ∙ reached)
+
     word_is : word_at m number (index_at (suc low) base) ≡ Some word
-    word_is = word_as target.depth memory target.root frame words spare.unreached (suc low) base number (index_at (suc low) base) reached ∙ end.word_is
+    word_is = word_as target.depth target.root memory m same (suc low) base number (index_at (suc low) base) reached ∙ end.word_is
 
     here : IsOwnTable target.depth m target.root (suc low) base number
     here = record {
-      own = own_as target.depth memory target.root frame words spare.unreached base end.premise.own;
+      own = own_as target.depth target.root memory m same base end.premise.own;
       whole = whole_as memory frame words end.premise.whole (stepping_long fill.first fill.step 512);
       used = used_word m number (index_at (suc low) base) word word_is;
-      at = table_as target.depth memory target.root frame words spare.unreached (suc low) base ∙ reached;
+      at = table_as target.depth target.root memory m same (suc low) base ∙ reached;
     }
 
     run : IsRun m low frame phys own
@@ -129,7 +136,7 @@ module _ (target : Target) {memory : Memory} {space : Space} {base low number wo
         (bits_in (size_at (suc low)) word) (Some fill) (s ∷ []) (flushes.Range base (size_at (suc low))) []
     unfolding entry_here
     parts_at = record {
-      reply = sym (ap (λ (t : Stepped). t.answer) (split_is table page.1 some few aligned));
+      reply = sym (ap (λ (t : Stepped). t.answer) (split_is (premise_table end.premise) page.1 some few aligned));
       due = not_refused;
       fits = tt;
       put = (
@@ -154,11 +161,10 @@ module _ (target : Target) {memory : Memory} {space : Space} {base low number wo
         },
         refl,
       );
-      safe = safe_one s (translates_as target.depth memory target.root frame words spare.unreached space end.premise.translates)
-          (split_translates table page.1 some few aligned (stored m s)
-          (λ b path. walk_parts here (way_as target.depth memory target.root frame words spare.unreached end.way) frame low phys
-          (table_word frame) own refl some leads run (unreached_as target.depth memory target.root frame words spare.unreached) b path)
-          (λ b apart. walk_off here (table_word frame) b apart ∙ walk_as target.depth memory target.root frame words spare.unreached b));
+      safe = safe_one s (translates_as target.depth target.root memory m same space end.premise.translates)
+          (split_translates (premise_table end.premise) page.1 some few aligned (stored m s)
+          (λ b path. walk_parts here way frame low phys (table_word frame) own refl some leads run unreached b path)
+          (λ b apart. walk_off here (table_word frame) b apart ∙ walk_as target.depth target.root memory m same b));
       found = (word_is, tt);
       meant = All-cons (IsMeantBy target memory (Split base) []) s []
           (OfPage (record { level = suc low; reached = reached; index = refl }) (ap (λ e. table_in (Some e)) says)) (All-nil _);
@@ -174,44 +180,28 @@ module _ (target : Target) {memory : Memory} {space : Space} {base low number wo
       pruned = tt;
       named_once = none_named;
       whole = whole_store here (table_word frame);
-      own = λ a has. own_parts here (way_as target.depth memory target.root frame words spare.unreached end.way) frame low phys
-          (table_word frame) own refl some leads run (unreached_as target.depth memory target.root frame words spare.unreached) a
-          (own_as target.depth memory target.root frame words spare.unreached a has);
+      own = λ a has. own_parts here way frame low phys (table_word frame) own refl some leads run unreached a
+          (own_as target.depth target.root memory m same a has);
       reaches = λ j b q at. ⊎_elim
-          (λ old. inl (sym (table_as target.depth memory target.root frame words spare.unreached j b) ∙ old))
+          (λ old. inl (sym (table_as target.depth target.root memory m same j b) ∙ old))
           (λ same. inr (subst (IsNewTable target memory (Some fill) (s ∷ [])) same
           (record { spare = spare; written = Contains-head frame (number ∷ []) })))
-          (parts_reached here (way_as target.depth memory target.root frame words spare.unreached end.way) frame low phys (table_word frame) own refl some
-          leads run (unreached_as target.depth memory target.root frame words spare.unreached) b j q at);
+          (parts_reached here way frame low phys (table_word frame) own refl some leads run unreached b j q at);
     }
 
-parts_by : (target : Target) (level : ℕ) {memory : Memory} {space : Space} {base number word phys : ℕ} {given own : Rights}
+pub split_parts : (target : Target) (level : ℕ) {memory : Memory} {space : Space} {base number word phys : ℕ} {given own : Rights}
     → EndAt target memory space level number given word base → 1 < level → meaning level word ≡ entry.Leaf phys own
     → base % bytes_of (size_at level) ≡ 0 → (frame : ℕ) → frame < frames_end target → IsSpare target.depth memory target.root frame
     → meaning level (table_word frame) ≡ entry.Table frame all_rights
     → Parts target (Split base) memory space (Some frame ∷ []) (replies.Answer (answers.Changed (intersection given own))) (bits_in (size_at level) word)
     (Some (parts_fill frame base level word phys own)) (store_at number (index_at level base) word (table_word frame) ∷ [])
     (flushes.Range base (size_at level)) []
-parts_by target zero end some says aligned frame within spare leads = absurd (omega arith)
-parts_by target (suc low) end some says aligned frame within spare leads = parts_at target end (omega arith) says aligned within spare leads
-
-pub split_parts : (target : Target) {memory : Memory} {space : Space} {base level number word phys : ℕ} {given own : Rights}
-    (end : EndAt target memory space level number given word base) → 1 < level → meaning level word ≡ entry.Leaf phys own
-    → base % bytes_of (size_at level) ≡ 0 → (frame : ℕ) → frame < frames_end target → IsSpare target.depth memory target.root frame
-    → meaning level (table_word frame) ≡ entry.Table frame all_rights
-    → Parts target (Split base) memory space (Some frame ∷ []) (replies.Answer (answers.Changed (intersection given own))) (bits_in (size_at level) word)
-    (Some (parts_fill frame base level word phys own)) (store_at number (index_at level base) word (table_word frame) ∷ [])
-    (flushes.Range base (size_at level)) []
-split_parts target {level = level} end = parts_by target level end
-
-not_refused_by : (target : Target) (level : ℕ) {memory : Memory} {space : Space} {base number word phys : ℕ} {given own : Rights}
-    → EndAt target memory space level number given word base → 1 < level → meaning level word ≡ entry.Leaf phys own
-    → base % bytes_of (size_at level) ≡ 0 → split_refusal space base ≡ None
-not_refused_by target zero end some says aligned = absurd (omega arith)
-not_refused_by target (suc low) end some says aligned = not_refused target end (omega arith) says aligned
+split_parts target zero end some says aligned frame within spare leads = absurd (omega arith)
+split_parts target (suc low) end some says aligned frame within spare leads = parts_at target end (omega arith) says aligned within spare leads
 
 -- a page that begins there and has parts is split
-pub never_refused : (target : Target) {memory : Memory} {space : Space} {base level number word phys : ℕ} {given own : Rights}
-    (end : EndAt target memory space level number given word base) → 1 < level → meaning level word ≡ entry.Leaf phys own
+pub never_refused : (target : Target) (level : ℕ) {memory : Memory} {space : Space} {base number word phys : ℕ} {given own : Rights}
+    → EndAt target memory space level number given word base → 1 < level → meaning level word ≡ entry.Leaf phys own
     → base % bytes_of (size_at level) ≡ 0 → split_refusal space base ≡ None
-never_refused target {level = level} end = not_refused_by target level end
+never_refused target zero end some says aligned = absurd (omega arith)
+never_refused target (suc low) end some says aligned = not_refused target end (omega arith) says aligned

@@ -20,6 +20,7 @@ use Rattle.vs_space.proofs.Writes.{found_alike}
 use Rattle.vs_plan.specs.Premise.{HasOwnWay}
 use Rattle.vs_plan.specs.Way.{IsWay}
 use Rattle.vs_plan.proofs.Ways.{way_kept}
+use Rattle.vs_plan.specs.Other.{HasSameTables}
 
 pub whole_as : (m : Memory) (number : ℕ) (words : List ℕ) → AreWhole m → length words ≡ 512 → AreWhole (finite.insert m number words)
 whole_as m number words whole long q other got = ⊎_elim
@@ -32,31 +33,29 @@ pub entry_alike : (level : ℕ) (m m' : Memory) (n i : ℕ) → finite.get m' n 
 unfolding entry_in
 entry_alike level m m' n i same = ap (option_map (meaning level)) (word_alike m m' n i same)
 
-module _ (depth : Depth) (m : Memory) (root number : ℕ) (words : List ℕ) (unreached : (level b : ℕ)
-    → table_at (levels depth) m root level b ≢ Some number) where
-  abbrev pub filled_as : Memory
-  filled_as = finite.insert m number words
+-- ---- memories in which each table that is reached has the same words
 
-  pub as_before : (j b q : ℕ) → table_at (levels depth) m root j b ≡ Some q → finite.get filled_as q ≡ finite.get m q
-  as_before j b q reached = get-insert_other m number words q (λ e. unreached j b (reached ∙ ap Some e))
+module _ (depth : Depth) (root : ℕ) (old new : Memory) (same : HasSameTables depth root old new) where
+  pub walk_as : (b : ℕ) → walk depth new root b ≡ walk depth old root b
+  walk_as b = unreached_walk (levels depth) root old new same b
 
-  pub walk_as : (b : ℕ) → walk depth filled_as root b ≡ walk depth m root b
-  walk_as b = unreached_walk (levels depth) root m filled_as as_before b
+  pub table_as : (j b : ℕ) → table_at (levels depth) new root j b ≡ table_at (levels depth) old root j b
+  table_as j b = unreached_table (levels depth) root old new same j b
 
-  pub table_as : (j b : ℕ) → table_at (levels depth) filled_as root j b ≡ table_at (levels depth) m root j b
-  table_as j b = unreached_table (levels depth) root m filled_as as_before j b
-
-  pub translates_as : (space : Space) → TranslatesAs depth m root space → TranslatesAs depth filled_as root space
+  pub translates_as : (space : Space) → TranslatesAs depth old root space → TranslatesAs depth new root space
   translates_as space translates = λ b canonical. walk_as b ∙ translates b canonical
 
-  pub own_as : (a : ℕ) → HasOwnWay depth m root a → HasOwnWay depth filled_as root a
+  pub own_as : (a : ℕ) → HasOwnWay depth old root a → HasOwnWay depth new root a
   own_as a has = record { once = λ l q j b one other. has.once l q j b (sym (table_as l a) ∙ one) (sym (table_as j b) ∙ other) }
 
-  pub way_as : {a level n : ℕ} {rights : Rights} → IsWay depth m root a level n rights → IsWay depth filled_as root a level n rights
-  way_as {a} {level} {n} {rights} way = way_kept filled_as level n rights way (λ j q over reached. found_alike j m filled_as q a (as_before j a q reached))
+  pub way_as : {a level n : ℕ} {rights : Rights} → IsWay depth old root a level n rights → IsWay depth new root a level n rights
+  way_as {a} {level} {n} {rights} way = way_kept new level n rights way (λ j q over reached. found_alike j old new q a (same j a q reached))
 
-  pub word_as : (j b q index : ℕ) → table_at (levels depth) m root j b ≡ Some q → word_at filled_as q index ≡ word_at m q index
-  word_as j b q index reached = word_alike m filled_as q index (as_before j b q reached)
+  pub word_as : (j b q index : ℕ) → table_at (levels depth) old root j b ≡ Some q → word_at new q index ≡ word_at old q index
+  word_as j b q index reached = word_alike old new q index (same j b q reached)
 
-  pub unreached_as : (level b : ℕ) → table_at (levels depth) filled_as root level b ≢ Some number
-  unreached_as level b reached = unreached level b (sym (table_as level b) ∙ reached)
+-- a frame that no way leads to has other words
+pub insert_same : (depth : Depth) (root : ℕ) (memory : Memory) (number : ℕ) (words : List ℕ)
+    → ((level b : ℕ) → table_at (levels depth) memory root level b ≢ Some number) → HasSameTables depth root memory (finite.insert memory number words)
+insert_same depth root memory number words unreached level address q at =
+    get-insert_other memory number words q (λ same. unreached level address (at ∙ ap Some same))

@@ -1,5 +1,5 @@
 -- A fill that is made again with the flags of a word that was found.
-use Rattle.std.proofs.Common.{◌≡◌, ◌≢◌, ℕ, zero, suc, ◌+◌, ◌%◌, ◌^◌, ◌<◌, ◌≤◌, Bool, true, false, cond, List, Some, ⊎_elim, refl, sym, ap, subst, ◌∙◌, arith}
+use Rattle.std.proofs.Common.{◌≡◌, ◌≢◌, ℕ, zero, suc, ◌+◌, ◌%◌, ◌^◌, ◌<◌, List, Some, ⊎_elim, sym, ap, subst, ◌∙◌, arith}
 use Rattle.std.specs.Prelude.{is_some}
 use Rattle.std.specs.FinMap as finite
 use Rattle.std.specs.Int.{bit_at}
@@ -20,6 +20,8 @@ use Rattle.vs_plan.specs.Bits.{bits_in, flagged, page_word, placed}
 use Rattle.vs_plan.specs.Stores.{filled, stepping}
 use Rattle.vs_plan.proofs.OtherFlags.{bits_after, flags_set}
 use Rattle.vs_plan.proofs.Splitting.{are_bits_in}
+use Rattle.vs_plan.proofs.Addresses.{cond_most}
+use Rattle.vs_plan.proofs.Words.{times_not}
 
 -- ---- the words
 
@@ -63,22 +65,10 @@ same_fills is fill word odd even =
 
 -- ---- the first word
 
-pub second_low : (b : Bool) → cond b (2 ^ 1) 0 ≤ 2
-second_low true = omega arith
-second_low false = omega arith
-
-pub third_low : (b : Bool) → cond b (2 ^ 2) 0 ≤ 4
-third_low true = omega arith
-third_low false = omega arith
-
-last_high : (b : Bool) → cond b 0 (2 ^ 63) % 2 ^ 7 ≡ 0
-last_high true = refl
-last_high false = refl
-
 -- a page's word without bits has none of bits 6:3
 leaf_low : (size : Size) (phys : ℕ) (rights : Rights) → phys % 2 ^ 12 ≡ 0 → leaf_word size phys rights % 2 ^ 7 < 2 ^ 3
-leaf_low K4 phys rights at = omega (arith, at, second_low rights.write, third_low rights.user, last_high rights.exec)
-leaf_low _ phys rights at = omega (arith, at, second_low rights.write, third_low rights.user, last_high rights.exec)
+leaf_low K4 phys rights at = omega (arith, at, cond_most rights.write (2 ^ 1), cond_most rights.user (2 ^ 2), times_not rights.exec (2 ^ 63))
+leaf_low _ phys rights at = omega (arith, at, cond_most rights.write (2 ^ 1), cond_most rights.user (2 ^ 2), times_not rights.exec (2 ^ 63))
 
 placed_again : (size : Size) (leaf bits word : ℕ) → leaf % 2 ^ 7 < 2 ^ 3 → bits % 2 ^ 3 ≡ 0
     → flags_into word (leaf + placed size bits) ≡ leaf + placed size (flags_into word bits)

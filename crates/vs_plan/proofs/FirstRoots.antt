@@ -1,26 +1,23 @@
 -- What a plan asks of a memory holds of a root whose words are all 0, and holds again after a plan.
-use Rattle.std.proofs.Common.{◌≡◌, ◌≢◌, ℕ, suc, ◌-◌, ◌≤◌, List, [], ◌∷◌, Option, Some, None, true, ⊎_elim, refl, sym, ap, subst, ◌∙◌, arith}
+use Rattle.std.proofs.Common.{◌≡◌, ◌≢◌, ℕ, ◌-◌, ◌≤◌, List, [], ◌∷◌, Option, Some, None, true, ⊎_elim, refl, sym, ap, subst, ◌∙◌, arith}
 use Rattle.std.proofs.lemmas.Bool.{cases_eq}
 use Rattle.std.specs.FinMap as finite
 use Rattle.vs_types.specs.Depth.{levels}
 use Rattle.vs_types.specs.Entry.{all_rights}
 use Rattle.vs_types.specs.Laws.{changes}
-use Rattle.vs_types.specs.Space.{Space, IsSpace, no_pages, page_at, table_count}
+use Rattle.vs_types.specs.Space.{Space, IsSpace, no_pages, table_count}
 use Rattle.vs_types.specs.Step.{Stepped}
-use Rattle.vs_types.specs.declared.page.Page.{Page}
 use Rattle.vs_types.specs.declared.depth.Depth.{Depth}
 use Rattle.vs_types.specs.declared.entry.Meaning.TheVariants as entry
 use Rattle.vs_types.specs.declared.op.Action.TheVariants as actions
-use Rattle.vs_types.proofs.Pages.{three_levels}
 use Rattle.vs_types.proofs.Spaces.{no_pages_space, look_of_nothing, remove_space, page_at_means}
 use Rattle.vs_types.proofs.Steps.{step_space, unmap_cases, protect_cases, protect_space}
 use Rattle.vs_arena.specs.Store.{zeros}
 use Rattle.vs_walk.specs.Memory.{Memory, AreWhole}
-use Rattle.vs_walk.specs.Walk.{walk_from, as_walk, TranslatesAs}
-use Rattle.vs_walk.specs.declared.walk.Walk.TheVariants.{NotMapped}
-use Rattle.vs_space.specs.Path.{found_at, table_in, table_at}
+use Rattle.vs_walk.specs.Walk.{as_walk, TranslatesAs}
+use Rattle.vs_space.specs.Path.{table_in, table_at}
 use Rattle.vs_space.proofs.Links.{found_in_zeros}
-use Rattle.vs_space.proofs.Paths.{table_first, reached_within, table_below, none_past, walk_found}
+use Rattle.vs_space.proofs.Paths.{table_first, reached_within, table_below, none_past}
 use Rattle.vs_plan.specs.declared.plan.Plan.{Plan}
 use Rattle.vs_plan.specs.declared.plan.Reply.{Reply}
 use Rattle.vs_plan.specs.declared.plan.Reply.TheVariants as replies
@@ -30,26 +27,26 @@ use Rattle.vs_plan.specs.declared.plan.Store.{Store}
 use Rattle.vs_plan.specs.declared.target.Target.{Target}
 use Rattle.vs_plan.specs.Premise.{IsPremise, HasOwnWay}
 use Rattle.vs_plan.specs.Request.{IsRequest, address_of, stepped, refusal}
-use Rattle.vs_plan.specs.Changes.{change_page, join, join_refusal, without_parts, whole_of}
+use Rattle.vs_plan.specs.Changes.{join, join_refusal}
 use Rattle.vs_plan.specs.Right.{IsRight, IsPut, Fits, space_after, refusal_in, begun, ended}
 use Rattle.vs_plan.specs.Stores.{stored_all, filled}
-use Rattle.vs_plan.proofs.Changing.{change_here, change_inside}
+use Rattle.vs_plan.proofs.Changing.{change_here, change_cases}
 use Rattle.vs_plan.proofs.Given.{change_begins}
 use Rattle.vs_plan.proofs.JoinedParts.{join_stays_space}
 use Rattle.vs_plan.proofs.PartSpaces.{split_stays_space}
 use Rattle.vs_plan.proofs.Remapping.{remap_space}
 use Rattle.vs_plan.proofs.UnstoredJoins.{not_unstored}
+use Rattle.vs_plan.proofs.Ways.{walk_level}
+use Rattle.vs_plan.proofs.OtherRoots.{one_less}
+use Rattle.vs_plan.proofs.JoinedSpace.{join_after}
 
 -- ---- a root of zeros
 
 module _ (depth : Depth) (memory : Memory) (root : ℕ) (clear : finite.get memory root ≡ Some zeros) where
-  one_less : levels depth ≡ suc (levels depth - 1)
-  one_less = omega (arith, three_levels depth)
-
   nothing_below : (b level : ℕ) → level ≤ levels depth - 1 → table_at (levels depth) memory root level b ≡ None
   nothing_below b level low =
       none_past (levels depth) root memory (levels depth - 1) level b (omega arith) low
-      (table_below (levels depth) root memory (levels depth) (levels depth - 1) b root one_less (table_first (levels depth) root memory b)
+      (table_below (levels depth) root memory (levels depth) (levels depth - 1) b root (one_less depth) (table_first (levels depth) root memory b)
       ∙ ap table_in (found_in_zeros (levels depth) memory root b clear))
 
   -- no table is reached but the root
@@ -58,21 +55,16 @@ module _ (depth : Depth) (memory : Memory) (root : ℕ) (clear : finite.get memo
       (λ (same : level ≡ levels depth). same)
       (λ (other : level ≢ levels depth).
       let within = reached_within (levels depth) root memory level b number at in
-      let none = nothing_below b level (omega (arith, within, other, one_less)) in
+      let none = nothing_below b level (omega (arith, within, other, one_less depth)) in
       absurd (cc))
       (cases_eq level (levels depth))
-
-  walk_of_zeros : (top below address : ℕ) → top ≡ suc below → found_at top memory root address ≡ Some entry.Absent
-      → walk_from memory top root all_rights address ≡ NotMapped
-  walk_of_zeros top below address is absent =
-      subst (λ t. found_at t memory root address ≡ Some entry.Absent → walk_from memory t root all_rights address ≡ NotMapped)
-      (sym is) (λ found. walk_found memory below root all_rights address entry.Absent found) absent
 
   pub zeros_are_empty : (address : ℕ) → AreWhole memory → IsPremise depth memory root address no_pages
   zeros_are_empty address whole = record {
     whole = whole;
     is_space = no_pages_space depth;
-    translates = λ b canonical. walk_of_zeros (levels depth) (levels depth - 1) b one_less (found_in_zeros (levels depth) memory root b clear)
+    translates = λ b canonical. walk_level memory (levels depth) root all_rights b entry.Absent (omega (arith, one_less depth))
+        (found_in_zeros (levels depth) memory root b clear)
         ∙ sym (ap as_walk (look_of_nothing b));
     own = record {
       once = λ level number other b at there.
@@ -86,17 +78,8 @@ module _ (depth : Depth) (memory : Memory) (root : ℕ) (clear : finite.get memo
 
 -- a join without a store changes nothing
 joined_nothing : (space : Space) (base : ℕ) → (changes (join space base).answer ≡ true → ⊥) → (join space base).space ≡ space
-joined_nothing space base nothing =
-    by (page_at space base) refl where
-      after : Page → Space
-      after page = finite.insert (without_parts space (whole_of page)) page.base (whole_of page)
-
-      by : (o : Option Page) → page_at space base ≡ o → (change_page space base after o).space ≡ space
-      by None e = refl
-      by (Some page) e = ⊎_elim
-          (λ (same : page.base ≡ base). absurd (nothing (ap (λ (s : Stepped). changes s.answer) (change_here space base after page e same))))
-          (λ (other : page.base ≢ base). ap (λ (s : Stepped). s.space) (change_inside space base after page refl other))
-          (cases_eq page.base base)
+joined_nothing space base nothing = change_cases space base (join_after space) (λ s. s ≡ space) refl (λ page e same.
+    absurd (nothing (ap (λ (s : Stepped). changes s.answer) (change_here space base (join_after space) page e same))))
 
 module _ {target : Target} {space : Space} (is : IsSpace target.depth space) where
   stepped_space : (request : Request) (stores : List Store) → IsRequest target request → refusal target space request ≡ None

@@ -35,8 +35,8 @@ use Rattle.vs_plan.specs.Way.{IsWay}
 use Rattle.vs_plan.proofs.FlagsKept.{flags_table}
 use Rattle.vs_plan.proofs.OtherFlags.{protect_again, remap_again, same_stored}
 use Rattle.vs_plan.proofs.PlansSuffice.{some_level}
-use Rattle.vs_plan.proofs.WordOrders.{even_absent, told_used}
 use Rattle.vs_plan.proofs.Ways.{way_kept}
+use Rattle.vs_plan.proofs.Stored.{even_absent, used_word}
 
 -- ---- words
 
@@ -100,7 +100,7 @@ module _ {old new : Memory} (is : AreSameButFlags old new) where
   pub word_flags : (number index word : ℕ) → word_at old number index ≡ Some word
       → (now : ℕ) × (word_at new number index ≡ Some now) × IsSameButFlags word now
   word_flags number index word told =
-      let here = both is number (told_used old number index word told) in
+      let here = both is number (used_word old number index word told) in
       let first : slice_index here.0 index ≡ word = same_Some _ _ (sym (word_in old number index here.0 here.2) ∙ told) in (
         slice_index here.1 index,
         word_in new number index here.1 here.3,
@@ -145,26 +145,25 @@ module _ {old new : Memory} (is : AreSameButFlags old new) where
       unreached = λ level b at. spare.unreached level b (at_before level b number at);
     }
 
+  abbrev pub entry_as : (target : Target) {address word now : ℕ} {size : Size} (here : IsEntryOf target old address size word)
+      → word_at new here.number (index_at here.level address) ≡ Some now → IsSameButFlags word now → IsEntryOf target new address size now
+  entry_as target {address} here there alike = record {
+    level = here.level;
+    number = here.number;
+    reached = at_flags target.depth target.root here.level address here.number here.reached;
+    word_is = there;
+    leaf = (
+      here.leaf.0,
+      here.leaf.1,
+      flagged_meaning alike here.level (some_level target.depth old target.root here.level address here.number here.reached) ∙ here.leaf.2,
+    );
+    size_is = here.size_is;
+  }
+
   pub entry_flags : (target : Target) (address word : ℕ) (size : Size) → IsEntryOf target old address size word
       → (now : ℕ) × IsEntryOf target new address size now × IsSameButFlags word now
   entry_flags target address word size here =
-      let now = word_flags here.number (index_at here.level address) word here.word_is in (
-        now.0,
-        record {
-          level = here.level;
-          number = here.number;
-          reached = at_flags target.depth target.root here.level address here.number here.reached;
-          word_is = now.1;
-          leaf = (
-            here.leaf.0,
-            here.leaf.1,
-            flagged_meaning now.2 here.level
-                (some_level target.depth old target.root here.level address here.number here.reached) ∙ here.leaf.2,
-          );
-          size_is = here.size_is;
-        },
-        now.2,
-      )
+      let now = word_flags here.number (index_at here.level address) word here.word_is in (now.0, entry_as target here now.1 now.2, now.2)
 
   pub absent_flags : (level number index : ℕ) → 1 ≤ level → entry_in level old number index ≡ Some entry.Absent
       → entry_in level new number index ≡ Some entry.Absent
@@ -235,7 +234,7 @@ all_stored is [] [] zip found = is
 all_stored is [] (t ∷ ys) zip found = absurd zip
 all_stored is (s ∷ xs) [] zip found = absurd zip
 all_stored {old = old} {new = new} is (s ∷ xs) (t ∷ ys) zip found =
-    all_stored {old = stored old s} {new = stored new t} (stored_flags is s t zip.0 (told_used old s.frame s.index s.old found.0)) xs ys zip.1 found.1
+    all_stored {old = stored old s} {new = stored new t} (stored_flags is s t zip.0 (used_word old s.frame s.index s.old found.0)) xs ys zip.1 found.1
 
 pub some_stored : {old new : Memory} → AreSameButFlags old new → (n : ℕ) (xs ys : List Store) → AllZip ArePaired xs ys → FindTheirWords old xs
     → AreSameButFlags (stored_all old (take n xs)) (stored_all new (take n ys))
@@ -244,4 +243,4 @@ some_stored is (suc n) [] [] zip found = is
 some_stored is (suc n) [] (t ∷ ys) zip found = absurd zip
 some_stored is (suc n) (s ∷ xs) [] zip found = absurd zip
 some_stored {old = old} {new = new} is (suc n) (s ∷ xs) (t ∷ ys) zip found =
-    some_stored {old = stored old s} {new = stored new t} (stored_flags is s t zip.0 (told_used old s.frame s.index s.old found.0)) n xs ys zip.1 found.1
+    some_stored {old = stored old s} {new = stored new t} (stored_flags is s t zip.0 (used_word old s.frame s.index s.old found.0)) n xs ys zip.1 found.1

@@ -1,5 +1,5 @@
 -- What a processor may keep and what a plan asks of a memory don't depend on flags.
-use Rattle.std.proofs.Common.{◌≡◌, ℕ, zero, suc, List, Option, Some, None, IsSome, refl, sym, ap, subst, ◌∙◌, arith}
+use Rattle.std.proofs.Common.{◌≡◌, ℕ, zero, suc, List, Option, Some, IsSome, refl, sym, ap, subst, ◌∙◌, arith, ◌≤◌}
 use Rattle.std.specs.Prelude.{is_some}
 use Rattle.std.specs.FinMap as finite
 use Rattle.std.proofs.lemmas.List.Elements.{length_all_zip}
@@ -11,13 +11,13 @@ use Rattle.vs_types.specs.declared.page.Rights.{Rights}
 use Rattle.vs_types.specs.declared.entry.Meaning.{Meaning}
 use Rattle.vs_types.specs.declared.entry.Meaning.TheVariants as entry
 use Rattle.vs_walk.specs.Memory.{Memory, AreWhole}
-use Rattle.vs_walk.specs.Walk.{walk_entry, walk_from}
+use Rattle.vs_walk.specs.Walk.{walk_from}
 use Rattle.vs_walk.specs.declared.walk.Walk.{Walk}
 use Rattle.vs_walk.proofs.Walks.{walk_nowhere}
 use Rattle.vs_space.specs.Flags.{IsSameButFlags, AreSameButFlags}
 use Rattle.vs_space.specs.Path.{found_at, table_at}
 use Rattle.vs_space.proofs.Flagged.{flagged_found}
-use Rattle.vs_space.proofs.Paths.{agree_table, walk_found, walk_lost}
+use Rattle.vs_space.proofs.Paths.{agree_table, walk_found}
 use Rattle.vs_space.proofs.Writes.{words_in}
 use Rattle.vs_plan.specs.declared.plan.Flush.{Flush}
 use Rattle.vs_plan.specs.declared.plan.Store.{Store}
@@ -27,6 +27,19 @@ use Rattle.vs_plan.specs.Premise.{IsPremise, HasOwnWay}
 use Rattle.vs_plan.specs.Processor.{region_number, Kept, PagingEntry, MayKeepBy, KeptBefore, OfRoot, OfTable, OfPage, Moment, MayKeep, MayFind, ByTranslation, ByWalk, IsUpToDate}
 use Rattle.vs_plan.proofs.Kept.{IsClosed, Reads, all_kept, all_reads}
 use Rattle.vs_plan.proofs.OtherFlags.{same_translations}
+use Rattle.vs_plan.proofs.Ways.{walk_alike}
+
+-- what may be kept of a memory may be kept of another in which the same is found
+alike_closed : (depth : Depth) (root : ℕ) (m m' : Memory) (before : Kept → Type 0)
+    → ((level number address : ℕ) → 1 ≤ level → found_at level m' number address ≡ found_at level m number address)
+    → IsClosed depth root m (MayKeepBy depth root m' before)
+alike_closed depth root m m' before alike = record {
+  of_root = λ address canonical. OfRoot address canonical;
+  of_table = λ address below number next rights own canonical table found.
+      OfTable address below number next rights own canonical table (alike (suc below) number address (omega arith) ∙ found);
+  of_page = λ address below number phys rights own canonical table found.
+      OfPage address below number phys rights own canonical table (alike (suc below) number address (omega arith) ∙ found);
+}
 
 -- ---- the memory
 
@@ -60,45 +73,24 @@ module _ {old new : Memory} (is : AreSameButFlags old new) where
   flags_walk (suc below) number rights address =
       by (λ next own. flags_walk below next own address) (found_at (suc below) old number address) refl
     where
-      at : ((next : ℕ) (own : Rights) → walk_from new below next own address ≡ walk_from old below next own address) → (means : Meaning)
-          → walk_entry (suc below) rights address (λ next own. walk_from new below next own address) means
-          ≡ walk_entry (suc below) rights address (λ next own. walk_from old below next own address) means
-      at go entry.Absent = refl
-      at go entry.Reserved = refl
-      at go (entry.Leaf phys own) = refl
-      at go (entry.Table next own) = go next (intersection rights own)
+      same : found_at (suc below) new number address ≡ found_at (suc below) old number address
+      same = flagged_found is (suc below) number address (omega arith)
 
       by : ((next : ℕ) (own : Rights) → walk_from new below next own address ≡ walk_from old below next own address) → (o : Option Meaning)
           → found_at (suc below) old number address ≡ o
           → walk_from new (suc below) number rights address ≡ walk_from old (suc below) number rights address
-      by go None found = walk_lost new below number rights address (flagged_found is (suc below) number address (omega arith) ∙ found)
-          ∙ sym (walk_lost old below number rights address found)
-      by go (Some means) found =
-          walk_found new below number rights address means (flagged_found is (suc below) number address (omega arith) ∙ found) ∙ at go means
-          ∙ sym (walk_found old below number rights address means found)
+      by go (Some (entry.Table next own)) found =
+          walk_found new below number rights address (entry.Table next own) (same ∙ found) ∙ go next (intersection rights own)
+          ∙ sym (walk_found old below number rights address (entry.Table next own) found)
+      by go o found = walk_alike old new below number rights address same o found (λ next own e. cc)
 
   -- ---- what is kept
 
-  old_closed : (depth : Depth) (root : ℕ) (before : Kept → Type 0) → IsClosed depth root old (MayKeepBy depth root new before)
-  old_closed depth root before = record {
-    of_root = λ address canonical. OfRoot address canonical;
-    of_table = λ address below number next rights own canonical table found. OfTable address below number next rights own canonical table
-        (flagged_found is (suc below) number address (omega arith) ∙ found);
-    of_page = λ address below number phys rights own canonical table found. OfPage address below number phys rights own canonical table
-        (flagged_found is (suc below) number address (omega arith) ∙ found);
-  }
-
   new_closed : (depth : Depth) (root : ℕ) (before : Kept → Type 0) → IsClosed depth root new (MayKeepBy depth root old before)
-  new_closed depth root before = record {
-    of_root = λ address canonical. OfRoot address canonical;
-    of_table = λ address below number next rights own canonical table found. OfTable address below number next rights own canonical table
-        (sym (flagged_found is (suc below) number address (omega arith)) ∙ found);
-    of_page = λ address below number phys rights own canonical table found. OfPage address below number phys rights own canonical table
-        (sym (flagged_found is (suc below) number address (omega arith)) ∙ found);
-  }
+  new_closed depth root before = alike_closed depth root new old before (λ level number address some. sym (flagged_found is level number address some))
 
   pub flags_reads : (depth : Depth) (root : ℕ) (kept : Kept) → Reads depth root old kept → Reads depth root new kept
-  flags_reads depth root kept reads = all_reads (old_closed depth root (λ k. ⊥)) kept reads
+  flags_reads depth root kept reads = all_reads (alike_closed depth root old new (λ k. ⊥) (flagged_found is)) kept reads
 
   pub flags_read : (depth : Depth) (root : ℕ) (kept : Kept) → Reads depth root new kept → Reads depth root old kept
   flags_read depth root kept reads = all_reads (new_closed depth root (λ k. ⊥)) kept reads

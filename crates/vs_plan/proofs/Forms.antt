@@ -20,14 +20,15 @@ use Rattle.vs_plan.proofs.Kept.{Reads}
 use Rattle.vs_plan.proofs.Orders.{IsLess, less_refl, less_trans, less_reads, AllAdd, AllTake}
 use Rattle.vs_plan.proofs.Stays.{KeepsLinks, ChangesPageAlone, ChangesRangeAlone, entry_stays, entry_reached}
 use Rattle.vs_plan.proofs.Replaced.{IsCalm, word_calm}
-use Rattle.vs_plan.proofs.WordOrders.{elsewhere_or_here, found_word, told_used, clear_is_less}
+use Rattle.vs_plan.proofs.WordOrders.{elsewhere_or_here, clear_is_less}
 use Rattle.vs_plan.proofs.Sufficing.{IsSwitched, AreUnreached, adding_suffices, taking_suffices, passes_page, passes_tables, passes_range, switched_once, replacing_suffices}
+use Rattle.vs_plan.proofs.Stored.{found_word, used_word}
 
 -- ---- stores of 0
 
 store_takes : (memory : Memory) (s : Store) → word_at memory s.frame s.index ≡ Some s.old → s.new ≡ 0 → IsLess (stored memory s) memory
 store_takes memory s told clear = subst (λ w. IsLess (with_word memory s.frame s.index w) memory) (sym clear)
-    (clear_is_less memory s.frame s.index (told_used memory s.frame s.index s.old told))
+    (clear_is_less memory s.frame s.index (used_word memory s.frame s.index s.old told))
 
 pub takes : (memory : Memory) (stores : List Store) → FindTheirWords memory stores → All (λ (s : Store). s.new ≡ 0) stores → AllTake memory stores
 takes memory [] found all = tt
@@ -86,12 +87,12 @@ module _ (depth : Depth) (root : ℕ) (first : Memory) where
       let reached = entry_reached depth root first (suc below) (region_number (suc below) a) s.frame rights
       (less_reads depth root memory first less (PagingEntry (suc below) (region_number (suc below) a) s.frame rights) at) in
       let none = end.ends (suc below) reached.0 reached.1 in
-      let word : found_at (suc below) memory s.frame a ≡ Some (meaning (suc below) s.old) = found_word (suc below) memory s.frame s.index s.old a told here.1 in
+      let word = found_word (suc below) memory s.frame a s.old (ap (word_at memory s.frame) here.1 ∙ told) in
       let leads : found_at (suc below) memory s.frame a ≡ Some (entry.Table next allows) =
       subst (λ n. found_at (suc below) memory n a ≡ Some (entry.Table next allows)) here.0 found in
       let both : table_in (Some (entry.Table next allows)) ≡ None = ap table_in (sym leads ∙ word) ∙ none in
       absurd (cc))
-      (elsewhere_or_here (suc below) memory s.frame s.index s.new number a (told_used memory s.frame s.index s.old told))
+      (elsewhere_or_here (suc below) memory s.frame s.index s.new number a (used_word memory s.frame s.index s.old told))
 
   -- so entries stay through stores of 0 that unlink nothing
   entries_stay : (memory : Memory) (stores : List Store) → IsLess memory first → FindTheirWords memory stores → All (λ (s : Store). s.new ≡ 0) stores
@@ -109,7 +110,7 @@ module _ (depth : Depth) (root : ℕ) (first : Memory) where
 
 module _ (depth : Depth) (root : ℕ) (memory : Memory) where
   calm_once : (s : Store) → FindTheirWords memory (s ∷ []) → IsOnceFor depth memory root s → IsCalm depth root memory (stored memory s)
-  calm_once s found once = word_calm depth root memory s.frame s.index s.new once.0 (told_used memory s.frame s.index s.old found.0)
+  calm_once s found once = word_calm depth root memory s.frame s.index s.new once.0 (used_word memory s.frame s.index s.old found.0)
       (λ level region rights reads.
       let reached = entry_reached depth root memory level region s.frame rights reads in
       once.1 level reached.0 reached.1)

@@ -1,7 +1,6 @@
 -- What a right plan says of the memory in which its stores begin.
 use Rattle.std.proofs.Common.{◌≡◌, ◌≢◌, ℕ, ◌<◌, List, [], ◌∷◌, All, Option, Some, None, Bool, true, false, ⊎_elim, refl, sym, ap, subst, ◌∙◌}
 use Rattle.std.proofs.lemmas.Bool.{cases_eq}
-use Rattle.std.specs.FinMap as finite
 use Rattle.std.proofs.lemmas.List.Elements.{All-contains}
 use Rattle.vs_types.specs.Depth.{levels, IsCanonical}
 use Rattle.vs_types.specs.Laws.{changes}
@@ -12,9 +11,7 @@ use Rattle.vs_types.specs.declared.depth.Depth.{Depth}
 use Rattle.vs_types.specs.declared.page.Page.{Page}
 use Rattle.vs_types.proofs.Spaces.{page_at_means}
 use Rattle.vs_walk.specs.Memory.{Memory}
-use Rattle.vs_walk.specs.Walk.{TranslatesAs}
 use Rattle.vs_space.specs.Path.{table_at}
-use Rattle.vs_space.proofs.Numbered.{get-insert_other}
 use Rattle.vs_plan.specs.declared.plan.Fill.{Fill}
 use Rattle.vs_plan.specs.declared.plan.Flush.{Flush}
 use Rattle.vs_plan.specs.declared.plan.Plan.{Plan}
@@ -22,17 +19,17 @@ use Rattle.vs_plan.specs.declared.plan.Reply.{Reply}
 use Rattle.vs_plan.specs.declared.plan.Reply.TheVariants as replies
 use Rattle.vs_plan.specs.declared.plan.Store.{Store}
 use Rattle.vs_plan.specs.declared.request.Request.{Request}
-use Rattle.vs_plan.specs.declared.request.Request.TheVariants.{Map, Unmap, Protect, Ask, Remap, Split, Join}
+use Rattle.vs_plan.specs.declared.request.Request.TheVariants.{Map, Ask, Remap, Split, Join}
 use Rattle.vs_plan.specs.declared.target.Target.{Target}
-use Rattle.vs_plan.specs.Changes.{change_page, with_parts, without_parts, whole_of}
+use Rattle.vs_plan.specs.Changes.{change_page}
 use Rattle.vs_plan.specs.Other.{HasSameTables}
-use Rattle.vs_plan.specs.Premise.{IsPremise, HasOwnWay}
+use Rattle.vs_plan.specs.Premise.{IsPremise}
 use Rattle.vs_plan.specs.Request.{address_of, stepped}
 use Rattle.vs_plan.specs.Right.{IsRight, IsReply, IsPut, IsMeantBy, IsFlushed, IsWritten, IsUnlinkedBy, IsOneWay, Changes, space_after, begun}
 use Rattle.vs_plan.specs.Stores.{stored_all, filled, FindTheirWords, AreSafe}
 use Rattle.vs_plan.proofs.Changing.{change_inside}
 use Rattle.vs_plan.proofs.Sufficing.{AreUnreached}
-use Rattle.vs_plan.proofs.Unread.{unread_walk, unread_table}
+use Rattle.vs_plan.proofs.Filled.{insert_same}
 
 pub record IsGiven (target : Target) (request : Request) (memory start : Memory) (space : Space) (offered : List (Option ℕ)) (reply : Reply)
     (fill : Option Fill) (stores : List Store) (unlinked : List ℕ) (flush : Flush) : Type 0 where
@@ -51,11 +48,6 @@ pub record IsGiven (target : Target) (request : Request) (memory start : Memory)
 
 -- ---- the table that is filled
 
-pub insert_same : (depth : Depth) (root : ℕ) (memory : Memory) (fill : Fill)
-    → ((level b : ℕ) → table_at (levels depth) memory root level b ≢ Some fill.frame) → HasSameTables depth root memory (filled memory (Some fill))
-insert_same depth root memory fill unreached level address number at =
-    get-insert_other memory fill.frame _ number (λ same. unreached level address (at ∙ ap Some same))
-
 one_fill : (x y : Fill) → Some y ≡ Some x → x ≡ y
 one_fill x y e = cc
 
@@ -64,19 +56,16 @@ pub filled_same : (target : Target) (request : Request) (memory : Memory) (offer
     (unlinked : List ℕ) → IsPut target request memory offered fill stores unlinked → HasSameTables target.depth target.root memory (filled memory fill)
 filled_same target request memory offered None stores unlinked put = λ level address number at. refl
 filled_same target request memory offered (Some fill) stores unlinked put =
-    insert_same target.depth target.root memory fill (by request stores put) where
+    insert_same target.depth target.root memory fill.frame _ (by request stores put) where
       by : (request : Request) (stores : List Store) → IsPut target request memory offered (Some fill) stores unlinked
           → (level b : ℕ) → table_at (levels target.depth) memory target.root level b ≢ Some fill.frame
       by request [] none = absurd (cc)
       by (Map page bits) (s ∷ later) none = absurd (cc)
-      by (Unmap base) (s ∷ later) put = let none = put.0 in absurd (cc)
-      by (Protect base rights) (s ∷ later) put = let none = put.0 in absurd (cc)
       by (Ask address) (s ∷ later) none = absurd (cc)
-      by (Remap base phys rights) (s ∷ later) put = let none = put.0 in absurd (cc)
       by (Split base) (s ∷ later) put =
           let same : put.0 ≡ fill = one_fill put.0 fill put.1 in
           subst (λ (f : Fill). (level b : ℕ) → table_at (levels target.depth) memory target.root level b ≢ Some f.frame) same put.2.spare.unreached
-      by (Join base) (s ∷ later) put = let none = put.0 in absurd (cc)
+      by _ (s ∷ later) put = let none = put.0 in absurd (cc)
 
 pub parts_of : {target : Target} {request : Request} {memory : Memory} {space : Space} {offered : List (Option ℕ)} {plan : Plan}
     → IsPremise target.depth memory target.root (address_of request) space → IsRight target request memory space offered plan
@@ -95,18 +84,6 @@ parts_of {target} {request} {memory} {space} {offered} {plan} premise right = re
   gone = right.unlinked;
   one_way = right.one_way;
 }
-
--- ---- the memory in which the stores begin
-
-module _ (depth : Depth) (root : ℕ) (memory start : Memory) (same : HasSameTables depth root memory start) where
-  pub begins_as : (space : Space) → TranslatesAs depth memory root space → TranslatesAs depth start root space
-  begins_as space is address canonical = unread_walk depth root memory start same address ∙ is address canonical
-
-  pub begins_own : (address : ℕ) → HasOwnWay depth memory root address → HasOwnWay depth start root address
-  begins_own address own = record {
-    once = λ level number other b at there. own.once level number other b
-        (sym (unread_table depth root memory start same level address) ∙ at) (sym (unread_table depth root memory start same other b) ∙ there);
-  }
 
 -- ---- the table that is unlinked was reached, and is no more
 
@@ -166,12 +143,9 @@ IsChange _ base = ⊥
 
 pub change_begins : (depth : Depth) (space : Space) (request : Request) → IsChange request (address_of request)
     → changes (stepped depth space request).answer ≡ true → BeginsThere space (address_of request)
-change_begins depth space (Remap base phys rights) is changed = change_begins_at space base
-    (λ page. finite.insert space page.base (record page { phys = phys; rights = rights })) (page_at space base) refl changed
-change_begins depth space (Split base) is changed = change_begins_at space base
-    (λ page. with_parts (finite.remove space page.base) page 512) (page_at space base) refl changed
-change_begins depth space (Join base) is changed = change_begins_at space base
-    (λ page. finite.insert (without_parts space (whole_of page)) page.base (whole_of page)) (page_at space base) refl changed
+change_begins depth space (Remap base phys rights) is changed = change_begins_at space base _ (page_at space base) refl changed
+change_begins depth space (Split base) is changed = change_begins_at space base _ (page_at space base) refl changed
+change_begins depth space (Join base) is changed = change_begins_at space base _ (page_at space base) refl changed
 change_begins depth space _ is changed = absurd is
 
 pub change_canonical : {target : Target} {request : Request} {memory start : Memory} {space : Space} {offered : List (Option ℕ)} {reply : Reply}

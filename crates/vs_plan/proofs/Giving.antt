@@ -19,30 +19,24 @@ pub give_due : {memory : Memory} (p : Planner) → AwaitsFrame p → IsShown mem
     → IsPremise p.target.depth memory p.target.root (address_of p.request) space → refusal p.target space p.request ≡ None
 give_due {memory} p awaits shown space premise = by p.phase awaits shown where
   by : (phase : Phase) → AwaitsFrameIn phase p → IsShownIn phase memory p → refusal p.target space p.request ≡ None
-  by phases.Descent awaits shown = absurd awaits
-  by phases.Search awaits shown = absurd awaits
   by phases.Growth awaits shown = due_as p.target space awaits.is_map.2 refl
   by phases.Division awaits shown = division_due shown awaits.request premise
-  by phases.Ended awaits shown = absurd awaits
+  by _ awaits shown = absurd awaits
 
 -- the planner of a map fills new tables, that of a split one
 pub waits_growth : (p : Planner) → AwaitsFrame p → {page : Page} {bits : ℕ} → p.request ≡ Map page bits → AwaitsGrowth p
 waits_growth p awaits {page} {bits} is = by p.phase awaits where
   by : (phase : Phase) → AwaitsFrameIn phase p → AwaitsGrowth p
-  by phases.Descent awaits = absurd awaits
-  by phases.Search awaits = absurd awaits
   by phases.Growth awaits = awaits
   by phases.Division awaits = let both : Split awaits.is_split.0 ≡ Map page bits = sym awaits.is_split.1 ∙ is in absurd (cc)
-  by phases.Ended awaits = absurd awaits
+  by _ awaits = absurd awaits
 
 pub waits_division : (p : Planner) → AwaitsFrame p → {base : ℕ} → p.request ≡ Split base → AwaitsDivision p
 waits_division p awaits {base} is = by p.phase awaits where
   by : (phase : Phase) → AwaitsFrameIn phase p → AwaitsDivision p
-  by phases.Descent awaits = absurd awaits
-  by phases.Search awaits = absurd awaits
   by phases.Growth awaits = let both : Map awaits.is_map.0 awaits.is_map.1 ≡ Split base = sym awaits.is_map.2 ∙ is in absurd (cc)
   by phases.Division awaits = awaits
-  by phases.Ended awaits = absurd awaits
+  by _ awaits = absurd awaits
 
 pub grown_shown : {memory : Memory} (p : Planner) → AwaitsGrowth p → IsShown memory p → IsGrown memory p
 grown_shown {memory} p awaits shown = subst (λ phase. IsShownIn phase memory p) awaits.phase shown

@@ -2,7 +2,6 @@
 use Rattle.std.proofs.Common.{◌≡◌, ◌≢◌, ℕ, suc, ◌+◌, ◌-◌, ◌%◌, ◌<◌, ◌≤◌, List, [], ◌∷◌, ◌++◌, length, Bool, true, false, Option, Some, All, Contains, ⊎_elim, refl, sym, ap, subst, ◌∙◌, arith}
 use Rattle.std.specs.Prelude.{◌&&◌, unwrap_or, slice_set}
 use Rattle.std.proofs.lemmas.Bool.{cases_eq, cases_lt}
-use Rattle.std.proofs.lemmas.List.{get_or-set_same, get_or-set_other, length-replicate}
 use Rattle.std.proofs.lemmas.List.Elements.{All-push, All-head, All-tail, Contains-append_left, Contains-append_right}
 use Rattle.std.specs.FinMap as finite
 use Rattle.vs_types.specs.Depth.{levels, index_at}
@@ -11,20 +10,16 @@ use Rattle.vs_types.specs.Page.{level_of, bytes_of, intersection}
 use Rattle.vs_types.specs.declared.depth.Depth.{Depth}
 use Rattle.vs_types.specs.declared.page.Page.{Page}
 use Rattle.vs_types.specs.declared.page.Rights.{Rights}
-use Rattle.vs_types.specs.declared.entry.Meaning.{Meaning}
 use Rattle.vs_types.specs.declared.entry.Meaning.TheVariants as entry
 use Rattle.vs_types.proofs.Lists.{Contains-head, Contains-cases, not_in_nil}
 use Rattle.vs_types.proofs.Pages.{level_some}
 use Rattle.vs_arena.specs.Store.{zeros}
 use Rattle.vs_walk.specs.Memory.{Memory, AreWhole}
-use Rattle.vs_walk.specs.Walk.{walk, walk_entry, walk_from}
+use Rattle.vs_walk.specs.Walk.{walk_from}
 use Rattle.vs_walk.specs.declared.walk.Walk.TheVariants.{Mapped}
-use Rattle.vs_space.specs.Held.{word_at}
-use Rattle.vs_space.specs.Path.{found_at, table_in, table_at, SamePath}
+use Rattle.vs_space.specs.Path.{table_in, table_at, SamePath}
 use Rattle.vs_space.proofs.Links.{zeros_are}
-use Rattle.vs_space.proofs.Paths.{walk_found}
 use Rattle.vs_space.proofs.Prunes.{word_in}
-use Rattle.vs_space.proofs.Trees.{unreached_table, unreached_walk}
 use Rattle.vs_space.proofs.Writes.{get_written, get_written_other}
 use Rattle.vs_space.proofs.Written.{size_same}
 use Rattle.vs_plan.specs.declared.plan.Store.{Store}
@@ -34,10 +29,12 @@ use Rattle.vs_plan.specs.Premise.{IsSpare}
 use Rattle.vs_plan.specs.Right.{IsWritten, AreLinks}
 use Rattle.vs_plan.specs.Shown.{last_frame, EndsAt, frames_of, AreSameIn, IsLone, LeadsToPage, AreFilled}
 use Rattle.vs_plan.specs.Stores.{stored, stored_all, FindTheirWords}
-use Rattle.vs_plan.proofs.Linking.{lone_lowest, lone_higher}
-use Rattle.vs_plan.proofs.Pages.{found_word}
+use Rattle.vs_plan.proofs.Linking.{lone_lowest, lone_higher, found_one, found_none}
 use Rattle.vs_plan.proofs.Parts.{words_apart, store_at}
-use Rattle.vs_plan.proofs.Stored.{stored_push, found_push, stored_elsewhere, whole_stored, used_word}
+use Rattle.vs_plan.proofs.Stored.{stored_push, found_push, stored_elsewhere, whole_stored, used_word, even_absent}
+use Rattle.vs_plan.specs.Other.{HasSameTables}
+use Rattle.vs_plan.proofs.Ways.{walk_level}
+use Rattle.std.proofs.lemmas.List.{map-append}
 
 -- ---- rights
 
@@ -63,14 +60,8 @@ module _ {depth : Depth} {memory : Memory} {root : ℕ} (stores : List Store) (s
       let is : IsSpare depth memory root q = frame_among stores q among (IsSpare depth memory root) spare in
       is.unreached j b reached
 
-  pub alike : (j b q : ℕ) → table_at (levels depth) memory root j b ≡ Some q → finite.get (stored_all memory stores) q ≡ finite.get memory q
+  pub alike : HasSameTables depth root memory (stored_all memory stores)
   alike j b q reached = stored_elsewhere memory stores q (not_spare j b q reached)
-
-  pub walk_filled : (b : ℕ) → walk depth (stored_all memory stores) root b ≡ walk depth memory root b
-  walk_filled b = unreached_walk (levels depth) root memory (stored_all memory stores) alike b
-
-  pub table_filled : (j b : ℕ) → table_at (levels depth) (stored_all memory stores) root j b ≡ table_at (levels depth) memory root j b
-  table_filled j b = unreached_table (levels depth) root memory (stored_all memory stores) alike j b
 
 pub whole_filled : (m : Memory) (stores : List Store) → AreWhole m → FindTheirWords m stores → AreWhole (stored_all m stores)
 whole_filled m [] whole found = whole
@@ -91,9 +82,6 @@ some_stores : (xs : List Store) → (xs ≡ [] → ⊥) → 1 ≤ length xs
 some_stores [] more = absurd (more refl)
 some_stores (x ∷ xs) more = omega arith
 
-zero_absent : (level : ℕ) → meaning level 0 ≡ entry.Absent
-zero_absent level = refl
-
 -- ---- one more table is filled
 
 path_up : (top level a b : ℕ) → SamePath top level a b → index_at (suc top) a ≡ index_at (suc top) b → SamePath (suc top) level a b
@@ -101,16 +89,6 @@ path_up top level a b same here = λ i from to. ⊎_elim
     (λ (last : i ≡ suc top). subst (λ j. index_at j a ≡ index_at j b) (sym last) here)
     (λ (other : i ≢ suc top). same i from (omega (arith, other)))
     (cases_eq i (suc top))
-
--- a frame of zeros but for one word
-module _ (m : Memory) (n i w : ℕ) (low : i < 512) (is : finite.get m n ≡ Some (slice_set zeros i w)) where
-  found_there : (level b : ℕ) → index_at level b ≡ i → found_at level m n b ≡ Some (meaning level w)
-  found_there level b same = found_word level m n b w
-      (ap (word_at m n) same ∙ word_in m n i _ is ∙ ap Some (get_or-set_same zeros i w 0 (omega (arith, length-replicate {A = ℕ} 512 0))))
-
-  found_beside : (level b : ℕ) → index_at level b ≢ i → found_at level m n b ≡ Some entry.Absent
-  found_beside level b other = found_word level m n b 0
-      (word_in m n (index_at level b) _ is ∙ ap Some (get_or-set_other zeros i (index_at level b) w 0 other ∙ zeros_are (index_at level b)))
 
 module _ {depth : Depth} {memory : Memory} {root : ℕ} {page : Page} {bits : ℕ} {height below : ℕ} {stores : List Store}
     (filled : AreFilled depth memory root page bits height below stores) (lowest : level_of page.size ≤ height)
@@ -125,15 +103,14 @@ module _ {depth : Depth} {memory : Memory} {root : ℕ} {page : Page} {bits : �
   clear : finite.get mk number ≡ Some zeros
   clear = stored_elsewhere memory stores number new ∙ spare.clear
 
-  frames_push : (xs : List Store) → frames_of (xs ++ s ∷ []) ≡ frames_of xs ++ number ∷ []
-  frames_push [] = refl
-  frames_push (t ∷ xs) = ap (λ ns. t.frame ∷ ns) (frames_push xs)
+  frames_push : frames_of (stores ++ s ∷ []) ≡ frames_of stores ++ number ∷ []
+  frames_push = map-append (λ (t : Store). t.frame) stores (s ∷ [])
 
   after : stored_all memory (stores ++ s ∷ []) ≡ stored mk s
   after = stored_push memory stores s
 
   here : Contains (frames_of (stores ++ s ∷ [])) number
-  here = subst (λ ns. Contains ns number) (sym (frames_push stores)) (Contains-append_right (frames_of stores) (number ∷ []) number (Contains-head number []))
+  here = subst (λ ns. Contains ns number) (sym frames_push) (Contains-append_right (frames_of stores) (number ∷ []) number (Contains-head number []))
 
   module _ (m : Memory) (same : AreSameIn (frames_of (stores ++ s ∷ [])) (stored_all memory (stores ++ s ∷ [])) m) where
     own_words : finite.get m number ≡ Some (slice_set zeros (index_at height page.base) w)
@@ -141,60 +118,47 @@ module _ {depth : Depth} {memory : Memory} {root : ℕ} {page : Page} {bits : �
         ∙ ap (λ (o : Option (List ℕ)). Some (slice_set (unwrap_or o []) (index_at height page.base) w)) clear
 
     others_same : AreSameIn (frames_of stores) mk m
-    others_same q among = same q (subst (λ ns. Contains ns q) (sym (frames_push stores)) (Contains-append_left (frames_of stores) (number ∷ []) q among))
+    others_same q among = same q (subst (λ ns. Contains ns q) (sym frames_push) (Contains-append_left (frames_of stores) (number ∷ []) q among))
         ∙ ap (λ (n : Memory). finite.get n q) after
         ∙ get_written_other mk number (index_at height page.base) w q (λ e. new (subst (Contains (frames_of stores)) e among))
 
     -- the table of the page
     lowest_leads : height ≡ level_of page.size → meaning (level_of page.size) w ≡ entry.Leaf page.phys page.rights → LeadsToPage depth m page height number
     lowest_leads at leads = subst (λ h. finite.get m number ≡ Some (slice_set zeros (index_at h page.base) w) → LeadsToPage depth m page h number) (sym at)
-        (λ words. by (level_of page.size - 1) (omega (arith, level_some page.size)) words) own_words
-      where
-        by : (low : ℕ) → level_of page.size ≡ suc low → finite.get m number ≡ Some (slice_set zeros (index_at (level_of page.size) page.base) w)
-            → LeadsToPage depth m page (level_of page.size) number
-        by low one words = λ b rights. (
-          λ path. walk_one b rights (entry.Leaf page.phys page.rights)
-              (found_there m number (index_at (level_of page.size) page.base) w (omega arith) words (level_of page.size) b
+        (λ words b rights. (
+          λ path. walk_level m (level_of page.size) number rights b (entry.Leaf page.phys page.rights) (level_some page.size)
+              (found_one m number (index_at (level_of page.size) page.base) w (omega arith) words (level_of page.size) b
               (sym (path (level_of page.size) (omega arith) (omega arith))) ∙ ap Some leads)
               ∙ ap (λ z. Mapped (page.phys + b % bytes_of page.size) z (intersection rights page.rights)) (size_same page.size),
-          λ apart. walk_one b rights entry.Absent
-              (found_beside m number (index_at (level_of page.size) page.base) w (omega arith) words (level_of page.size) b
+          λ apart. walk_level m (level_of page.size) number rights b entry.Absent (level_some page.size)
+              (found_none m number (index_at (level_of page.size) page.base) w (omega arith) words (level_of page.size) b
               (λ e. apart (λ i from to. let only : i ≡ level_of page.size = omega arith in
               subst (λ j. index_at j page.base ≡ index_at j b) (sym only) (sym e)))),
-        ) where
-          walk_one : (b : ℕ) (rights : Rights) (e : Meaning) → found_at (level_of page.size) m number b ≡ Some e
-              → walk_from m (level_of page.size) number rights b
-              ≡ walk_entry (level_of page.size) rights b (λ next given. walk_from m low next given b) e
-          walk_one b rights e found = subst (λ l. found_at l m number b ≡ Some e → walk_from m l number rights b
-              ≡ walk_entry l rights b (λ next given. walk_from m low next given b) e) (sym one) (walk_found m low number rights b e) found
+        )) own_words
 
     -- a table above
     higher_leads : level_of page.size < height → meaning height w ≡ entry.Table below all_rights → LeadsToPage depth m page height number
-    higher_leads deep leads = by (height - 1) (omega arith) ((filled.hang deep).1 m others_same) where
-      by : (low : ℕ) → height ≡ suc low → LeadsToPage depth m page (height - 1) below → LeadsToPage depth m page height number
-      by low one lower = λ b rights. (
-        λ path. on b rights (sym (path height (omega arith) (omega arith)))
-            ∙ (leads_low b rights).0 (λ i from to. path i from (omega (arith, one))),
-        λ apart. ⊎_elim
-            (λ (turn : index_at height b ≡ index_at height page.base). on b rights turn
-            ∙ (leads_low b rights).1 (λ path. apart (subst (λ h. SamePath h (level_of page.size) page.base b) (sym one)
-            (path_up low (level_of page.size) page.base b path (subst (λ h. index_at h page.base ≡ index_at h b) one (sym turn))))))
-            (λ (off : index_at height b ≢ index_at height page.base). walk_one b rights entry.Absent
-            (found_beside m number (index_at height page.base) w (omega arith) own_words height b off))
-            (cases_eq (index_at height b) (index_at height page.base)),
-      ) where
-        walk_one : (b : ℕ) (rights : Rights) (e : Meaning) → found_at height m number b ≡ Some e
-            → walk_from m height number rights b ≡ walk_entry height rights b (λ next given. walk_from m low next given b) e
-        walk_one b rights e found = subst (λ l. found_at l m number b ≡ Some e → walk_from m l number rights b
-            ≡ walk_entry l rights b (λ next given. walk_from m low next given b) e) (sym one) (walk_found m low number rights b e) found
+    higher_leads deep leads = λ b rights. (
+      λ path. on b rights (sym (path height (omega arith) (omega arith))) ∙ (under b rights).0 (λ i from to. path i from (omega arith)),
+      λ apart. ⊎_elim
+          (λ (turn : index_at height b ≡ index_at height page.base). on b rights turn
+          ∙ (under b rights).1 (λ path. apart (subst (λ h. SamePath h (level_of page.size) page.base b) (sym one)
+          (path_up (height - 1) (level_of page.size) page.base b path (subst (λ h. index_at h page.base ≡ index_at h b) one (sym turn))))))
+          (λ (off : index_at height b ≢ index_at height page.base). walk_level m height number rights b entry.Absent (omega arith)
+          (found_none m number (index_at height page.base) w (omega arith) own_words height b off))
+          (cases_eq (index_at height b) (index_at height page.base)),
+    ) where
+      under : LeadsToPage depth m page (height - 1) below
+      under = (filled.hang deep).1 m others_same
 
-        on : (b : ℕ) (rights : Rights) → index_at height b ≡ index_at height page.base → walk_from m height number rights b ≡ walk_from m low below rights b
-        on b rights turn = walk_one b rights (entry.Table below all_rights)
-            (found_there m number (index_at height page.base) w (omega arith) own_words height b turn ∙ ap Some leads)
-            ∙ ap (λ r. walk_from m low below r b) (all_of rights)
+      one : height ≡ suc (height - 1)
+      one = omega arith
 
-        leads_low : LeadsToPage depth m page low below
-        leads_low = subst (λ h. LeadsToPage depth m page h below) (let e : height - 1 ≡ low = omega arith in e) lower
+      on : (b : ℕ) (rights : Rights) → index_at height b ≡ index_at height page.base
+          → walk_from m height number rights b ≡ walk_from m (height - 1) below rights b
+      on b rights turn = walk_level m height number rights b (entry.Table below all_rights) (omega arith)
+          (found_one m number (index_at height page.base) w (omega arith) own_words height b turn ∙ ap Some leads)
+          ∙ ap (λ r. walk_from m (height - 1) below r b) (all_of rights)
 
     lowest_lone : height ≡ level_of page.size → meaning (level_of page.size) w ≡ entry.Leaf page.phys page.rights
         → IsLone m page.base height number (frames_of (stores ++ s ∷ []))
@@ -208,7 +172,7 @@ module _ {depth : Depth} {memory : Memory} {root : ℕ} {page : Page} {bits : �
           → IsLone m page.base height number (frames_of (stores ++ s ∷ []))
       by low one lone =
           subst (λ h. IsLone m page.base h number (frames_of (stores ++ s ∷ []))) (sym one)
-          (subst (λ ns. IsLone m page.base (suc low) number ns) (sym (frames_push stores))
+          (subst (λ ns. IsLone m page.base (suc low) number ns) (sym frames_push)
           (lone_higher m page.base low below number w all_rights (frames_of stores)
           (subst (λ h. finite.get m number ≡ Some (slice_set zeros (index_at h page.base) w)) one own_words)
           (subst (λ h. meaning h w ≡ entry.Table below all_rights) one leads) new
@@ -227,9 +191,9 @@ module _ {depth : Depth} {memory : Memory} {root : ℕ} {page : Page} {bits : �
   fresh_word : (height ≡ level_of page.size → (w ≡ page_word page bits) × (meaning (level_of page.size) w ≡ entry.Leaf page.phys page.rights))
       → (level_of page.size < height → (w ≡ table_word below) × (meaning height w ≡ entry.Table below all_rights)) → 0 ≢ w
   fresh_word at above = ⊎_elim
-      (λ (up : level_of page.size < height). words_apart height 0 w (λ same. let both = same ∙ (above up).1 in cc (both, zero_absent height)))
+      (λ (up : level_of page.size < height). words_apart height 0 w (λ same. let both = same ∙ (above up).1 in cc (both, even_absent height 0 refl)))
       (λ (le : height ≤ level_of page.size).
-      words_apart (level_of page.size) 0 w (λ same. let both = same ∙ (at (omega (arith, lowest))).1 in cc (both, zero_absent (level_of page.size))))
+      words_apart (level_of page.size) 0 w (λ same. let both = same ∙ (at (omega (arith, lowest))).1 in cc (both, even_absent (level_of page.size) 0 refl)))
       (cases_lt (level_of page.size) height)
 
   pub filled_more : (height ≡ level_of page.size → (w ≡ page_word page bits) × (meaning (level_of page.size) w ≡ entry.Leaf page.phys page.rights))

@@ -29,7 +29,7 @@ use Rattle.vs_plan.specs.Bits.{page_word}
 use Rattle.vs_plan.specs.Planner.{IsSpareFor}
 use Rattle.vs_plan.specs.Premise.{IsPremise}
 use Rattle.vs_plan.specs.Request.{IsRequest, IsMapped, IsWhole, address_of, stepped}
-use Rattle.vs_plan.specs.Right.{IsRight, WantsMore}
+use Rattle.vs_plan.specs.Right.{IsRight}
 use Rattle.vs_plan.specs.Shown.{AreFilled, IsGrown}
 use Rattle.vs_plan.specs.Target.{frames_end}
 use Rattle.vs_plan.specs.Way.{IsWay}
@@ -37,7 +37,7 @@ use Rattle.vs_plan.specs.inside.Ended.{IsAtEnd, HasEnded, IsRightAt, ChangesNoth
 use Rattle.vs_plan.proofs.Asking.{page_met, offset_met}
 use Rattle.vs_plan.proofs.Growing.{filled_more}
 use Rattle.vs_plan.proofs.Mapping.{would_add, alone_parts, link_parts}
-use Rattle.vs_plan.proofs.Parts.{right_as, nothing_right, due_as, store_at, EndAt, end_at}
+use Rattle.vs_plan.proofs.Parts.{right_as, nothing_right, due_as, store_at, EndAt, end_at, rights_right}
 use Rattle.vs_space.proofs.Maps.{map_overlaps}
 
 -- the growth, by the page and the bits that are asked for
@@ -49,17 +49,14 @@ pub record GrownAt (memory : Memory) (p : Planner) (page : Page) (bits : ℕ) : 
   pub within : All (λ (store : Store). store.frame < frames_end p.target) p.stores.items
   pub filled : AreFilled p.target.depth memory p.target.root page bits p.height p.below p.stores.items
 
-same_page : (page page' : Page) (bits bits' : ℕ) → Map page bits ≡ Map page' bits' → page ≡ page'
-same_page page page' bits bits' e = cc
-
-same_bits : (page page' : Page) (bits bits' : ℕ) → Map page bits ≡ Map page' bits' → bits ≡ bits'
-same_bits page page' bits bits' e = cc
+same_map : {page page' : Page} {bits bits' : ℕ} → Map page bits ≡ Map page' bits' → (page ≡ page') × (bits ≡ bits')
+same_map e = (cc, cc)
 
 pub grown_at : {memory : Memory} {p : Planner} {page : Page} {bits : ℕ} → IsGrown memory p → p.request ≡ Map page bits → GrownAt memory p page bits
 grown_at {memory} {p} {page} {bits} grown is =
     let e : Map grown.page grown.bits ≡ Map page bits = sym grown.request ∙ is in
-    subst (λ b. GrownAt memory p page b) (same_bits grown.page page grown.bits bits e)
-    (subst (λ g. GrownAt memory p g grown.bits) (same_page grown.page page grown.bits bits e)
+    subst (λ b. GrownAt memory p page b) (same_map e).1
+    (subst (λ g. GrownAt memory p g grown.bits) (same_map e).0
     (record { way = grown.way; word_is = grown.word_is; absent = grown.absent; allows = grown.allows; within = grown.within; filled = grown.filled }))
 
 pub grown_more : {memory : Memory} {p : Planner} {page : Page} {bits number index w : ℕ} {stores : ArrayVec Store} → IsGrown memory p
@@ -135,18 +132,8 @@ module _ (p : Planner) {page : Page} {bits : ℕ} (request : IsRequest p.target 
     -- the entries above allow less
     pub wants_more : intersection p.rights page.rights ≢ page.rights → (plan : Plan) → ChangesNothing replies.Rights 0 plan → IsRightAt p word plan
     wants_more less plan none memory ended space premise =
-        nothing_right premise (due_as p.target space is refl) plan none tt (
-          subst (WantsMore p.target memory) (sym is) (record {
-            level = p.level;
-            number = p.number;
-            rights = p.rights;
-            way = subst (λ a. IsWay p.target.depth memory p.target.root a p.level p.number p.rights) (ap address_of is) ended.way;
-            less = less;
-          }),
-          ap (λ r. changes (stepped p.target.depth space r).answer) is
-              ∙ ap changes (would_add p.target bits (end_at end ended premise (ap address_of is)) end.some mapped.good says lowest),
-        )
-        premise.translates refl
+        rights_right is (λ m allows. allows) less ended premise (due_as p.target space is refl)
+        (ap changes (would_add p.target bits (end_at end ended premise (ap address_of is)) end.some mapped.good says lowest)) plan none
 
   -- ---- a page is there
 

@@ -1,22 +1,19 @@
 -- What a memory is like after one store that writes the entry of a large page in the place of the link to a table of smaller pages.
-use Rattle.std.proofs.Common.{◌≡◌, ◌≢◌, ℕ, suc, ◌+◌, ◌%◌, ◌<◌, ◌≤◌, Some, None, refl, sym, ap, ◌∙◌, arith}
+use Rattle.std.proofs.Common.{◌≡◌, ◌≢◌, ℕ, suc, ◌+◌, ◌%◌, ◌<◌, ◌≤◌, Some, refl, sym, ap, ◌∙◌, arith}
 use Rattle.std.specs.Prelude.{Bool, true, false, ◌&&◌}
-use Rattle.vs_types.specs.Depth.{levels, entry_bytes, index_at}
+use Rattle.vs_types.specs.Depth.{levels, entry_bytes}
 use Rattle.vs_types.specs.Entry.{meaning, size_at}
 use Rattle.vs_types.specs.Page.{intersection}
 use Rattle.vs_types.specs.declared.depth.Depth.{Depth}
 use Rattle.vs_types.specs.declared.page.Rights.{Rights}
 use Rattle.vs_types.specs.declared.entry.Meaning.TheVariants as entry
-use Rattle.vs_walk.specs.Memory.{Memory, AreWhole}
+use Rattle.vs_walk.specs.Memory.{Memory}
 use Rattle.vs_walk.specs.Walk.{walk}
 use Rattle.vs_walk.specs.declared.walk.Walk.TheVariants.{Mapped}
-use Rattle.vs_space.specs.Held.{word_at, with_word}
 use Rattle.vs_space.specs.Path.{found_at, table_in, table_at, SamePath}
-use Rattle.vs_plan.specs.Premise.{HasOwnWay}
 use Rattle.vs_plan.specs.Way.{IsWay, Begins, Leads}
-use Rattle.vs_plan.proofs.EntryStores.{IsOwnTable, walk_off, walk_here, whole_store, own_after, fewer, none_here}
+use Rattle.vs_plan.proofs.EntryStores.{IsOwnTable, walk_here, fewer, none_here, after_store}
 use Rattle.vs_plan.proofs.Runs.{IsRun, run_walk}
-use Rattle.vs_plan.proofs.Stored.{used_word}
 use Rattle.vs_plan.proofs.Ways.{way_table, way_walk}
 
 -- ---- the link to the last table of a way
@@ -55,49 +52,21 @@ walk_run {m = m} {level = level} {number} {rights} way some phys own run b same 
 -- ---- the entry of one page is written in the place of the link
 
 module _ (own : Rights) (new : ℕ) {depth : Depth} {m : Memory} {root base level number above_number phys : ℕ} {rights above given : Rights}
-    (own_way : HasOwnWay depth m root base) (whole : AreWhole m) (way : IsWay depth m root base level number rights)
-    (linked : IsLinkedBy depth m root base level number above_number rights above given) {link : ℕ}
-    (link_is : word_at m above_number (index_at (suc level) base) ≡ Some link)
+    (here : IsOwnTable depth m root (suc level) base above_number) (way : IsWay depth m root base level number rights)
+    (linked : IsLinkedBy depth m root base level number above_number rights above given)
     (says : meaning (suc level) new ≡ entry.Leaf phys (intersection given own)) where
-  abbrev pub after_join : Memory
-  after_join = with_word m above_number (index_at (suc level) base) new
-
-  here : IsOwnTable depth m root (suc level) base above_number
-  here = record {
-    own = own_way;
-    whole = whole;
-    used = used_word m above_number (index_at (suc level) base) link link_is;
-    at = way_table (suc level) above_number above linked.way;
-  }
-
-  ends : table_in (Some (meaning (suc level) new)) ≡ None
-  ends = ap (λ e. table_in (Some e)) says
-
   -- addresses of the page are walked to the same physical addresses, with the same rights
   pub walk_joined : (b : ℕ) → SamePath (levels depth) (suc level) base b
-      → walk depth after_join root b ≡ Mapped (phys + b % entry_bytes (suc level)) (size_at (suc level)) (intersection rights own)
+      → walk depth (after_store here new) root b ≡ Mapped (phys + b % entry_bytes (suc level)) (size_at (suc level)) (intersection rights own)
   walk_joined b same =
       walk_here here new linked.way (omega arith) (entry.Leaf phys (intersection given own)) says b same
       ∙ ap (Mapped (phys + b % entry_bytes (suc level)) (size_at (suc level)))
       (sym (both_ways above given own) ∙ ap (λ r. intersection r own) (sym linked.both))
 
-  -- others as before
-  pub walk_apart : (b : ℕ) → (SamePath (levels depth) (suc level) base b → ⊥) → walk depth after_join root b ≡ walk depth m root b
-  walk_apart = walk_off here new
-
-  pub whole_joined : AreWhole after_join
-  whole_joined = whole_store here new
-
-  pub own_joined : (a : ℕ) → HasOwnWay depth m root a → HasOwnWay depth after_join root a
-  own_joined = own_after here new ends
-
-  pub fewer_joined : (j b q : ℕ) → table_at (levels depth) after_join root j b ≡ Some q → table_at (levels depth) m root j b ≡ Some q
-  fewer_joined j b q at = fewer here new ends b j q at
-
   -- no way leads to the table any more
-  pub unreached : (j b : ℕ) → table_at (levels depth) after_join root j b ≢ Some number
+  pub unreached : (j b : ℕ) → table_at (levels depth) (after_store here new) root j b ≢ Some number
   unreached j b reached =
-      let was = fewer_joined j b number reached in
-      let at = own_way.once level number j b (way_table level number rights way) was in
+      let ends = ap (λ e. table_in (Some e)) says in
+      let at = here.own.once level number j b (way_table level number rights way) (fewer here new ends b j number reached) in
       let none = none_here here new ends b j (omega (arith, at.0)) at.1 in
       cc

@@ -84,7 +84,7 @@ module _ (space : Space) (page : Page) where
   get_off base = finite.get-retain_keys space (λ k. not (covers page k)) base
       (λ other tie. ap (λ k. not (covers page k)) (sym (finite.nat_cmp-IsAntisymmetric base other tie)))
 
-  off_held : (base : ℕ) (q : Page) → finite.get (without_parts space page) base ≡ Some q → (covers page base ≡ false) × (finite.get space base ≡ Some q)
+  pub off_held : (base : ℕ) (q : Page) → finite.get (without_parts space page) base ≡ Some q → (covers page base ≡ false) × (finite.get space base ≡ Some q)
   off_held base q got = by (covers page base) refl (sym (get_off base) ∙ got) where
     by : (c : Bool) → covers page base ≡ c → cond (not c) (finite.get space base) None ≡ Some q → (covers page base ≡ false) × (finite.get space base ≡ Some q)
     by true covered is = absurd (cc)

@@ -26,7 +26,6 @@ use Rattle.vs_walk.specs.declared.walk.Walk.TheVariants.{Mapped}
 use Rattle.vs_walk.proofs.Walks.{leaf_level}
 use Rattle.vs_space.specs.Held.{word_at}
 use Rattle.vs_space.specs.Path.{table_at, table_in, SamePath}
-use Rattle.vs_space.specs.Table.{IsTableOf}
 use Rattle.vs_space.proofs.Prunes.{entry_word, word_in}
 use Rattle.vs_space.proofs.Regions.{IsLeafPage, level_back}
 use Rattle.vs_space.proofs.Writes.{get_written_other}
@@ -46,17 +45,19 @@ use Rattle.vs_plan.specs.Right.{Follows, IsEntryOf, IsMeantBy, IsUnlinkedBy, Kee
 use Rattle.vs_plan.specs.Shown.{IsTableMet}
 use Rattle.vs_plan.specs.Stores.{stored}
 use Rattle.vs_plan.specs.inside.Ended.{IsAtEnd, IsFirstApart, IsRightAt, IsRightWith, IsWholeStore, HasEnded, ChangesNothing}
-use Rattle.vs_plan.proofs.Asking.{entry_of, inside_right}
-use Rattle.vs_plan.proofs.Changing.{change_here, change_inside, why_here}
+use Rattle.vs_plan.proofs.Asking.{entry_of}
+use Rattle.vs_plan.proofs.Changing.{change_here, why_here}
 use Rattle.vs_plan.proofs.Following.{follows_reads, flagged_are}
-use Rattle.vs_plan.proofs.JoinedMemory.{IsLinkedBy, linked_by, walk_run, walk_joined, walk_apart, whole_joined, own_joined, fewer_joined, unreached}
+use Rattle.vs_plan.proofs.JoinedMemory.{IsLinkedBy, linked_by, walk_run, walk_joined, unreached}
 use Rattle.vs_plan.proofs.JoinedSpace.{in_place, large, larger_at, join_after, join_is, joined_translates, parts_there, small_walked}
-use Rattle.vs_plan.proofs.Pages.{table_from, found_word, page_here}
+use Rattle.vs_plan.proofs.Pages.{page_here, premise_table}
 use Rattle.vs_plan.proofs.Parts.{Parts, due_as, right_as, nothing_right, safe_one, store_at, words_apart, EndAt, end_at}
 use Rattle.vs_plan.proofs.Runs.{IsRun}
 use Rattle.vs_plan.proofs.Splitting.{are_bits_in}
 use Rattle.vs_plan.proofs.Ways.{way_table}
 use Rattle.vs_plan.proofs.Words.{page_reads}
+use Rattle.vs_plan.proofs.Stored.{found_word, used_word}
+use Rattle.vs_plan.proofs.EntryStores.{IsOwnTable, walk_off, whole_store, own_after, fewer}
 
 -- ---- numbers
 
@@ -132,10 +133,7 @@ index_first_of level base phys some first =
 module _ (target : Target) {memory : Memory} {space : Space} {base level number word phys : ℕ} {given own : Rights}
     (end : EndAt target memory space level number given word base) (some : 1 ≤ level) (says : meaning level word ≡ entry.Leaf phys own) where
   pub page : (q : Page) × IsLeafPage target.depth space base level phys (intersection given own) q
-  page = page_here end.way some end.word_is end.premise.is_space end.premise.translates end.canonical says
-
-  table : IsTableOf (table_from target.depth memory target.root) space
-  table = record { is_space = end.premise.is_space; translates = end.premise.translates }
+  page = page_here end.way some end.word_is end.premise end.canonical says
 
   begins : base % bytes_of (size_at level) ≡ 0 → page.0.base ≡ base
   begins aligned = let offset : base % bytes_of page.0.size ≡ base % bytes_of (size_at level) = ap (λ n. base % n) (ap bytes_of page.1.size) in
@@ -222,9 +220,20 @@ module _ (target : Target) {memory : Memory} {space : Space} {base level number 
         new_says : meaning (suc level) entry_new ≡ entry.Leaf phys (intersection last.2 own)
         new_says = subst (λ l. meaning l entry_new ≡ entry.Leaf phys (intersection last.2 own))
             (ap level_of (larger_at level some few) ∙ level_back (suc level) (omega arith) (omega (arith, few)))
-            (page_reads (larger (size_at level)) phys (flagged (bits_in (size_at level) word)) (intersection last.2 own).write (intersection last.2 own).user
-            (intersection last.2 own).exec (ap (λ n. phys % n) (larger_bytes level some few) ∙ phys_aligned) (leaf_level level word phys own says).1
+            (page_reads (larger (size_at level)) phys (flagged (bits_in (size_at level) word)) (intersection last.2 own)
+            (ap (λ n. phys % n) (larger_bytes level some few) ∙ phys_aligned) (leaf_level level word phys own says).1
             (flagged_are (bits_in (size_at level) word) (are_bits_in (size_at level) word)))
+
+        above_table : IsOwnTable target.depth memory target.root (suc level) base above
+        above_table = record {
+          own = end.premise.own;
+          whole = end.premise.whole;
+          used = used_word memory above (index_at (suc level) base) link met.word_is;
+          at = reached_above;
+        }
+
+        ends : table_in (Some (meaning (suc level) entry_new)) ≡ None
+        ends = ap (λ e. table_in (Some e)) new_says
 
         join_at : join space base ≡ record {
           space = in_place space (record { base = base; size = size_at (suc level); phys = phys; rights = intersection given own });
@@ -268,12 +277,13 @@ module _ (target : Target) {memory : Memory} {space : Space} {base level number 
             refl,
             larger_size level some few,
             parts_there end.premise.is_space base level phys (intersection given own) end.canonical some few aligned phys_aligned
-                (small_walked table base level phys (intersection given own) end.canonical some few aligned phys_aligned walks),
+                (small_walked (premise_table end.premise) base level phys (intersection given own) end.canonical some few aligned phys_aligned walks),
           );
           safe = safe_one s end.premise.translates (subst (λ (t : Stepped). TranslatesAs target.depth (stored memory s) target.root t.space) (sym join_at)
-              (joined_translates table base level phys (intersection given own) end.canonical some few aligned phys_aligned walks (stored memory s)
-              (λ b path. walk_joined own entry_new end.premise.own end.premise.whole end.way linked met.word_is new_says b path)
-              (λ b off. walk_apart own entry_new end.premise.own end.premise.whole end.way linked met.word_is new_says b off)));
+              (joined_translates (premise_table end.premise) base level phys (intersection given own) end.canonical some few aligned phys_aligned walks
+              (stored memory s)
+              (λ b path. walk_joined own entry_new above_table end.way linked new_says b path)
+              (λ b off. walk_off above_table entry_new b off)));
           found = (met.word_is, tt);
           meant = All-cons (IsMeantBy target memory (Join base) (number ∷ [])) s [] (record {
             on = record { level = suc level; reached = reached_above; index = refl };
@@ -295,13 +305,13 @@ module _ (target : Target) {memory : Memory} {space : Space} {base level number 
             was = reached;
             lower = lower;
             same = get_written_other memory above (index_at (suc level) base) entry_new number apart;
-            unreached = unreached own entry_new end.premise.own end.premise.whole end.way linked met.word_is new_says;
+            unreached = unreached own entry_new above_table end.way linked new_says;
           }) (All-nil _);
           pruned = tt;
           named_once = λ i j d lt within. absurd (omega arith);
-          whole = whole_joined own entry_new end.premise.own end.premise.whole end.way linked met.word_is new_says;
-          own = own_joined own entry_new end.premise.own end.premise.whole end.way linked met.word_is new_says;
-          reaches = λ l b q at. inl (fewer_joined own entry_new end.premise.own end.premise.whole end.way linked met.word_is new_says l b q at);
+          whole = whole_store above_table entry_new;
+          own = own_after above_table entry_new ends;
+          reaches = λ l b q at. inl (fewer above_table entry_new ends b l q at);
         } where
           highest : (pinned : Bool) → suc level ≤ cond pinned (levels target.depth - 1) (levels target.depth)
           highest true = omega (arith, few, four_levels target.depth)
@@ -311,13 +321,6 @@ module _ (target : Target) {memory : Memory} {space : Space} {base level number 
 
 module _ {p : Planner} {word : ℕ} (end : IsAtEnd p) {phys : ℕ} {own : Rights} (says : meaning p.level word ≡ entry.Leaf phys own) {base : ℕ}
     (is : p.request ≡ Join base) where
-  -- the page begins elsewhere
-  pub join_in : base % bytes_of (size_at p.level) ≢ 0 → (plan : Plan)
-      → ChangesNothing (replies.Answer (answers.Inside (base - base % bytes_of (size_at p.level)))) 0 plan → IsRightAt p word plan
-  join_in = inside_right end says (λ b space q place here apart.
-      ap (stepped p.target.depth space) (is ∙ ap Join (sym (ap address_of is) ∙ place)) ∙ change_inside space b (join_after space) q here apart)
-      (ap address_of is)
-
   module _ (starts : base % bytes_of (size_at p.level) ≡ 0) where
     due_by : {memory : Memory} {space : Space} → HasEnded memory p word → IsPremise p.target.depth memory p.target.root (address_of p.request) space
         → refusal p.target space p.request ≡ not_first base phys (size_at p.level)
@@ -392,15 +395,15 @@ module _ {p : Planner} {word : ℕ} (end : IsAtEnd p) {phys : ℕ} {own : Rights
           let follow_here : (i : ℕ) → i < 512 → Follows (size_at p.level) word i (slice_index words i) =
           λ i low. subst (λ w. Follows (size_at p.level) w i (slice_index words i)) one (follow i low) in
           let up : p.level + 1 ≡ suc p.level = omega arith in
-          let rights : whole.allowed ≡ (last p.target here end.some says starts (may_join base phys (size_at p.level) first) there follow_here met_here).2 =
-          whole.leads p.number (last p.target here end.some says starts (may_join base phys (size_at p.level) first) there follow_here met_here).2
-          (subst (λ l. meaning l (slice_index p.words l) ≡ entry.Table p.number
-          (last p.target here end.some says starts (may_join base phys (size_at p.level) first) there follow_here met_here).2)
-          (sym up) (leads p.target here end.some says starts (may_join base phys (size_at p.level) first) there follow_here met_here)) in
+          let may = may_join base phys (size_at p.level) first in
+          let link = last p.target here end.some says starts may there follow_here met_here in
+          let rights : whole.allowed ≡ link.2 = whole.leads p.number link.2
+          (subst (λ l. meaning l (slice_index p.words l) ≡ entry.Table p.number link.2) (sym up)
+          (leads p.target here end.some says starts may there follow_here met_here)) in
           subst (λ r. IsRight p.target r memory space [] plan) (sym is)
           (right_as plan (reply ∙ ap (λ r. replies.Answer (answers.Changed r)) answer_is) (bits ∙ bits_are) fill
           (stores ∙ ap (λ (s : Store). s ∷ []) (whole.store_is ∙ store_as up rights)) flush unlinked
-          (join_parts p.target here end.some says starts (may_join base phys (size_at p.level) first) there follow_here met_here))
+          (join_parts p.target here end.some says starts may there follow_here met_here))
         where
           store_as : {above : ℕ} → above ≡ suc p.level → {a b : Rights} → a ≡ b
               → store_at (slice_index p.numbers above) (index_at above base) (slice_index p.words above)

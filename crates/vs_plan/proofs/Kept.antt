@@ -104,20 +104,17 @@ agrees_closed depth root memory = record {
       (found_same (suc below) memory number other address (region_index below other address region) ∙ found);
 }
 
-pub reads_agree : (depth : Depth) (root : ℕ) (memory : Memory) (kept : Kept) → Reads depth root memory kept → Agrees depth root memory kept
-reads_agree depth root memory kept reads = all_reads (agrees_closed depth root memory) kept reads
-
 pub entry_walk : (depth : Depth) (root : ℕ) (memory : Memory) (level region number : ℕ) (rights : Rights)
     → Reads depth root memory (PagingEntry level region number rights) → (address : ℕ) → region_number level address ≡ region
     → walk depth memory root address ≡ walk_from memory level number rights address
 entry_walk depth root memory level region number rights reads address same =
-    reads_agree depth root memory (PagingEntry level region number rights) reads address same
+    all_reads (agrees_closed depth root memory) (PagingEntry level region number rights) reads address same
 
 pub translation_walk : (depth : Depth) (root : ℕ) (memory : Memory) (level page frame : ℕ) (rights : Rights)
     → Reads depth root memory (Translation level page frame rights) → (address : ℕ) → page_number level address ≡ page
     → walk depth memory root address ≡ Mapped (frame + address % entry_bytes level) (size_at level) rights
 translation_walk depth root memory level page frame rights reads address same =
-    reads_agree depth root memory (Translation level page frame rights) reads address same
+    all_reads (agrees_closed depth root memory) (Translation level page frame rights) reads address same
 
 pub finds_walk : (depth : Depth) (root : ℕ) (memory : Memory) (moments : List Moment) (address : ℕ) (end : Walk)
     → IsUpToDate depth root memory moments → IsCanonical depth address → MayFind depth root memory moments address end

@@ -22,7 +22,8 @@ use Rattle.vs_space.proofs.Writes.{same_or_not}
 use Rattle.vs_plan.specs.Premise.{HasOwnWay}
 use Rattle.vs_plan.specs.Shown.{IsLone}
 use Rattle.vs_plan.proofs.EntryStores.{IsOwnTable, after_store, table_off, table_above, table_here, found_stored}
-use Rattle.vs_plan.proofs.WordOrders.{found_word}
+use Rattle.vs_plan.proofs.Stored.{found_word}
+use Rattle.vs_space.specs.Held.{word_at}
 
 split_down : (m : Memory) (top root t b n j : ℕ) → t ≤ top → j < t → table_at top m root (suc j) b ≡ table_at t m n (suc j) b
     → (o : Option ℕ) → table_at top m root (suc j) b ≡ o → table_at top m root j b ≡ table_at t m n j b
@@ -43,14 +44,13 @@ table_split m top root t b n at (suc d) j e =
 -- ---- a frame of zeros but for one word
 
 module _ (m : Memory) (number index w : ℕ) (low : index < 512) (is : finite.get m number ≡ Some (slice_set zeros index w)) where
-  found_one : (level b : ℕ) → index_at level b ≡ index → found_at level m number b ≡ Some (meaning level w)
-  found_one level b at = found_word level m number index w b
-      (word_in m number index (slice_set zeros index w) is ∙ ap Some (get_or-set_same zeros index w 0 (omega (arith, length-replicate {A = ℕ} 512 0)))) at
+  pub found_one : (level b : ℕ) → index_at level b ≡ index → found_at level m number b ≡ Some (meaning level w)
+  found_one level b at = found_word level m number b w (ap (word_at m number) at
+      ∙ word_in m number index (slice_set zeros index w) is ∙ ap Some (get_or-set_same zeros index w 0 (omega (arith, length-replicate {A = ℕ} 512 0))))
 
-  found_none : (level b : ℕ) → index_at level b ≢ index → found_at level m number b ≡ Some entry.Absent
-  found_none level b other = found_word level m number (index_at level b) 0 b
-      (word_in m number (index_at level b) (slice_set zeros index w) is
-      ∙ ap Some (get_or-set_other zeros index (index_at level b) w 0 other ∙ zeros_are (index_at level b))) refl
+  pub found_none : (level b : ℕ) → index_at level b ≢ index → found_at level m number b ≡ Some entry.Absent
+  found_none level b other = found_word level m number b 0 (word_in m number (index_at level b) (slice_set zeros index w) is
+      ∙ ap Some (get_or-set_other zeros index (index_at level b) w 0 other ∙ zeros_are (index_at level b)))
 
   -- which leads to no table
   pub lone_lowest : (base top : ℕ) (frames : List ℕ) → 1 ≤ top → table_in (Some (meaning top w)) ≡ None → Contains frames number

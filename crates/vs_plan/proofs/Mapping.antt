@@ -20,8 +20,7 @@ use Rattle.vs_walk.specs.Walk.{walk, walk_from, TranslatesAs}
 use Rattle.vs_walk.specs.declared.walk.Walk.TheVariants.{NotMapped, Mapped}
 use Rattle.vs_space.specs.Held.{word_at}
 use Rattle.vs_space.specs.Path.{table_in, table_at, SamePath}
-use Rattle.vs_space.specs.Table.{IsTableOf}
-use Rattle.vs_space.proofs.Writes.{get_written_other, found_alike, same_or_not}
+use Rattle.vs_space.proofs.Writes.{get_written_other, same_or_not}
 use Rattle.vs_space.proofs.Written.{size_same}
 use Rattle.vs_plan.specs.declared.plan.Flush.TheVariants as flushes
 use Rattle.vs_plan.specs.declared.plan.Reply.TheVariants as replies
@@ -35,35 +34,27 @@ use Rattle.vs_plan.specs.Shown.{EndsAt, frames_of, LeadsToPage, AreFilled}
 use Rattle.vs_plan.specs.Stores.{stored, stored_all}
 use Rattle.vs_plan.specs.Target.{frames_end}
 use Rattle.vs_plan.specs.Way.{IsWay}
-use Rattle.vs_plan.proofs.Growing.{frame_among, links_push, all_of, not_spare, walk_filled, table_filled, alike, whole_filled}
-use Rattle.vs_plan.proofs.Pages.{table_from, found_word}
+use Rattle.vs_plan.proofs.Growing.{frame_among, links_push, all_of, not_spare, alike, whole_filled}
+use Rattle.vs_plan.proofs.Pages.{premise_table}
 use Rattle.vs_plan.proofs.EntryStores.{IsOwnTable, walk_off, walk_here, whole_store, fewer, own_after}
-use Rattle.vs_space.proofs.Written.{word_alike}
 use Rattle.vs_plan.proofs.Linking.{old_or_new, own_linked}
 use Rattle.vs_plan.proofs.Parts.{words_apart, none_named, Parts, safe_one, safe_last, store_at, EndAt, own_table}
 use Rattle.vs_plan.proofs.Steps.{added_answer, added_translates}
-use Rattle.vs_plan.proofs.Stored.{stored_push, found_push, used_word}
-use Rattle.vs_plan.proofs.Ways.{way_table, way_within, walk_at, way_kept}
+use Rattle.vs_plan.proofs.Stored.{stored_push, found_push, used_word, found_word, absent_even}
+use Rattle.vs_plan.proofs.Ways.{way_table, way_within, walk_at}
+use Rattle.vs_plan.specs.Other.{HasSameTables}
+use Rattle.vs_plan.proofs.Filled.{walk_as, table_as, own_as, way_as, word_as, translates_as}
+use Rattle.std.proofs.lemmas.List.{map-append}
 
 -- the frames of more stores
-frames_push : (stores : List Store) (s : Store) → frames_of (stores ++ s ∷ []) ≡ frames_of stores ++ s.frame ∷ []
-frames_push [] s = refl
-frames_push (t ∷ stores) s = ap (λ (ns : List ℕ). t.frame ∷ ns) (frames_push stores s)
-
 frames_more : (stores : List Store) (s : Store) (q : ℕ) → Contains (frames_of stores) q → Contains (frames_of (stores ++ s ∷ [])) q
 frames_more stores s q among =
-    subst (λ (ns : List ℕ). Contains ns q) (sym (frames_push stores s)) (Contains-append_left (frames_of stores) (s.frame ∷ []) q among)
-
--- the bit of a word that is absent
-absent_even : (level word : ℕ) → meaning level word ≡ entry.Absent → word % 2 ≡ 0
-absent_even level word says = grind arith
+    subst (λ (ns : List ℕ). Contains ns q) (sym (map-append (λ (t : Store). t.frame) stores (s ∷ [])))
+    (Contains-append_left (frames_of stores) (s.frame ∷ []) q among)
 
 module _ (target : Target) (bits : ℕ) {memory : Memory} {space : Space} {page : Page} {level number word : ℕ} {given : Rights}
     (end : EndAt target memory space level number given word page.base) (some : 1 ≤ level) (good : IsPage target.depth page)
     (says : meaning level word ≡ entry.Absent) (lowest : level_of page.size ≤ level) where
-  table : IsTableOf (table_from target.depth memory target.root) space
-  table = record { is_space = end.premise.is_space; translates = end.premise.translates }
-
   table_here : IsOwnTable target.depth memory target.root level page.base number
   table_here = own_table end
 
@@ -78,28 +69,15 @@ module _ (target : Target) (bits : ℕ) {memory : Memory} {space : Space} {page 
 
   -- a map of the page is done
   pub would_add : (step target.depth (table_count target.depth (finite.insert space page.base page)) space (actions.Map page)).answer ≡ answers.Done
-  would_add = added_answer table good nothing
+  would_add = added_answer (premise_table end.premise) good nothing
 
   module _ (allows : intersection given page.rights ≡ page.rights) where
-    pruned_map : (after : Memory) (stores : List Store) → IsPruned target after (Map page bits) stores
-    pruned_map after [] = tt
-    pruned_map after (s ∷ stores) = tt
-
-    flushed_map : (stores : List Store) → IsFlushed target memory (Map page bits) stores [] flushes.Nothing
-    flushed_map [] = refl
-    flushed_map (s ∷ stores) = refl
-
-    already_map : (stores : List Store) → IsAlready target memory (Map page bits) (replies.Answer answers.Done) stores
-    already_map [] = tt
-    already_map (s ∷ stores) = tt
-
-    put_map : (offered : List (Option ℕ)) (stores : List Store) → IsPut target (Map page bits) memory offered None stores []
-    put_map offered [] = refl
-    put_map offered (s ∷ stores) = refl
-
-    fits_map : (stores : List Store) → Fits (Map page bits) space stores
-    fits_map [] = tt
-    fits_map (s ∷ stores) = tt
+    -- what is asked of the stores of a map, whichever they are
+    of_map : (after : Memory) (offered : List (Option ℕ)) (stores : List Store) → IsPut target (Map page bits) memory offered None stores []
+        × Fits (Map page bits) space stores × IsAlready target memory (Map page bits) (replies.Answer answers.Done) stores
+        × IsFlushed target memory (Map page bits) stores [] flushes.Nothing × IsPruned target after (Map page bits) stores
+    of_map after offered [] = (refl, tt, tt, refl, tt)
+    of_map after offered (s ∷ stores) = (refl, tt, tt, refl, tt)
 
     -- ---- the page's entry alone is written
 
@@ -110,11 +88,11 @@ module _ (target : Target) (bits : ℕ) {memory : Memory} {space : Space} {page 
     alone_parts offered at w is leads =
         let says_new : meaning level w ≡ entry.Leaf page.phys page.rights = ap (λ l. meaning l w) at ∙ leads in
         record {
-          reply = sym (added_answer table good nothing);
+          reply = sym (added_answer (premise_table end.premise) good nothing);
           due = refl;
           put = refl;
           fits = tt;
-          safe = safe_one (store_at number (index_at level page.base) word w) end.premise.translates (added_translates table good nothing
+          safe = safe_one (store_at number (index_at level page.base) word w) end.premise.translates (added_translates (premise_table end.premise) good nothing
               (stored memory (store_at number (index_at level page.base) word w))
               (λ b canonical path.
               walk_here table_here w end.way some (entry.Leaf page.phys page.rights) says_new b (λ i from to. path i (omega (arith, at)) to)
@@ -159,18 +137,21 @@ module _ (target : Target) (bits : ℕ) {memory : Memory} {space : Space} {page 
       number_apart : Contains (frames_of stores) number → ⊥
       number_apart among = not_spare stores filled.spare level page.base number (way_table level number given end.way) among
 
+      same : HasSameTables target.depth target.root memory mk
+      same = alike stores filled.spare
+
       way : IsWay target.depth mk target.root page.base level number given
-      way = way_kept mk level number given end.way (λ j q over reached. found_alike j memory mk q page.base (alike stores filled.spare j page.base q reached))
+      way = way_as target.depth target.root memory mk same end.way
 
       own_filled : (c : ℕ) → HasOwnWay target.depth memory target.root c → HasOwnWay target.depth mk target.root c
-      own_filled c has = record {
-        once = λ l q j b one other.
-            has.once l q j b (sym (table_filled stores filled.spare l c) ∙ one) (sym (table_filled stores filled.spare j b) ∙ other);
-      }
+      own_filled = own_as target.depth target.root memory mk same
+
+      table_filled : (j b : ℕ) → table_at (levels target.depth) mk target.root j b ≡ table_at (levels target.depth) memory target.root j b
+      table_filled = table_as target.depth target.root memory mk same
 
       word_filled : word_at mk number (index_at level page.base) ≡ Some word
-      word_filled = word_alike memory mk number (index_at level page.base)
-          (alike stores filled.spare level page.base number (way_table level number given end.way)) ∙ end.word_is
+      word_filled = word_as target.depth target.root memory mk same level page.base number (index_at level page.base)
+          (way_table level number given end.way) ∙ end.word_is
 
       filled_table : IsOwnTable target.depth mk target.root level page.base number
       filled_table = record {
@@ -205,7 +186,7 @@ module _ (target : Target) (bits : ℕ) {memory : Memory} {space : Space} {page 
           (λ (over : level ≤ i). path i over to)
           (cases_lt i level)))
           ∙ sym (absent_below b path))
-          (λ off. walk_off filled_table w b off ∙ walk_filled stores filled.spare b)
+          (λ off. walk_off filled_table w b off ∙ walk_as target.depth target.root memory mk same b)
           (same_or_not (levels target.depth) level page.base b)
 
       here : m' ≡ stored_all memory (stores ++ s ∷ [])
@@ -225,11 +206,11 @@ module _ (target : Target) (bits : ℕ) {memory : Memory} {space : Space} {page 
           (own_linked filled_table w below (level - 1) all_rights leads (omega arith) (frames_of stores)
           (filled.lone deep m' (λ q among. get_written_other mk number (index_at level page.base) w q
           (λ e. number_apart (subst (Contains (frames_of stores)) e among))))
-          (λ q among j b r. not_spare stores filled.spare j b q (sym (table_filled stores filled.spare j b) ∙ r) among) a (own_filled a has))
+          (λ q among j b r. not_spare stores filled.spare j b q (sym (table_filled j b) ∙ r) among) a (own_filled a has))
 
       reaches_link : ReachesNoOther target memory (stored_all memory (stores ++ s ∷ [])) None (stores ++ s ∷ [])
       reaches_link j b q at = ⊎_elim
-          (λ old. inl (sym (table_filled stores filled.spare j b) ∙ old))
+          (λ old. inl (sym (table_filled j b) ∙ old))
           (λ new. inr (record {
             spare = frame_among stores q new.0 (λ n. IsSpare target.depth memory target.root n) filled.spare;
             written = frames_more stores s q new.0;
@@ -237,36 +218,37 @@ module _ (target : Target) (bits : ℕ) {memory : Memory} {space : Space} {page 
           (old_or_new filled_table w below (level - 1) all_rights leads (omega arith) (frames_of stores)
           (filled.lone deep m' (λ q among. get_written_other mk number (index_at level page.base) w q
           (λ e. number_apart (subst (Contains (frames_of stores)) e among))))
-          (λ q among j b r. not_spare stores filled.spare j b q (sym (table_filled stores filled.spare j b) ∙ r) among)
+          (λ q among j b r. not_spare stores filled.spare j b q (sym (table_filled j b) ∙ r) among)
           b j q (subst (λ (n : Memory). table_at (levels target.depth) n target.root j b ≡ Some q) (sym here) at))
 
       pub link_parts : (offered : List (Option ℕ))
           → Parts target (Map page bits) memory space offered (replies.Answer answers.Done) 0 None (stores ++ s ∷ []) flushes.Nothing []
-      link_parts offered = record {
-        reply = sym (added_answer table good nothing);
+      link_parts offered = let rest = of_map (stored_all memory (stores ++ s ∷ [])) offered (stores ++ s ∷ []) in record {
+        reply = sym (added_answer (premise_table end.premise) good nothing);
         due = refl;
-        put = put_map offered (stores ++ s ∷ []);
-        fits = fits_map (stores ++ s ∷ []);
+        put = rest.0;
+        fits = rest.1;
         safe = safe_last stores s
-            (λ n le b canonical. walk_filled (take n stores)
-            (All-take (λ (t : Store). IsSpare target.depth memory target.root t.frame) n stores filled.spare) b
-            ∙ end.premise.translates b canonical)
+            (λ n le. translates_as target.depth target.root memory (stored_all memory (take n stores))
+            (alike (take n stores) (All-take (λ (t : Store). IsSpare target.depth memory target.root t.frame) n stores filled.spare))
+            space end.premise.translates)
             (subst (λ (n : Memory). TranslatesAs target.depth n target.root (step target.depth (table_count target.depth
-            (finite.insert space page.base page)) space (actions.Map page)).space) here (added_translates table good nothing m' there elsewhere));
+            (finite.insert space page.base page)) space (actions.Map page)).space) here
+            (added_translates (premise_table end.premise) good nothing m' there elsewhere));
         found = found_push memory stores s filled.found word_filled;
         meant = All-push (IsMeant target memory page.base []) stores s
             (λ k d low. OfSpare (filled.spare k d low) (within k d low))
             (OfPage (record { level = level; reached = way_table level number given end.way; index = refl }) (ap (λ e. table_in (Some e)) says));
         nothing = λ none. absurd (none (λ e. cc));
         written = written_link stores filled.written filled.ends some_store;
-        already = already_map (stores ++ s ∷ []);
+        already = rest.2;
         changing = All-push (λ (t : Store). t.old ≢ t.new) stores s filled.changing
             (words_apart level word w (λ same. let both = sym says ∙ same ∙ leads in cc));
         one_way = All-push (λ (t : Store). t.old % 2 ≡ 0) stores s filled.absent (absent_even level word says);
         told = refl;
-        flushed = flushed_map (stores ++ s ∷ []);
+        flushed = rest.3;
         unlinked = All-nil _;
-        pruned = pruned_map (stored_all memory (stores ++ s ∷ [])) (stores ++ s ∷ []);
+        pruned = rest.4;
         named_once = none_named;
         whole = subst AreWhole here (whole_store filled_table w);
         own = own_link;

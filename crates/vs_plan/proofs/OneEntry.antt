@@ -23,7 +23,7 @@ use Rattle.vs_plan.specs.Premise.{HasOwnWay}
 use Rattle.vs_plan.specs.Stores.{stored}
 use Rattle.vs_plan.specs.Way.{IsWay, Begins, Leads}
 use Rattle.vs_plan.proofs.EntryStores.{walked_off}
-use Rattle.vs_plan.proofs.Stays.{ChangesPageAlone, ChangesRangeAlone}
+use Rattle.vs_plan.proofs.Stays.{ChangesPageAlone, ChangesRangeAlone, mapped_same}
 use Rattle.vs_plan.proofs.Ways.{walk_at}
 
 -- ---- a table that is reached has a way
@@ -86,13 +86,10 @@ module _ {depth : Depth} {m : Memory} {root base low : ℕ} {s : Store} (at : Is
       let path : SamePath (levels depth) (suc low) base address =
       stretch_same (levels depth) low base address (subst (λ bytes. base / bytes ≡ address / bytes) (entry_is_table low) there) in
       let here = leaf_walk low phys own (way_of depth m root base (suc low) s.frame at.reached).1 found address path in
-      let size_is : size ≡ size_at (suc low) = sizes _ _ size (size_at (suc low)) rights _ (sym walked ∙ here) in
+      let size_is : size ≡ size_at (suc low) = (mapped_same (sym walked ∙ here)).1 in
       let level_is : level_of size ≡ suc low = ap level_of size_is ∙ level_back (suc low) (omega arith) few in
       inr (subst (λ l. address / entry_bytes l ≡ base / entry_bytes l) (sym level_is) (sym there)))
       (off_or_on address canonical)
-    where
-      sizes : (a b : ℕ) (s t : Size) (q r : Rights) → Mapped a s q ≡ Mapped b t r → s ≡ t
-      sizes a b s t q r e = cc
 
   -- where the range is that of the entry
   pub range_alone : (range : Size) → level_of range ≡ suc low → base % bytes_of range ≡ 0 → ChangesRangeAlone depth root m (stored m s) base range

@@ -1,5 +1,5 @@
 -- Memories of which one has entries that the other lacks.
-use Rattle.std.proofs.Common.{◌≡◌, ℕ, zero, suc, List, [], ◌∷◌, Option, Some, None, ◌⊎◌, inl, inr, ⊎_elim, refl, sym, ◌∙◌}
+use Rattle.std.proofs.Common.{◌≡◌, ℕ, zero, suc, List, [], ◌∷◌, Option, Some, ◌⊎◌, inl, inr, ⊎_elim, refl, sym, ◌∙◌}
 use Rattle.std.proofs.lemmas.Option.{same_Some}
 use Rattle.vs_types.specs.Page.{intersection}
 use Rattle.vs_types.specs.declared.depth.Depth.{Depth}
@@ -7,18 +7,19 @@ use Rattle.vs_types.specs.declared.page.Rights.{Rights}
 use Rattle.vs_types.specs.declared.entry.Meaning.{Meaning}
 use Rattle.vs_types.specs.declared.entry.Meaning.TheVariants as entry
 use Rattle.vs_walk.specs.Memory.{Memory}
-use Rattle.vs_walk.specs.Walk.{walk, walk_entry, walk_from}
+use Rattle.vs_walk.specs.Walk.{walk, walk_from}
 use Rattle.vs_walk.specs.declared.walk.Walk.{Walk}
 use Rattle.vs_walk.specs.declared.walk.Walk.TheVariants.{NotMapped}
 use Rattle.vs_walk.proofs.Walks.{walk_nowhere}
 use Rattle.vs_space.specs.Path.{found_at}
-use Rattle.vs_space.proofs.Paths.{walk_found, walk_lost, found_same}
+use Rattle.vs_space.proofs.Paths.{walk_found, found_same}
 use Rattle.vs_plan.specs.Processor.{page_number, region_number, Kept, Translation, PagingEntry, OfRoot, OfTable, OfPage}
 use Rattle.vs_plan.specs.Processor.{Moment, Is, MayFind, ByTranslation, ByWalk, IsUpToDate}
 use Rattle.vs_plan.specs.Stores.{stored, stored_all}
 use Rattle.vs_plan.specs.Flushed.{while_stored}
 use Rattle.vs_plan.specs.declared.plan.Store.{Store}
 use Rattle.vs_plan.proofs.Kept.{IsClosed, all_kept, Reads, all_reads, stays_up_to_date, entry_walk, translation_walk, region_index, region_wider}
+use Rattle.vs_plan.proofs.Ways.{walk_alike}
 
 -- each entry of the first memory is as in the second, or absent
 abbrev pub IsLess : Memory → Memory → Type 0
@@ -72,23 +73,15 @@ less_walk less more is (suc below) number rights address = ⊎_elim
     (λ none. inr (walk_found less below number rights address entry.Absent none))
     (is (suc below) number address)
   where
-    at : Goes less more below address → (means : Meaning) → (walk_entry (suc below) rights address (λ next own. walk_from less below next own address) means
-        ≡ walk_entry (suc below) rights address (λ next own. walk_from more below next own address) means)
-        ⊎ (walk_entry (suc below) rights address (λ next own. walk_from less below next own address) means ≡ NotMapped)
-    at go entry.Absent = inl refl
-    at go entry.Reserved = inl refl
-    at go (entry.Leaf phys own) = inl refl
-    at go (entry.Table next own) = go next (intersection rights own)
-
     by : Goes less more below address → (o : Option Meaning) → found_at (suc below) less number address ≡ o
         → found_at (suc below) less number address ≡ found_at (suc below) more number address
         → (walk_from less (suc below) number rights address ≡ walk_from more (suc below) number rights address)
         ⊎ (walk_from less (suc below) number rights address ≡ NotMapped)
-    by go None is same = inl (walk_lost less below number rights address is ∙ sym (walk_lost more below number rights address (sym same ∙ is)))
-    by go (Some means) is same =
-        let here = walk_found less below number rights address means is in
-        let there = walk_found more below number rights address means (sym same ∙ is) in
-        ⊎_elim (λ e. inl (here ∙ e ∙ sym there)) (λ e. inr (here ∙ e)) (at go means)
+    by go (Some (entry.Table next own)) is same =
+        let here = walk_found less below number rights address (entry.Table next own) is in
+        let there = walk_found more below number rights address (entry.Table next own) (sym same ∙ is) in
+        ⊎_elim (λ e. inl (here ∙ e ∙ sym there)) (λ e. inr (here ∙ e)) (go next (intersection rights own))
+    by go o is same = inl (walk_alike more less below number rights address same o (sym same ∙ is) (λ next own e. cc))
 
 -- a kept entry of the other memory is one of the lesser too, or nothing of its region is mapped there
 abbrev LeadsOrEnds : Depth → ℕ → Memory → Kept → Type 0

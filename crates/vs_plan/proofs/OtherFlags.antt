@@ -1,6 +1,6 @@
 -- Memories in which the accessed flag and the dirty flag differ: they translate alike, and so they do after stores that differ so.
 use Rattle.std.proofs.Common.{◌≡◌, ◌≢◌, ℕ, zero, suc, ◌+◌, ◌-◌, ◌*◌, ◌/◌, ◌%◌, ◌^◌, ◌<◌, ◌≤◌, true, false, List, [], ◌∷◌, Some, ⊎_elim, refl, sym, ap, subst, ◌∙◌, nat_eq, cond, Bool, arith}
-use Rattle.std.specs.Prelude.{IsSome, is_some, slice_set, unwrap_or}
+use Rattle.std.specs.Prelude.{IsSome, is_some, slice_set, unwrap_or, not}
 use Rattle.std.specs.FinMap as finite
 use Rattle.std.specs.Int.{bit_at}
 use Rattle.std.specs.List.{AllZip}
@@ -22,6 +22,7 @@ use Rattle.vs_space.proofs.Paths.{agree_walk}
 use Rattle.vs_space.proofs.Writes.{words_in, get_written, get_written_other}
 use Rattle.vs_space.proofs.Flagged.{flagged_found}
 use Rattle.vs_space.proofs.FlaggedWords.{bit_above}
+use Rattle.vs_plan.proofs.Words.{digit, digit_low, in_digits}
 
 module _ {old new : Memory} (is : AreSameButFlags old new) where
   pub same_translations : (depth : Depth) (root : ℕ) (space : Space) → TranslatesAs depth old root space → TranslatesAs depth new root space
@@ -99,19 +100,10 @@ kept_bits word old a b c is la lb lc entry is_entry =
     ap (λ (none : Bool). cond none entry (flags_into word entry)) (ne_eqb (entry % 2) 0 (λ none. omega (arith, is.present, is_entry, none)))
     ∙ omega (arith, is.present, is.below, is.above, la, lb, lc, is_entry)
 
-kept_rights : (word old : ℕ) (w u x : Bool) → HasFlagsSet old word
-    → with_flags_of word (with_rights old (record { write = w; user = u; exec = x })) ≡ with_rights word (record { write = w; user = u; exec = x })
-kept_rights word old true true true is = kept_bits word old 1 1 0 is (omega arith) (omega arith) (omega arith) _ refl
-kept_rights word old true true false is = kept_bits word old 1 1 1 is (omega arith) (omega arith) (omega arith) _ refl
-kept_rights word old true false true is = kept_bits word old 1 0 0 is (omega arith) (omega arith) (omega arith) _ refl
-kept_rights word old true false false is = kept_bits word old 1 0 1 is (omega arith) (omega arith) (omega arith) _ refl
-kept_rights word old false true true is = kept_bits word old 0 1 0 is (omega arith) (omega arith) (omega arith) _ refl
-kept_rights word old false true false is = kept_bits word old 0 1 1 is (omega arith) (omega arith) (omega arith) _ refl
-kept_rights word old false false true is = kept_bits word old 0 0 0 is (omega arith) (omega arith) (omega arith) _ refl
-kept_rights word old false false false is = kept_bits word old 0 0 1 is (omega arith) (omega arith) (omega arith) _ refl
-
 pub protect_again : (word old : ℕ) (rights : Rights) → HasFlagsSet old word → with_flags_of word (with_rights old rights) ≡ with_rights word rights
-protect_again word old rights is = kept_rights word old rights.write rights.user rights.exec is
+protect_again word old rights is =
+    kept_bits word old (digit rights.write) (digit rights.user) (digit (not rights.exec)) is (digit_low rights.write) (digit_low rights.user)
+    (digit_low (not rights.exec)) (with_rights old rights) (in_digits old rights) ∙ sym (in_digits word rights)
 
 -- a remap's entry
 moved_flags : (size : Size) (word old phys : ℕ) → phys % 2 ^ 12 ≡ 0 → HasFlagsSet old word

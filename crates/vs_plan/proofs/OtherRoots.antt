@@ -1,22 +1,21 @@
 -- What the stores of a right plan do to the walks from another root that may share tables.
-use Rattle.std.proofs.Common.{◌≡◌, ◌≢◌, ℕ, suc, ◌-◌, List, [], ◌∷◌, All, Contains, take, length, Some, None, ◌⊎◌, inl, inr, ⊎_elim, refl, sym, ap, subst, ◌∙◌, arith}
+use Rattle.std.proofs.Common.{◌≡◌, ◌≢◌, ℕ, suc, ◌-◌, List, [], ◌∷◌, All, Contains, take, length, Some, None, ◌⊎◌, inl, inr, ⊎_elim, refl, sym, ap, subst, ◌∙◌, arith, get_or}
 use Rattle.std.specs.Prelude.{if◌then◌else◌, option_and_then}
 use Rattle.std.proofs.lemmas.Bool.{ne_eqb, cases_eq}
 use Rattle.std.proofs.Math.Seq.{take-length}
-use Rattle.std.proofs.lemmas.List.Elements.{All-nil, All-cons, All-head, All-tail, All-take}
+use Rattle.std.proofs.lemmas.List.Elements.{All-head, All-tail, All-take}
 use Rattle.std.specs.FinMap as finite
 use Rattle.vs_types.specs.Depth.{levels, index_at}
 use Rattle.vs_types.specs.Entry.{meaning, all_rights}
-use Rattle.vs_types.specs.Page.{intersection}
 use Rattle.vs_types.specs.declared.depth.Depth.{Depth}
 use Rattle.vs_types.specs.declared.page.Rights.{Rights}
 use Rattle.vs_types.specs.declared.page.Size.{Size}
 use Rattle.vs_types.specs.declared.entry.Meaning.TheVariants as entry
 use Rattle.vs_types.proofs.Pages.{three_levels}
 use Rattle.vs_walk.specs.Memory.{Memory}
-use Rattle.vs_walk.specs.Walk.{walk, walk_from}
+use Rattle.vs_walk.specs.Walk.{walk}
 use Rattle.vs_space.specs.Path.{found_at, table_in, table_at}
-use Rattle.vs_space.proofs.Paths.{found_same, table_first, walk_found, agree_table, agree_walk}
+use Rattle.vs_space.proofs.Paths.{found_same, table_first, agree_table, agree_walk}
 use Rattle.vs_space.proofs.Writes.{found_alike, get_written_other}
 use Rattle.vs_plan.specs.declared.plan.Flush.{Flush}
 use Rattle.vs_plan.specs.declared.plan.Flush.TheVariants.{Nothing, Page, PageAndTables, Range}
@@ -27,9 +26,12 @@ use Rattle.vs_plan.specs.Premise.{HasOwnWay}
 use Rattle.vs_plan.specs.Stores.{stored, stored_all, FindTheirWords}
 use Rattle.vs_plan.proofs.Forms.{IsOnceFor, IsEndFor, AreFor}
 use Rattle.vs_plan.proofs.Given.{WasUnlinked}
-use Rattle.vs_plan.proofs.Stays.{ChangesPageAlone, ChangesRangeAlone}
 use Rattle.vs_plan.proofs.Sufficing.{IsSwitched, AreUnreached}
-use Rattle.vs_plan.proofs.WordOrders.{elsewhere_or_here, found_word, told_used}
+use Rattle.vs_plan.proofs.WordOrders.{elsewhere_or_here}
+use Rattle.vs_plan.proofs.Stored.{found_word, used_word}
+use Rattle.vs_space.specs.Held.{word_at}
+use Rattle.vs_plan.proofs.Stays.{ChangesAlone}
+use Rattle.vs_plan.proofs.Ways.{walk_level}
 
 -- ---- frames that no store is into
 
@@ -46,14 +48,6 @@ found_take memory (suc n) (s ∷ later) found = (found.0, found_take (stored mem
 found_take memory _ _ found = tt
 
 -- ---- roots whose entries for an address lead to one table
-
-walk_below : (memory : Memory) (top below root address table : ℕ) (rights : Rights) → top ≡ suc below
-    → found_at top memory root address ≡ Some (entry.Table table rights)
-    → walk_from memory top root all_rights address ≡ walk_from memory below table (intersection all_rights rights) address
-walk_below memory top below root address table rights is found = subst
-    (λ t. found_at t memory root address ≡ Some (entry.Table table rights)
-    → walk_from memory t root all_rights address ≡ walk_from memory below table (intersection all_rights rights) address)
-    (sym is) (λ found. walk_found memory below root all_rights address (entry.Table table rights) found) found
 
 lower_next : (memory : Memory) (below root address level table : ℕ) (rights : Rights) → level ≢ suc below
     → found_at (suc below) memory root address ≡ Some (entry.Table table rights)
@@ -78,8 +72,8 @@ one_less depth = omega (arith, three_levels depth)
 pub shared_walk : {depth : Depth} {memory : Memory} {root other address : ℕ} → IsShared depth memory root other address
     → walk depth memory other address ≡ walk depth memory root address
 shared_walk {depth} {memory} {root} {other} {address} shared =
-    walk_below memory (levels depth) (levels depth - 1) other address shared.table shared.rights (one_less depth) shared.there
-    ∙ sym (walk_below memory (levels depth) (levels depth - 1) root address shared.table shared.rights (one_less depth) shared.here)
+    walk_level memory (levels depth) other all_rights address (entry.Table shared.table shared.rights) (omega (arith, three_levels depth)) shared.there
+    ∙ sym (walk_level memory (levels depth) root all_rights address (entry.Table shared.table shared.rights) (omega (arith, three_levels depth)) shared.here)
 
 pub shared_table : {depth : Depth} {memory : Memory} {root other address : ℕ} → IsShared depth memory root other address → (level : ℕ)
     → level ≢ levels depth → table_at (levels depth) memory other level address ≡ table_at (levels depth) memory root level address
@@ -132,12 +126,11 @@ module _ (target : Target) (first : Memory) (base other : ℕ) (own : HasOwnWay 
       link_kept (stored memory s) later address table rights (All-tail (IsStore target first base other) s later meant) found.1 shared (⊎_elim
       (λ same. same ∙ leads)
       (λ here.
-      let word : found_at (levels target.depth) memory s.frame address ≡ Some (meaning (levels target.depth) s.old) =
-      found_word (levels target.depth) memory s.frame s.index s.old address found.0 here.1 in
+      let word = found_word (levels target.depth) memory s.frame address s.old (ap (word_at memory s.frame) here.1 ∙ found.0) in
       let at : found_at (levels target.depth) memory s.frame address ≡ Some (entry.Table table rights) =
       subst (λ n. found_at (levels target.depth) memory n address ≡ Some (entry.Table table rights)) here.0 leads in
       absurd (not_link address table (All-head (IsStore target first base other) s later meant) here.0 here.1 shared (ap table_in (sym word ∙ at))))
-      (elsewhere_or_here (levels target.depth) memory s.frame s.index s.new target.root address (told_used memory s.frame s.index s.old found.0)))
+      (elsewhere_or_here (levels target.depth) memory s.frame s.index s.new target.root address (used_word memory s.frame s.index s.old found.0)))
 
 -- ---- a right plan's stores, and a root beside it
 
@@ -170,14 +163,8 @@ module _ (target : Target) (memory : Memory) (base : ℕ) (stores : List Store) 
     not_there s (OnWay height reached keeps) spare same = off height (reached ∙ ap Some (sym same))
     not_there s (OffWays unreached) spare same = spare unreached level address (at ∙ ap Some same)
 
-    none_there : (some : List Store) → All (IsStore target memory base other) some → All SpareToo some → All (λ (s : Store). number ≢ s.frame) some
-    none_there [] meant spare = All-nil (λ (s : Store). number ≢ s.frame)
-    none_there (s ∷ later) meant spare = All-cons (λ (s : Store). number ≢ s.frame) s later
-        (not_there s (All-head (IsStore target memory base other) s later meant) (All-head SpareToo s later spare))
-        (none_there later (All-tail (IsStore target memory base other) s later meant) (All-tail SpareToo s later spare))
-
     no_store : All (λ (s : Store). number ≢ s.frame) stores
-    no_store = none_there stores are.meant beside.spare
+    no_store = λ k d lt. not_there (get_or stores k d) (are.meant k d lt) (beside.spare k d lt)
 
   stays_in : (done number : ℕ) → All (λ (s : Store). number ≢ s.frame) stores → finite.get (after done) number ≡ finite.get memory number
   stays_in done number none = frame_kept memory number (take done stores) (All-take (λ (s : Store). number ≢ s.frame) done stores none)
@@ -266,19 +253,9 @@ module _ (target : Target) (memory : Memory) (base : ℕ) (stores : List Store) 
 
   -- ---- what is so for the root is so for the other
 
-  other_alone : (page : ℕ) → ChangesPageAlone target.depth target.root memory (stored_all memory stores) page
-      → ChangesPageAlone target.depth other memory (stored_all memory stores) page
-  other_alone page alone address phys size rights canonical mapped = ⊎_elim
-      (λ shared. ⊎_elim
-      (λ same. inl (shared_walk (shared_after address shared) ∙ same ∙ sym (shared_walk shared)))
-      (λ there. inr there)
-      (alone address phys size rights canonical (sym (shared_walk shared) ∙ mapped)))
-      (λ apart. inl (apart_after address apart))
-      (beside.ways address)
-
-  other_range : (from : ℕ) (range : Size) → ChangesRangeAlone target.depth target.root memory (stored_all memory stores) from range
-      → ChangesRangeAlone target.depth other memory (stored_all memory stores) from range
-  other_range from range alone address phys size rights canonical mapped = ⊎_elim
+  other_alone : (P : ℕ → Size → Type 0) → ChangesAlone target.depth target.root memory (stored_all memory stores) P
+      → ChangesAlone target.depth other memory (stored_all memory stores) P
+  other_alone P alone address phys size rights canonical mapped = ⊎_elim
       (λ shared. ⊎_elim
       (λ same. inl (shared_walk (shared_after address shared) ∙ same ∙ sym (shared_walk shared)))
       (λ there. inr there)
@@ -304,14 +281,8 @@ module _ (target : Target) (memory : Memory) (base : ℕ) (stores : List Store) 
       (λ apart. absurd (apart level height s.frame at reached))
       (beside.ways address)
 
-  lead_among : (some : List Store) → All (IsStore target memory base other) some → All SpareToo some → All LeadsToo some
-  lead_among [] meant spare = All-nil LeadsToo
-  lead_among (s ∷ later) meant spare = All-cons LeadsToo s later
-      (leads_too s (All-head (IsStore target memory base other) s later meant) (All-head SpareToo s later spare))
-      (lead_among later (All-tail (IsStore target memory base other) s later meant) (All-tail SpareToo s later spare))
-
   all_lead : All LeadsToo stores
-  all_lead = lead_among stores are.meant beside.spare
+  all_lead = λ k d lt. leads_too (get_or stores k d) (are.meant k d lt) (beside.spare k d lt)
 
   other_once : (s : Store) → LeadsToo s → IsOnceFor target.depth memory target.root s → IsOnceFor target.depth memory other s
   other_once s leads once = (once.0, λ level b reached. once.1 level b (leads level b reached))
@@ -322,19 +293,10 @@ module _ (target : Target) (memory : Memory) (base : ℕ) (stores : List Store) 
     ends = λ level b reached. end.ends level b (leads level b reached);
   }
 
-  for_each : (P Q : Store → Type 0) → ((s : Store) → LeadsToo s → P s → Q s) → (some : List Store) → All LeadsToo some → All P some → All Q some
-  for_each P Q each [] leads are = All-nil Q
-  for_each P Q each (s ∷ later) leads are = All-cons Q s later (each s (All-head LeadsToo s later leads) (All-head P s later are))
-      (for_each P Q each later (All-tail LeadsToo s later leads) (All-tail P s later are))
-
   pub for_other : (flush : Flush) → AreFor target.depth memory target.root stores flush → AreFor target.depth memory other stores flush
   for_other Nothing for_root = tt
-  for_other (Page page size) for_root = (
-    other_alone page for_root.0,
-    for_each (IsEndFor target.depth memory target.root) (IsEndFor target.depth memory other) other_end stores all_lead for_root.1,
-  )
-  for_other (PageAndTables page size) for_root = other_alone page for_root
-  for_other (Range page size) for_root = (
-    other_range page size for_root.0,
-    for_each (IsOnceFor target.depth memory target.root) (IsOnceFor target.depth memory other) other_once stores all_lead for_root.1,
-  )
+  for_other (Page page size) for_root =
+      (other_alone _ for_root.0, λ k d lt. other_end (get_or stores k d) (all_lead k d lt) (for_root.1 k d lt))
+  for_other (PageAndTables page size) for_root = other_alone _ for_root
+  for_other (Range page size) for_root =
+      (other_alone _ for_root.0, λ k d lt. other_once (get_or stores k d) (all_lead k d lt) (for_root.1 k d lt))

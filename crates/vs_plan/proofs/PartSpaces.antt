@@ -5,7 +5,7 @@ use Rattle.std.specs.FinMap as finite
 use Rattle.vs_types.specs.Laws.{LooksChanged}
 use Rattle.vs_types.specs.Page.{bytes_of, covers, IsPage}
 use Rattle.vs_types.specs.Space.{Space, Holds, IsSpace, page_at}
-use Rattle.vs_types.specs.Step.{Stepped, look}
+use Rattle.vs_types.specs.Step.{look}
 use Rattle.vs_types.specs.declared.answer.Answer.TheVariants as answers
 use Rattle.vs_types.specs.declared.depth.Depth.{Depth}
 use Rattle.vs_types.specs.declared.page.Page.{Page}
@@ -13,7 +13,7 @@ use Rattle.vs_types.specs.declared.page.Size.{Size}
 use Rattle.vs_types.specs.declared.page.Size.TheVariants.{K4, M2, G1}
 use Rattle.vs_types.proofs.Pages.{covers_base, covers_means, covered_canonical}
 use Rattle.vs_types.proofs.Spaces.{page_at_means, page_at_same, look_of_page, look_same, insert_cases, remove_cases, get_inserted, get_insert_other, get_remove_other}
-use Rattle.vs_plan.proofs.Changing.{change_none, change_inside, change_here, why_here}
+use Rattle.vs_plan.proofs.Changing.{change_here, why_here, change_cases}
 use Rattle.vs_plan.specs.Changes.{smaller, smallest, part, with_parts, split, split_refusal, leads_to}
 
 -- ---- where parts lie
@@ -64,8 +64,7 @@ has_part page s (suc n) i low = ⊎_elim
   where
     apart : (size : Size) (base : ℕ) → base + i * bytes_of (smaller size) ≡ base + n * bytes_of (smaller size) → i ≡ n
     apart K4 base e = omega arith
-    apart M2 base e = omega arith
-    apart G1 base e = omega arith
+    apart _ base e = omega arith
 
 -- what is held is a part, or was held before
 held_before : (page : Page) (s : Space) (n q : ℕ) (p : Page) → finite.get (with_parts s page n) q ≡ Some p
@@ -184,19 +183,9 @@ module _ {depth : Depth} {space : Space} (is : IsSpace depth space) {page : Page
 
 -- ---- what a split does to a space
 
--- the space after a split of a page
-abbrev after_split : Space → Page → Space
-after_split space page = with_parts (finite.remove space page.base) page 512
-
-split_none : (space : Space) (base : ℕ) → page_at space base ≡ None → (split space base).space ≡ space
-split_none space base e = ap (λ (s : Stepped). s.space) (change_none space base (after_split space) e)
-
-split_apart : (space : Space) (base : ℕ) (page : Page) → page_at space base ≡ Some page → page.base ≢ base → (split space base).space ≡ space
-split_apart space base page e other = ap (λ (s : Stepped). s.space) (change_inside space base (after_split space) page e other)
-
 pub split_there : (space : Space) (base : ℕ) (page : Page) → page_at space base ≡ Some page → page.base ≡ base
     → split space base ≡ record { space = split_space space page; answer = answers.Changed page.rights }
-split_there space base page e same = change_here space base (after_split space) page e same
+split_there space base page e same = change_here space base (split_space space) page e same
 
 pub refused_there : (space : Space) (base : ℕ) (page : Page) → page_at space base ≡ Some page → page.base ≡ base → split_refusal space base ≡ smallest page.size
 refused_there space base page e same = why_here base (λ (z : Page). smallest z.size) page e same
@@ -208,15 +197,8 @@ has_parts _ none e = cc
 -- the space after a split that isn't refused is the one before, or has the parts of a page in its place
 split_cases : (space : Space) (base : ℕ) → split_refusal space base ≡ None → (P : Space → Type 0) → P space
     → ((page : Page) → page_at space base ≡ Some page → page.size ≢ K4 → P (split_space space page)) → P (split space base).space
-split_cases space base allowed P stays changes =
-    elim (page_at space base) as (λ o. page_at space base ≡ o → P (split space base).space) [
-      | None ↦ λ e. subst P (sym (split_none space base e)) stays
-      | Some page ↦ λ e. ⊎_elim
-          (λ (same : page.base ≡ base). subst P (sym (ap (λ (s : Stepped). s.space) (split_there space base page e same)))
-          (changes page e (has_parts page.size (sym (refused_there space base page e same) ∙ allowed))))
-          (λ (other : page.base ≢ base). subst P (sym (split_apart space base page e other)) stays)
-          (cases_eq page.base base)
-    ] refl
+split_cases space base allowed P stays changes = change_cases space base (split_space space) P stays (λ page e same.
+    changes page e (has_parts page.size (sym (refused_there space base page e same) ∙ allowed)))
 
 pub split_stays_space : {depth : Depth} {space : Space} → IsSpace depth space → (base : ℕ) → split_refusal space base ≡ None
     → IsSpace depth (split space base).space

@@ -1,5 +1,5 @@
 -- A plan is right by its parts.
-use Rattle.std.proofs.Common.{AllPairs, ◌≡◌, ◌≢◌, ℕ, zero, suc, ◌<◌, ◌≤◌, List, [], ◌∷◌, ◌++◌, length, take, Option, Some, None, inl, refl, sym, ap, subst, ◌∙◌, arith}
+use Rattle.std.proofs.Common.{AllPairs, ◌≡◌, ◌≢◌, ℕ, zero, suc, ◌<◌, ◌≤◌, List, [], ◌∷◌, ◌++◌, length, take, Option, Some, None, inl, refl, sym, ap, subst, ◌∙◌, arith, IsTrue}
 use Rattle.std.proofs.lemmas.List.{length-append, take-append-le}
 use Rattle.std.proofs.lemmas.List.Elements.{All-nil}
 use Rattle.std.proofs.Math.Seq.{take-length}
@@ -16,6 +16,7 @@ use Rattle.vs_plan.specs.declared.plan.Flush.{Flush}
 use Rattle.vs_plan.specs.declared.plan.Flush.TheVariants as flushes
 use Rattle.vs_plan.specs.declared.plan.Plan.{Plan}
 use Rattle.vs_plan.specs.declared.plan.Reply.{Reply}
+use Rattle.vs_plan.specs.declared.plan.Reply.TheVariants as replies
 use Rattle.vs_plan.specs.declared.plan.Step.{Step}
 use Rattle.vs_plan.specs.declared.plan.Step.TheVariants as steps
 use Rattle.vs_plan.specs.declared.plan.Store.{Store}
@@ -24,8 +25,8 @@ use Rattle.vs_plan.specs.declared.request.Request.{Request}
 use Rattle.vs_plan.specs.declared.request.Request.TheVariants.{Map, Unmap}
 use Rattle.vs_plan.specs.declared.target.Target.{Target}
 use Rattle.vs_plan.specs.Premise.{IsPremise}
-use Rattle.vs_plan.specs.Request.{address_of, refusal}
-use Rattle.vs_plan.specs.Right.{IsReply, refusal_in, space_after, IsWritten, IsOneWay, IsTold, IsPut, IsAlready, IsFlushed, IsRight}
+use Rattle.vs_plan.specs.Request.{address_of, refusal, stepped}
+use Rattle.vs_plan.specs.Right.{IsReply, refusal_in, space_after, IsWritten, IsOneWay, IsTold, IsPut, IsAlready, IsFlushed, IsRight, AllowsLess, WantsMore}
 use Rattle.vs_plan.specs.Stores.{stored, stored_all, AreSafe}
 use Rattle.vs_plan.specs.Way.{IsWay}
 use Rattle.vs_plan.specs.declared.planner.Planner.{Planner}
@@ -33,6 +34,8 @@ use Rattle.vs_plan.specs.inside.Ended.{IsAtEnd, HasEnded, ChangesNothing, IsPlan
 use Rattle.vs_plan.proofs.EntryStores.{IsOwnTable}
 use Rattle.vs_plan.proofs.Stored.{used_word}
 use Rattle.vs_plan.proofs.Ways.{way_table}
+use Rattle.vs_types.specs.Laws.{changes}
+use Rattle.vs_types.specs.Page.{intersection}
 
 -- where no table is unlinked
 pub none_named : AllPairs (λ (number other : ℕ). number ≢ other) []
@@ -57,13 +60,14 @@ module _ {target : Target} {request : Request} {memory : Memory} {space : Space}
   pub right_as : (plan : Plan) {reply : Reply} {bits : ℕ} {fill : Option Fill} {stores : List Store} {flush : Flush} {unlinked : List ℕ}
       → plan.reply ≡ reply → plan.bits ≡ bits → plan.fill ≡ fill → plan.stores.items ≡ stores → plan.flush ≡ flush → plan.unlinked.items ≡ unlinked
       → Parts target request memory space offered reply bits fill stores flush unlinked → IsRight target request memory space offered plan
-  right_as plan {reply} {bits} {fill} {stores} {flush} {unlinked} e1 e2 e3 e4 e5 e6 parts =
-      subst (λ r. Parts target request memory space offered r plan.bits plan.fill plan.stores.items plan.flush plan.unlinked.items) (sym e1)
-      (subst (λ b. Parts target request memory space offered reply b plan.fill plan.stores.items plan.flush plan.unlinked.items) (sym e2)
-      (subst (λ f. Parts target request memory space offered reply bits f plan.stores.items plan.flush plan.unlinked.items) (sym e3)
-      (subst (λ s. Parts target request memory space offered reply bits fill s plan.flush plan.unlinked.items) (sym e4)
-      (subst (λ f. Parts target request memory space offered reply bits fill stores f plan.unlinked.items) (sym e5)
-      (subst (λ u. Parts target request memory space offered reply bits fill stores flush u) (sym e6) parts)))))
+  right_as plan e1 e2 e3 e4 e5 e6 parts = subst (IsRight target request memory space offered) (λ i. record {
+    reply = sym e1 i;
+    bits = sym e2 i;
+    fill = sym e3 i;
+    stores = record { items = sym e4 i };
+    flush = sym e5 i;
+    unlinked = record { items = sym e6 i };
+  }) parts
 
 -- a refusal that is due of a request, where the request is written otherwise
 pub due_as : (target : Target) (space : Space) {request other : Request} {due : Option Reply} → request ≡ other → refusal target space other ≡ due
@@ -210,6 +214,24 @@ nothing_as none same alike = record {
   flush = none.flush;
   unlinked = none.unlinked;
 }
+
+-- the entries above a page that is to be changed allow less than it is to allow
+pub rights_right : {p : Planner} {word : ℕ} {request : Request} {rights : Rights} → p.request ≡ request
+    → ((memory : Memory) → AllowsLess p.target memory (address_of request) rights → WantsMore p.target memory request)
+    → intersection p.rights rights ≢ rights → {memory : Memory} → HasEnded memory p word → {space : Space}
+    → IsPremise p.target.depth memory p.target.root (address_of p.request) space → refusal p.target space p.request ≡ None
+    → IsTrue (changes (stepped p.target.depth space request).answer) → (plan : Plan) → ChangesNothing replies.Rights 0 plan
+    → IsRight p.target p.request memory space [] plan
+rights_right {p} is wants less {memory} ended {space} premise due would plan none = nothing_right premise due plan none tt (
+  subst (WantsMore p.target memory) (sym is) (wants memory (record {
+    level = p.level;
+    number = p.number;
+    rights = p.rights;
+    way = subst (λ a. IsWay p.target.depth memory p.target.root a p.level p.number p.rights) (ap address_of is) ended.way;
+    less = less;
+  })),
+  ap (λ r. changes (stepped p.target.depth space r).answer) is ∙ would,
+) premise.translates refl
 
 -- ---- the end of a planner
 

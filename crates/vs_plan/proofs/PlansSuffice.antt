@@ -1,8 +1,8 @@
 -- The flush of a right plan suffices.
-use Rattle.std.proofs.Common.{◌≡◌, ◌≢◌, ℕ, zero, suc, ◌+◌, ◌-◌, ◌%◌, ◌<◌, ◌≤◌, List, [], ◌∷◌, All, Option, Some, None, ◌⊎◌, inl, inr, ⊎_elim, refl, sym, ap, subst, ◌∙◌, arith}
+use Rattle.std.proofs.Common.{◌≡◌, ◌≢◌, ℕ, zero, suc, ◌+◌, ◌-◌, ◌%◌, ◌<◌, ◌≤◌, List, [], ◌∷◌, All, Option, Some, None, ◌⊎◌, inl, inr, ⊎_elim, refl, sym, ap, subst, ◌∙◌, arith, get_or}
 use Rattle.std.specs.Prelude.{slice_index}
 use Rattle.std.proofs.lemmas.Bool.{cases_lt}
-use Rattle.std.proofs.lemmas.List.Elements.{All-head, All-tail, All-cons, All-nil, All-weaker}
+use Rattle.std.proofs.lemmas.List.Elements.{All-head, All-tail, All-cons, All-nil}
 use Rattle.vs_types.specs.Depth.{levels, index_at, IsCanonical}
 use Rattle.vs_types.specs.Entry.{meaning, size_at}
 use Rattle.vs_types.specs.Page.{level_of}
@@ -38,13 +38,14 @@ use Rattle.vs_plan.specs.Stores.{stored, stored_all, FindTheirWords}
 use Rattle.vs_plan.specs.Flushed.{Suffices}
 use Rattle.vs_plan.proofs.Orders.{AllAdd}
 use Rattle.vs_plan.proofs.Stays.{ChangesPageAlone}
-use Rattle.vs_plan.proofs.WordOrders.{even_absent, fill_is_more, found_word, told_used}
+use Rattle.vs_plan.proofs.WordOrders.{fill_is_more}
 use Rattle.vs_plan.proofs.Sufficing.{IsSwitched}
-use Rattle.vs_plan.proofs.Unread.{unread_table}
-use Rattle.vs_plan.proofs.Given.{IsGiven, parts_of, begins_as, begins_own, all_unreached, change_canonical}
+use Rattle.vs_plan.proofs.Given.{IsGiven, parts_of, all_unreached, change_canonical}
 use Rattle.vs_plan.proofs.OneEntry.{IsAt, page_alone, range_alone}
 use Rattle.vs_plan.proofs.Forms.{HasForm, Adds, Clears, Unlinks, Replaces, Resizes, IsOnceFor, IsEndFor, AreFor, form_suffices}
 use Rattle.vs_plan.proofs.Apart.{LooksApart, unmap_apart, protect_apart, changes_alone}
+use Rattle.vs_plan.proofs.Stored.{even_absent, found_word, used_word}
+use Rattle.vs_plan.proofs.Filled.{table_as, translates_as, own_as}
 
 -- ---- what the stores are
 
@@ -95,7 +96,7 @@ pub switched : {target : Target} {request : Request} {memory start : Memory} {sp
 switched {target} {request} {memory} {start} {space} given done address low canonical = ⊎_elim
     (λ (later : given.safe.switch < done). inr (given.safe.since done later low address canonical ∙ sym (given.safe.done address canonical)))
     (λ (sooner : done ≤ given.safe.switch). inl (given.safe.until done sooner low address canonical
-    ∙ sym (begins_as target.depth target.root memory start given.same space given.premise.translates address canonical)))
+    ∙ sym (translates_as target.depth target.root memory start given.same space given.premise.translates address canonical)))
     (cases_lt given.safe.switch done)
 
 -- the space after the stores is that of the step, or the one before
@@ -132,7 +133,7 @@ entry_lowest target m base size word is other level there = by is.level is.reach
       → meaning l word ≡ entry.Leaf is.leaf.0 is.leaf.1 → l ≤ level
   by zero at told says = omega arith
   by (suc low) at told says = not_below target.depth m target.root base low is.number other level at
-      (ap table_in (found_word (suc low) m is.number (index_at (suc low) base) word base told refl ∙ ap Some says)) there
+      (ap table_in (found_word (suc low) m is.number base word told ∙ ap Some says)) there
 
 pub entry_sizes : (target : Target) (m : Memory) (base : ℕ) (size other : Size) (word second : ℕ) → IsEntryOf target m base size word
     → IsEntryOf target m base other second → size ≡ other
@@ -198,37 +199,29 @@ module _ (target : Target) (memory start : Memory) (space : Space) (offered : Li
   } where
     level_is : (level b : ℕ) → table_at (levels target.depth) start target.root level b ≡ Some s.frame → level ≡ on.0
     level_is level b reached = once_on_way target memory (address_of request) on.0 s.frame given.premise.own on.1 level b
-        (sym (unread_table target.depth target.root memory start given.same level b) ∙ reached)
+        (sym (table_as target.depth target.root memory start given.same level b) ∙ reached)
   is_end s given (inr unreached) = record {
-    once = (0, λ level b reached. absurd (unreached level b (sym (unread_table target.depth target.root memory start given.same level b) ∙ reached)));
-    ends = λ level b reached. absurd (unreached level b (sym (unread_table target.depth target.root memory start given.same level b) ∙ reached));
+    once = (0, λ level b reached. absurd (unreached level b (sym (table_as target.depth target.root memory start given.same level b) ∙ reached)));
+    ends = λ level b reached. absurd (unreached level b (sym (table_as target.depth target.root memory start given.same level b) ∙ reached));
   }
 
-  unmap_alone : (base : ℕ) (stores : List Store) (unlinked : List ℕ) (flush : Flush) → Says (Unmap base) stores unlinked flush
+  step_alone : {request : Request} {stores : List Store} {unlinked : List ℕ} {flush : Flush} (base : ℕ) → Says request stores unlinked flush
+      → ((address : ℕ) → LooksApart space (stepped target.depth space request).space base address)
       → ChangesPageAlone target.depth target.root start (stored_all start stores) base
-  unmap_alone base stores unlinked flush given = changes_alone target.depth start (stored_all start stores) target.root space
-      (space_after target (Unmap base) space reply) base
-      (begins_as target.depth target.root memory start given.same space given.premise.translates) given.safe.done
-      (λ address. after_cases (λ after. LooksApart space after base address) target (Unmap base) space reply (λ page at. inl refl)
-      (unmap_apart given.premise.is_space 0 base address))
-
-  protect_alone : (base : ℕ) (rights : Rights) (stores : List Store) (unlinked : List ℕ) (flush : Flush) → Says (Protect base rights) stores unlinked flush
-      → ChangesPageAlone target.depth target.root start (stored_all start stores) base
-  protect_alone base rights stores unlinked flush given = changes_alone target.depth start (stored_all start stores) target.root space
-      (space_after target (Protect base rights) space reply) base
-      (begins_as target.depth target.root memory start given.same space given.premise.translates) given.safe.done
-      (λ address. after_cases (λ after. LooksApart space after base address) target (Protect base rights) space reply (λ page at. inl refl)
-      (protect_apart given.premise.is_space 0 base rights address))
+  step_alone {request} {stores} base given apart = changes_alone target.depth start (stored_all start stores) target.root space
+      (space_after target request space reply) base
+      (translates_as target.depth target.root memory start given.same space given.premise.translates) given.safe.done
+      (λ address. after_cases (λ after. LooksApart space after base address) target request space reply (λ page at. inl refl) (apart address))
 
   -- the store at a level of the base's way, with the words of the memory in which it is made
   at_level : {request : Request} {s : Store} {unlinked : List ℕ} {flush : Flush} (low : ℕ) → Says request (s ∷ []) unlinked flush
       → IsCanonical target.depth (address_of request) → table_at (levels target.depth) memory target.root (suc low) (address_of request) ≡ Some s.frame
       → s.index ≡ index_at (suc low) (address_of request) → IsAt target.depth start target.root (address_of request) low s
   at_level {request} {s} low given canonical reached index = record {
-    own = begins_own target.depth target.root memory start given.same (address_of request) given.premise.own;
-    reached = unread_table target.depth target.root memory start given.same (suc low) (address_of request) ∙ reached;
+    own = own_as target.depth target.root memory start given.same (address_of request) given.premise.own;
+    reached = table_as target.depth target.root memory start given.same (suc low) (address_of request) ∙ reached;
     index = index;
-    used = told_used start s.frame s.index s.old given.found.0;
+    used = used_word start s.frame s.index s.old given.found.0;
     canonical = canonical;
   }
 
@@ -277,7 +270,7 @@ module _ (target : Target) (memory start : Memory) (space : Space) (offered : Li
       let is = entry_at s put.entry_is put.frame put.at in
       let at = at_level is.low given (change_canonical given refl (some_stores s)) (entry_reached is) (entry_index is) in
       let found : found_at (suc is.low) start s.frame base ≡ Some (entry.Leaf is.entry_is.leaf.0 is.entry_is.leaf.1) =
-      found_word (suc is.low) start s.frame s.index s.old base given.found.0 (sym (entry_index is)) ∙ ap Some (entry_says is) in (
+      found_word (suc is.low) start s.frame base s.old (ap (word_at start s.frame) (sym (entry_index is)) ∙ given.found.0) ∙ ap Some (entry_says is) in (
         page_alone at is.entry_is.leaf.0 is.entry_is.leaf.1 found (entry_few is),
         All-cons (IsEndFor target.depth start target.root) s []
             (record {
@@ -323,14 +316,13 @@ module _ (target : Target) (memory start : Memory) (space : Space) (offered : Li
   pub are_for : (request : Request) (stores : List Store) (unlinked : List ℕ) (flush : Flush) → Says request stores unlinked flush → ForRoot stores flush
   are_for (Map page bits) (s ∷ later) unlinked flush given = subst (ForRoot (s ∷ later)) (sym given.flushed) tt
   are_for (Unmap base) (s ∷ later) [] flush given = subst (ForRoot (s ∷ later)) (sym given.flushed.2) (
-    unmap_alone base (s ∷ later) [] flush given,
-    All-weaker (IsMeant target memory base []) (IsEndFor target.depth start target.root) (λ t meant. is_end t given (nothing_unlinked meant))
-        (s ∷ later) given.meant,
+    step_alone base given (unmap_apart given.premise.is_space 0 base),
+    λ k d lt. is_end (get_or (s ∷ later) k d) given (nothing_unlinked (given.meant k d lt)),
   )
   are_for (Unmap base) (s ∷ later) (number ∷ numbers) flush given = subst (ForRoot (s ∷ later)) (sym given.flushed.2)
-      (unmap_alone base (s ∷ later) (number ∷ numbers) flush given)
+      (step_alone base given (unmap_apart given.premise.is_space 0 base))
   are_for (Protect base rights) (s ∷ []) unlinked flush given = subst (ForRoot (s ∷ [])) (sym given.flushed.2) (
-    protect_alone base rights (s ∷ []) unlinked flush given,
+    step_alone base given (protect_apart given.premise.is_space 0 base rights),
     All-cons (IsEndFor target.depth start target.root) s []
         (is_end s given (new_rights rights given.written.0 (All-head (IsMeant target memory base unlinked) s [] given.meant)))
         (All-nil (IsEndFor target.depth start target.root)),

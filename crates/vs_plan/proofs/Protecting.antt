@@ -1,5 +1,5 @@
 -- A plan that changes the rights of a page.
-use Rattle.std.proofs.Common.{◌≡◌, ◌≢◌, ℕ, ◌+◌, ◌-◌, ◌%◌, ◌≤◌, [], ◌∷◌, Some, None, inl, refl, sym, ap, subst, ◌∙◌}
+use Rattle.std.proofs.Common.{◌≡◌, ◌≢◌, ℕ, ◌+◌, ◌%◌, ◌≤◌, [], ◌∷◌, Some, None, inl, refl, sym, ap, subst, ◌∙◌}
 use Rattle.std.proofs.lemmas.List.Elements.{All-nil, All-cons}
 use Rattle.vs_types.specs.Depth.{entry_bytes, index_at}
 use Rattle.vs_types.specs.Entry.{meaning, size_at}
@@ -16,7 +16,6 @@ use Rattle.vs_types.specs.declared.answer.Answer.TheVariants as answers
 use Rattle.vs_walk.specs.Memory.{Memory}
 use Rattle.vs_walk.specs.declared.walk.Walk.TheVariants.{Mapped}
 use Rattle.vs_space.specs.Path.{table_in}
-use Rattle.vs_space.specs.Table.{IsTableOf}
 use Rattle.vs_space.proofs.Regions.{IsLeafPage}
 use Rattle.vs_plan.specs.declared.plan.Flush.TheVariants as flushes
 use Rattle.vs_plan.specs.declared.plan.Plan.{Plan}
@@ -26,21 +25,21 @@ use Rattle.vs_plan.specs.declared.request.Request.TheVariants.{Protect}
 use Rattle.vs_plan.specs.declared.plan.Store.{Store}
 use Rattle.vs_plan.specs.declared.target.Target.{Target}
 use Rattle.vs_plan.specs.Bits.{bits_in, with_rights}
-use Rattle.vs_plan.specs.Request.{address_of, stepped}
-use Rattle.vs_plan.specs.Right.{IsEntryOf, IsMeant, OfPage, IsRight, WantsMore}
+use Rattle.vs_plan.specs.Request.{address_of}
+use Rattle.vs_plan.specs.Right.{IsEntryOf, IsMeant, OfPage, IsRight}
 use Rattle.vs_plan.specs.Stores.{stored}
-use Rattle.vs_plan.specs.Way.{IsWay}
 use Rattle.vs_plan.specs.inside.Ended.{IsAtEnd, IsRightAt, ChangesNothing}
 use Rattle.vs_plan.proofs.Asking.{entry_of}
 use Rattle.vs_plan.proofs.EntryStores.{walk_off, walk_here, whole_store, fewer, own_after}
-use Rattle.vs_plan.proofs.Pages.{table_from, found_word, page_here}
-use Rattle.vs_plan.proofs.Parts.{none_named, Parts, right_as, safe_one, nothing_right, nothing_parts, due_as, store_at, EndAt, end_at, own_table}
+use Rattle.vs_plan.proofs.Pages.{page_here, premise_table}
+use Rattle.vs_plan.proofs.Parts.{none_named, Parts, right_as, safe_one, nothing_parts, due_as, store_at, EndAt, end_at, own_table, rights_right}
 use Rattle.vs_space.proofs.LeafSteps.{begins_at, changed_answer, changed_translates}
 use Rattle.vs_plan.proofs.Words.{with_rights_reads}
 use Rattle.vs_plan.proofs.Ways.{way_table, walk_at}
+use Rattle.vs_plan.proofs.Stored.{found_word}
 
-one_leaf : (phys : ℕ) (own : Rights) (other : ℕ) (rights : Rights) → entry.Leaf phys own ≡ entry.Leaf other rights → own ≡ rights
-one_leaf phys own other rights e = cc
+pub one_leaf : {phys other : ℕ} {own rights : Rights} → entry.Leaf phys own ≡ entry.Leaf other rights → (phys ≡ other) × (own ≡ rights)
+one_leaf e = (cc, cc)
 
 -- what a protect of a page that begins there answers
 would_change : (target : Target) {memory : Memory} {space : Space} {base level number word phys : ℕ} {given own : Rights} (rights : Rights)
@@ -48,25 +47,17 @@ would_change : (target : Target) {memory : Memory} {space : Space} {base level n
     → base % bytes_of (size_at level) ≡ 0
     → (step target.depth 0 space (actions.Protect base rights)).answer ≡ answers.Changed (intersection given own)
 would_change target {memory} {space} rights end some says aligned =
-    let page = page_here end.way some end.word_is end.premise.is_space end.premise.translates end.canonical says in
-    let table : IsTableOf (table_from target.depth memory target.root) space =
-    record { is_space = end.premise.is_space; translates = end.premise.translates } in
-    changed_answer 0 table page.1 (begins_at page.1 aligned) rights
+    let page = page_here end.way some end.word_is end.premise end.canonical says in
+    changed_answer 0 (premise_table end.premise) page.1 (begins_at page.1 aligned) rights
 
 module _ (target : Target) {memory : Memory} {space : Space} {base level number word phys : ℕ} {given own rights : Rights}
     (end : EndAt target memory space level number given word base) (some : 1 ≤ level) (says : meaning level word ≡ entry.Leaf phys own)
     (aligned : base % bytes_of (size_at level) ≡ 0) (allows : intersection given rights ≡ rights) where
-  way : IsWay target.depth memory target.root base level number given
-  way = end.way
-
   page : (q : Page) × IsLeafPage target.depth space base level phys (intersection given own) q
-  page = page_here end.way some end.word_is end.premise.is_space end.premise.translates end.canonical says
-
-  table : IsTableOf (table_from target.depth memory target.root) space
-  table = record { is_space = end.premise.is_space; translates = end.premise.translates }
+  page = page_here end.way some end.word_is end.premise end.canonical says
 
   told : (size : Size) × (found : ℕ) × IsEntryOf target memory base size found × (bits_in (size_at level) word ≡ bits_in size found)
-  told = (size_at level, word, entry_of way end.word_is says, refl)
+  told = (size_at level, word, entry_of end.way end.word_is says, refl)
 
   -- the entry has these rights already
   pub same_parts : word ≡ with_rights word rights → meaning level (with_rights word rights) ≡ entry.Leaf phys rights
@@ -74,11 +65,11 @@ module _ (target : Target) {memory : Memory} {space : Space} {base level number 
       None [] flushes.Nothing []
   same_parts same leads =
       let rights_are : intersection given own ≡ rights =
-      ap (intersection given) (one_leaf phys own phys rights (sym says ∙ ap (meaning level) same ∙ leads)) ∙ allows in
-      nothing_parts {request = Protect base rights} end.premise refl (size_at level, word, entry_of way end.word_is says, same)
-      (sym (changed_answer 0 table page.1 (begins_at page.1 aligned) rights))
-      (changed_translates 0 table page.1 (begins_at page.1 aligned) rights memory
-      (λ b path. walk_at way some (entry.Leaf phys own) (found_word level memory number base word end.word_is ∙ ap Some says) b path
+      ap (intersection given) (one_leaf (sym says ∙ ap (meaning level) same ∙ leads)).1 ∙ allows in
+      nothing_parts {request = Protect base rights} end.premise refl (size_at level, word, entry_of end.way end.word_is says, same)
+      (sym (changed_answer 0 (premise_table end.premise) page.1 (begins_at page.1 aligned) rights))
+      (changed_translates 0 (premise_table end.premise) page.1 (begins_at page.1 aligned) rights memory
+      (λ b path. walk_at end.way some (entry.Leaf phys own) (found_word level memory number base word end.word_is ∙ ap Some says) b path
       ∙ ap (Mapped (phys + b % entry_bytes level) (size_at level)) rights_are)
       (λ b apart. refl)) told
 
@@ -89,19 +80,19 @@ module _ (target : Target) {memory : Memory} {space : Space} {base level number 
   written_parts new leads =
       let here = own_table end in
       record {
-        reply = sym (changed_answer 0 table page.1 (begins_at page.1 aligned) rights);
+        reply = sym (changed_answer 0 (premise_table end.premise) page.1 (begins_at page.1 aligned) rights);
         due = refl;
-        put = (refl, record { size = size_at level; entry_is = entry_of way end.word_is says; frame = refl; at = refl }, refl);
+        put = (refl, record { size = size_at level; entry_is = entry_of end.way end.word_is says; frame = refl; at = refl }, refl);
         fits = tt;
         safe = safe_one (store_at number (index_at level base) word (with_rights word rights)) end.premise.translates
-            (changed_translates 0 table page.1 (begins_at page.1 aligned) rights
+            (changed_translates 0 (premise_table end.premise) page.1 (begins_at page.1 aligned) rights
             (stored memory (store_at number (index_at level base) word (with_rights word rights)))
-            (λ b path. walk_here here (with_rights word rights) way some (entry.Leaf phys rights) leads b path
+            (λ b path. walk_here here (with_rights word rights) end.way some (entry.Leaf phys rights) leads b path
             ∙ ap (Mapped (phys + b % entry_bytes level) (size_at level)) allows)
             (walk_off here (with_rights word rights)));
         found = (end.word_is, tt);
         meant = All-cons (IsMeant target memory base []) (store_at number (index_at level base) word (with_rights word rights)) []
-            (OfPage (record { level = level; reached = way_table level number given way; index = refl })
+            (OfPage (record { level = level; reached = way_table level number given end.way; index = refl })
             (ap (λ e. table_in (Some e)) says)) (All-nil _);
         nothing = λ none. absurd (none (λ e. cc));
         written = (refl, refl);
@@ -109,7 +100,7 @@ module _ (target : Target) {memory : Memory} {space : Space} {base level number 
         changing = All-cons (λ (t : Store). t.old ≢ t.new) (store_at number (index_at level base) word (with_rights word rights)) [] new (All-nil _);
         one_way = tt;
         told = told;
-        flushed = (size_at level, entry_of way end.word_is says, refl);
+        flushed = (size_at level, entry_of end.way end.word_is says, refl);
         unlinked = All-nil _;
         pruned = tt;
         named_once = none_named;
@@ -125,18 +116,8 @@ module _ {p : Planner} {word : ℕ} (end : IsAtEnd p) {phys : ℕ} {own : Rights
   -- the entries above allow less
   pub less_right : intersection p.rights rights ≢ rights → (plan : Plan) → ChangesNothing replies.Rights 0 plan → IsRightAt p word plan
   less_right less plan none memory ended space premise =
-      nothing_right premise (due_as p.target space is refl) plan none tt (
-        subst (WantsMore p.target memory) (sym is) (record {
-          level = p.level;
-          number = p.number;
-          rights = p.rights;
-          way = subst (λ a. IsWay p.target.depth memory p.target.root a p.level p.number p.rights) (ap address_of is) ended.way;
-          less = less;
-        }),
-        ap (λ r. changes (stepped p.target.depth space r).answer) is
-            ∙ ap changes (would_change p.target rights (end_at end ended premise (ap address_of is)) end.some says aligned),
-      )
-      premise.translates refl
+      rights_right is (λ m allows. allows) less ended premise (due_as p.target space is refl)
+      (ap changes (would_change p.target rights (end_at end ended premise (ap address_of is)) end.some says aligned)) plan none
 
   module _ (allows : intersection p.rights rights ≡ rights) {answer : Rights} (answer_is : answer ≡ intersection p.rights own) {bits : ℕ}
       (bits_are : bits ≡ bits_in (size_at p.level) word) {plan : Plan} (reply : plan.reply ≡ replies.Answer (answers.Changed answer))

@@ -1,5 +1,5 @@
 -- What the stores of a plan write, where flags were set in the memory since it was shown, or in the word that one of them finds.
-use Rattle.std.proofs.Common.{◌≡◌, ℕ, suc, ◌%◌, ◌^◌, ◌≤◌, List, [], ◌∷◌, Option, Some, None, refl, sym, ap, subst, ◌∙◌, arith}
+use Rattle.std.proofs.Common.{◌≡◌, ℕ, suc, ◌%◌, ◌^◌, List, [], ◌∷◌, Option, Some, None, refl, sym, ap, subst, ◌∙◌, arith}
 use Rattle.std.specs.List.{AllZip}
 use Rattle.vs_types.specs.Depth.{levels, index_at}
 use Rattle.vs_types.specs.Entry.{size_at}
@@ -7,7 +7,6 @@ use Rattle.vs_types.specs.Page.{level_of, intersection}
 use Rattle.vs_types.specs.declared.page.Page.{Page}
 use Rattle.vs_types.specs.declared.page.Rights.{Rights}
 use Rattle.vs_types.specs.declared.page.Size.{Size}
-use Rattle.vs_types.specs.declared.page.Size.TheVariants.{K4, M2, G1}
 use Rattle.vs_walk.specs.Memory.{Memory}
 use Rattle.vs_space.specs.Flags.{IsSameButFlags, AreSameButFlags}
 use Rattle.vs_space.specs.Held.{word_at}
@@ -25,10 +24,11 @@ use Rattle.vs_plan.specs.Changes.{larger, smaller}
 use Rattle.vs_plan.specs.Right.{IsEntryOf, IsOfPage, IsRemapped, IsSplit, IsJoined, IsPut}
 use Rattle.vs_plan.specs.Stores.{filled, stepping, FindTheirWords}
 use Rattle.vs_plan.proofs.FillsAgain.{same_filled}
-use Rattle.vs_plan.proofs.Filled.{word_as}
-use Rattle.vs_plan.proofs.FlaggedEntries.{ArePaired, at_flags, follow_flags, leaf_odd, same_word, set_flags, spare_flags, word_flags}
+use Rattle.vs_plan.proofs.Filled.{word_as, insert_same}
+use Rattle.vs_plan.proofs.FlaggedEntries.{ArePaired, at_flags, follow_flags, leaf_odd, same_word, set_flags, spare_flags, word_flags, entry_as}
 use Rattle.vs_plan.proofs.OtherFlags.{bits_after}
 use Rattle.vs_plan.proofs.PlansSuffice.{some_level}
+use Rattle.vs_types.proofs.Pages.{level_some}
 
 -- ---- words
 
@@ -46,20 +46,8 @@ module _ (target : Target) {old new : Memory} (is : AreSameButFlags old new) whe
       → ArePaired s t → word_at new t.frame t.index ≡ Some t.old
       → (now : IsEntryOf target new base size t.old) × (t.frame ≡ now.number) × (t.index ≡ index_at now.level base)
   entry_moved base size {s} {t} at frame index pair told = (
-    record {
-      level = at.level;
-      number = at.number;
-      reached = at_flags is target.depth target.root at.level base at.number at.reached;
-      word_is = subst (λ n. word_at new n (index_at at.level base) ≡ Some t.old) (pair.frame ∙ frame)
-          (subst (λ i. word_at new t.frame i ≡ Some t.old) (pair.index ∙ index) told);
-      leaf = (
-        at.leaf.0,
-        at.leaf.1,
-        flagged_meaning pair.old at.level
-            (some_level target.depth old target.root at.level base at.number at.reached) ∙ at.leaf.2,
-      );
-      size_is = at.size_is;
-    },
+    entry_as is target at (subst (λ n. word_at new n (index_at at.level base) ≡ Some t.old) (pair.frame ∙ frame)
+        (subst (λ i. word_at new t.frame i ≡ Some t.old) (pair.index ∙ index) told)) pair.old,
     pair.frame ∙ frame,
     pair.index ∙ index,
   )
@@ -93,7 +81,7 @@ module _ (target : Target) {old new : Memory} (is : AreSameButFlags old new) whe
         frame = now.1;
         at = now.2;
         aligned = of.aligned;
-        says = flagged_meaning pair.old (level_of of.size) (some_of of.size) ∙ of.says;
+        says = flagged_meaning pair.old (level_of of.size) (level_some of.size) ∙ of.says;
         large = of.large;
         given = of.given;
         within = of.within;
@@ -102,11 +90,6 @@ module _ (target : Target) {old new : Memory} (is : AreSameButFlags old new) whe
         step = of.step;
         link = writes ∙ of.link;
       }
-    where
-      some_of : (size : Size) → 1 ≤ level_of size
-      some_of K4 = omega arith
-      some_of M2 = omega arith
-      some_of G1 = omega arith
 
   joined_moved : (base : ℕ) (unlinked : List ℕ) {s t : Store} → IsJoined target old base unlinked s → ArePaired s t → t.new ≡ s.new
       → IsJoined target new base unlinked t
@@ -176,20 +159,16 @@ module _ (target : Target) {old new : Memory} (is : AreSameButFlags old new) (of
       at_flags is target.depth target.root split.entry_is.level base split.entry_is.number split.entry_is.reached
       ∙ ap Some (sym (pairs.0.frame ∙ split.frame)) in
       let there : word_at new t.frame t.index ≡ Some t.old =
-      sym (word_as target.depth new target.root put.0.frame (stepping next.0 put.0.step 512) spare.unreached split.entry_is.level base t.frame t.index reached)
+      sym (word_as target.depth target.root new _ (insert_same target.depth target.root new put.0.frame (stepping next.0 put.0.step 512) spare.unreached)
+      split.entry_is.level base t.frame t.index reached)
       ∙ told in (
         record put.0 { first = next.0 },
         next.1,
         split_moved target is base offered put.0 split pairs.0 there writes.0 next.0
             (next.2 (record { base = base; size = smaller split.size; rights = split.own; phys = split.phys }) split.size
-            (leaf_aligned (level_of split.size) s.old split.phys split.own (some_of split.size) split.says) split.first),
+            (leaf_aligned (level_of split.size) s.old split.phys split.own (level_some split.size) split.says) split.first),
         put.3,
       )
-    where
-      some_of : (size : Size) → 1 ≤ level_of size
-      some_of K4 = omega arith
-      some_of M2 = omega arith
-      some_of G1 = omega arith
   put_moved (Join base) (s ∷ xs) (t ∷ ys) pairs found writes put =
       (writes.0 ∙ put.0, joined_moved target is base unlinked put.1 pairs.0 writes.1)
   put_moved _ _ _ pairs found writes put = writes ∙ put

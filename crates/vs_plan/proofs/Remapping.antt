@@ -1,8 +1,8 @@
 -- A plan that lets a page lead elsewhere.
-use Rattle.std.proofs.Common.{◌≡◌, ◌≢◌, ℕ, ◌+◌, ◌-◌, ◌%◌, ◌^◌, ◌≤◌, ◌⊎◌, inl, inr, [], ◌∷◌, Option, Some, None, Bool, true, false, not, min, cond, ⊎_elim, eqb-true, refl, sym, ap, subst, ◌∙◌, arith}
+use Rattle.std.proofs.Common.{◌≡◌, ◌≢◌, ℕ, ◌+◌, ◌-◌, ◌%◌, ◌^◌, ◌≤◌, ◌⊎◌, inl, inr, [], ◌∷◌, Some, None, Bool, true, false, not, min, cond, ⊎_elim, eqb-true, refl, sym, ap, subst, ◌∙◌, arith}
 use Rattle.std.specs.Prelude.{◌==◌, nat_lt, if◌then◌else◌}
 use lib.Pow.{pow_mono}
-use Rattle.std.proofs.lemmas.Bool.{cases_eq, ltb-false}
+use Rattle.std.proofs.lemmas.Bool.{ltb-false}
 use Rattle.std.proofs.lemmas.List.Elements.{All-nil, All-cons}
 use Rattle.std.specs.FinMap as finite
 use Rattle.vs_types.specs.Depth.{levels, entry_bytes, index_at}
@@ -35,20 +35,22 @@ use Rattle.vs_plan.specs.declared.target.Target.{Target}
 use Rattle.vs_plan.specs.Bits.{bits_in, with_rights, with_address}
 use Rattle.vs_plan.specs.Changes.{remap, phys_refusal, remap_refusal}
 use Rattle.vs_plan.specs.Premise.{IsPremise}
-use Rattle.vs_plan.specs.Request.{address_of, stepped, refusal}
-use Rattle.vs_plan.specs.Right.{IsEntryOf, IsMeantBy, OfPage, IsRight, WantsMore}
+use Rattle.vs_plan.specs.Request.{address_of, refusal}
+use Rattle.vs_plan.specs.Right.{IsEntryOf, IsMeantBy, OfPage, IsRight}
 use Rattle.vs_plan.specs.Stores.{stored}
-use Rattle.vs_plan.specs.Way.{IsWay}
 use Rattle.vs_plan.specs.inside.Ended.{IsAtEnd, IsRightAt, HasEnded, ChangesNothing}
 use Rattle.vs_plan.proofs.Addresses.{with_address_reads}
 use Rattle.vs_plan.proofs.Asking.{entry_of}
-use Rattle.vs_plan.proofs.Changing.{change_none, change_inside, change_here, why_here}
+use Rattle.vs_plan.proofs.Changing.{change_here, why_here, change_cases}
 use Rattle.vs_plan.proofs.EntryStores.{walk_off, walk_here, whole_store, fewer, own_after}
-use Rattle.vs_plan.proofs.Pages.{table_from, found_word, page_here}
-use Rattle.vs_plan.proofs.Parts.{none_named, Parts, right_as, safe_one, nothing_right, nothing_parts, nothing_as, due_as, store_at, EndAt, end_at, own_table}
+use Rattle.vs_plan.proofs.Pages.{table_from, page_here, premise_table}
+use Rattle.vs_plan.proofs.Parts.{none_named, Parts, right_as, safe_one, nothing_right, nothing_parts, nothing_as, due_as, store_at, EndAt, end_at, own_table, rights_right}
 use Rattle.vs_space.proofs.LeafSteps.{begins_at, leaf_translates}
 use Rattle.vs_plan.proofs.Words.{with_rights_reads}
 use Rattle.vs_plan.proofs.Ways.{way_table, walk_at}
+use Rattle.vs_plan.proofs.Stored.{found_word}
+use Rattle.vs_plan.proofs.Requests.{passed, not_false}
+use Rattle.vs_plan.proofs.Protecting.{one_leaf}
 
 -- ---- a page of a space leads elsewhere
 
@@ -86,28 +88,12 @@ phys_good phys phys_bits size none =
       eqb-true (phys % bytes_of size) 0 (not_false (phys % bytes_of size == 0) first.0),
       omega (arith, within, low),
     )
-  where
-    passed : (b : Bool) (e : Reply) (rest : Option Reply) → (if b then Some e else rest) ≡ None → (b ≡ false) × (rest ≡ None)
-    passed true e rest is = absurd (cc)
-    passed false e rest is = (refl, is)
-
-    not_false : (b : Bool) → not b ≡ false → b ≡ true
-    not_false true is = refl
-    not_false false is = absurd (cc)
 
 pub remap_space : {depth : Depth} {space : Space} → IsSpace depth space → (base phys phys_bits : ℕ) (rights : Rights)
     → remap_refusal space base phys phys_bits ≡ None → IsSpace depth (remap space base phys rights).space
-remap_space {depth} {space} is base phys phys_bits rights none =
-    elim (page_at space base) as (λ o. page_at space base ≡ o → IsSpace depth (remap space base phys rights).space) [
-      | None ↦ λ e. subst (λ (s : Stepped). IsSpace depth s.space) (sym (change_none space base _ e)) is
-      | Some q ↦ λ e. ⊎_elim
-          (λ (same : q.base ≡ base).
-          let good = phys_good phys phys_bits q.size (sym (why_here base _ q e same) ∙ none) in
-          subst (λ (s : Stepped). IsSpace depth s.space) (sym (change_here space base _ q e same))
-          (moved_space is q ((page_at_means is base q).0 e).0 phys rights good.0 good.1))
-          (λ (other : q.base ≢ base). subst (λ (s : Stepped). IsSpace depth s.space) (sym (change_inside space base _ q e other)) is)
-          (cases_eq q.base base)
-    ] refl
+remap_space {depth} {space} is base phys phys_bits rights none = change_cases space base _ (IsSpace depth) is (λ q e same.
+    let good = phys_good phys phys_bits q.size (sym (why_here base _ q e same) ∙ none) in
+    moved_space is q ((page_at_means is base q).0 e).0 phys rights good.0 good.1)
 
 -- ---- the page that begins at the base
 
@@ -141,30 +127,21 @@ module _ {depth : Depth} {m : Memory} {root : ℕ} {space : Space} (of : IsTable
 
 -- ---- the plan
 
-one_leaf : (phys : ℕ) (own : Rights) (other : ℕ) (rights : Rights) → entry.Leaf phys own ≡ entry.Leaf other rights → (phys ≡ other) × (own ≡ rights)
-one_leaf phys own other rights e = (cc, cc)
-
 module _ (target : Target) {memory : Memory} {space : Space} {base level number word old : ℕ} {given own : Rights}
     (end : EndAt target memory space level number given word base) (some : 1 ≤ level) (says : meaning level word ≡ entry.Leaf old own)
     (aligned : base % bytes_of (size_at level) ≡ 0) (phys : ℕ) (rights : Rights) where
-  way : IsWay target.depth memory target.root base level number given
-  way = end.way
-
   page : (q : Page) × IsLeafPage target.depth space base level old (intersection given own) q
-  page = page_here end.way some end.word_is end.premise.is_space end.premise.translates end.canonical says
-
-  table : IsTableOf (table_from target.depth memory target.root) space
-  table = record { is_space = end.premise.is_space; translates = end.premise.translates }
+  page = page_here end.way some end.word_is end.premise end.canonical says
 
   told : (size : Size) × (found : ℕ) × IsEntryOf target memory base size found × (bits_in (size_at level) word ≡ bits_in size found)
-  told = (size_at level, word, entry_of way end.word_is says, refl)
+  told = (size_at level, word, entry_of end.way end.word_is says, refl)
 
   -- what the space refuses is what the size refuses
   pub refused : refusal target space (Remap base phys rights) ≡ phys_refusal phys target.phys_bits (size_at level)
-  refused = remap_refused table page.1 aligned phys target.phys_bits
+  refused = remap_refused (premise_table end.premise) page.1 aligned phys target.phys_bits
 
   pub would_change : (remap space base phys rights).answer ≡ answers.Changed (intersection given own)
-  would_change = remap_answer table page.1 aligned phys rights
+  would_change = remap_answer (premise_table end.premise) page.1 aligned phys rights
 
   module _ (none : phys_refusal phys target.phys_bits (size_at level) ≡ None) (allows : intersection given rights ≡ rights) where
     abbrev new : ℕ
@@ -182,12 +159,12 @@ module _ (target : Target) {memory : Memory} {space : Space} {base level number 
         → Parts target (Remap base phys rights) memory space [] (replies.Answer (answers.Changed (intersection given own))) (bits_in (size_at level) word)
         None [] flushes.Nothing []
     same_parts same =
-        let both = one_leaf old own phys rights (sym says ∙ ap (meaning level) same ∙ leads) in
+        let both = one_leaf (sym says ∙ ap (meaning level) same ∙ leads) in
         let rights_are : intersection given own ≡ rights = ap (intersection given) both.1 ∙ allows in
-        nothing_parts {request = Remap base phys rights} end.premise (refused ∙ none) (size_at level, word, entry_of way end.word_is says, same)
+        nothing_parts {request = Remap base phys rights} end.premise (refused ∙ none) (size_at level, word, entry_of end.way end.word_is says, same)
         (sym would_change)
-        (remap_translates table page.1 aligned phys rights good.0 good.1 memory
-        (λ b path. walk_at way some (entry.Leaf old own) (found_word level memory number base word end.word_is ∙ ap Some says) b path
+        (remap_translates (premise_table end.premise) page.1 aligned phys rights good.0 good.1 memory
+        (λ b path. walk_at end.way some (entry.Leaf old own) (found_word level memory number base word end.word_is ∙ ap Some says) b path
         ∙ ap (Mapped (old + b % entry_bytes level) (size_at level)) rights_are
         ∙ ap (λ p. Mapped (p + b % entry_bytes level) (size_at level) rights) both.0)
         (λ b apart. refl)) told
@@ -205,7 +182,7 @@ module _ (target : Target) {memory : Memory} {space : Space} {base level number 
             refl,
             record {
               size = size_at level;
-              entry_is = entry_of way end.word_is says;
+              entry_is = entry_of end.way end.word_is says;
               frame = refl;
               at = refl;
               new = refl;
@@ -214,20 +191,21 @@ module _ (target : Target) {memory : Memory} {space : Space} {base level number 
           );
           fits = tt;
           safe = safe_one (store_at number (index_at level base) word new) end.premise.translates
-              (remap_translates table page.1 aligned phys rights good.0 good.1 (stored memory (store_at number (index_at level base) word new))
-              (λ b path. walk_here here new way some (entry.Leaf phys rights) leads b path
+              (remap_translates (premise_table end.premise) page.1 aligned phys rights good.0 good.1
+              (stored memory (store_at number (index_at level base) word new))
+              (λ b path. walk_here here new end.way some (entry.Leaf phys rights) leads b path
               ∙ ap (Mapped (phys + b % entry_bytes level) (size_at level)) allows)
               (walk_off here new));
           found = (end.word_is, tt);
           meant = All-cons (IsMeantBy target memory (Remap base phys rights) []) (store_at number (index_at level base) word new) []
-              (OfPage (record { level = level; reached = way_table level number given way; index = refl }) (ap (λ e. table_in (Some e)) says)) (All-nil _);
+              (OfPage (record { level = level; reached = way_table level number given end.way; index = refl }) (ap (λ e. table_in (Some e)) says)) (All-nil _);
           nothing = λ none. absurd (none (λ e. cc));
           written = refl;
           already = tt;
           changing = All-cons (λ (t : Store). t.old ≢ t.new) (store_at number (index_at level base) word new) [] differs (All-nil _);
           one_way = tt;
           told = told;
-          flushed = (size_at level, entry_of way end.word_is says, refl);
+          flushed = (size_at level, entry_of end.way end.word_is says, refl);
           unlinked = All-nil _;
           pruned = tt;
           named_once = none_named;
@@ -276,18 +254,8 @@ module _ {p : Planner} {word : ℕ} (end : IsAtEnd p) {old : ℕ} {own : Rights}
     -- the entries above allow less
     pub less_right : intersection p.rights rights ≢ rights → (plan : Plan) → ChangesNothing replies.Rights 0 plan → IsRightAt p word plan
     less_right less plan nothing memory ended space premise =
-        nothing_right premise (refused_as space ended premise ∙ none) plan nothing tt (
-          subst (WantsMore p.target memory) (sym is) (record {
-            level = p.level;
-            number = p.number;
-            rights = p.rights;
-            way = subst (λ a. IsWay p.target.depth memory p.target.root a p.level p.number p.rights) (ap address_of is) ended.way;
-            less = less;
-          }),
-          ap (λ r. changes (stepped p.target.depth space r).answer) is
-              ∙ ap changes (would_change p.target (end_at end ended premise (ap address_of is)) end.some says aligned phys rights),
-        )
-        premise.translates refl
+        rights_right is (λ m allows. allows) less ended premise (refused_as space ended premise ∙ none)
+        (ap changes (would_change p.target (end_at end ended premise (ap address_of is)) end.some says aligned phys rights)) plan nothing
 
     module _ (allows : intersection p.rights rights ≡ rights) {answer : Rights} (answer_is : answer ≡ intersection p.rights own) {bits : ℕ}
         (bits_are : bits ≡ bits_in (size_at p.level) word) {plan : Plan} (reply : plan.reply ≡ replies.Answer (answers.Changed answer))

@@ -1,5 +1,5 @@
 -- One store, after which each table is reached as before.
-use Rattle.std.proofs.Common.{◌≡◌, ◌≢◌, ℕ, zero, suc, ◌≤◌, List, ◌∷◌, Option, Some, None, IsSome, ◌⊎◌, inl, inr, ⊎_elim, refl, sym, subst, ◌∙◌, arith}
+use Rattle.std.proofs.Common.{◌≡◌, ◌≢◌, ℕ, zero, suc, ◌≤◌, List, ◌∷◌, Option, Some, IsSome, ◌⊎◌, inl, inr, ⊎_elim, refl, sym, subst, ◌∙◌, arith}
 use Rattle.std.proofs.lemmas.Bool.{cases_eq}
 use Rattle.std.specs.FinMap as finite
 use Rattle.vs_types.specs.Depth.{IsCanonical}
@@ -14,11 +14,12 @@ use Rattle.vs_walk.specs.declared.walk.Walk.{Walk}
 use Rattle.vs_walk.proofs.Walks.{walk_nowhere}
 use Rattle.vs_space.specs.Held.{with_word}
 use Rattle.vs_space.specs.Path.{found_at}
-use Rattle.vs_space.proofs.Paths.{walk_found, walk_lost}
+use Rattle.vs_space.proofs.Paths.{walk_found}
 use Rattle.vs_space.proofs.Writes.{found_elsewhere}
 use Rattle.vs_plan.specs.Processor.{page_number, region_number, Kept, Translation, PagingEntry, OfRoot, OfTable, OfPage}
 use Rattle.vs_plan.specs.Processor.{Moment, Is, MayKeep, MayFind, ByTranslation, ByWalk, IsUpToDate}
 use Rattle.vs_plan.proofs.Kept.{IsClosed, all_kept, Reads, all_reads, entry_walk, translation_walk}
+use Rattle.vs_plan.proofs.Ways.{walk_alike}
 
 -- in each table that is reached the entry is as before, or the table is reached in the new memory too
 abbrev pub IsCalm : Depth → ℕ → Memory → Memory → Type 0
@@ -66,22 +67,11 @@ module _ (depth : Depth) (root : ℕ) (old new : Memory) (calm : IsCalm depth ro
         → (o : Option Meaning) → found_at (suc below) old number address ≡ o
         → (walk_from new (suc below) number rights address ≡ walk depth old root address)
         ⊎ (walk_from new (suc below) number rights address ≡ walk depth new root address)
-    ends_at below number rights go reads same None found = inl
-        (walk_lost new below number rights address (same ∙ found) ∙ sym (walk_lost old below number rights address found)
-        ∙ sym (entry_walk depth root old (suc below) (region_number (suc below) address) number rights reads address refl))
     ends_at below number rights go reads same (Some (entry.Table next own)) found =
         let first = walk_found new below number rights address (entry.Table next own) (same ∙ found) in
         ⊎_elim (λ e. inl (first ∙ e)) (λ e. inr (first ∙ e))
         (go next (intersection rights own) (OfTable address below number next rights own canonical reads found))
-    ends_at below number rights go reads same (Some entry.Absent) found = inl
-        (walk_found new below number rights address entry.Absent (same ∙ found) ∙ sym (walk_found old below number rights address entry.Absent found)
-        ∙ sym (entry_walk depth root old (suc below) (region_number (suc below) address) number rights reads address refl))
-    ends_at below number rights go reads same (Some entry.Reserved) found = inl
-        (walk_found new below number rights address entry.Reserved (same ∙ found) ∙ sym (walk_found old below number rights address entry.Reserved found)
-        ∙ sym (entry_walk depth root old (suc below) (region_number (suc below) address) number rights reads address refl))
-    ends_at below number rights go reads same (Some (entry.Leaf phys own)) found = inl
-        (walk_found new below number rights address (entry.Leaf phys own) (same ∙ found)
-        ∙ sym (walk_found old below number rights address (entry.Leaf phys own) found)
+    ends_at below number rights go reads same o found = inl (walk_alike old new below number rights address same o found (λ next own e. cc)
         ∙ sym (entry_walk depth root old (suc below) (region_number (suc below) address) number rights reads address refl))
 
     pub replaced_walk : (level : ℕ) → Ends level

@@ -16,7 +16,7 @@ use Rattle.vs_plan.specs.Request.{IsRequest, IsMapped, IsWhole, address_of, lowe
 use Rattle.vs_plan.specs.Target.{frames_end}
 
 -- a test that finds no fault, and those after it
-passed : (b : Bool) (e : BadRequest) (rest : Option BadRequest) → (if b then Some e else rest) ≡ None → (b ≡ false) × (rest ≡ None)
+pub passed : {E : Type 0} (b : Bool) (e : E) (rest : Option E) → (if b then Some e else rest) ≡ None → (b ≡ false) × (rest ≡ None)
 passed true e rest is = absurd (cc)
 passed false e rest is = (refl, is)
 
@@ -24,7 +24,7 @@ passes : (b : Bool) (e : BadRequest) → (if b then None else Some e) ≡ None �
 passes true e is = refl
 passes false e is = absurd (cc)
 
-not_false : (b : Bool) → not b ≡ false → b ≡ true
+pub not_false : (b : Bool) → not b ≡ false → b ≡ true
 not_false true is = refl
 not_false false is = absurd (cc)
 

@@ -1,8 +1,8 @@
 -- A right plan, where flags were set in the memory since it was shown.
-use Rattle.std.proofs.Common.{◌≡◌, ◌≢◌, ℕ, suc, ◌+◌, ◌*◌, ◌%◌, ◌^◌, ◌<◌, List, [], ◌∷◌, All, Contains, Option, Some, None, true, inl, inr, ⊎_elim, refl, sym, ap, subst, ◌∙◌, arith}
+use Rattle.std.proofs.Common.{◌≡◌, ◌≢◌, ℕ, suc, ◌+◌, ◌*◌, ◌%◌, ◌^◌, ◌<◌, List, [], ◌∷◌, All, Contains, Option, Some, None, true, inl, inr, ⊎_elim, refl, sym, ap, subst, ◌∙◌, arith, get_or}
 use Rattle.std.specs.FinMap as finite
 use Rattle.std.specs.List.{AllZip}
-use Rattle.std.proofs.lemmas.List.Elements.{All-nil, All-cons, All-head, All-weaker}
+use Rattle.std.proofs.lemmas.List.Elements.{All-nil, All-cons, All-head}
 use Rattle.vs_types.specs.Depth.{levels, index_at}
 use Rattle.vs_types.specs.Entry.{meaning, size_at}
 use Rattle.vs_types.specs.Laws.{changes}
@@ -305,14 +305,13 @@ module _ (target : Target) (old new : Memory) (space : Space) (offered : List (O
 
   unlinked_moved : (request : Request) (xs ys : List Store) → Was request xs → Moves request xs ys
       → All (IsUnlinkedBy target new (stored_all (filled new other) ys) request) unlinked
-  unlinked_moved (Join base) [] [] was moves = All-weaker (IsLeft target old (stored_all (filled old fill) []) base)
-      (IsLeft target new (stored_all (filled new other) []) base) (λ number left. record {
-        level = left.level;
-        was = at_flags moves.same target.depth target.root left.level base number left.was;
-        lower = left.lower;
-        same = ap (λ (o : Option Fill). finite.get (filled new o) number) moves.put;
-        unreached = λ level b at. left.unreached level b (at_before moves.begins target.depth target.root level b number at);
-      }) unlinked was.unlinked
+  unlinked_moved (Join base) [] [] was moves = λ k d lt. let left = was.unlinked k d lt in record {
+    level = left.level;
+    was = at_flags moves.same target.depth target.root left.level base _ left.was;
+    lower = left.lower;
+    same = ap (λ (o : Option Fill). finite.get (filled new o) (get_or unlinked k d)) moves.put;
+    unreached = λ level b at. left.unreached level b (at_before moves.begins target.depth target.root level b _ at);
+  }
   unlinked_moved (Join base) (s ∷ xs) (t ∷ ys) was moves =
       let number = moves.put.1.number in
       let named : unlinked ≡ number ∷ [] = moves.put.1.unlinked_is in
@@ -322,8 +321,7 @@ module _ (target : Target) (old new : Memory) (space : Space) (offered : List (O
       (subst (All (IsLeft target old (stored_all (filled old fill) (s ∷ xs)) base)) named was.unlinked)) named)
       (All-nil (IsLeft target new (stored_all (filled new other) (t ∷ ys)) base)))
   unlinked_moved (Join base) _ _ was moves = absurd moves.pairs
-  unlinked_moved request xs ys was moves = All-weaker (IsUnlinked target old (stored_all (filled old fill) xs) (address_of request))
-      (IsUnlinked target new (stored_all (filled new other) ys) (address_of request)) (gone_moved was moves (address_of request)) unlinked was.unlinked
+  unlinked_moved request xs ys was moves = λ k d lt. gone_moved was moves (address_of request) _ (was.unlinked k d lt)
 
   pub parts_moved : (request : Request) (xs ys : List Store) → Was request xs → Moves request xs ys
       → Parts target request new space offered reply bits other ys flush unlinked

@@ -39,42 +39,49 @@ leaf_of level word phys own is = said_back (bit_at word 0 == 1) (has_reserved le
     (word % 2 ^ 52 / entry_bytes level * entry_bytes level) (word % 2 ^ 52 / 2 ^ 12) phys own
     (eq-eqb (bit_at word 0) 1 is.present) is.plain is.leaf is.address is.rights
 
+-- ---- an entry with another address
+
+-- the words are alike but for the address
+pub record HasNewAddress (level old new : ℕ) : Type 0 where
+  pub bottom : new % 2 ^ 12 ≡ old % 2 ^ 12
+  pub low : new % entry_bytes level ≡ old % entry_bytes level
+  pub high : new / 2 ^ 52 ≡ old / 2 ^ 52
+
+reserved_moved : (level old new : ℕ) → 1 ≤ level → level ≤ 3 → HasNewAddress level old new → has_reserved level new ≡ has_reserved level old
+reserved_moved (suc zero) old new some few is = ap (λ n. not (n / 2 ^ 13 == 0)) is.low
+reserved_moved (suc (suc zero)) old new some few is =
+    reserved_from (new % 2 ^ 21 / 2 ^ 13) (old % 2 ^ 21 / 2 ^ 13) (ap (λ n. n / 2 ^ 13) is.low) (bit_at new 7) (bit_at old 7)
+    (omega (arith, is.bottom))
+reserved_moved (suc (suc (suc zero))) old new some few is =
+    reserved_from (new % 2 ^ 30 / 2 ^ 13) (old % 2 ^ 30 / 2 ^ 13) (ap (λ n. n / 2 ^ 13) is.low) (bit_at new 7) (bit_at old 7)
+    (omega (arith, is.bottom))
+reserved_moved _ old new some few is = absurd (omega arith)
+
+-- a leaf leads to the address that its word has then
+pub leaf_moved : (level old new phys other : ℕ) (own : Rights) → 1 ≤ level → meaning level old ≡ entry.Leaf other own → HasNewAddress level old new
+    → new % 2 ^ 52 / entry_bytes level * entry_bytes level ≡ phys → meaning level new ≡ entry.Leaf phys own
+leaf_moved level old new phys other own some says is place =
+    let parts = leaf_parts level old other own says in
+    let seventh : bit_at new 7 ≡ bit_at old 7 = omega (arith, is.bottom) in
+    leaf_of level new phys own (record {
+      present = omega (arith, is.bottom, parts.present);
+      plain = reserved_moved level old new some (leaf_level level old other own says).0 is ∙ parts.plain;
+      leaf = ap (λ b. (level == 1) || (nat_le level 3 && (b == 1))) seventh ∙ parts.leaf;
+      address = place;
+      rights = rights_same (bit_at new 1) (bit_at old 1) (bit_at new 2) (bit_at old 2) (bit_at new 63) (bit_at old 63)
+          (omega (arith, is.bottom)) (omega (arith, is.bottom)) (omega (arith, is.high)) ∙ parts.rights;
+    })
+
 -- ---- an address some entries further on
 
--- the words are alike but for the address, which lies this many entries further on
-record IsLater (level old new k : ℕ) : Type 0 where
-  bottom : new % 2 ^ 12 ≡ old % 2 ^ 12
-  low : new % entry_bytes level ≡ old % entry_bytes level
-  address : new % 2 ^ 52 / entry_bytes level * entry_bytes level ≡ old % 2 ^ 52 / entry_bytes level * entry_bytes level + k * entry_bytes level
-  high : new / 2 ^ 52 ≡ old / 2 ^ 52
-
 later_is : (level old k new : ℕ) → 1 ≤ level → level ≤ 3 → new ≡ old + k * entry_bytes level
-    → old % 2 ^ 52 / entry_bytes level * entry_bytes level + k * entry_bytes level < 2 ^ 52 → IsLater level old new k
+    → old % 2 ^ 52 / entry_bytes level * entry_bytes level + k * entry_bytes level < 2 ^ 52 → HasNewAddress level old new
+    × (new % 2 ^ 52 / entry_bytes level * entry_bytes level ≡ old % 2 ^ 52 / entry_bytes level * entry_bytes level + k * entry_bytes level)
 later_is zero old k new some few is fits = absurd (omega arith)
 later_is (suc zero) old k new some few is fits =
-    let bottom : new % 2 ^ 12 ≡ old % 2 ^ 12 = omega arith in
-    record { bottom = bottom; low = bottom; address = omega arith; high = omega arith }
+    let bottom : new % 2 ^ 12 ≡ old % 2 ^ 12 = omega arith in (record { bottom = bottom; low = bottom; high = omega arith }, omega arith)
 later_is (suc (suc (suc (suc level)))) old k new some few is fits = absurd (omega arith)
-later_is _ old k new some few is fits = record { bottom = omega arith; low = omega arith; address = omega arith; high = omega arith }
-
-module _ {level old new k : ℕ} (is : IsLater level old new k) where
-  bit_7 : bit_at new 7 ≡ bit_at old 7
-  bit_7 = omega (arith, is.bottom)
-
-  leaf_same : is_leaf level new ≡ is_leaf level old
-  leaf_same = ap (λ b. (level == 1) || (nat_le level 3 && (b == 1))) bit_7
-
-  rights_later : rights_of new ≡ rights_of old
-  rights_later = rights_same (bit_at new 1) (bit_at old 1) (bit_at new 2) (bit_at old 2) (bit_at new 63) (bit_at old 63)
-      (omega (arith, is.bottom)) (omega (arith, is.bottom)) (omega (arith, is.high))
-
-reserved_later : (level old new k : ℕ) → 1 ≤ level → level ≤ 3 → IsLater level old new k → has_reserved level new ≡ has_reserved level old
-reserved_later (suc zero) old new k some few is = ap (λ n. not (n / 2 ^ 13 == 0)) is.low
-reserved_later (suc (suc zero)) old new k some few is =
-    reserved_from (new % 2 ^ 21 / 2 ^ 13) (old % 2 ^ 21 / 2 ^ 13) (ap (λ n. n / 2 ^ 13) is.low) _ _ (bit_7 is)
-reserved_later (suc (suc (suc zero))) old new k some few is =
-    reserved_from (new % 2 ^ 30 / 2 ^ 13) (old % 2 ^ 30 / 2 ^ 13) (ap (λ n. n / 2 ^ 13) is.low) _ _ (bit_7 is)
-reserved_later _ old new k some few is = absurd (omega arith)
+later_is _ old k new some few is fits = (record { bottom = omega arith; low = omega arith; high = omega arith }, omega arith)
 
 -- the page of the word with its address some entries further on
 pub leaf_later : (level word phys : ℕ) (own : Rights) (k : ℕ) → 1 ≤ level → meaning level word ≡ entry.Leaf phys own
@@ -83,10 +90,5 @@ leaf_later level word phys own k some says fits =
     let few = (leaf_level level word phys own says).0 in
     let parts = leaf_parts level word phys own says in
     let later = later_is level word k (word + k * entry_bytes level) some few refl (omega (arith, parts.address, fits)) in
-    leaf_of level (word + k * entry_bytes level) (phys + k * entry_bytes level) own (record {
-      present = omega (arith, later.bottom, parts.present);
-      plain = reserved_later level word (word + k * entry_bytes level) k some few later ∙ parts.plain;
-      leaf = leaf_same later ∙ parts.leaf;
-      address = later.address ∙ ap (λ n. n + k * entry_bytes level) parts.address;
-      rights = rights_later later ∙ parts.rights;
-    })
+    leaf_moved level word (word + k * entry_bytes level) (phys + k * entry_bytes level) phys own some says later.0
+    (later.1 ∙ ap (λ n. n + k * entry_bytes level) parts.address)

@@ -1,6 +1,6 @@
 -- The first page below the level of a page that is to be mapped.
-use Rattle.std.proofs.Common.{◌≡◌, ◌≢◌, ℕ, suc, ◌+◌, ◌-◌, ◌*◌, ◌%◌, ◌^◌, ◌<◌, ◌≤◌, List, [], Some, None, IsTrue, ⊎_elim, refl, sym, ap, subst, ◌∙◌, mod-eq_of_lt, arith}
-use Rattle.std.specs.Prelude.{option_map, slice_index}
+use Rattle.std.proofs.Common.{◌≡◌, ℕ, suc, ◌+◌, ◌-◌, ◌*◌, ◌%◌, ◌^◌, ◌<◌, ◌≤◌, List, [], Some, None, IsTrue, ⊎_elim, refl, sym, ap, subst, ◌∙◌, mod-eq_of_lt, arith}
+use Rattle.std.specs.Prelude.{slice_index}
 use Rattle.std.proofs.lemmas.Bool.{cases_lt}
 use Rattle.std.specs.FinMap as finite
 use Rattle.vs_types.specs.Depth.{levels, entry_bytes, index_at, IsCanonical}
@@ -18,11 +18,10 @@ use Rattle.vs_walk.specs.Memory.{Memory}
 use Rattle.vs_walk.specs.Walk.{walk, TranslatesAs}
 use Rattle.vs_walk.specs.declared.walk.Walk.TheVariants.{NotMapped}
 use Rattle.vs_space.specs.Held.{word_at}
-use Rattle.vs_space.specs.Path.{found_at, entry_in, table_in, SamePath}
-use Rattle.vs_space.specs.Table.{IsTableOf}
+use Rattle.vs_space.specs.Path.{table_in, SamePath}
 use Rattle.vs_space.proofs.Meets.{never_table}
 use Rattle.vs_space.proofs.Overlaps.{overlapped_least}
-use Rattle.vs_space.proofs.Prunes.{word_in}
+use Rattle.vs_space.proofs.Prunes.{word_in, entry_word}
 use Rattle.vs_space.proofs.Regions.{nothing_at, path_covers}
 use Rattle.vs_plan.specs.declared.plan.Plan.{Plan}
 use Rattle.vs_plan.specs.declared.plan.Reply.TheVariants as replies
@@ -32,27 +31,15 @@ use Rattle.vs_plan.specs.Premise.{IsPremise}
 use Rattle.vs_plan.specs.Request.{IsRequest, IsMapped, IsWhole, address_of, lowest_of, stepped}
 use Rattle.vs_plan.specs.Right.{IsRight, LiesOverEmpty}
 use Rattle.vs_plan.specs.Shown.{IsSearched, IsShown, IsShownIn}
-use Rattle.vs_plan.specs.Way.{IsWay, Leads}
+use Rattle.vs_plan.specs.Way.{IsWay}
 use Rattle.vs_plan.specs.declared.planner.Phase.TheVariants as phases
 use Rattle.vs_plan.specs.inside.Ended.{IsAtEnd, HasEnded, IsFirstPresent, ChangesNothing}
-use Rattle.vs_plan.proofs.Pages.{table_from, found_word, reserved_never, page_here}
+use Rattle.vs_plan.proofs.Pages.{reserved_never, page_here, premise_table}
 use Rattle.vs_plan.proofs.Parts.{nothing_right, due_as}
 use Rattle.vs_space.proofs.Maps.{map_overlaps}
 use Rattle.vs_space.proofs.Stretches.{next_index, next_path, next_canonical, next_aligned, earlier}
-use Rattle.vs_plan.proofs.Ways.{way_shared, way_walk, walk_level}
-
--- a word that isn't present is absent
-absent_word : (level word : ℕ) → word % 2 ≡ 0 → meaning level word ≡ entry.Absent
-absent_word level word even = grind arith
-
--- and an absent one isn't present
-present_word : (level word : ℕ) → word % 2 ≢ 0 → meaning level word ≡ entry.Absent → ⊥
-present_word level word odd says = odd (grind arith)
-
-entry_word : (level : ℕ) (m : Memory) (n i : ℕ) (words : List ℕ) → finite.get m n ≡ Some words
-    → entry_in level m n i ≡ Some (meaning level (slice_index words i))
-unfolding entry_in
-entry_word level m n i words there = ap (option_map (meaning level)) (word_in m n i words there)
+use Rattle.vs_plan.proofs.Ways.{way_shared, way_walk, walk_level, way_on}
+use Rattle.vs_plan.proofs.Stored.{found_word, even_absent, absent_even}
 
 module _ {memory : Memory} {p : Planner} {words : List ℕ} (request : IsRequest p.target p.request) (some : 1 ≤ p.level)
     (searched : IsSearched memory p) (there : finite.get memory p.number ≡ Some words) where
@@ -71,10 +58,6 @@ module _ {memory : Memory} {p : Planner} {words : List ℕ} (request : IsRequest
   place : address_of p.request ≡ page.base
   place = ap address_of searched.request
 
-  table_of : {space : Space} → IsPremise p.target.depth memory p.target.root (address_of p.request) space
-      → IsTableOf (table_from p.target.depth memory p.target.root) space
-  table_of premise = record { is_space = premise.is_space; translates = premise.translates }
-
   -- an address of the table whose entry is absent
   quiet : (b : ℕ) → SamePath (levels p.target.depth) (suc p.level) p.base b → slice_index words (index_at p.level b) % 2 ≡ 0
       → walk p.target.depth memory p.target.root b ≡ NotMapped
@@ -82,7 +65,7 @@ module _ {memory : Memory} {p : Planner} {words : List ℕ} (request : IsRequest
       way_walk p.level p.number searched.rights searched.way b path
       ∙ walk_level memory p.level p.number searched.rights b entry.Absent some
       (found_word p.level memory p.number b _ (word_in memory p.number (index_at p.level b) words there)
-      ∙ ap Some (absent_word p.level (slice_index words (index_at p.level b)) even))
+      ∙ ap Some (even_absent p.level (slice_index words (index_at p.level b)) even))
 
   -- ---- no entry is present
 
@@ -97,7 +80,8 @@ module _ {memory : Memory} {p : Planner} {words : List ℕ} (request : IsRequest
         below = searched.below;
         covered = (path_covers p.target.depth page good p.base searched.canonical searched.same_path).0;
         way = searched.way;
-        empty = λ i lt. entry_word p.level memory p.number i words there ∙ ap Some (absent_word p.level (slice_index words i) (none i lt));
+        empty = λ i lt. entry_word p.level memory p.number i (slice_index words i) entry.Absent (word_in memory p.number i words there)
+            (sym (even_absent p.level (slice_index words i) (none i lt)));
       }))
       premise.translates refl
 
@@ -154,18 +138,13 @@ module _ {memory : Memory} {p : Planner} {words : List ℕ} (request : IsRequest
       request = searched.request;
       below = omega (arith, searched.below);
       rights = intersection searched.rights own;
-      way = down (p.level - 1) (omega arith);
+      way = way_on way some (found_word p.level memory p.number next word word_is ∙ ap Some says);
       canonical = canonical;
       from = omega (arith, searched.from, next_is);
       same_path = same_path;
       aligned = let e : 12 + 9 * (p.level - 1) ≡ 3 + 9 * p.level = omega arith in subst (λ n. next % 2 ^ n ≡ 0) (sym e) aligned;
       before = before;
-    } where
-      down : (below : ℕ) → p.level ≡ suc below → IsWay p.target.depth memory p.target.root next below found (intersection searched.rights own)
-      down below one = Leads below p.number found searched.rights own
-          (subst (λ l. IsWay p.target.depth memory p.target.root next l p.number searched.rights) one way)
-          (subst (λ l. found_at l memory p.number next ≡ Some (entry.Table found own)) one
-          (found_word p.level memory p.number next word word_is ∙ ap Some says))
+    }
 
     pub shown_on : {found : ℕ} {own : Rights} → meaning p.level word ≡ entry.Table found own → p.phase ≡ phases.Search
         → IsShown memory (record p { base = next; number = found; level = p.level - 1 })
@@ -177,7 +156,7 @@ module _ {memory : Memory} {p : Planner} {words : List ℕ} (request : IsRequest
       pub leaf_right : {phys : ℕ} {own : Rights} → meaning p.level word ≡ entry.Leaf phys own → ChangesNothing (replies.Answer (answers.Overlap next)) 0 plan
           → IsRight p.target p.request memory space [] plan
       leaf_right {phys} {own} says is =
-          let here = page_here way some word_is premise.is_space premise.translates canonical says in
+          let here = page_here way some word_is premise canonical says in
           let q = here.0 in
           let inside = (path_covers p.target.depth page good next canonical same_path).0 in
           let offset : next % bytes_of q.size ≡ 0 = ap (λ l. next % entry_bytes l) here.1.level_is ∙ aligned in
@@ -188,7 +167,7 @@ module _ {memory : Memory} {p : Planner} {words : List ℕ} (request : IsRequest
           let spans = (covers_means page next).0 inside in
           let covered = (covers_means page a).1 (from, omega (arith, high, begins, spans.1)) in
           let is_a = covered_canonical (2 ^ 51) p.target.depth page a good covered in
-          nothing_at (table_of premise) a is_a (before a is_a from (omega (arith, high, begins)))) in
+          nothing_at (premise_table premise) a is_a (before a is_a from (omega (arith, high, begins)))) in
           let stays : stepped p.target.depth space p.request ≡ record { space = space; answer = answers.Overlap next } =
           ap (stepped p.target.depth space) searched.request
           ∙ map_overlaps p.target.depth (table_count p.target.depth (finite.insert space page.base page)) space page next (least ∙ ap Some begins) in
@@ -196,11 +175,11 @@ module _ {memory : Memory} {p : Planner} {words : List ℕ} (request : IsRequest
           (subst (λ (s : Space). TranslatesAs p.target.depth memory p.target.root s) (sym (ap (λ (s : Stepped). s.space) stays)) premise.translates) refl
 
       pub search_reserved : meaning p.level word ≡ entry.Reserved → IsRight p.target p.request memory space [] plan
-      search_reserved says = absurd (reserved_never way some word_is premise.is_space premise.translates canonical says)
+      search_reserved says = absurd (reserved_never way some word_is premise canonical says)
 
     -- it isn't absent
     pub search_present : meaning p.level word ≡ entry.Absent → ⊥
-    search_present says = present_word p.level word first.present says
+    search_present says = first.present (absent_even p.level word says)
 
 -- ---- the search begins, at the entry of the page's own level
 
@@ -223,7 +202,7 @@ module _ {p : Planner} {page : Page} {bits : ℕ} (word : ℕ) (end : IsAtEnd p)
     below = omega (arith, own_level, own_deep);
     rights = intersection p.rights own;
     way = subst (λ a. IsWay p.target.depth memory p.target.root a (p.level - 1) found (intersection p.rights own)) place
-        (down (p.level - 1) (omega (arith, own_deep)));
+        (way_on ended.way end.some (found_word p.level memory p.number (address_of p.request) word ended.word_is ∙ ap Some says));
     canonical = subst (IsCanonical p.target.depth) place end.request.canonical;
     from = omega arith;
     same_path = λ i from to. refl;
@@ -246,9 +225,3 @@ module _ {p : Planner} {page : Page} {bits : ℕ} (word : ℕ) (end : IsAtEnd p)
         let none : table_in (Some (entry.Table found own)) ≡ None = ap (λ e. table_in (Some e)) (sym says) ∙ ended.ends deep in absurd (cc))
         (λ (le : p.level ≤ lowest_of p.request). omega (arith, lowest, end.lowest))
         (cases_lt (lowest_of p.request) p.level)
-
-    down : (below : ℕ) → p.level ≡ suc below → IsWay p.target.depth memory p.target.root (address_of p.request) below found (intersection p.rights own)
-    down below one = Leads below p.number found p.rights own
-        (subst (λ l. IsWay p.target.depth memory p.target.root (address_of p.request) l p.number p.rights) one ended.way)
-        (subst (λ l. found_at l memory p.number (address_of p.request) ≡ Some (entry.Table found own)) one
-        (found_word p.level memory p.number (address_of p.request) word ended.word_is ∙ ap Some says))

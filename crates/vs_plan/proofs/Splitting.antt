@@ -70,7 +70,7 @@ part_reads : (size : Size) (phys bits i : ℕ) (own : Rights) → phys % bytes_o
     → meaning (level_of size) (leaf_word size phys own + placed size bits + i * bytes_of size) ≡ entry.Leaf (phys + i * bytes_of size) own
 part_reads size phys bits i own aligned fits are =
     ap (meaning (level_of size)) (word_later size phys bits (i * bytes_of size) own)
-    ∙ page_reads size (phys + i * bytes_of size) bits own.write own.user own.exec (aligned_later size phys i aligned) fits are
+    ∙ page_reads size (phys + i * bytes_of size) bits own (aligned_later size phys i aligned) fits are
 
 -- where a page of the next larger size lies
 pub record LiesLarge (low phys : ℕ) : Type 0 where

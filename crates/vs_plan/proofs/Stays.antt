@@ -46,6 +46,9 @@ entry_reached depth root memory level region number rights reads =
 
 -- ---- where an address is mapped, its translation may be kept
 
+pub mapped_same : {a b : ℕ} {s t : Size} {q r : Rights} → Mapped a s q ≡ Mapped b t r → (a ≡ b) × (s ≡ t) × (q ≡ r)
+mapped_same e = (cc, cc, cc)
+
 pub record ReadsPage (depth : Depth) (root : ℕ) (memory : Memory) (address phys : ℕ) (size : Size) (rights : Rights) : Type 0 where
   pub level : ℕ
   pub frame : ℕ
@@ -63,10 +66,6 @@ module _ (depth : Depth) (root : ℕ) (memory : Memory) (address phys : ℕ) (si
       → walk_from memory (suc below) number above address ≡ Mapped phys size rights → (o : Option Meaning) → found_at (suc below) memory number address ≡ o
       → ReadsPage depth root memory address phys size rights
   ends_at below number above go reads is None found = let lost = sym (walk_lost memory below number above address found) ∙ is in absurd (cc)
-  ends_at below number above go reads is (Some entry.Absent) found =
-      let ends = sym (walk_found memory below number above address entry.Absent found) ∙ is in absurd (cc)
-  ends_at below number above go reads is (Some entry.Reserved) found =
-      let ends = sym (walk_found memory below number above address entry.Reserved found) ∙ is in absurd (cc)
   ends_at below number above go reads is (Some (entry.Table next own)) found =
       go next (intersection above own) (OfTable address below number next above own canonical reads found)
       (sym (walk_found memory below number above address (entry.Table next own) found) ∙ is)
@@ -77,19 +76,11 @@ module _ (depth : Depth) (root : ℕ) (memory : Memory) (address phys : ℕ) (si
         level = suc below;
         frame = base;
         reads = subst (λ r. Reads depth root memory (Translation (suc below) (page_number (suc below) address) base r))
-            (rights_same _ _ _ _ _ _ ends) (OfPage address below number base above own canonical reads found);
-        phys_is = sym (phys_same _ _ _ _ _ _ ends);
-        size_is = sym (size_same _ _ _ _ _ _ ends);
+            (mapped_same ends).2 (OfPage address below number base above own canonical reads found);
+        phys_is = sym (mapped_same ends).0;
+        size_is = sym (mapped_same ends).1;
       }
-    where
-      phys_same : (a b : ℕ) (s t : Size) (q r : Rights) → Mapped a s q ≡ Mapped b t r → a ≡ b
-      phys_same a b s t q r e = cc
-
-      size_same : (a b : ℕ) (s t : Size) (q r : Rights) → Mapped a s q ≡ Mapped b t r → s ≡ t
-      size_same a b s t q r e = cc
-
-      rights_same : (a b : ℕ) (s t : Size) (q r : Rights) → Mapped a s q ≡ Mapped b t r → q ≡ r
-      rights_same a b s t q r e = cc
+  ends_at below number above go reads is (Some e) found = let ends = sym (walk_found memory below number above address e found) ∙ is in absurd (cc)
 
   ends_in : (level : ℕ) → Ends level
   ends_in zero number above reads is = let nowhere = sym (walk_nowhere memory number above address) ∙ is in absurd (cc)
@@ -117,46 +108,51 @@ translation_stays depth root old new level frame address rights canonical same r
     frames : (f g x y : ℕ) → f + x ≡ g + y → y ≡ x → g ≡ f
     frames f g x y p q = omega arith
 
--- ---- where walks change at the addresses of one page alone
+-- ---- where walks change at some addresses alone
 
--- what is mapped is walked as before, but for the page at this base
-abbrev pub ChangesPageAlone : Depth → ℕ → Memory → Memory → ℕ → Type 0
-ChangesPageAlone depth root old new base = (address phys : ℕ) (size : Size) (rights : Rights) → IsCanonical depth address
-    → walk depth old root address ≡ Mapped phys size rights
-    → (walk depth new root address ≡ walk depth old root address) ⊎ (address / bytes_of size ≡ base / bytes_of size)
+-- what is mapped is walked as before, but where this is so of the address and the size of its page
+abbrev pub ChangesAlone : Depth → ℕ → Memory → Memory → (ℕ → Size → Type 0) → Type 0
+ChangesAlone depth root old new P = (address phys : ℕ) (size : Size) (rights : Rights) → IsCanonical depth address
+    → walk depth old root address ≡ Mapped phys size rights → (walk depth new root address ≡ walk depth old root address) ⊎ P address size
 
-pub translation_or_page : (depth : Depth) (root : ℕ) (old new : Memory) (base : ℕ) → ChangesPageAlone depth root old new base
+translation_or : (depth : Depth) (root : ℕ) (old new : Memory) (P : ℕ → Size → Type 0) → ChangesAlone depth root old new P
     → (level page frame : ℕ) (rights : Rights) → Reads depth root old (Translation level page frame rights)
-    → Reads depth root new (Translation level page frame rights) ⊎ (page ≡ page_number level base)
-translation_or_page depth root old new base alone level page frame rights reads =
+    → Reads depth root new (Translation level page frame rights)
+    ⊎ ((address : ℕ) × P address (size_at level) × (page ≡ page_number level address) × (level_of (size_at level) ≡ level))
+translation_or depth root old new P alone level page frame rights reads =
     let some = of_some depth root old (Translation level page frame rights) reads in
     let address = some.0 in
     ⊎_elim
     (λ same. inl (subst (λ p. Reads depth root new (Translation level p frame rights)) some.2
     (translation_stays depth root old new level frame address rights some.1 same
     (subst (λ p. Reads depth root old (Translation level p frame rights)) (sym some.2) reads))))
-    (λ there. inr (sym some.2 ∙ subst (λ l. address / entry_bytes l ≡ base / entry_bytes l) (level_back level some.3 some.4) there))
+    (λ there. inr (address, there, sym some.2, level_back level some.3 some.4))
     (alone address _ (size_at level) rights some.1 (translation_walk depth root old level page frame rights reads address some.2))
 
--- what is mapped is walked as before, but in the range of this size from this base on
+-- but for the page at this base
+abbrev pub ChangesPageAlone : Depth → ℕ → Memory → Memory → ℕ → Type 0
+ChangesPageAlone depth root old new base = ChangesAlone depth root old new (λ address size. address / bytes_of size ≡ base / bytes_of size)
+
+pub translation_or_page : (depth : Depth) (root : ℕ) (old new : Memory) (base : ℕ) → ChangesPageAlone depth root old new base
+    → (level page frame : ℕ) (rights : Rights) → Reads depth root old (Translation level page frame rights)
+    → Reads depth root new (Translation level page frame rights) ⊎ (page ≡ page_number level base)
+translation_or_page depth root old new base alone level page frame rights reads = ⊎_elim
+    (λ stays. inl stays)
+    (λ there. inr (there.2 ∙ subst (λ l. there.0 / entry_bytes l ≡ base / entry_bytes l) there.3 there.1))
+    (translation_or depth root old new (λ a s. a / bytes_of s ≡ base / bytes_of s) alone level page frame rights reads)
+
+-- but in the range of this size from this base on
 abbrev pub ChangesRangeAlone : Depth → ℕ → Memory → Memory → ℕ → Size → Type 0
-ChangesRangeAlone depth root old new base range = (address phys : ℕ) (size : Size) (rights : Rights) → IsCanonical depth address
-    → walk depth old root address ≡ Mapped phys size rights
-    → (walk depth new root address ≡ walk depth old root address) ⊎ ((base ≤ address) × (address < base + bytes_of range))
+ChangesRangeAlone depth root old new base range = ChangesAlone depth root old new (λ address size. (base ≤ address) × (address < base + bytes_of range))
 
 pub translation_or_range : (depth : Depth) (root : ℕ) (old new : Memory) (base : ℕ) (range : Size) → ChangesRangeAlone depth root old new base range
     → (level page frame : ℕ) (rights : Rights) → Reads depth root old (Translation level page frame rights)
     → Reads depth root new (Translation level page frame rights)
     ⊎ ((address : ℕ) × (base ≤ address) × (address < base + bytes_of range) × (page ≡ page_number level address))
-translation_or_range depth root old new base range alone level page frame rights reads =
-    let some = of_some depth root old (Translation level page frame rights) reads in
-    let address = some.0 in
-    ⊎_elim
-    (λ same. inl (subst (λ p. Reads depth root new (Translation level p frame rights)) some.2
-    (translation_stays depth root old new level frame address rights some.1 same
-    (subst (λ p. Reads depth root old (Translation level p frame rights)) (sym some.2) reads))))
-    (λ there. inr (address, there.0, there.1, sym some.2))
-    (alone address _ (size_at level) rights some.1 (translation_walk depth root old level page frame rights reads address some.2))
+translation_or_range depth root old new base range alone level page frame rights reads = ⊎_elim
+    (λ stays. inl stays)
+    (λ there. inr (there.0, there.1.0, there.1.1, there.2))
+    (translation_or depth root old new (λ a s. (base ≤ a) × (a < base + bytes_of range)) alone level page frame rights reads)
 
 -- ---- where entries that lead to tables stay
 

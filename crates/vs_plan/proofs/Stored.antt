@@ -1,5 +1,5 @@
 -- Stores, one after another: what the last of them does, and what none of them changes.
-use Rattle.std.proofs.Common.{◌≡◌, ◌≢◌, ℕ, List, [], ◌∷◌, ◌++◌, length, Option, None, Some, Contains, ◌⊎◌, ⊎_elim, refl, sym, ap, subst, ◌∙◌}
+use Rattle.std.proofs.Common.{◌≡◌, ◌≢◌, ℕ, List, [], ◌∷◌, ◌++◌, length, Option, None, Some, Contains, ⊎_elim, refl, sym, ap, subst, ◌∙◌, ◌%◌, arith}
 use Rattle.std.specs.Prelude.{option_map, IsSome, unwrap_or, slice_index, slice_set}
 use Rattle.std.proofs.lemmas.Bool.{cases_eq}
 use Rattle.std.proofs.lemmas.List.{length-set}
@@ -12,6 +12,10 @@ use Rattle.vs_space.proofs.Writes.{words_in, get_written, get_written_other}
 use Rattle.vs_plan.specs.declared.plan.Store.{Store}
 use Rattle.vs_plan.specs.Shown.{frames_of}
 use Rattle.vs_plan.specs.Stores.{stored, stored_all, FindTheirWords}
+use Rattle.vs_types.specs.Depth.{index_at}
+use Rattle.vs_types.specs.Entry.{meaning}
+use Rattle.vs_space.specs.Path.{found_at}
+use Rattle.vs_types.specs.declared.entry.Meaning.TheVariants as entry
 
 pub stored_push : (m : Memory) (stores : List Store) (s : Store) → stored_all m (stores ++ s ∷ []) ≡ stored (stored_all m stores) s
 stored_push m [] s = refl
@@ -48,3 +52,16 @@ used_word m n i w is = by (finite.get m n) is where
   by : (o : Option (List ℕ)) → option_map (λ words. slice_index words i) o ≡ Some w → IsSome o
   by None is = cc
   by (Some words) is = refl
+
+-- what is found at a word
+pub found_word : (level : ℕ) (m : Memory) (n a word : ℕ) → word_at m n (index_at level a) ≡ Some word → found_at level m n a ≡ Some (meaning level word)
+unfolding found_at
+found_word level m n a word is = ap (option_map (meaning level)) is
+
+-- a word whose bit 0 is clear is absent at each level
+pub even_absent : (level word : ℕ) → word % 2 ≡ 0 → meaning level word ≡ entry.Absent
+even_absent level word even = grind arith
+
+-- the bit of a word that is absent
+pub absent_even : (level word : ℕ) → meaning level word ≡ entry.Absent → word % 2 ≡ 0
+absent_even level word says = grind arith

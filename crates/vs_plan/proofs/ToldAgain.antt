@@ -1,6 +1,5 @@
 -- The bits that a plan answers, once one of its stores found other flags, are those of the page's entry with them.
 use Rattle.std.proofs.Common.{◌≡◌, ◌≢◌, ℕ, zero, suc, List, [], ◌∷◌, Some, None, true, cond, Bool, ◌⊎◌, ⊎_elim, refl, sym, ap, subst, ◌∙◌, arith}
-use Rattle.std.specs.FinMap as finite
 use Rattle.std.proofs.lemmas.Bool.{eq-eqb}
 use Rattle.std.proofs.lemmas.Option.{same_Some}
 use Rattle.vs_types.specs.Depth.{levels, index_at}
@@ -18,16 +17,14 @@ use Rattle.vs_space.specs.Held.{word_at}
 use Rattle.vs_space.specs.Path.{table_at}
 use Rattle.vs_plan.specs.declared.plan.Reply.TheVariants as replies
 use Rattle.vs_plan.specs.declared.request.Request.{Request}
-use Rattle.vs_plan.specs.declared.request.Request.TheVariants.{Map, Unmap, Protect, Ask, Remap, Split, Join}
+use Rattle.vs_plan.specs.declared.request.Request.TheVariants.{Map, Unmap, Protect, Ask}
 use Rattle.vs_plan.specs.declared.target.Target.{Target}
 use Rattle.vs_plan.specs.Again.{HasFlagsSet, bits_again, flags_into}
 use Rattle.vs_plan.specs.Bits.{bits_in}
-use Rattle.vs_plan.specs.Changes.{with_parts, without_parts, whole_of}
-use Rattle.vs_plan.specs.Request.{stepped}
+use Rattle.vs_plan.specs.Request.{stepped, address_of}
 use Rattle.vs_plan.specs.Right.{IsEntryOf, IsTold}
-use Rattle.vs_plan.proofs.Changing.{change_here}
+use Rattle.vs_plan.proofs.Changing.{change_not_done}
 use Rattle.vs_plan.proofs.FlaggedEntries.{entry_flags}
-use Rattle.vs_plan.proofs.Given.{change_begins}
 use Rattle.vs_plan.proofs.OtherFlags.{bits_after}
 use Rattle.vs_plan.proofs.PlansSuffice.{entry_lowest, entry_sizes}
 
@@ -89,23 +86,12 @@ bits_moved (suc index) unlinked word new bits before now plain here past z is = 
 -- ---- no request but a map is answered that it is done
 
 pub never_done : (target : Target) (space : Space) (request : Request) → ((page : Page) (bits : ℕ) → request ≢ Map page bits)
-    → changes (stepped target.depth space request).answer ≡ true → (stepped target.depth space request).answer ≡ answers.Done → ⊥
-never_done target space (Map page bits) other changed done = other page bits refl
-never_done target space (Unmap base) other changed done =
+    → (stepped target.depth space request).answer ≡ answers.Done → ⊥
+never_done target space (Map page bits) other done = other page bits refl
+never_done target space (Unmap base) other done =
     unmap_cases (λ (s : Stepped). s.answer ≡ answers.Done → ⊥) target.depth 0 space base (λ e d. cc) (λ page e same d. cc) (λ page e apart d. cc) done
-never_done target space (Protect base rights) other changed done =
+never_done target space (Protect base rights) other done =
     protect_cases (λ (s : Stepped). s.answer ≡ answers.Done → ⊥) target.depth 0 space base rights (λ e d. cc) (λ page e same d. cc) (λ page e apart d. cc) done
-never_done target space (Ask address) other changed done =
+never_done target space (Ask address) other done =
     elim (page_at space address) as (λ o. look_in_page address o ≡ answers.Done → ⊥) [ None ↦ λ d. cc | Some page ↦ λ d. cc ] done
-never_done target space (Remap base phys rights) other changed done =
-    let page = change_begins target.depth space (Remap base phys rights) refl changed in
-    let here = change_here space base (λ (p : Page). finite.insert space p.base (record p { phys = phys; rights = rights })) page.0 page.1 page.2 in
-    let both = sym done ∙ ap (λ (s : Stepped). s.answer) here in cc
-never_done target space (Split base) other changed done =
-    let page = change_begins target.depth space (Split base) refl changed in
-    let here = change_here space base (λ (p : Page). with_parts (finite.remove space p.base) p 512) page.0 page.1 page.2 in
-    let both = sym done ∙ ap (λ (s : Stepped). s.answer) here in cc
-never_done target space (Join base) other changed done =
-    let page = change_begins target.depth space (Join base) refl changed in
-    let here = change_here space base (λ (p : Page). finite.insert (without_parts space (whole_of p)) p.base (whole_of p)) page.0 page.1 page.2 in
-    let both = sym done ∙ ap (λ (s : Stepped). s.answer) here in cc
+never_done target space request other done = change_not_done space (address_of request) _ (page_at space (address_of request)) done

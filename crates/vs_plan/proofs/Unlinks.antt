@@ -4,7 +4,7 @@ use Rattle.std.specs.Prelude.{unwrap_or, slice_index, slice_set}
 use Rattle.std.proofs.Common.{length-set}
 use Rattle.std.proofs.lemmas.Bool.{cases_eq}
 use Rattle.std.proofs.lemmas.List.{ext_get_or, get_or-set_same, get_or-set_other, length-replicate}
-use Rattle.std.proofs.lemmas.List.Elements.{All-nil, All-cons, All-weaker}
+use Rattle.std.proofs.lemmas.List.Elements.{All-nil, All-cons}
 use Rattle.std.proofs.lemmas.List.Kept.{AllPairs-cons}
 use Rattle.std.specs.FinMap as finite
 use Rattle.std.proofs.lemmas.Option.{same_Some}
@@ -32,7 +32,7 @@ use Rattle.vs_plan.specs.Shown.{HasOneWord}
 use Rattle.vs_plan.specs.Stores.{stored, stored_all, FindTheirWords}
 use Rattle.vs_plan.specs.Way.{IsWay}
 use Rattle.vs_plan.proofs.EntryStores.{IsOwnTable, whole_store, walk_off, walk_here, way_stays, fewer, none_here, own_after}
-use Rattle.vs_plan.proofs.WordOrders.{found_word, told_used}
+use Rattle.vs_plan.proofs.Stored.{found_word, used_word}
 
 -- ---- the stores
 
@@ -154,7 +154,7 @@ module _ {depth : Depth} {m : Memory} {root base : ℕ} {numbers words : ℕ →
   here = record {
     own = is.own;
     whole = is.whole;
-    used = told_used m (numbers (suc level)) (index_at (suc level) base) (words (suc level)) told_here;
+    used = used_word m (numbers (suc level)) (index_at (suc level) base) (words (suc level)) told_here;
     at = reached (suc level) (omega arith) fits;
   }
 
@@ -172,7 +172,7 @@ module _ {depth : Depth} {m : Memory} {root base : ℕ} {numbers words : ℕ →
       let same : before.0 ≡ numbers (suc level) = same_Some before.0 (numbers (suc level)) (sym before.2 ∙ reached (suc level) (omega arith) fits) in
       let found : found_at (suc level) m (numbers (suc level)) base ≡ Some (entry.Table (numbers level) before.1) =
       subst (λ p. found_at (suc level) m p base ≡ Some (entry.Table (numbers level) before.1)) same before.3 in
-      ap table_in (sym (found_word (suc level) m (numbers (suc level)) (index_at (suc level) base) (words (suc level)) base told_here refl) ∙ found)
+      ap table_in (sym (found_word (suc level) m (numbers (suc level)) base (words (suc level)) told_here) ∙ found)
 
   -- each address is walked as before
   pub cut_walk : (b : ℕ) → walk depth next root b ≡ walk depth m root b
@@ -268,7 +268,7 @@ word_kept depth root base numbers words stop (suc count) level q i m ends is apa
     word_kept depth root base numbers words stop count (suc level) q i (stored m (cut numbers words base (suc level))) (omega arith) (cut_on is (omega arith))
     (λ j lt le. apart j (omega arith) le)
     ∙ word_elsewhere m (numbers (suc level)) (index_at (suc level) base) 0 q i
-    (told_used m (numbers (suc level)) (index_at (suc level) base) (words (suc level)) (told_here is (omega arith)))
+    (used_word m (numbers (suc level)) (index_at (suc level) base) (words (suc level)) (told_here is (omega arith)))
     (apart (suc level) (omega arith) (omega arith))
 
 pub among_cut_off : (numbers : ℕ → ℕ) (count level j : ℕ) → level ≤ j → j < level + count → Contains (cut_off numbers level count) (numbers j)
@@ -337,27 +337,26 @@ module _ {depth : Depth} {m : Memory} {root base : ℕ} {numbers words : ℕ →
     fewer = λ b j q r. cut_fewer is low b j q (later.fewer b j q r);
     owns = λ b own. later.owns b (cut_own is low b own);
     cut = All-cons (IsCut depth m after root base level stop off) (cut numbers words base (suc level)) (cuts numbers words base (suc level) count) first_cut
-        (All-weaker (IsCut depth (stored m (cut numbers words base (suc level))) after root base (suc level) stop (cut_off numbers (suc level) count))
-        (IsCut depth m after root base level stop off) (λ s c. record {
+        (λ k d lt. let c = later.cut k d lt in record {
           level = c.level;
           over = omega (arith, c.over);
           upto = c.upto;
-          at = cut_fewer is low base c.level s.frame c.at;
+          at = cut_fewer is low base c.level _ c.at;
           index = c.index;
           below = c.below;
           leads = c.leads;
           named = Contains-tail (numbers level) (cut_off numbers (suc level) count) c.below c.named;
           clear = c.clear;
           new = c.new;
-        }) (cuts numbers words base (suc level) count) later.cut);
+        });
     off = All-cons (IsOff depth m after root base) (numbers level) (cut_off numbers (suc level) count) first_off
-        (All-weaker (IsOff depth (stored m (cut numbers words base (suc level))) after root base) (IsOff depth m after root base) (λ q o. record {
+        (λ k d lt. let o = later.off k d lt in record {
           level = o.level;
-          was = cut_fewer is low base o.level q o.was;
+          was = cut_fewer is low base o.level _ o.was;
           lower = o.lower;
           unreached = o.unreached;
           clear = o.clear;
-        }) (cut_off numbers (suc level) count) later.off);
+        });
   }
 
 pub unlinks : (depth : Depth) (root base : ℕ) (numbers words : ℕ → ℕ) (stop count level : ℕ) (m : Memory) → level + count ≡ stop

@@ -1,11 +1,11 @@
 -- The plan of an unmap is right: the page's entry becomes 0, and then the links to tables that are emptied, from the lowest up.
 use Rattle.std.proofs.Common.{◌≡◌, ◌≢◌, ℕ, true, false, le_trans, zero, suc, ◌+◌, ◌-◌, ◌%◌, ◌<◌, ◌≤◌, [], ◌∷◌, take, All, Some, inl, ⊎_elim, refl, sym, ap, subst, ◌∙◌, arith, None}
 use Rattle.std.specs.Prelude.{slice_index, if◌then◌else◌}
-use Rattle.std.proofs.lemmas.List.Elements.{All-cons, All-weaker, All-contains}
+use Rattle.std.proofs.lemmas.List.Elements.{All-cons, All-contains}
 use Rattle.std.proofs.lemmas.Bool.{cases_eq, cases_lt}
 use Rattle.std.specs.FinMap as finite
 use Rattle.std.proofs.lemmas.Option.{same_Some}
-use Rattle.vs_types.specs.Depth.{levels, index_at, IsCanonical}
+use Rattle.vs_types.specs.Depth.{levels, index_at}
 use Rattle.vs_types.specs.Entry.{meaning, size_at}
 use Rattle.vs_types.specs.Page.{bytes_of, intersection}
 use Rattle.vs_types.specs.Space.{Space}
@@ -26,7 +26,6 @@ use Rattle.vs_space.proofs.Paths.{table_before}
 use Rattle.vs_space.proofs.Writes.{get_written_other}
 use Rattle.vs_space.proofs.Footprints.{word_elsewhere}
 use Rattle.vs_space.proofs.Written.{word_alike}
-use Rattle.vs_space.specs.Table.{IsTableOf}
 use Rattle.vs_space.proofs.LeafSteps.{begins_at, removed_answer, removed_translates}
 use Rattle.vs_plan.proofs.Ways.{way_table}
 use Rattle.vs_plan.specs.declared.plan.Flush.{Flush}
@@ -42,15 +41,14 @@ use Rattle.vs_plan.specs.declared.plan.Plan.{Plan}
 use Rattle.vs_plan.specs.declared.planner.Planner.{Planner}
 use Rattle.vs_plan.specs.inside.Ended.{IsAtEnd, HasEnded, IsRightAt}
 use Rattle.vs_plan.specs.Premise.{IsPremise}
-use Rattle.vs_plan.specs.Right.{IsMeant, OfPage, OfLink, IsUnlinked, IsFlushed, IsEntryOf, IsRight, HasWord}
+use Rattle.vs_plan.specs.Right.{IsMeant, OfPage, OfLink, IsFlushed, IsEntryOf, IsRight, HasWord}
 use Rattle.vs_plan.specs.Shown.{IsTableMet, HasOneWord, HasOtherWord}
 use Rattle.vs_plan.specs.Stores.{stored, stored_all}
-use Rattle.vs_plan.specs.Way.{IsWay}
 use Rattle.vs_plan.proofs.EntryStores.{IsOwnTable, whole_store, walk_off, walk_here, way_stays, fewer, none_here, own_after, within as own_within}
-use Rattle.vs_plan.proofs.Pages.{table_from, page_here}
-use Rattle.vs_plan.proofs.Parts.{words_apart, Parts, safe_first, right_as}
-use Rattle.vs_plan.proofs.Unlinks.{cuts, cut_off, cut_off_apart, word_kept, among_cut_off, cleared, IsUnlinkable, IsCut, IsOff, AreUnlinked, unlinks}
-use Rattle.vs_plan.proofs.WordOrders.{told_used, found_word, even_absent}
+use Rattle.vs_plan.proofs.Pages.{page_here, premise_table}
+use Rattle.vs_plan.proofs.Parts.{words_apart, Parts, safe_first, right_as, EndAt, end_at, own_table}
+use Rattle.vs_plan.proofs.Unlinks.{cuts, cut_off, cut_off_apart, word_kept, among_cut_off, cleared, IsUnlinkable, IsOff, AreUnlinked, unlinks}
+use Rattle.vs_plan.proofs.Stored.{found_word, even_absent}
 
 -- what is flushed, where this many tables are unlinked
 abbrev pub flush_of : ℕ → ℕ → Size → Flush
@@ -71,11 +69,8 @@ highest_least target = elim target.pinned as (λ b. (if b then levels target.dep
 -- what was met on the way of a page that begins at the base
 pub record IsFoundPage (target : Target) (memory : Memory) (space : Space) (base level number word stop phys : ℕ) (rights own : Rights)
     (numbers words : ℕ → ℕ) : Type 0 where
-  pub premise : IsPremise target.depth memory target.root base space
-  pub canonical : IsCanonical target.depth base
-  pub way : IsWay target.depth memory target.root base level number rights
+  pub end : EndAt target memory space level number rights word base
   pub some : 1 ≤ level
-  pub word_is : word_at memory number (index_at level base) ≡ Some word
   pub leaf : meaning level word ≡ entry.Leaf phys own
   pub begins : base % bytes_of (size_at level) ≡ 0
   pub highest : stop ≤ highest_link target
@@ -98,15 +93,10 @@ module _ {target : Target} {memory : Memory} {space : Space} {base level number 
   after = stored_all between (cuts numbers words base level count)
 
   reached : table_at (levels target.depth) memory target.root level base ≡ Some number
-  reached = way_table level number rights is.way
+  reached = way_table level number rights is.end.way
 
   here : IsOwnTable target.depth memory target.root level base number
-  here = record {
-    own = is.premise.own;
-    whole = is.premise.whole;
-    used = told_used memory number (index_at level base) word is.word_is;
-    at = reached;
-  }
+  here = own_table is.end
 
   highest : stop ≤ levels target.depth
   highest = le_trans is.highest (highest_least target)
@@ -123,17 +113,17 @@ module _ {target : Target} {memory : Memory} {space : Space} {base level number 
   -- tables above are other frames
   above_frame : (j : ℕ) → level < j → j ≤ levels target.depth → finite.get between (numbers j) ≡ finite.get memory (numbers j)
   above_frame j lt high = get_written_other memory number (index_at level base) 0 (numbers j) (λ same.
-      let at = (is.premise.own.once level number j base reached (met j (omega arith) high ∙ ap Some same)).0 in
+      let at = (is.end.premise.own.once level number j base reached (met j (omega arith) high ∙ ap Some same)).0 in
       absurd (omega arith))
 
   unlinkable : IsUnlinkable target.depth between target.root base numbers words level (level + count)
   unlinkable = record {
     whole = whole_store here 0;
-    own = own_after here 0 refl base is.premise.own;
+    own = own_after here 0 refl base is.end.premise.own;
     some = is.some;
     highest = omega (arith, within, highest);
     clear = λ low. subst (λ n. finite.get between n ≡ Some zeros) (sym same_number)
-        (cleared memory number (index_at level base) is.premise.whole here.used (omega arith)
+        (cleared memory number (index_at level base) is.end.premise.whole here.used (omega arith)
         (subst (λ n. HasOneWord memory n (index_at level base)) same_number (is.alone level (omega arith) (omega arith))));
     ways = λ j le high. let table = is.tables j le high in (table.rights, way_stays here 0 base j (numbers j) table.rights le table.way);
     told = λ j lt high.
@@ -151,7 +141,7 @@ module _ {target : Target} {memory : Memory} {space : Space} {base level number 
 
   levels_same : (i j : ℕ) → level ≤ i → i ≤ levels target.depth → level ≤ j → j ≤ levels target.depth → numbers i ≡ numbers j → i ≡ j
   levels_same i j from_i to_i from_j to_j same =
-      sym (is.premise.own.once i (numbers i) j base (met i from_i to_i) (met j from_j to_j ∙ ap Some (sym same))).0
+      sym (is.end.premise.own.once i (numbers i) j base (met i from_i to_i) (met j from_j to_j ∙ ap Some (sym same))).0
 
   -- a word that none of the stores names
   word_stays : (l i : ℕ) → level ≤ l → l ≤ levels target.depth → ((j : ℕ) → level ≤ j → j ≤ level + count → l ≡ j → i ≢ index_at j base)
@@ -195,7 +185,7 @@ module _ {target : Target} {memory : Memory} {space : Space} {base level number 
           subst (λ k. found_at k memory (numbers l) base ≡ Some (entry.Table (numbers below) before.1)) (sym one)
           (subst (λ n. found_at (suc below) memory n base ≡ Some (entry.Table (numbers below) before.1)) same before.3) in
           let absent : found_at l memory (numbers l) base ≡ Some entry.Absent =
-          found_word l memory (numbers l) (index_at l base) (words l) base (is.tables l (omega arith) to).word_is refl
+          found_word l memory (numbers l) base (words l) (is.tables l (omega arith) to).word_is
           ∙ ap (λ w. Some (meaning l w)) nothing ∙ ap Some (even_absent l 0 refl) in
           cc
 
@@ -224,23 +214,21 @@ module _ {target : Target} {memory : Memory} {space : Space} {base level number 
   -- ---- the space
 
   found : (q : Page) × IsLeafPage target.depth space base level phys (intersection rights own) q
-  found = page_here is.way is.some is.word_is is.premise.is_space is.premise.translates is.canonical is.leaf
-
-  table : IsTableOf (table_from target.depth memory target.root) space
-  table = record { is_space = is.premise.is_space; translates = is.premise.translates }
+  found = page_here is.end.way is.some is.end.word_is is.end.premise is.end.canonical is.leaf
 
   abbrev next : Space
   next = (step target.depth 0 space (actions.Unmap base)).space
 
   translates : (n : ℕ) → TranslatesAs target.depth (stored_all between (take n (cuts numbers words base level count))) target.root next
-  translates n = removed_translates 0 table found.1 (begins_at found.1 is.begins) (stored_all between (take n (cuts numbers words base level count)))
-      (λ b canonical same. cut.walks n b ∙ walk_here here 0 is.way is.some entry.Absent refl b same)
+  translates n = removed_translates 0 (premise_table is.end.premise) found.1 (begins_at found.1 is.begins)
+      (stored_all between (take n (cuts numbers words base level count)))
+      (λ b canonical same. cut.walks n b ∙ walk_here here 0 is.end.way is.some entry.Absent refl b same)
       (λ b canonical apart. cut.walks n b ∙ walk_off here 0 b apart)
 
   -- ---- the plan
 
   size_entry : IsEntryOf target memory base (size_at level) word
-  size_entry = record { level = level; number = number; reached = reached; word_is = is.word_is; leaf = (phys, own, is.leaf); size_is = refl }
+  size_entry = record { level = level; number = number; reached = reached; word_is = is.end.word_is; leaf = (phys, own, is.leaf); size_is = refl }
 
   flushed : (n : ℕ) → IsFlushed target memory (Unmap base) (first ∷ cuts numbers words base level n) (cut_off numbers level n) (flush_of n base (size_at level))
   flushed zero = (size_at level, size_entry, refl)
@@ -250,50 +238,41 @@ module _ {target : Target} {memory : Memory} {space : Space} {base level number 
   first_meant = OfPage (record { level = level; reached = reached; index = refl }) (ap (λ e. table_in (Some e)) is.leaf)
 
   cuts_meant : All (IsMeant target memory base (cut_off numbers level count)) (cuts numbers words base level count)
-  cuts_meant = All-weaker (IsCut target.depth between after target.root base level (level + count) (cut_off numbers level count))
-      (IsMeant target memory base (cut_off numbers level count))
-      (λ s c. OfLink (record { level = c.level; reached = fewer here 0 refl base c.level s.frame c.at; index = c.index }) c.below c.leads c.named
-      (omega (arith, c.over, c.upto, is.highest)) c.new)
-      (cuts numbers words base level count) cut.cut
+  cuts_meant = λ k d lt. let c = cut.cut k d lt in OfLink (record { level = c.level; reached = fewer here 0 refl base c.level _ c.at; index = c.index })
+      c.below c.leads c.named (omega (arith, c.over, c.upto, is.highest)) c.new
 
   pub unmap_parts : Parts target (Unmap base) memory space [] (replies.Answer (answers.Removed phys (size_at level) (intersection rights own)))
       (bits_in (size_at level) word) None (first ∷ cuts numbers words base level count) (flush_of count base (size_at level)) (cut_off numbers level count)
   unfolding size_entry
   unmap_parts = record {
-    reply = sym (removed_answer 0 table found.1 (begins_at found.1 is.begins));
+    reply = sym (removed_answer 0 (premise_table is.end.premise) found.1 (begins_at found.1 is.begins));
     due = refl;
     put = (refl, record { size = size_at level; entry_is = size_entry; frame = refl; at = refl });
     fits = tt;
-    safe = safe_first first (cuts numbers words base level count) is.premise.translates (λ n le. translates n);
-    found = (is.word_is, cut.found);
+    safe = safe_first first (cuts numbers words base level count) is.end.premise.translates (λ n le. translates n);
+    found = (is.end.word_is, cut.found);
     meant = All-cons (IsMeant target memory base (cut_off numbers level count)) first (cuts numbers words base level count) first_meant cuts_meant;
     nothing = λ unchanged. absurd (unchanged (λ no. cc));
     written = refl;
     already = tt;
     changing = All-cons (λ (t : Store). t.old ≢ t.new) first (cuts numbers words base level count)
         (words_apart level word 0 (λ same. let both : entry.Leaf phys own ≡ entry.Absent = sym is.leaf ∙ same ∙ even_absent level 0 refl in cc))
-        (All-weaker (IsCut target.depth between after target.root base level (level + count) (cut_off numbers level count)) (λ (t : Store). t.old ≢ t.new)
-        (λ t c same.
-        let absent : table_in (Some (meaning c.level t.old)) ≡ None =
-        ap (λ w. table_in (Some (meaning c.level w))) (same ∙ c.new) ∙ ap (λ e. table_in (Some e)) (even_absent c.level 0 refl) in
-        let both = sym c.leads ∙ absent in
-        cc)
-        (cuts numbers words base level count) cut.cut);
-    one_way = All-cons (λ (t : Store). t.new ≡ 0) first (cuts numbers words base level count) refl
-        (All-weaker (IsCut target.depth between after target.root base level (level + count) (cut_off numbers level count)) (λ (t : Store). t.new ≡ 0)
-        (λ t c. c.new) (cuts numbers words base level count) cut.cut);
+        (λ k d lt same.
+        let c = cut.cut k d lt in
+        let both = sym c.leads ∙ ap (λ w. table_in (Some (meaning c.level w))) (same ∙ c.new) ∙ ap (λ e. table_in (Some e)) (even_absent c.level 0 refl) in
+        cc);
+    one_way = All-cons (λ (t : Store). t.new ≡ 0) first (cuts numbers words base level count) refl (λ k d lt. (cut.cut k d lt).new);
     told = (word, size_entry, refl);
     flushed = flushed count;
-    unlinked = All-weaker (IsOff target.depth between after target.root base) (IsUnlinked target memory after base)
-        (λ n off. record {
-          level = off.level;
-          was = fewer here 0 refl base off.level n off.was;
-          lower = off.lower;
-          clear = off.clear;
-          unreached = off.unreached;
-        }) (cut_off numbers level count) cut.off;
+    unlinked = λ k d lt. let off = cut.off k d lt in record {
+      level = off.level;
+      was = fewer here 0 refl base off.level _ off.was;
+      lower = off.lower;
+      clear = off.clear;
+      unreached = off.unreached;
+    };
     pruned = pruned;
-    named_once = cut_off_apart target.depth target.root base numbers memory (levels target.depth) is.premise.own count level
+    named_once = cut_off_apart target.depth target.root base numbers memory (levels target.depth) is.end.premise.own count level
         (omega (arith, within, highest)) (λ j le high. met j le high);
     whole = cut.whole;
     own = λ a has. cut.owns a (own_after here 0 refl a has);
@@ -308,11 +287,8 @@ module _ {p : Planner} {word : ℕ} (end : IsAtEnd p) {phys base : ℕ} {own : R
   found_page {memory} {space} ended premise =
       let place : address_of p.request ≡ base = ap address_of is in
       record {
-        premise = subst (λ a. IsPremise p.target.depth memory p.target.root a space) place premise;
-        canonical = subst (IsCanonical p.target.depth) place end.request.canonical;
-        way = subst (λ a. IsWay p.target.depth memory p.target.root a p.level p.number p.rights) place ended.way;
+        end = end_at end ended premise place;
         some = end.some;
-        word_is = subst (λ a. word_at memory p.number (index_at p.level a) ≡ Some word) place ended.word_is;
         leaf = says;
         begins = aligned;
         highest = ended.met.stop;

@@ -1,12 +1,9 @@
 -- Frames that no way leads to are not read.
 use Rattle.std.proofs.Common.{◌≡◌, ℕ, suc, List, ◌∷◌, ◌∙◌}
-use Rattle.vs_types.specs.Depth.{levels}
 use Rattle.vs_types.specs.declared.depth.Depth.{Depth}
 use Rattle.vs_types.specs.declared.page.Rights.{Rights}
 use Rattle.vs_walk.specs.Memory.{Memory}
-use Rattle.vs_walk.specs.Walk.{walk}
-use Rattle.vs_space.specs.Path.{found_at, table_at}
-use Rattle.vs_space.proofs.Paths.{agree_table, agree_walk}
+use Rattle.vs_space.specs.Path.{found_at}
 use Rattle.vs_space.proofs.Writes.{found_alike}
 use Rattle.vs_plan.specs.Other.{HasSameTables}
 use Rattle.vs_plan.specs.Processor.{region_number, Kept, PagingEntry, OfRoot, OfTable, OfPage, Moment, Is, IsUpToDate}
@@ -39,11 +36,3 @@ module _ (depth : Depth) (root : ℕ) (old new : Memory) (same : HasSameTables d
   pub unread_keeps : (moments : List Moment) → IsUpToDate depth root old moments → IsUpToDate depth root new (Is new ∷ moments)
   unread_keeps moments is kept held =
       all_kept (reads_closed depth root new) (λ k before. (all_reads both_closed k (is k before)).1) kept held
-
-  pub unread_walk : (address : ℕ) → walk depth new root address ≡ walk depth old root address
-  unread_walk address = agree_walk (levels depth) root old new address
-      (λ level number above at. found_alike level old new number address (same level address number at))
-
-  pub unread_table : (level address : ℕ) → table_at (levels depth) new root level address ≡ table_at (levels depth) old root level address
-  unread_table level address = agree_table (levels depth) root old new address level
-      (λ j number above at. found_alike j old new number address (same j address number at))

@@ -1,5 +1,5 @@
 -- A join that changes something stores something: else its space would have a page of another size at the base than the memory.
-use Rattle.std.proofs.Common.{◌≡◌, ℕ, ◌+◌, ◌-◌, Bool, true, false, not, cond, nat_cmp, List, [], ◌∷◌, map, Some, None, Contains, ⊎_elim, refl, sym, ap, ◌∙◌, subst}
+use Rattle.std.proofs.Common.{◌≡◌, ℕ, ◌+◌, ◌-◌, true, false, cond, nat_cmp, List, [], ◌∷◌, map, Some, None, Contains, ⊎_elim, refl, sym, ap, ◌∙◌, subst}
 use Rattle.std.specs.Ordering.{eq_by_cmp}
 use Rattle.std.specs.FinMap as finite
 use Rattle.std.specs.FinMap.Entries as entries
@@ -21,6 +21,7 @@ use Rattle.vs_plan.specs.declared.plan.Reply.TheVariants as replies
 use Rattle.vs_plan.specs.Changes.{larger, whole_of, without_parts, join, join_refusal, not_first}
 use Rattle.vs_plan.proofs.Changing.{change_here, why_here}
 use Rattle.vs_plan.proofs.Given.{BeginsThere, begins_canonical}
+use Rattle.vs_plan.proofs.JoinedSpace.{off_held}
 
 -- ---- what a map of pages has at an address, whether its pages lie apart or not
 
@@ -50,15 +51,6 @@ one_at space a k w got covered one =
 
 -- ---- the space of a join
 
-off_there : (space : Space) (page : Page) (k : ℕ) (p : Page) → finite.get (without_parts space page) k ≡ Some p
-    → (covers page k ≡ false) × (finite.get space k ≡ Some p)
-off_there space page k p got = by (covers page k) refl (sym (finite.get-retain_keys space (λ x. not (covers page x)) k
-    (λ other tie. ap (λ x. not (covers page x)) (sym (finite.nat_cmp-IsAntisymmetric k other tie)))) ∙ got)
-  where
-    by : (c : Bool) → covers page k ≡ c → cond (not c) (finite.get space k) None ≡ Some p → (covers page k ≡ false) × (finite.get space k ≡ Some p)
-    by true covered is = absurd (cc)
-    by false uncovered is = (uncovered, is)
-
 same_sizes : (size : Size) → size ≡ larger size → size ≡ G1
 same_sizes G1 e = refl
 same_sizes _ e = cc
@@ -80,7 +72,7 @@ module _ {depth : Depth} {space : Space} (is : IsSpace depth space) (base : ℕ)
       (ap (covers (whole_of first)) (sym there.2) ∙ begins) (λ k p got covered. ⊎_elim
       (λ new. new.1)
       (λ old.
-      let was = off_there space (whole_of first) k p old.1 in
+      let was = off_held space (whole_of first) k p old.1 in
       let under : p.base ≡ k = is.under_base k p was.1 in
       let here = (page_at_means is base first).0 there.1 in
       let held : Holds space p = ap (finite.get space) under ∙ was.1 in

@@ -1,5 +1,5 @@
 -- The way of an address to a table: which tables are on it, how addresses that take it are walked.
-use Rattle.std.proofs.Common.{◌≡◌, ℕ, suc, ◌-◌, ◌<◌, ◌≤◌, Some, refl, sym, ap, subst, ◌∙◌, arith}
+use Rattle.std.proofs.Common.{◌≡◌, ℕ, suc, ◌-◌, ◌<◌, ◌≤◌, Some, refl, sym, ap, subst, ◌∙◌, arith, Option, None, ◌≢◌}
 use Rattle.vs_types.specs.Depth.{levels}
 use Rattle.vs_types.specs.declared.depth.Depth.{Depth}
 use Rattle.vs_types.specs.declared.page.Rights.{Rights}
@@ -8,8 +8,9 @@ use Rattle.vs_types.specs.declared.entry.Meaning.TheVariants as entry
 use Rattle.vs_walk.specs.Memory.{Memory}
 use Rattle.vs_walk.specs.Walk.{walk, walk_entry, walk_from}
 use Rattle.vs_space.specs.Path.{found_at, table_in, table_at, SamePath}
-use Rattle.vs_space.proofs.Paths.{table_first, table_next, reached_within, found_same, walk_found}
+use Rattle.vs_space.proofs.Paths.{table_first, table_next, reached_within, found_same, walk_found, walk_lost}
 use Rattle.vs_plan.specs.Way.{IsWay, Begins, Leads}
+use Rattle.vs_types.specs.Page.{intersection}
 
 -- an address is walked from a table on by what its entry there says
 pub walk_level : (m : Memory) (level n : ℕ) (rights : Rights) (b : ℕ) (e : Meaning) → 1 ≤ level → found_at level m n b ≡ Some e
@@ -18,6 +19,14 @@ walk_level m level n rights b e some found = by (level - 1) (omega arith) where
   by : (below : ℕ) → level ≡ suc below → walk_from m level n rights b ≡ walk_entry level rights b (λ next own. walk_from m below next own b) e
   by below one = subst (λ l. found_at l m n b ≡ Some e → walk_from m l n rights b ≡ walk_entry l rights b (λ next own. walk_from m below next own b) e)
       (sym one) (walk_found m below n rights b e) found
+
+-- where the same is found that leads to no table, walks end alike
+pub walk_alike : (m m' : Memory) (below n : ℕ) (rights : Rights) (b : ℕ) → found_at (suc below) m' n b ≡ found_at (suc below) m n b → (o : Option Meaning)
+    → found_at (suc below) m n b ≡ o → ((next : ℕ) (own : Rights) → o ≢ Some (entry.Table next own))
+    → walk_from m' (suc below) n rights b ≡ walk_from m (suc below) n rights b
+walk_alike m m' below n rights b same None is ends = walk_lost m' below n rights b (same ∙ is) ∙ sym (walk_lost m below n rights b is)
+walk_alike m m' below n rights b same (Some (entry.Table next own)) is ends = absurd (ends next own refl)
+walk_alike m m' below n rights b same (Some e) is ends = walk_found m' below n rights b e (same ∙ is) ∙ sym (walk_found m below n rights b e is)
 
 module _ {depth : Depth} {m : Memory} {root a : ℕ} where
   pub way_table : (level n : ℕ) (rights : Rights) → IsWay depth m root a level n rights → table_at (levels depth) m root level a ≡ Some n
@@ -45,6 +54,14 @@ module _ {depth : Depth} {m : Memory} {root a : ℕ} where
       way_walk level n rights way b (λ i from to. same i (omega arith) to)
       ∙ walk_level m level n rights b e some
       (found_same level m n b a (sym (same level (omega arith) (way_within level n rights way))) ∙ found)
+
+  -- an entry that leads to a table leads the way on
+  pub way_on : {level n next : ℕ} {rights own : Rights} → IsWay depth m root a level n rights → 1 ≤ level
+      → found_at level m n a ≡ Some (entry.Table next own) → IsWay depth m root a (level - 1) next (intersection rights own)
+  way_on {level} {n} {next} {rights} {own} way some found = by (level - 1) (omega arith) where
+    by : (below : ℕ) → level ≡ suc below → IsWay depth m root a below next (intersection rights own)
+    by below one = Leads below n next rights own (subst (λ l. IsWay depth m root a l n rights) one way)
+        (subst (λ l. found_at l m n a ≡ Some (entry.Table next own)) one found)
 
   -- where the same is found on it, it is the same way
   pub way_kept : (m' : Memory) (level n : ℕ) (rights : Rights) → IsWay depth m root a level n rights

@@ -1,36 +1,18 @@
 -- Stores that fill absent entries, and stores of 0.
-use Rattle.std.proofs.Common.{◌≡◌, ◌≢◌, ℕ, ◌%◌, ◌<◌, ◌≤◌, List, [], length, Option, Some, None, IsSome, ◌⊎◌, inl, inr, ⊎_elim, refl, sym, ap, subst, ◌∙◌, arith}
+use Rattle.std.proofs.Common.{◌≡◌, ◌≢◌, ℕ, ◌%◌, ◌<◌, ◌≤◌, List, [], length, Option, Some, IsSome, ◌⊎◌, inl, inr, ⊎_elim, refl, sym, ap, subst, ◌∙◌, arith}
 use Rattle.std.specs.Prelude.{option_map, unwrap_or, slice_index, slice_set}
 use Rattle.std.proofs.lemmas.Bool.{cases_eq, cases_lt}
 use Rattle.std.proofs.lemmas.List.{get_or-set_same, get_or_past}
 use Rattle.std.proofs.Common.{length-set}
 use Rattle.std.specs.FinMap as finite
 use Rattle.vs_types.specs.Depth.{index_at}
-use Rattle.vs_types.specs.Entry.{meaning}
 use Rattle.vs_types.specs.declared.entry.Meaning.TheVariants as entry
 use Rattle.vs_walk.specs.Memory.{Memory}
 use Rattle.vs_space.specs.Held.{word_at, with_word}
 use Rattle.vs_space.specs.Path.{found_at}
 use Rattle.vs_space.proofs.Writes.{found_elsewhere, get_written}
 use Rattle.vs_plan.proofs.Orders.{IsLess}
-
--- a word whose bit 0 is clear is absent at each level
-pub even_absent : (level word : ℕ) → word % 2 ≡ 0 → meaning level word ≡ entry.Absent
-even_absent level word even = grind arith
-
--- a word that is there, as an entry
-pub found_word : (level : ℕ) (memory : Memory) (frame index word address : ℕ) → word_at memory frame index ≡ Some word → index_at level address ≡ index
-    → found_at level memory frame address ≡ Some (meaning level word)
-unfolding found_at
-found_word level memory frame index word address told at =
-    ap (λ i. option_map (meaning level) (word_at memory frame i)) at ∙ ap (option_map (meaning level)) told
-
-pub told_used : (memory : Memory) (frame index word : ℕ) → word_at memory frame index ≡ Some word → IsSome (finite.get memory frame)
-unfolding word_at
-told_used memory frame index word told = by (finite.get memory frame) told where
-  by : (o : Option (List ℕ)) → option_map (λ words. slice_index words index) o ≡ Some word → IsSome o
-  by None is = cc
-  by (Some words) is = refl
+use Rattle.vs_plan.proofs.Stored.{found_word, used_word, even_absent}
 
 -- what isn't the word that is stored is found as before
 pub elsewhere_or_here : (level : ℕ) (memory : Memory) (frame index word number address : ℕ) → IsSome (finite.get memory frame)
@@ -49,8 +31,8 @@ pub fill_is_more : (memory : Memory) (frame index old word : ℕ) → word_at me
 fill_is_more memory frame index old word told even level number address = ⊎_elim
     (λ same. inl (sym same))
     (λ here. inr (subst (λ n. found_at level memory n address ≡ Some entry.Absent) (sym here.0)
-    (found_word level memory frame index old address told here.1 ∙ ap Some (even_absent level old even))))
-    (elsewhere_or_here level memory frame index word number address (told_used memory frame index old told))
+    (found_word level memory frame address old (ap (word_at memory frame) here.1 ∙ told) ∙ ap Some (even_absent level old even))))
+    (elsewhere_or_here level memory frame index word number address (used_word memory frame index old told))
 
 -- a frame with 0 at an index has 0 there
 zero_set : (words : List ℕ) (index : ℕ) → slice_index (slice_set words index 0) index ≡ 0
@@ -68,6 +50,7 @@ pub clear_is_less : (memory : Memory) (frame index : ℕ) → IsSome (finite.get
 clear_is_less memory frame index used level number address = ⊎_elim
     (λ same. inl same)
     (λ here. inr (subst (λ n. found_at level (with_word memory frame index 0) n address ≡ Some entry.Absent) (sym here.0)
-    (found_word level (with_word memory frame index 0) frame index 0 address (zero_word memory frame index) here.1
+    (found_word level (with_word memory frame index 0) frame address 0
+    (ap (word_at (with_word memory frame index 0) frame) here.1 ∙ zero_word memory frame index)
     ∙ ap Some (even_absent level 0 refl))))
     (elsewhere_or_here level memory frame index 0 number address used)

@@ -14,7 +14,7 @@ pub struct Target {
 }
 
 impl Target {
-    ghost use Rattle.std.specs.Prelude.{◌≡◌, ◌-◌, ◌<◌, ◌≤◌, ◌^◌, if◌then◌else◌};
+    ghost use Rattle.std.specs.Prelude.{◌≡◌, ◌-◌, ◌<◌, ◌≤◌, ◌^◌};
     ghost use Rattle.vs_types.specs.Depth.{levels};
     ghost use Rattle.vs_plan.specs.Target.{highest_link, frames_end, HasPhysBits};
 

@@ -1,7 +1,7 @@
 ghost use Rattle.std.specs.Prelude.{◌≡◌, ◌≢◌, ◌↔◌, ◌+◌, ◌<◌, ◌≤◌, ◌%◌, ◌^◌, ℕ, IsTrue, IsFalse, slice_index};
 ghost use Rattle.vs_types.specs.declared.frame.TheConstants.{FRAME_WORDS};
 ghost use Rattle.vs_types.specs.declared.entry.Meaning.{Meaning};
-ghost use Rattle.vs_types.specs.Entry.{meaning, leaf_word};
+ghost use Rattle.vs_types.specs.Entry.{meaning};
 ghost use Rattle.vs_types.specs.Page.{level_of, bytes_of, intersection};
 ghost use Rattle.vs_plan.specs.Bits.{AreBits, placed, page_word, bits_in, with_rights, with_address, unflagged, flagged};
 ghost use Rattle.vs_plan.specs.Changes.{larger, smaller};

@@ -10,7 +10,7 @@ returns-clause-read_back c =
     let page = c.args.page in
     ap (λ n. meaning (level_of page.size) (n + c.placed.result)) (c.word.ensures ∙ c.leaf.ensures.written)
     ∙ ap (λ n. meaning (level_of page.size) (leaf_word page.size page.phys page.rights + n)) c.placed.ensures
-    ∙ page_reads page.size page.phys c.args.bits page.rights.write page.rights.user page.rights.exec c.requires.aligned c.requires.in_range c.requires.bits
+    ∙ page_reads page.size page.phys c.args.bits page.rights c.requires.aligned c.requires.in_range c.requires.bits
 
 pub overflow_add-result : goal.overflow_add-result
 overflow_add-result c =

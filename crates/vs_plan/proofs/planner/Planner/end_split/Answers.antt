@@ -1,13 +1,12 @@
-use Rattle.std.proofs.Common.{◌≡◌, ◌≢◌, ◌-◌, ◌%◌, sym, ap, subst, ◌∙◌, refl, arith}
+use Rattle.std.proofs.Common.{◌≡◌, ◌%◌, sym, ap, subst, ◌∙◌, arith}
 use Rattle.vs_types.specs.Entry.{meaning, size_at}
 use Rattle.vs_types.specs.Page.{bytes_of}
 use Rattle.vs_types.specs.declared.entry.Meaning.TheVariants as entry
-use Rattle.vs_types.specs.declared.answer.Answer.TheVariants as answers
-use Rattle.vs_plan.specs.declared.plan.Reply.TheVariants as replies
 use Rattle.vs_plan.specs.declared.planner.Planner.{Planner}
-use Rattle.vs_plan.proofs.Divided.{division_begins, smallest_right, split_in}
-use Rattle.vs_plan.proofs.Parts.{nothing_as, planned_next}
+use Rattle.vs_plan.proofs.Divided.{division_begins, smallest_right}
+use Rattle.vs_plan.proofs.Parts.{planned_next}
 use Rattle.vs_plan.proofs.planner.Planner.end_split.Goals as goal
+use Rattle.vs_plan.proofs.Asking.{inside_right}
 
 pub returns-in_default-clause-next : goal.returns-in_default-clause-next
 returns-in_default-clause-next c = λ memory ended space premise. c.plan_absent-plan.ensures memory ended space premise
@@ -17,12 +16,11 @@ returns-then-offset-ne0-clause-next c = λ memory ended.
     let p = c.args.self.now in
     let says : meaning p.level c.args.word ≡ entry.Leaf c.in-Leaf.field-0 c.in-Leaf.field-1 =
     ap (meaning p.level) (sym c.new.ensures) ∙ sym c.read.ensures ∙ c.in-Leaf.is in
-    let bytes : c.bytes.result ≡ bytes_of (size_at p.level) = c.bytes.ensures ∙ ap bytes_of c.at_level.ensures in
     planned_next p c.refuse.new.self c.refuse.result (ap (λ (q : Planner). q.target) c.refuse.ensures.same)
     (ap (λ (q : Planner). q.request) c.refuse.ensures.same) c.refuse.ensures.planned
     (λ plan none space premise.
-    split_in c.requires.end says c.requires.request (subst (λ n. c.args.base % n ≢ 0) bytes c.if-offset-ne0.true) plan
-    (nothing_as none (ap (λ n. replies.Answer (answers.Inside (c.args.base - c.args.base % n))) bytes) refl) memory ended space premise)
+    inside_right c.requires.end says c.requires.request tt (c.bytes.ensures ∙ ap bytes_of c.at_level.ensures) c.if-offset-ne0.true plan none
+    memory ended space premise)
 
 pub returns-then-self-eq1-clause-next : goal.returns-then-self-eq1-clause-next
 returns-then-self-eq1-clause-next c = λ memory ended.

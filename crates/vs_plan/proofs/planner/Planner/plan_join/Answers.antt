@@ -1,16 +1,13 @@
-use Rattle.std.proofs.Common.{◌≡◌, ◌≢◌, ℕ, ◌<◌, ◌-◌, ◌%◌, List, [], ◌∷◌, ◌++◌, slice_index, refl, sym, ap, ◌∙◌, subst}
+use Rattle.std.proofs.Common.{◌≡◌, ℕ, ◌<◌, ◌%◌, List, [], ◌∷◌, ◌++◌, slice_index, sym, ap, ◌∙◌, subst}
 use Rattle.vs_types.specs.Page.{bytes_of}
-use Rattle.vs_types.specs.declared.answer.Answer.TheVariants as answers
 use Rattle.vs_plan.specs.declared.plan.Flush.TheVariants as flushes
-use Rattle.vs_plan.specs.declared.plan.Reply.TheVariants as replies
 use Rattle.vs_plan.specs.declared.plan.Store.{Store}
 use Rattle.vs_plan.specs.Bits.{bits_in}
 use Rattle.vs_plan.specs.Changes.{larger, not_first}
 use Rattle.vs_plan.specs.Right.{Follows}
 use Rattle.vs_plan.specs.inside.Ended.{IsFirstApart}
-use Rattle.vs_plan.proofs.Joining.{join_in, first_right, apart_right, join_right}
-use Rattle.vs_plan.proofs.Parts.{nothing_as}
-use Rattle.vs_plan.proofs.Asking.{read_leaf}
+use Rattle.vs_plan.proofs.Joining.{first_right, apart_right, join_right}
+use Rattle.vs_plan.proofs.Asking.{read_leaf, inside_right}
 use Rattle.vs_plan.proofs.planner.Planner.plan_join.Goals as goal
 
 pub returns-in_default : goal.returns-in_default
@@ -18,24 +15,20 @@ returns-in_default c = λ memory ended there space premise. c.plan_absent.ensure
 
 pub returns-then-offset-ne0 : goal.returns-then-offset-ne0
 returns-then-offset-ne0 c = λ memory ended there space premise.
-    let bytes = c.bytes.ensures ∙ ap bytes_of c.at_level-size.ensures in
-    join_in c.requires.end (read_leaf c.args.self.now.level c.new.ensures c.read.ensures c.in-Leaf.is) c.requires.request
-    (subst (λ n. c.args.base % n ≢ 0) bytes c.if-offset-ne0.true) c.nothing.result
-    (nothing_as c.nothing.ensures (ap (λ n. replies.Answer (answers.Inside (c.args.base - c.args.base % n))) bytes) refl) memory ended space premise
+    inside_right c.requires.end (read_leaf c.args.self.now.level c.new.ensures c.read.ensures c.in-Leaf.is) c.requires.request tt
+    (c.bytes.ensures ∙ ap bytes_of c.at_level-size.ensures) c.if-offset-ne0.true c.nothing.result c.nothing.ensures memory ended space premise
 
 pub returns-in-Some : goal.returns-in-Some
 returns-in-Some c = λ memory ended there space premise.
-    let bytes = c.bytes.ensures ∙ ap bytes_of c.at_level-size.ensures in
     first_right c.requires.end (read_leaf c.args.self.now.level c.new.ensures c.read.ensures c.in-Leaf.is) c.requires.request
-    (subst (λ n. c.args.base % n ≡ 0) bytes c.if-offset-ne0.false) c.in-Some.reply
+    (subst (λ n. c.args.base % n ≡ 0) (c.bytes.ensures ∙ ap bytes_of c.at_level-size.ensures) c.if-offset-ne0.false) c.in-Some.reply
     (ap (not_first c.args.base c.in-Leaf.phys) (sym c.at_level-size.ensures) ∙ sym c.not_first.ensures.is ∙ c.in-Some.is)
     c.nothing-in-Some.result c.nothing-in-Some.ensures memory ended space premise
 
 pub returns-in-Some-first_apart : goal.returns-in-Some-first_apart
 returns-in-Some-first_apart c =
-    let bytes = c.bytes.ensures ∙ ap bytes_of c.at_level-size.ensures in
     apart_right c.requires.end (read_leaf c.args.self.now.level c.new.ensures c.read.ensures c.in-Leaf.is) c.requires.request
-    (subst (λ n. c.args.base % n ≡ 0) bytes c.if-offset-ne0.false)
+    (subst (λ n. c.args.base % n ≡ 0) (c.bytes.ensures ∙ ap bytes_of c.at_level-size.ensures) c.if-offset-ne0.false)
     (ap (not_first c.args.base c.in-Leaf.phys) (sym c.at_level-size.ensures) ∙ sym c.not_first.ensures.is ∙ c.in_default-not_first.is)
     c.args.words.now c.in-Some-first_apart.index
     (subst (λ z. IsFirstApart c.args.words.now z c.in-Some-first_apart.index) c.at_level-size.ensures c.in-Some-first_apart.ensures.first)
@@ -44,9 +37,8 @@ returns-in-Some-first_apart c =
 pub returns : goal.returns
 returns c =
     let size = c.at_level-size.ensures in
-    let bytes = c.bytes.ensures ∙ ap bytes_of size in
     join_right c.requires.end (read_leaf c.args.self.now.level c.new.ensures c.read.ensures c.in-Leaf.is) c.requires.request
-    (subst (λ n. c.args.base % n ≡ 0) bytes c.if-offset-ne0.false)
+    (subst (λ n. c.args.base % n ≡ 0) (c.bytes.ensures ∙ ap bytes_of size) c.if-offset-ne0.false)
     (ap (not_first c.args.base c.in-Leaf.phys) (sym size) ∙ sym c.not_first.ensures.is ∙ c.in_default-not_first.is)
     c.args.words.now
     (subst (λ z. (i : ℕ) → i < 512 → Follows z (slice_index c.args.words.now 0) i (slice_index c.args.words.now i)) size

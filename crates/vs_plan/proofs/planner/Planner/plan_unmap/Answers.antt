@@ -1,22 +1,19 @@
-use Rattle.std.proofs.Common.{◌≡◌, ◌≢◌, ◌+◌, ◌-◌, ◌%◌, length, slice_index, refl, ap, ◌∙◌, subst, arith}
+use Rattle.std.proofs.Common.{◌≡◌, ◌+◌, ◌-◌, ◌%◌, length, slice_index, ap, ◌∙◌, subst, arith}
 use Rattle.vs_types.specs.Entry.{size_at}
 use Rattle.vs_types.specs.Page.{bytes_of}
 use Rattle.vs_types.specs.declared.answer.Answer.TheVariants as answers
 use Rattle.vs_walk.proofs.Walks.{few_levels}
 use Rattle.vs_plan.specs.declared.plan.Reply.TheVariants as replies
 use Rattle.vs_plan.specs.Bits.{bits_in}
-use Rattle.vs_plan.proofs.Asking.{unmap_in, read_leaf}
-use Rattle.vs_plan.proofs.Parts.{nothing_as}
+use Rattle.vs_plan.proofs.Asking.{read_leaf, inside_right}
 use Rattle.vs_plan.proofs.Unlinks.{cuts_more, cut_off_more, length-cuts, length-cut_off}
 use Rattle.vs_plan.proofs.Unmapping.{flush_of, flush_more, unmap_right}
 use Rattle.vs_plan.proofs.planner.Planner.plan_unmap.Goals as goal
 
 pub returns-then-offset-ne0 : goal.returns-then-offset-ne0
 returns-then-offset-ne0 c =
-    let bytes = c.bytes.ensures ∙ ap bytes_of c.at_level-size.ensures in
-    unmap_in c.requires.end (read_leaf c.args.self.now.level c.new.ensures c.read.ensures c.in-Leaf.is) c.requires.request
-    (subst (λ n. c.args.base % n ≢ 0) bytes c.if-offset-ne0.true) c.nothing.result
-    (nothing_as c.nothing.ensures (ap (λ n. replies.Answer (answers.Inside (c.args.base - c.args.base % n))) bytes) refl)
+    inside_right c.requires.end (read_leaf c.args.self.now.level c.new.ensures c.read.ensures c.in-Leaf.is) c.requires.request tt
+    (c.bytes.ensures ∙ ap bytes_of c.at_level-size.ensures) c.if-offset-ne0.true c.nothing.result c.nothing.ensures
 
 pub push-requires-in-loop-level : goal.push-requires-in-loop-level
 push-requires-in-loop-level c =
@@ -57,10 +54,9 @@ returns c =
     let self = c.args.self.now in
     let level = self.level in
     let before = c.loop-level.invariant in
-    let bytes = c.bytes.ensures ∙ ap bytes_of c.at_level-size.ensures in
     let size = c.at_level-size.ensures in
     unmap_right c.requires.end (read_leaf level c.new.ensures c.read.ensures c.in-Leaf.is) c.requires.request
-    (subst (λ n. c.args.base % n ≡ 0) bytes c.if-offset-ne0.false) c.loop-level.plan
+    (subst (λ n. c.args.base % n ≡ 0) (c.bytes.ensures ∙ ap bytes_of c.at_level-size.ensures) c.if-offset-ne0.false) c.loop-level.plan
     (c.loop-level.level - level) (omega (arith, before.0, before.1, c.loop-level-test.false))
     (before.5 ∙ c.nothing-plan.ensures.reply_is
     ∙ ap (λ s. replies.Answer (answers.Removed c.in-Leaf.phys s c.intersection.result)) size
