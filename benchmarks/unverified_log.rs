@@ -1,5 +1,5 @@
 //! Logs that replicas share, in plain Rust, with no proof: `unverified_ring` times them, and `unverified_replicas` is built on them.
-use std::sync::atomic::{AtomicU64, Ordering, fence};
+use std::sync::atomic::{AtomicU64, Ordering};
 
 /// How many entries a log may have.
 pub const PLACES: u64 = 65_536;
@@ -17,8 +17,8 @@ pub struct Entry {
 pub trait Log: Sync {
     fn new(replicas: usize) -> Self;
 
-    /// Appends the entries, if no replica would have more than 16 to take. Where they are.
-    fn append(&self, entries: &[Entry]) -> Option<u64>;
+    /// Appends the entries for a replica, if none would have more than 16 to take. Where they are.
+    fn append(&self, replica: usize, entries: &[Entry]) -> Option<u64>;
 
     /// Takes all entries from this place on, for a replica that has taken those before: how many they are.
     fn take(&self, replica: usize, from: u64, entries: &mut [Entry; RING]) -> usize;
@@ -94,7 +94,7 @@ impl Log for Apart {
         Apart { tail: Word::default(), completed: Word::default(), reached: Word::default(), local, cells: Default::default() }
     }
 
-    fn append(&self, entries: &[Entry]) -> Option<u64> {
+    fn append(&self, _replica: usize, entries: &[Entry]) -> Option<u64> {
         let mut first = self.tail();
         loop {
             let end = first + entries.len() as u64;
@@ -144,41 +144,52 @@ impl Log for Apart {
     }
 }
 
-/// A log in one cell, as that of the proved program is: the ring, and a version that determines the tails, which each event of any
-/// replica exchanges. It is odd while entries are written.
-pub struct OneCell {
+/// A log with one version, as that of the proved program is: it determines the tails and the ring of the last entry, and each event of any
+/// replica exchanges it. Each replica stores its entries in a ring of its own before that, and with each the ring of the one before it.
+pub struct OneVersion {
     replicas: usize,
     version: Word,
-    ring: Ring,
+    rings: [Ring; 4],
 }
 
 #[repr(align(64))]
 #[derive(Default)]
 struct Ring([[AtomicU64; 2]; RING]);
 
-/// Of a version: the tail, and how much room a replica has.
+/// Where the ring of the entry before lies in an entry's second word.
+const LINK: u32 = 56;
+
+/// Of a version: the tail, how much room a replica has, and the ring of the last entry.
 fn tail_of(version: u64) -> u64 {
-    version >> 21
+    version >> 22
 }
 
 fn room_of(version: u64, replica: usize) -> u64 {
-    (version >> (1 + 5 * replica)) % 32
+    (version >> (2 + 5 * replica)) % 32
 }
 
-impl OneCell {
+fn last_ring(version: u64) -> u64 {
+    version % 4
+}
+
+impl OneVersion {
     fn rooms(&self, version: u64) -> impl Iterator<Item = u64> {
         (0..self.replicas).map(move |replica| room_of(version, replica))
     }
+
+    fn words(&self, ring: u64, place: u64) -> &[AtomicU64; 2] {
+        &self.rings[ring as usize % 4].0[place as usize % RING]
+    }
 }
 
-impl Log for OneCell {
-    fn new(replicas: usize) -> OneCell {
-        let start = (0..replicas).map(|replica| (RING as u64) << (1 + 5 * replica)).sum();
-        OneCell { replicas, version: Word(AtomicU64::new(start)), ring: Ring::default() }
+impl Log for OneVersion {
+    fn new(replicas: usize) -> OneVersion {
+        let start = (0..replicas).map(|replica| (RING as u64) << (2 + 5 * replica)).sum();
+        OneVersion { replicas, version: Word(AtomicU64::new(start)), rings: Default::default() }
     }
 
-    fn append(&self, entries: &[Entry]) -> Option<u64> {
-        let count = entries.len() as u64;
+    fn append(&self, replica: usize, entries: &[Entry]) -> Option<u64> {
+        let (count, ring) = (entries.len() as u64, replica as u64);
         let mut waits = Waits(0);
         loop {
             let version = self.version.get();
@@ -187,15 +198,15 @@ impl Log for OneCell {
             if self.rooms(version).any(|room| room < count) {
                 return None;
             }
-            if version % 2 == 0 && self.version.exchange(version, version + 1) {
-                fence(Ordering::Release);
-                for (place, entry) in (tail..).zip(entries) {
-                    let words = &self.ring.0[place as usize % RING];
-                    words[0].store(entry.operation, Ordering::Relaxed);
-                    words[1].store(entry.frame, Ordering::Relaxed);
-                }
-                let less: u64 = (0..self.replicas).map(|replica| count << (1 + 5 * replica)).sum();
-                self.version.0.store(version + (count << 21) - less, Ordering::Release);
+            let mut before = last_ring(version);
+            for (place, entry) in (tail..).zip(entries) {
+                let words = self.words(ring, place);
+                words[0].store(entry.operation, Ordering::Relaxed);
+                words[1].store(entry.frame | before << LINK, Ordering::Relaxed);
+                before = ring;
+            }
+            let less: u64 = (0..self.replicas).map(|replica| count << (2 + 5 * replica)).sum();
+            if self.version.exchange(version, version - last_ring(version) + ring + (count << 22) - less) {
                 return Some(tail);
             }
             waits.wait();
@@ -210,15 +221,16 @@ impl Log for OneCell {
             if from == tail {
                 return 0;
             }
-            if version % 2 == 0 {
-                for (place, entry) in (from..tail).zip(entries.iter_mut()) {
-                    let words = &self.ring.0[place as usize % RING];
-                    *entry = Entry { operation: words[0].load(Ordering::Relaxed), frame: words[1].load(Ordering::Relaxed) };
-                }
-                fence(Ordering::Acquire);
-                if self.version.exchange(version, version + ((tail - from) << (1 + 5 * replica))) {
-                    return (tail - from) as usize;
-                }
+            let mut ring = last_ring(version);
+            for place in (from..tail).rev() {
+                let words = self.words(ring, place);
+                let second = words[1].load(Ordering::Relaxed);
+                let frame = second % (1 << LINK);
+                entries[(place - from) as usize] = Entry { operation: words[0].load(Ordering::Relaxed), frame };
+                ring = second >> LINK;
+            }
+            if self.version.exchange(version, version + ((tail - from) << (2 + 5 * replica))) {
+                return (tail - from) as usize;
             }
             waits.wait();
         }

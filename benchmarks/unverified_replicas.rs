@@ -2,7 +2,7 @@
 //!     rustc -O -C target-cpu=x86-64-v2 benchmarks/unverified_replicas.rs
 //!     ./unverified_replicas tuned|same|mutex|rwlock THREADS REPLICAS CALLS READS [maps]
 //! `tuned` is the protocol as one would write it for speed: the tails of its log lie apart, and nothing is confirmed. `same` is the design
-//! of the proved program: its log lies in one cell, each replica keeps the entries that it has applied with their answers, and an update
+//! of the proved program: its log has one version, each replica keeps the entries that it has applied with their answers, and an update
 //! is confirmed by them.
 //! 16,384 pages of 4 KiB are mapped first. Then each thread makes so many calls, of which READS in a hundred are resolves of drawn
 //! addresses, and the rest protects of drawn pages, or with `maps` a map and an unmap, in turn, of one of 128 further pages of its own.
@@ -18,7 +18,7 @@ use std::sync::atomic::{AtomicBool, AtomicU64, Ordering};
 use std::sync::{Mutex, RwLock};
 use std::time::{Duration, Instant};
 use self::table::{Answer, Op, Space};
-use self::unverified_log::{Apart, Entry, Log, OneCell, PLACES, RING, Waits};
+use self::unverified_log::{Apart, Entry, Log, OneVersion, PLACES, RING, Waits};
 
 const PAGES: u64 = 16_384;
 
@@ -229,7 +229,7 @@ impl Replica {
         }
         let waits = node.count > 0 && node.first.is_none();
         if waits {
-            node.first = log.append(&node.entries[..node.count]);
+            node.first = log.append(self.number, &node.entries[..node.count]);
         }
         let full = waits && node.first.is_none();
         self.catch_up::<KEEPS>(node, log);
@@ -416,7 +416,7 @@ fn main() {
     let (mutex, rwlock) = (Mutex::new(Space::new(4)), RwLock::new(Space::new(4)));
     let (done, time) = match words[1].as_str() {
         "tuned" => on_replicas::<Apart, false>(threads, replicas, work),
-        "same" => on_replicas::<OneCell, true>(threads, replicas, work),
+        "same" => on_replicas::<OneVersion, true>(threads, replicas, work),
         "mutex" => on_one(threads, work, |op| mutex.lock().unwrap().apply(op), |address| mutex.lock().unwrap().resolve(address)),
         "rwlock" => on_one(threads, work, |op| rwlock.write().unwrap().apply(op), |address| rwlock.read().unwrap().resolve(address)),
         _ => panic!("tuned, same, mutex or rwlock"),

@@ -4,7 +4,7 @@
 mod unverified_log;
 
 use std::time::{Duration, Instant};
-use unverified_log::{Apart, Entry, Log, OneCell, RING, Waits};
+use unverified_log::{Apart, Entry, Log, OneVersion, RING, Waits};
 
 /// What a replica has taken: how many entries, and the sum of the numbers of their calls.
 #[derive(Clone, Copy, Default)]
@@ -29,7 +29,7 @@ fn append_and_take(log: &impl Log, replica: usize, calls: u64, all: u64) -> Take
     let mut taken = Taken::default();
     for call in 0..calls {
         let mut waits = Waits(0);
-        while log.append(&[entry_of(call)]).is_none() {
+        while log.append(replica, &[entry_of(call)]).is_none() {
             take(log, replica, &mut taken);
             waits.wait();
         }
@@ -55,7 +55,7 @@ fn in_threads<T: Send>(threads: usize, work: impl Fn(usize) -> T + Sync) -> (Vec
 
 fn looks<L: Log>(threads: usize, calls: u64) -> Duration {
     let log = L::new(threads);
-    log.append(&[entry_of(0); RING]).expect("room");
+    log.append(0, &[entry_of(0); RING]).expect("room");
     let (tails, time) = in_threads(threads, |_| (0..calls).map(|_| log.tail()).sum::<u64>());
     println!("looks {}\ntails {}", threads as u64 * calls, tails.iter().sum::<u64>());
     time
@@ -77,9 +77,9 @@ fn main() {
     let (threads, calls) = (words[3].parse().expect("THREADS"), words[4].parse().expect("CALLS"));
     let (name, time) = match (words[2].as_str(), words[1].as_str()) {
         ("looks", "apart") => ("look", looks::<Apart>(threads, calls)),
-        ("looks", "cell") => ("look", looks::<OneCell>(threads, calls)),
+        ("looks", "cell") => ("look", looks::<OneVersion>(threads, calls)),
         ("appends", "apart") => ("append", appends::<Apart>(threads, calls)),
-        ("appends", "cell") => ("append", appends::<OneCell>(threads, calls)),
+        ("appends", "cell") => ("append", appends::<OneVersion>(threads, calls)),
         _ => panic!("apart or cell, and looks or appends"),
     };
     let rate = (threads as f64 * calls as f64 / time.as_secs_f64()) as u64;

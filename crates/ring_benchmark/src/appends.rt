@@ -3,18 +3,18 @@ ghost use Rattle.std.specs.Prelude.{◌≡◌, ◌+◌, ◌≤◌, ◌∷◌, �
 ghost use Rattle.vs_types.specs.LogEntry.{IsLogEntry};
 ghost use Rattle.vs_types.specs.declared.depth.Depth.TheVariants.{Four};
 
-use crate::entry::entry_of;
+use crate::entry::packed_of;
 use arrayvec::ArrayVec;
 use benchmark_program::{ProgFault, now};
 use crossbeam_utils::Backoff;
-use nr_ring::{AppendFault, LogName, LogPass, RingLog, Tails};
+use nr_ring::{AppendFault, LogName, LogPass, PackedEntry, RingLog, Tails};
 use std::alloc::Global;
 use std::rt::Clock;
 use std::sync::Wait;
 use std::thread;
 use std::thread::Threads;
 use std::time::Duration;
-use vs_types::{Depth, LogEntry};
+use vs_types::Depth;
 
 /// How often a thread tries what the others may hinder, before it says that it is stuck.
 const TRIES: u32 = 1 << 30;
@@ -99,7 +99,7 @@ fn append_by_all<J: LogName + Send + Sync, R: Threads + Wait + Sync>(
             requires log { pass.log ≡ log.now }
             requires owner { (replica : ℕ) × (pass.view.owns ≡ replica ∷ []) }
             requires calls { calls ≤ 65536 }
-        { append_and_take(rt, log, pass, calls, all) },
+        { append_and_take(log, pass, calls, all) },
     )?;
     if have_taken(&taken, all) {
         Ok(taken)
@@ -119,8 +119,7 @@ fn have_taken(replicas: &[Taken], entries: u32) -> bool {
 }
 
 /// Appends so many entries, and takes entries until the replica has all that the threads append, or the thread is stuck.
-fn append_and_take<J: LogName, R: Wait>(
-    rt: &R,
+fn append_and_take<J: LogName>(
     log: &RingLog<J>,
     mut pass: LogPass<J>,
     calls: u32,
@@ -136,25 +135,24 @@ fn append_and_take<J: LogName, R: Wait>(
         calls: 0,
     };
     for call in 0..calls {
-        append_all(rt, log, &mut pass, &[entry_of(call)], &mut taken);
+        append_all(log, &mut pass, &[packed_of(call)], &mut taken);
     }
     let backoff = Backoff::new();
     for _ in 0..TRIES {
         if taken.entries == all {
             break;
         }
-        take(rt, log, &mut pass, &mut taken);
+        take(log, &mut pass, &mut taken);
         backoff.snooze();
     }
     taken
 }
 
 /// Appends a batch; where the log is full, the replica takes what it has still to take.
-fn append_all<J: LogName, R: Wait>(
-    rt: &R,
+fn append_all<J: LogName>(
     log: &RingLog<J>,
     pass: &mut LogPass<J>,
-    batch: &[LogEntry],
+    batch: &[PackedEntry],
     taken: &mut Taken,
 )
     requires log { pass.old.log ≡ log.now }
@@ -166,10 +164,10 @@ fn append_all<J: LogName, R: Wait>(
 {
     let backoff = Backoff::new();
     for _ in 0..TRIES {
-        match log.append(rt, pass, batch) {
+        match log.append(pass, batch) {
             Ok(_) | Err(AppendFault::LogEnded) => return,
             Err(AppendFault::Full(_)) => {
-                take(rt, log, pass, taken);
+                take(log, pass, taken);
                 backoff.snooze();
             }
             Err(AppendFault::Moved(_)) => backoff.spin(),
@@ -178,18 +176,18 @@ fn append_all<J: LogName, R: Wait>(
 }
 
 /// Takes all entries that the replica has still to take, or none where another thread's event comes between.
-fn take<J: LogName, R: Wait>(rt: &R, log: &RingLog<J>, pass: &mut LogPass<J>, taken: &mut Taken)
+fn take<J: LogName>(log: &RingLog<J>, pass: &mut LogPass<J>, taken: &mut Taken)
     requires log { pass.old.log ≡ log.now }
     requires owner { (replica : ℕ) × (pass.old.view.owns ≡ replica ∷ []) }
     ensures log { pass.new.log ≡ pass.old.log }
     ensures owner { pass.new.view.owns ≡ pass.old.view.owns }
 {
     let mut entries = ArrayVec::new();
-    if log.take(rt, pass, &mut entries).is_err() {
+    if log.take(pass, &mut entries).is_err() {
         return;
     }
     taken.entries = taken.entries.saturating_add(entries.len() as u32);
     for entry in &entries {
-        taken.calls = taken.calls.wrapping_add(u64::from(entry.call));
+        taken.calls = taken.calls.wrapping_add(u64::from(entry.call()));
     }
 }
