@@ -1,15 +1,14 @@
 //! Entries of the log.
 ghost use Rattle.vs_types.specs.LogEntry.{IsLogEntry};
 
-use nr_ring::PackedEntry;
 use std::process::Abort;
 use vs_types::{CALLS, Depth, LogEntry, Op};
 
 /// The entry by which a call asks for an operation at this depth.
-pub fn entry(rt: &impl Abort, depth: Depth, call: u32, op: Op) -> PackedEntry
+pub fn entry(rt: &impl Abort, depth: Depth, call: u32, op: Op) -> LogEntry
     ensures { IsLogEntry depth result }
 {
     assert!(rt; op.fits(depth));
     assert!(rt; call < CALLS);
-    PackedEntry::new(LogEntry { call, op })
+    LogEntry { call, op }
 }

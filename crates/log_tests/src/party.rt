@@ -11,10 +11,10 @@ use nr_ring::{AppendFault, LogName, LogPass, Moved, PackedEntry, RingLog, Tails}
 use std::marker::{Brand, Model, PhantomData};
 use std::process::Abort;
 use std::sync::Wait;
-use vs_types::{Depth, Op};
+use vs_types::{Depth, LogEntry, Op};
 
 /// An entry by which a call unmaps a page. At five levels it is one that only these have.
-fn unmap(rt: &impl Abort, depth: Depth, call: u32) -> PackedEntry
+fn unmap(rt: &impl Abort, depth: Depth, call: u32) -> LogEntry
     ensures { IsLogEntry depth result }
 {
     let base = match depth {
@@ -23,6 +23,13 @@ fn unmap(rt: &impl Abort, depth: Depth, call: u32) -> PackedEntry
     };
     let op = Op::unmap(depth, base).expect(rt, "a well-formed unmap");
     entry(rt, depth, call, op)
+}
+
+/// The same entry, in its two words.
+fn packed_unmap(rt: &impl Abort, depth: Depth, call: u32) -> PackedEntry
+    ensures { IsLogEntry depth result }
+{
+    PackedEntry::new(unmap(rt, depth, call))
 }
 
 /// The local tail of a replica.
@@ -143,13 +150,14 @@ impl<'a, N: LogName, K: OfLog> Party<'a, N, K> {
         rt: &impl Abort,
         call: u32,
     ) -> Result<(u32, ArrayVec<PackedEntry, 16>), AppendFault> {
-        let batch = [unmap(rt, self.depth, call)];
         let mut before = ArrayVec::new();
         let place = match self.pass.replica() {
-            Some(_) => self
-                .log
-                .append_and_take(&mut self.pass, &batch, &mut before)?,
-            None => self.log.append(&mut self.pass, &batch)?,
+            Some(_) => {
+                let batch = [packed_unmap(rt, self.depth, call)];
+                self.log
+                    .append_and_take(&mut self.pass, &batch, &mut before)?
+            }
+            None => self.append(rt, call)?,
         };
         Ok((place, before))
     }
@@ -163,13 +171,13 @@ impl<'a, N: LogName, K: OfLog> Party<'a, N, K> {
         calls: &[u32],
     ) -> bool {
         match self.append_and_take(rt, call) {
-            Ok((at, before)) => at == place && self.are_of(rt, &before, calls),
+            Ok((at, before)) => at == place && self.are_packed_of(rt, &before, calls),
             Err(_) => false,
         }
     }
 
     /// What its replica has still to take; nothing where it owns none.
-    pub fn fetch(&mut self) -> ArrayVec<PackedEntry, 16> {
+    pub fn fetch(&mut self) -> ArrayVec<LogEntry, 16> {
         let mut entries = ArrayVec::new();
         if let Some(_) = self.pass.replica() {
             self.log.fetch(&mut self.pass, &mut entries);
@@ -195,18 +203,36 @@ impl<'a, N: LogName, K: OfLog> Party<'a, N, K> {
     /// Whether it takes entries of these calls.
     pub fn takes(&mut self, rt: &impl Abort, calls: &[u32]) -> bool {
         match self.take() {
-            Ok(entries) => self.are_of(rt, &entries, calls),
+            Ok(entries) => self.are_packed_of(rt, &entries, calls),
             Err(Moved) => false,
         }
     }
 
     /// Whether the entries are those of these calls.
-    fn are_of(&self, rt: &impl Abort, entries: &ArrayVec<PackedEntry, 16>, calls: &[u32]) -> bool {
+    fn are_of(&self, rt: &impl Abort, entries: &ArrayVec<LogEntry, 16>, calls: &[u32]) -> bool {
         if entries.len() != calls.len() {
             return false;
         }
         for at in 0..calls.len() {
             if entries[at] != unmap(rt, self.depth, calls[at]) {
+                return false;
+            }
+        }
+        true
+    }
+
+    /// The same of packed entries.
+    fn are_packed_of(
+        &self,
+        rt: &impl Abort,
+        entries: &ArrayVec<PackedEntry, 16>,
+        calls: &[u32],
+    ) -> bool {
+        if entries.len() != calls.len() {
+            return false;
+        }
+        for at in 0..calls.len() {
+            if entries[at] != packed_unmap(rt, self.depth, calls[at]) {
                 return false;
             }
         }

@@ -2,9 +2,8 @@
 
 use crate::party::{OfLog, Party, is_later};
 use crate::scene::{Layout, Test, run};
-use arrayvec::ArrayVec;
 use crossbeam_utils::Backoff;
-use nr_ring::{AppendFault, LogName, Moved, PackedEntry, Tails};
+use nr_ring::{AppendFault, LogName, Tails};
 use std::alloc::Global;
 use std::process::Abort;
 use std::sync::Wait;
@@ -30,23 +29,26 @@ fn look_now<N: LogName, K: OfLog>(
     tails
 }
 
-/// Fetches the entries that the replica has still to take, of which it has taken so many, and advances past them: none where another
-/// thread's event comes between.
+/// Fetches the entries that the replica has still to take, and advances past them, where no other thread's event comes between. It adds
+/// the calls of those that it took to all that it has taken.
 fn fetch_and_advance<N: LogName, K: OfLog>(
     rt: &impl Abort,
     party: &mut Party<N, K>,
     replica: u8,
     known: &AtomicU64,
-    count: usize,
-) -> Result<ArrayVec<PackedEntry, 16>, Moved> {
+    taken: &mut Vec<u32>,
+) {
     let entries = party.fetch();
     let tails = look_now(rt, party, known);
     assert!(rt; replica < 4);
     let local = tails.local[usize::from(replica)];
-    assert!(rt; local as usize == count);
+    assert!(rt; local as usize == taken.len());
     let to = local.saturating_add(entries.len() as u32);
-    party.advance_to(rt, to)?;
-    Ok(entries)
+    if let Ok(()) = party.advance_to(rt, to) {
+        for entry in entries.as_slice() {
+            taken.push(entry.call).expect(rt, "memory");
+        }
+    }
 }
 
 /// Takes the entries that the replica has still to take, where no other thread's event comes between: replica 0 by a fetch and an
@@ -58,11 +60,10 @@ fn take<N: LogName, K: OfLog>(
     known: &AtomicU64,
     taken: &mut Vec<u32>,
 ) {
-    let entries = match replica {
-        0 => fetch_and_advance(rt, party, replica, known, taken.len()),
-        _ => party.take(),
-    };
-    if let Ok(entries) = entries {
+    if replica == 0 {
+        return fetch_and_advance(rt, party, replica, known, taken);
+    }
+    if let Ok(entries) = party.take() {
         for entry in entries.as_slice() {
             taken.push(entry.call()).expect(rt, "memory");
         }

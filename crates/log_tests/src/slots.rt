@@ -1,12 +1,11 @@
 //! Each call on slots in each state of a slot.
 ghost use Rattle.std.specs.Prelude.{◌≡◌};
 
-use crate::entry::entry;
 use arrayvec::ArrayVec;
-use nr_slots::{Answered, NotTaken, Slots};
+use nr_slots::{Answered, NotTaken, Slots, Waiting};
 use std::alloc::Global;
 use std::process::Abort;
-use vs_types::{Answer, Depth, LogEntry, Op, Rights, Size};
+use vs_types::{Answer, CALLS, Depth, Op, Rights, Size};
 
 /// What a thread does with its slot, and what that answers.
 #[derive(Clone, Copy)]
@@ -142,20 +141,35 @@ fn of_thread(rt: &impl Abort, thread: u16) -> Answered {
         Op::protect(Depth::Four, base, rights),
     ];
     let op = ops[usize::from(number % 3)].expect(rt, "a well-formed operation");
-    Answered {
-        thread,
-        entry: entry(rt, Depth::Four, 2047 * u32::from(number), op),
-        place: 65_535 * (63 - u32::from(number)) / 63,
-        answer: answers[usize::from(number % 7)],
-    }
+    Answered::new(
+        Waiting::new(thread, 2047 * u32::from(number), op),
+        65_535 * (63 - u32::from(number)) / 63,
+        answers[usize::from(number % 7)],
+    )
 }
 
-/// Whether an update is posted.
+/// The same as another thread's, but for the thread and the call.
+fn like(rt: &impl Abort, thread: u16, call: u32, other: Answered) -> Answered {
+    assert!(rt; call < CALLS);
+    Answered::new(
+        Waiting::new(thread, call, other.op()),
+        other.place(),
+        other.answer(),
+    )
+}
+
+/// Whether an update is posted: those of each second thread as they wait.
 fn posts(rt: &impl Abort, slots: &Slots, count: u16, update: Answered) -> bool
     requires { slots.now ≡ count }
 {
-    assert!(rt; update.thread < count);
-    slots.post(update.thread, update.entry).is_ok()
+    let (thread, call) = (update.thread(), update.call());
+    assert!(rt; thread < count && call < CALLS);
+    let posted = if thread % 2 == 0 {
+        slots.post(thread, call, update.op())
+    } else {
+        slots.post_waiting(Waiting::new(thread, call, update.op()))
+    };
+    posted.is_ok()
 }
 
 /// What a thread polls.
@@ -180,29 +194,16 @@ fn take(rt: &impl Abort, slots: &Slots, count: u16, thread: u16, does: Does) -> 
     match does {
         Does::Posts => posts(rt, slots, count, own),
         Does::PostsAgain => !posts(rt, slots, count, own),
-        Does::PostsInVain => !posts(rt, slots, count, Answered { thread, ..next }),
+        Does::PostsInVain => !posts(rt, slots, count, like(rt, thread, next.call(), next)),
         Does::Answers => slots.answer(own).is_ok(),
         Does::AnswersAgain => is_not_taken(slots, own),
-        Does::AnswersInVain => {
-            let entry = entry(rt, Depth::Four, own.entry.call(), next.entry.entry().op);
-            is_not_taken(
-                slots,
-                Answered {
-                    thread,
-                    entry,
-                    ..next
-                },
-            )
-        }
+        Does::AnswersInVain => is_not_taken(slots, like(rt, thread, own.call(), next)),
         Does::Polls => poll(rt, slots, count, thread) == Some(own),
         Does::HasNoAnswer => {
-            let LogEntry { call, op } = own.entry.entry();
-            let entry = entry(rt, Depth::Four, call.wrapping_add(1), op);
-            let no_thread = Answered {
-                thread: thread.wrapping_add(64),
-                ..own
-            };
-            is_not_taken(slots, Answered { entry, ..own })
+            let call = own.call();
+            let other_call = like(rt, thread, call.wrapping_add(1), own);
+            let no_thread = like(rt, thread.wrapping_add(64), call, own);
+            is_not_taken(slots, other_call)
                 && is_not_taken(slots, no_thread)
                 && poll(rt, slots, count, thread).is_none()
         }
@@ -215,7 +216,7 @@ fn collects(rt: &impl Abort, slots: &Slots, first: u16, count: u16) -> bool {
     slots.collect(&mut batch);
     let mut thread = first;
     for waiting in batch.as_slice() {
-        if (waiting.thread, waiting.entry) != (thread, of_thread(rt, thread).entry) {
+        if (waiting.thread(), waiting.entry()) != (thread, of_thread(rt, thread).entry()) {
             return false;
         }
         thread = thread.wrapping_add(1);

@@ -2,14 +2,13 @@
 ghost use Rattle.std.specs.Prelude.{◌≡◌};
 ghost use Rattle.log_tests.specs.declared.slots_threads.TheConstants.{POSTERS};
 
-use crate::entry::entry;
 use arrayvec::ArrayVec;
 use crossbeam_utils::Backoff;
-use nr_slots::{Answered, Slots};
+use nr_slots::{Answered, Slots, Waiting};
 use std::process::Abort;
 use std::sync::Wait;
 use std::thread;
-use vs_types::{Answer, Depth, Op};
+use vs_types::{Answer, CALLS, Depth, Op};
 
 /// How many threads post: more than a batch has room for.
 const POSTERS: u16 = 20;
@@ -28,19 +27,20 @@ struct Shared {
 fn update_of(rt: &impl Abort, thread: u16, round: u32) -> Answered {
     let base = 0x1000 * (u64::from(thread) + 1);
     let op = Op::unmap(Depth::Four, base).expect(rt, "an unmap");
-    Answered {
-        thread,
-        entry: entry(rt, Depth::Four, round, op),
-        place: 65_535u32.saturating_sub(round),
-        answer: Answer::Full(u64::from(round) + 1),
-    }
+    assert!(rt; round < CALLS);
+    Answered::new(
+        Waiting::new(thread, round, op),
+        65_535u32.saturating_sub(round),
+        Answer::Full(u64::from(round) + 1),
+    )
 }
 
 impl Shared {
     /// Posts into its slot, which is empty.
     fn post<R: Wait + Abort>(&self, rt: &R, update: Answered) {
-        assert!(rt; update.thread < POSTERS);
-        let posted = self.slots.post(update.thread, update.entry);
+        let (thread, call) = (update.thread(), update.call());
+        assert!(rt; thread < POSTERS && call < CALLS);
+        let posted = self.slots.post(thread, call, update.op());
         assert_eq!(rt; posted, Ok(()));
     }
 
@@ -78,13 +78,14 @@ impl Shared {
         let mut batch = ArrayVec::new();
         self.slots.collect(&mut batch);
         for waiting in batch.as_slice() {
-            assert!(rt; waiting.thread < POSTERS);
-            let thread = usize::from(waiting.thread);
-            let round = rounds[thread];
-            let update = update_of(rt, waiting.thread, round);
-            assert_eq!(rt; waiting.entry, update.entry);
-            self.answer(rt, waiting.thread, round);
-            rounds[thread] = round.saturating_add(1);
+            let thread = waiting.thread();
+            assert!(rt; thread < POSTERS);
+            let place = usize::from(thread);
+            let round = rounds[place];
+            let update = update_of(rt, thread, round);
+            assert_eq!(rt; waiting.entry(), update.entry());
+            self.answer(rt, thread, round);
+            rounds[place] = round.saturating_add(1);
         }
     }
 

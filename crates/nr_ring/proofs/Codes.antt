@@ -1,5 +1,6 @@
 -- The code of the value of the cell determines the tails, and each event raises it.
-use Rattle.std.proofs.Common.{◌≡◌, ℕ, zero, suc, ◌+◌, ◌-◌, ◌*◌, ◌/◌, ◌%◌, ◌^◌, ◌<◌, ◌≤◌, Bool, true, false, nat_le, nat_lt, if◌then◌else◌, List, [], ◌∷◌, length, get_or, set, take, refl, ap, sym, ◌∙◌, subst, arith, le_trans}
+use Rattle.std.proofs.Common.{◌≡◌, ℕ, zero, suc, ◌+◌, ◌-◌, ◌*◌, ◌/◌, ◌%◌, ◌^◌, ◌<◌, ◌≤◌, Bool, true, false, nat_le, nat_lt, if◌then◌else◌, List, [], ◌∷◌}
+use Rattle.std.proofs.Common.{length, get_or, set, take, refl, ap, sym, ◌∙◌, subst, arith, le_trans}
 use Rattle.std.proofs.Common.{length-append, length-set, get_or-set_other, get_or-set_same}
 use Rattle.std.proofs.Math.Nat.{le-max_left, le-max_right, max-le, le_antisymm}
 use Rattle.std.proofs.lemmas.Bool.{le-leb, leb-false, leb-true}
@@ -17,7 +18,8 @@ use Rattle.nr_ring.specs.inside.Batch.{AreSmall}
 use Rattle.nr_ring.specs.inside.Held.{IsHeadOf}
 use Rattle.nr_ring.specs.inside.Codes.{above, code_of, code_of_log, for_each, local_in, locals_in, most_in, packed, room_of, rooms_of, tails_word, word_in}
 use Rattle.nr_ring.proofs.LocalTails.{below_greatest, greatest_least}
-use Rattle.nr_ring.proofs.Packing.{Small, above_packed, few_low, field_packed, listed, packed_after, packed_end, packed_raised, room_in, rooms_long, same_listed, set_listed}
+use Rattle.nr_ring.proofs.Packing.{Small, above_packed, few_low, field_packed, listed, packed_after, packed_end, packed_raised, room_in, rooms_long}
+use Rattle.nr_ring.proofs.Packing.{same_listed, set_listed}
 
 beyond : (xs : List ℕ) (i : ℕ) → length xs ≤ i → get_or xs i 0 ≡ 0
 beyond [] i le = refl

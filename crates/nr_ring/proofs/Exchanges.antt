@@ -1,5 +1,6 @@
 -- An exchange of the value that a pass knows keeps the rule, and what it shows.
-use Rattle.std.proofs.Common.{◌≡◌, ℕ, zero, suc, ◌+◌, ◌-◌, ◌*◌, ◌%◌, ◌<◌, ◌≤◌, inl, inr, ⊎_elim, Bool, true, false, List, [], ◌∷◌, ◌++◌, All, Contains, Option, length, set}
+use Rattle.std.proofs.Common.{◌≡◌, ℕ, zero, suc, ◌+◌, ◌-◌, ◌*◌, ◌%◌, ◌<◌, ◌≤◌, inl, inr, ⊎_elim, Bool, true, false, List, [], ◌∷◌, ◌++◌, All, Contains, Option}
+use Rattle.std.proofs.Common.{length, set}
 use Rattle.std.proofs.Common.{length-append, refl, ap, sym, subst, ◌∙◌, arith}
 use Rattle.std.specs.Prelude.{MatchBool, slice_index, slice_index_or}
 use Rattle.std.proofs.lemmas.List.{append-nil, append_assoc}

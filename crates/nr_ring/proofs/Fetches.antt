@@ -1,5 +1,6 @@
 -- The entries that a replica has still to take, read from the rings.
-use Rattle.std.proofs.Common.{◌≡◌, ℕ, zero, suc, ◌+◌, ◌*◌, ◌/◌, ◌%◌, ◌^◌, ◌<◌, ◌≤◌, List, [], ◌∷◌, ◌++◌, All, Contains, Some, Option, length, take, drop, reverse, refl, ap, sym}
+use Rattle.std.proofs.Common.{◌≡◌, ℕ, zero, suc, ◌+◌, ◌*◌, ◌/◌, ◌%◌, ◌^◌, ◌<◌, ◌≤◌, List, [], ◌∷◌, ◌++◌, All, Contains, Some, Option, length, take, drop}
+use Rattle.std.proofs.Common.{reverse, refl, ap, sym}
 use Rattle.std.proofs.Common.{subst, ◌∙◌, arith}
 use Rattle.std.specs.Prelude.{slice_get, slice_index}
 use Rattle.std.proofs.lemmas.List.Elements.{All-append}
@@ -45,12 +46,6 @@ pub item_holds : (P : LogEntry → Type 0) (xs : List LogEntry) (i : ℕ) (x : L
 item_holds P [] i x e all = absurd (cc)
 item_holds P (y ∷ ys) zero x e all = let Q : Option LogEntry → Type 0 = λ o. Rattle.std.specs.Prelude.IfSome o P in subst Q e (all 0 y (omega arith))
 item_holds P (y ∷ ys) (suc i) x e all = item_holds P ys i x e (λ k d lt. all (suc k) d (omega arith))
-
--- below its length a list has an item
-pub item_of : {X : Type 0} (xs : List X) (i : ℕ) → i < length xs → (x : X) × (slice_get xs i ≡ Some x)
-item_of [] i lt = absurd (omega arith)
-item_of (x ∷ xs) zero lt = (x, refl)
-item_of (x ∷ xs) (suc i) lt = item_of xs i (omega arith)
 
 -- the second word of an entry has 56 bits
 page_low : (size : Size) (phys : ℕ) → phys + bytes_of size ≤ 2 ^ 51 → phys < 2 ^ 51

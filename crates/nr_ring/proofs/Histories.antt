@@ -7,7 +7,8 @@ use Rattle.vs_types.specs.LogEntry.{IsLogEntry}
 use Rattle.vs_types.specs.declared.depth.Depth.{Depth}
 use Rattle.vs_types.specs.declared.limits.TheConstants.{LOG_PLACES}
 use Rattle.vs_types.specs.declared.log_entry.LogEntry.{LogEntry}
-use Rattle.nr_ring.specs.LogHistory.{Log, new_log, tail, local_of, completed, MayAppend, MayFollow, MayGoOn, IsLogHistory, IsEnded, IsFull, log_after_event, log_after_events}
+use Rattle.nr_ring.specs.LogHistory.{Log, new_log, tail, local_of, completed, MayAppend, MayFollow, MayGoOn, IsLogHistory, IsEnded, IsFull, log_after_event}
+use Rattle.nr_ring.specs.LogHistory.{log_after_events}
 use Rattle.nr_ring.specs.LogHistory.{log_after}
 use Rattle.nr_ring.specs.View.{HasSeenAdvances, IsElse, StartsWith}
 use Rattle.nr_ring.specs.Laws.{HasGoneOn, HasSameTails, FitsTheRing}

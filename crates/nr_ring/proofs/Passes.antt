@@ -46,10 +46,12 @@ remembers_still depth replicas passes replica ring p q is view value from own =
       told = at.told;
     }
 
-pub look_remembers : (depth : Depth) (replicas passes : ℕ) (replica : Option ℕ) (ring : ℕ) (p q : CellPass View Stored)
-    → Remembers depth replicas passes replica ring p → q.from ≡ p.from → q.own ≡ p.own → Looks depth replicas passes q.value p.view q.view
+-- nor does a look change that, from a view by which it owns and has made the same
+pub look_remembers_from : (depth : Depth) (replicas passes : ℕ) (replica : Option ℕ) (ring : ℕ) (p q : CellPass View Stored) (before : View)
+    → Remembers depth replicas passes replica ring p → before.owns ≡ p.view.owns → before.rights ≡ p.view.rights → before.mine ≡ p.view.mine
+    → StartsWith q.view.seen p.view.seen → q.from ≡ p.from → q.own ≡ p.own → Looks depth replicas passes q.value before q.view
     → Remembers depth replicas passes replica ring q
-look_remembers depth replicas passes replica ring p q is from own looks = record {
+look_remembers_from depth replicas passes replica ring p q before is owns rights mine begins from own looks = record {
   few = is.few;
   few_rings = is.few_rings;
   is_history = looks.looked.is_history;
@@ -59,15 +61,21 @@ look_remembers depth replicas passes replica ring p q is from own looks = record
   from_is = from ∙ is.from_is;
   own_long = ap (λ (l : List ℕ). length l) own ∙ is.own_long;
   ring_below = is.ring_below;
-  owns = looks.looked.owns ∙ is.owns;
+  owns = looks.looked.owns ∙ owns ∙ is.owns;
   owned_below = is.owned_below;
-  rights = looks.looked.rights ∙ is.rights;
+  rights = looks.looked.rights ∙ rights ∙ is.rights;
   mine =
       let P : List ℕ → Type 0 = λ l. All (λ number. number < length q.view.seen) l in
-      let more = longer q.view.seen p.view.seen looks.looked.seen in
-      subst P (sym looks.looked.mine) (λ k d lt. omega (arith, is.mine k d lt, more));
-  told = told_before q.view p.view looks.looked.told_stays looks.looked.told;
+      let more = longer q.view.seen p.view.seen begins in
+      subst P (sym (looks.looked.mine ∙ mine)) (λ k d lt. omega (arith, is.mine k d lt, more));
+  told = told_before q.view before looks.looked.told_stays looks.looked.told;
 }
+
+pub look_remembers : (depth : Depth) (replicas passes : ℕ) (replica : Option ℕ) (ring : ℕ) (p q : CellPass View Stored)
+    → Remembers depth replicas passes replica ring p → q.from ≡ p.from → q.own ≡ p.own → Looks depth replicas passes q.value p.view q.view
+    → Remembers depth replicas passes replica ring q
+look_remembers depth replicas passes replica ring p q is from own looks =
+    look_remembers_from depth replicas passes replica ring p q p.view is refl refl refl looks.looked.seen from own looks
 
 pub new_remembers : (depth : Depth) (replicas passes : ℕ) (replica : Option ℕ) (ring : ℕ) (p : CellPass View Stored) → replicas ≤ 4 → passes ≤ 128
     → IsBelow replicas replica → ring < passes → p.view ≡ new_view (owned replica) 1 → p.value ≡ nothing_stored → p.from ≡ 32 * ring → length p.own ≡ 32

@@ -1,5 +1,6 @@
 -- The words of a log; and where its entries lie: each pass has a ring of 16 places of its own beside the cell, and writes its entries there.
-use Rattle.std.specs.Prelude.{◌≡◌, ◌⊎◌, ℕ, zero, suc, ◌+◌, ◌*◌, ◌%◌, ◌^◌, ◌<◌, ◌≤◌, max, List, [], ◌∷◌, ◌++◌, Contains, Some, length, replicate, slice_get, slice_index, slice_set}
+use Rattle.std.specs.Prelude.{◌≡◌, ◌⊎◌, ℕ, zero, suc, ◌+◌, ◌*◌, ◌%◌, ◌^◌, ◌<◌, ◌≤◌, max, List, [], ◌∷◌, ◌++◌, Contains, Some, length, replicate, slice_get}
+use Rattle.std.specs.Prelude.{slice_index, slice_set}
 use Rattle.vs_types.specs.LogEntry.{log_words}
 use Rattle.vs_types.specs.declared.limits.TheConstants.{REPLICAS, RING}
 use Rattle.vs_types.specs.declared.log_entry.LogEntry.{LogEntry}

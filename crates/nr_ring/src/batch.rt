@@ -1,7 +1,8 @@
 //! Batches of entries, and the rings that they lie in.
-ghost use Rattle.std.specs.Prelude.{◌≡◌, ◌<◌, ◌≤◌, ◌+◌, ◌*◌, ℕ, true, List, All, MatchResult, Option, Some, [], length};
+ghost use Rattle.std.specs.Prelude.{◌≡◌, ◌<◌, ◌≤◌, ◌+◌, ◌*◌, ℕ, true, List, All, IfOk, MatchResult, Option, Some, [], length, take};
 ghost use Rattle.vs_types.specs.LogEntry.{IsLogEntry};
 ghost use Rattle.vs_types.specs.declared.limits.TheConstants.{RING};
+ghost use Rattle.nr_ring.specs.Calls.{HasLooked};
 ghost use Rattle.nr_ring.specs.Entries.{to_take};
 ghost use Rattle.nr_ring.specs.LogHistory.{AllKeepUp, HasRoom, Log, MayAppend, log_after, tail};
 ghost use Rattle.nr_ring.specs.Words.{last_ring, spot};
@@ -15,7 +16,29 @@ use crate::ring_log::RingLog;
 use crate::tails::{AppendFault, tails_in};
 use crate::words::{COUNT_WORD, HEAD_WORDS, LAST_WORD, LOCAL_WORDS, TAIL_WORD};
 use arrayvec::ArrayVec;
-use vs_types::{LOG_PLACES, RING};
+use vs_types::{CALLS, LOG_PLACES, LogEntry, RING};
+
+/// Has the first places of an array be a batch in the words that it has in the log.
+pub(crate) fn pack_all(batch: &[LogEntry], packed: &mut [PackedEntry; RING])
+    requires count { length batch.now ≤ RING }
+    requires calls { All (λ entry. entry.call < CALLS) batch.now }
+    ensures { take (length batch.now) packed.new ≡ batch.now }
+{
+    for (place, entry) in batch.iter().enumerate() {
+        packed[place] = PackedEntry::new(*entry);
+    }
+}
+
+/// Gives the entries that are packed here, in order. The vector is empty.
+pub(crate) fn unpack_all(packed: &[PackedEntry], entries: &mut ArrayVec<LogEntry, RING>)
+    requires count { length packed.now ≤ RING }
+    requires empty { entries.old.items ≡ [] }
+    ensures { entries.new.items ≡ packed.now }
+{
+    for entry in packed {
+        entries.push(entry.entry());
+    }
+}
 
 /// Tests that so many entries may be appended: the log does not end before, and each replica has the room.
 pub(crate) fn test_room(head: &[u64; HEAD_WORDS], count: u64) -> Result<(), AppendFault>
@@ -55,6 +78,29 @@ fn spot(ring: u64, place: u64) -> usize
 }
 
 impl<J: LogName> RingLog<J> {
+    /// Looks, and tests that so many entries may be appended: the place of the first.
+    pub(crate) fn find_room(&self, pass: &mut Inner<J>, count: u64) -> Result<u32, AppendFault>
+        requires log { pass.old.cell ≡ self.now }
+        requires known { (replica : Option ℕ) × (ring : ℕ)
+            × Remembers J.depth J.replicas J.passes replica ring pass.old }
+        requires count { count ≤ RING }
+        ensures log { pass.new.cell ≡ pass.old.cell }
+        ensures looked { HasLooked J.depth J.replicas pass.old.view pass.new.view }
+        ensures known { (replica : Option ℕ) (ring : ℕ)
+            → Remembers J.depth J.replicas J.passes replica ring pass.old
+            → Remembers J.depth J.replicas J.passes replica ring pass.new }
+        ensures fresh { pass.new.fresh ≡ true }
+        ensures place { IfOk result (λ place.
+            place ≡ tail (log_after J.replicas pass.new.view.seen)) }
+        ensures room { let log = log_after J.replicas pass.new.view.seen in
+            MatchResult result (λ _. HasRoom log count × AllKeepUp log count) (Bars log count) }
+    {
+        self.refresh(pass);
+        let place = pass.head()[TAIL_WORD] as u32;
+        test_room(pass.head(), count)?;
+        Ok(place)
+    }
+
     /// Stores a batch in the pass's ring, at the places from the tail on. Each entry has the ring of the one before it beside it.
     pub(crate) fn write(&self, pass: &mut Inner<J>, ring: u8, batch: &[PackedEntry])
         requires log { pass.old.cell ≡ self.now }

@@ -1,12 +1,13 @@
 //! Entries of the log as the two words that spell them.
-ghost use Rattle.std.specs.Prelude.{◌≡◌, ◌↔◌, IsTrue};
+ghost use Rattle.std.specs.Prelude.{◌≡◌, ◌<◌, ◌↔◌, IsTrue};
 ghost use Rattle.vs_types.specs.LogEntry.{IsLogEntry, SpellsEntry, log_words};
+ghost use Rattle.vs_types.specs.Operation.{IsSomeAction};
 ghost use Rattle.vs_types.specs.declared.depth.Depth.{Depth};
 ghost use Rattle.vs_types.specs.declared.depth.Depth.TheVariants.{Five};
 ghost use Rattle.vs_types.specs.declared.log_entry.LogEntry.{LogEntry};
 
 use std::marker::Model;
-use vs_types::{LogEntry, entry_of, pack};
+use vs_types::{CALLS, LogEntry, Op, entry_of, pack};
 
 /// An entry of the log, in the two words that spell it. It is well formed at five levels, as one at four is. Contracts see the entry.
 #[derive(Clone, Copy, Debug, PartialEq, Eq)]
@@ -32,13 +33,22 @@ impl Model for PackedEntry {
     ghost inverse_ok = { λ p spells. λ i. record { words = sym spells.spelled i } };
 }
 
+/// An operation is well formed at some depth, by its type.
+#[inline(always)]
+fn is_well_formed(op: Op)
+    ensures { IsSomeAction op }
+{
+    let _action = op.action();
+}
+
 impl PackedEntry {
-    /// An entry that is well formed at some depth.
+    /// An entry in its two words.
     #[inline(always)]
     pub fn new(entry: LogEntry) -> PackedEntry
-        requires { (depth : Depth) × IsLogEntry depth entry }
+        requires { entry.call < CALLS }
         ensures { result ≡ entry }
     {
+        is_well_formed(entry.op);
         PackedEntry { words: pack(entry) }
     }
 
@@ -52,6 +62,7 @@ impl PackedEntry {
         PackedEntry { words }
     }
 
+    /// The entry that its words spell.
     #[inline(always)]
     pub fn entry(self) -> LogEntry
         ensures is { result ≡ self }

@@ -1,5 +1,6 @@
 //! The log: one cell that its threads share.
-ghost use Rattle.std.specs.Prelude.{◌≡◌, ◌≤◌, ◌+◌, ◌-◌, ◌*◌, ◌<◌, ◌⊎◌, ℕ, true, All, Contains, IfErr, IfOk, MatchResult, OnErr, OnOk, Option, Some, [], ◌∷◌, ◌++◌, length, map};
+ghost use Rattle.std.specs.Prelude.{◌≡◌, ◌≤◌, ◌+◌, ◌-◌, ◌*◌, ◌<◌, ◌⊎◌, ℕ, true, All, Contains, IfErr, IfOk, MatchResult, OnErr, OnOk, Option, Some, [], ◌∷◌};
+ghost use Rattle.std.specs.Prelude.{◌++◌, length, map};
 ghost use Rattle.std.specs.List.{range_with_len};
 ghost use Rattle.version_cell.specs.Passes.{beside};
 ghost use Rattle.vs_types.specs.LogEntry.{IsLogEntry};
@@ -14,7 +15,7 @@ ghost use Rattle.nr_ring.specs.inside.Codes.{code_in};
 ghost use Rattle.nr_ring.specs.inside.Batch.{AreStored};
 ghost use Rattle.nr_ring.specs.inside.Held.{IsBelow, LeadTo, MadeOrMoved, Remembers, left_from, new_view, nothing_stored, owned, rest_of};
 
-use crate::batch::{test_room, why_not};
+use crate::batch::{pack_all, unpack_all, why_not};
 use crate::code::{advanced_code, appended_code, code_of};
 use crate::name::LogName;
 use crate::packed::PackedEntry;
@@ -28,7 +29,7 @@ use arrayvec::ArrayVec;
 use std::alloc::Global;
 use std::marker::{Brand, Model};
 use version_cell::VersionCell;
-use vs_types::{Depth, Memory, REPLICAS, RING};
+use vs_types::{Depth, LogEntry, Memory, REPLICAS, RING};
 
 /// The shared log: a cell with the tails, and for each pass a ring of 16 entries beside it. Contracts see which log it is.
 #[derive(Drop)]
@@ -202,7 +203,7 @@ impl<J: LogName> RingLog<J> {
     /// `LogEnded` where the log would go past 65,536 entries; `Full` where some replica would have more than 16 entries to take;
     /// `Moved` where neither holds, but another pass's event has come since this pass last saw the log. The tails are those of
     /// the log that the pass has then seen, and it has made no event.
-    pub fn append(&self, pass: &mut LogPass<J>, batch: &[PackedEntry]) -> Result<u32, AppendFault>
+    pub fn append(&self, pass: &mut LogPass<J>, batch: &[LogEntry]) -> Result<u32, AppendFault>
         requires log { pass.old.log ≡ self.now }
         requires count { (1 ≤ length batch.now) × (length batch.now ≤ RING) }
         requires entries { All (IsLogEntry J.depth) batch.now }
@@ -217,10 +218,11 @@ impl<J: LogName> RingLog<J> {
         ensures history { IsLogHistory J.depth J.replicas pass.new.view.seen }
     {
         let count = batch.len() as u64;
-        self.refresh(&mut pass.inner);
-        let place = pass.inner.head()[TAIL_WORD] as u32;
-        test_room(pass.inner.head(), count)?;
-        if self.try_append::<Brand>(&mut pass.inner, pass.ring, batch) {
+        let place = self.find_room(&mut pass.inner, count)?;
+        let mut packed = [PackedEntry::default(); RING];
+        pack_all(batch, &mut packed);
+        let packed = &packed[..batch.len()];
+        if self.try_append::<Brand>(&mut pass.inner, pass.ring, packed) {
             return Ok(place);
         }
         Err(why_not(pass.inner.head(), count))
@@ -249,7 +251,7 @@ impl<J: LogName> RingLog<J> {
 
     /// Looks, and gives all entries from the local tail of the replica that the pass owns to the tail, in order. The vector is
     /// empty. It never waits.
-    pub fn fetch(&self, pass: &mut LogPass<J>, entries: &mut ArrayVec<PackedEntry, RING>)
+    pub fn fetch(&self, pass: &mut LogPass<J>, entries: &mut ArrayVec<LogEntry, RING>)
         requires log { pass.old.log ≡ self.now }
         requires owner { (replica : ℕ) × (pass.old.view.owns ≡ replica ∷ []) }
         requires empty { entries.old.items ≡ [] }
@@ -262,7 +264,9 @@ impl<J: LogName> RingLog<J> {
             unreachable!()
         };
         self.refresh(&mut pass.inner);
-        self.read(&mut pass.inner, replica, entries);
+        let mut packed = ArrayVec::new();
+        self.read(&mut pass.inner, replica, &mut packed);
+        unpack_all(packed.as_slice(), entries);
     }
 
     /// Exchanges what a pass saw last for what is there after events, which has this code, where the cell has it still; else it looks. The

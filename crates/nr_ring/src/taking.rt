@@ -7,7 +7,7 @@ ghost use Rattle.nr_ring.specs.declared.log_event.LogEvent.TheVariants.{Append, 
 ghost use Rattle.nr_ring.specs.Entries.{HasAppendedAndTaken, HasTakenAll, IsReason, to_take};
 ghost use Rattle.nr_ring.specs.inside.Held.{MadeOrMoved, Remembers};
 
-use crate::batch::{test_room, why_not};
+use crate::batch::why_not;
 use crate::code::advanced_code;
 use crate::name::LogName;
 use crate::packed::PackedEntry;
@@ -129,9 +129,7 @@ impl<J: LogName> RingLog<J> {
             unreachable!()
         };
         let count = batch.len() as u64;
-        self.refresh(&mut pass.inner);
-        let place = pass.inner.head()[TAIL_WORD] as u32;
-        test_room(pass.inner.head(), count)?;
+        let place = self.find_room(&mut pass.inner, count)?;
         let ring = pass.ring;
         if self.try_append_and_take::<Brand>(&mut pass.inner, ring, replica, batch, before) {
             return Ok(place);

@@ -3,18 +3,18 @@ ghost use Rattle.std.specs.Prelude.{◌≡◌, ◌+◌, ◌≤◌, ◌∷◌, �
 ghost use Rattle.vs_types.specs.LogEntry.{IsLogEntry};
 ghost use Rattle.vs_types.specs.declared.depth.Depth.TheVariants.{Four};
 
-use crate::entry::packed_of;
+use crate::entry::entry_of;
 use arrayvec::ArrayVec;
 use benchmark_program::{ProgFault, now};
 use crossbeam_utils::Backoff;
-use nr_ring::{AppendFault, LogName, LogPass, PackedEntry, RingLog, Tails};
+use nr_ring::{AppendFault, LogName, LogPass, RingLog, Tails};
 use std::alloc::Global;
 use std::rt::Clock;
 use std::sync::Wait;
 use std::thread;
 use std::thread::Threads;
 use std::time::Duration;
-use vs_types::Depth;
+use vs_types::{Depth, LogEntry};
 
 /// How often a thread tries what the others may hinder, before it says that it is stuck.
 const TRIES: u32 = 1 << 30;
@@ -135,7 +135,7 @@ fn append_and_take<J: LogName>(
         calls: 0,
     };
     for call in 0..calls {
-        append_all(log, &mut pass, &[packed_of(call)], &mut taken);
+        append_all(log, &mut pass, &[entry_of(call)], &mut taken);
     }
     let backoff = Backoff::new();
     for _ in 0..TRIES {
@@ -152,7 +152,7 @@ fn append_and_take<J: LogName>(
 fn append_all<J: LogName>(
     log: &RingLog<J>,
     pass: &mut LogPass<J>,
-    batch: &[PackedEntry],
+    batch: &[LogEntry],
     taken: &mut Taken,
 )
     requires log { pass.old.log ≡ log.now }

@@ -2,18 +2,10 @@ ghost use Rattle.std.specs.Prelude.{◌<◌};
 ghost use Rattle.vs_types.specs.LogEntry.{IsLogEntry};
 ghost use Rattle.vs_types.specs.declared.depth.Depth.TheVariants.{Four};
 
-use nr_ring::PackedEntry;
 use vs_types::{Depth, LogEntry, Op};
 
-/// An entry of this call, which unmaps address 0, in its two words.
-pub fn packed_of(call: u32) -> PackedEntry
-    requires { call < 131072 }
-    ensures { IsLogEntry Four result }
-{
-    PackedEntry::new(entry_of(call))
-}
-
-fn entry_of(call: u32) -> LogEntry
+/// An entry of this call, which unmaps address 0.
+pub fn entry_of(call: u32) -> LogEntry
     requires { call < 131072 }
     ensures { IsLogEntry Four result }
 {

@@ -2,7 +2,7 @@
 ghost use Rattle.std.specs.Prelude.{◌≡◌, ◌+◌, ◌≤◌, All};
 ghost use Rattle.vs_types.specs.declared.depth.Depth.TheVariants.{Four};
 
-use crate::entry::packed_of;
+use crate::entry::entry_of;
 use benchmark_program::{ProgFault, now};
 use nr_ring::{LogName, LogPass, RingLog};
 use std::alloc::Global;
@@ -36,7 +36,7 @@ pub fn look<J: LogName + Send + Sync, R: Threads + Wait + Clock + Sync>(
     let Some(mut own) = passes.pop() else {
         unreachable!()
     };
-    if log.append(&mut own, &[packed_of(0); 16]).is_err() {
+    if log.append(&mut own, &[entry_of(0); 16]).is_err() {
         return Err(ProgFault::Stuck);
     }
     look_on(rt, &log, passes, calls)

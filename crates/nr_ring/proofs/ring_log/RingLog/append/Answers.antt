@@ -1,89 +1,84 @@
-use Rattle.std.proofs.Common.{rules, refl, ap, subst, ◌∙◌, arith}
+use Rattle.std.proofs.Common.{◌≡◌, List, rules, refl, ap, sym, subst, ◌∙◌}
 use Rattle.std.proofs.lemmas.Result.{err_from_is_err_and}
-use Rattle.nr_ring.specs.Calls.{HasLooked}
+use Rattle.vs_types.specs.declared.log_entry.LogEntry.{LogEntry}
+use Rattle.nr_ring.specs.Calls.{HasLooked, with_event}
 use Rattle.nr_ring.specs.LogHistory.{MayAppend, log_after}
 use Rattle.nr_ring.specs.Pass.{Known}
 use Rattle.nr_ring.specs.Words.{last_ring}
+use Rattle.nr_ring.specs.declared.log_event.LogEvent.TheVariants.{Append}
 use Rattle.nr_ring.specs.declared.view.View.{View}
 use Rattle.nr_ring.proofs.FirstWords.{head_is, head_small}
 use Rattle.nr_ring.proofs.Appends.{barred, looked_twice, moved_later, reason}
 use Rattle.nr_ring.proofs.ring_log.RingLog.append.Goals as goal
 
-pub overflow_cast-place : goal.overflow_cast-place
-overflow_cast-place g c =
-    let is = c.refresh.ensures.known c.pass.inside.replica c.pass.inside.ring c.pass.invariant in
-    let small = head_small _ _ _ c.pass.inside.replica c.pass.inside.ring c.refresh.new.pass is c.head.result.now c.head.ensures in
-    omega (arith, small.tails 0 (omega arith))
-
-pub test_room-requires : goal.test_room-requires
-test_room-requires g c =
-    let is = c.refresh.ensures.known c.pass.inside.replica c.pass.inside.ring c.pass.invariant in
-    (head_small _ _ _ c.pass.inside.replica c.pass.inside.ring c.refresh.new.pass is c.head-2.result.now c.head-2.ensures, c.requires.count.1)
+pub find_room-requires : goal.find_room-requires
+find_room-requires g c = (
+  search rules,
+  (
+    ap (λ (k : Known). k.log) c.pass.view_is ∙ c.requires.log,
+    ((c.pass.inside.replica, c.pass.inside.ring, c.pass.invariant), c.requires.count.1),
+  ),
+)
 
 pub invariant_of-pass : goal.invariant_of-pass
-invariant_of-pass g c = c.refresh.ensures.known c.pass.inside.replica c.pass.inside.ring c.pass.invariant
+invariant_of-pass g c = c.find_room.ensures.known c.pass.inside.replica c.pass.inside.ring c.pass.invariant
 
-pub returns-in_err-test_room-clause-refused : goal.returns-in_err-test_room-clause-refused
-returns-in_err-test_room-clause-refused g c =
-    let depth = g.J.LogName.depth in
-    let replicas = g.J.LogName.replicas in
-    let p = c.refresh.new.pass in
-    let is = c.refresh.ensures.known c.pass.inside.replica c.pass.inside.ring c.pass.invariant in
-    let head = head_is _ _ _ c.pass.inside.replica c.pass.inside.ring p is c.head-2.result.now c.head-2.ensures in
-    let log = log_after replicas p.view.seen in
-    let bars = c.in_err-test_room.ensures log (last_ring p.value) head in
-    let Looked : View → Type 0 = λ v. HasLooked depth replicas v p.view in
-    let looked = subst Looked (ap (λ (k : Known). k.view) c.pass.view_is) c.refresh.ensures.looked in
+pub returns-in_err-place-clause-refused : goal.returns-in_err-place-clause-refused
+returns-in_err-place-clause-refused g c =
+    let p = c.find_room.new.pass in
+    let Looked : View → Type 0 = λ v. HasLooked g.J.LogName.depth g.J.LogName.replicas v p.view in
+    let looked = subst Looked (ap (λ (k : Known). k.view) c.pass.view_is) c.find_room.ensures.looked in
     let e = err_from_is_err_and c.from_residual.result c.from_residual.ensures.1 in
-    rw (e.1, e.2) (looked, barred log _ c.args.pass.now.view p.view c.in_err-test_room.field-0.0 bars)
+    rw (e.1, e.2)
+    (looked, barred (log_after g.J.LogName.replicas p.view.seen) _ c.args.pass.now.view p.view c.in_err-place.field-0.0 c.in_err-place.ensures.room)
 
 pub try_append-requires : goal.try_append-requires
 try_append-requires g c =
     let replicas = g.J.LogName.replicas in
-    let p = c.refresh.new.pass in
-    let is = c.refresh.ensures.known c.pass.inside.replica c.pass.inside.ring c.pass.invariant in
-    let head = head_is _ _ _ c.pass.inside.replica c.pass.inside.ring p is c.head-2.result.now c.head-2.ensures in
-    let room = c.in_ok-test_room.ensures (log_after replicas p.view.seen) (last_ring p.value) head in
-    let may : MayAppend g.J.LogName.depth (log_after replicas p.view.seen) c.args.batch.now =
-    record { some = c.requires.count.0; few = c.requires.count.1; entries = c.requires.entries; room = room.0; kept_up = room.1 } in (
+    let p = c.find_room.new.pass in
+    let is = c.find_room.ensures.known c.pass.inside.replica c.pass.inside.ring c.pass.invariant in
+    let log = log_after replicas p.view.seen in
+    let room = c.in_ok-place.ensures.room in
+    let may : MayAppend g.J.LogName.depth log c.args.batch.now =
+    record { some = c.requires.count.0; few = c.requires.count.1; entries = c.requires.entries; room = room.0; kept_up = room.1 } in
+    let packed = subst (MayAppend g.J.LogName.depth log) (sym (c.pack_all.ensures)) may in (
       search rules,
       (
-        c.refresh.ensures.log ∙ ap (λ (k : Known). k.log) c.pass.view_is ∙ c.requires.log,
-        ((c.pass.inside.replica, is), (c.refresh.ensures.fresh, ((refl, refl), may))),
+        c.find_room.ensures.log ∙ ap (λ (k : Known). k.log) c.pass.view_is ∙ c.requires.log,
+        ((c.pass.inside.replica, is), (c.find_room.ensures.fresh, ((refl, refl), packed))),
       ),
     )
 
 pub invariant_of-pass-then-try_append : goal.invariant_of-pass-then-try_append
 invariant_of-pass-then-try_append g c =
-    c.try_append.ensures.known c.pass.inside.replica (c.refresh.ensures.known c.pass.inside.replica c.pass.inside.ring c.pass.invariant)
+    c.try_append.ensures.known c.pass.inside.replica (c.find_room.ensures.known c.pass.inside.replica c.pass.inside.ring c.pass.invariant)
 
 pub returns-then-try_append-clause-appended : goal.returns-then-try_append-clause-appended
 returns-then-try_append-clause-appended g c =
     let depth = g.J.LogName.depth in
     let replicas = g.J.LogName.replicas in
-    let p = c.refresh.new.pass in
-    let is = c.refresh.ensures.known c.pass.inside.replica c.pass.inside.ring c.pass.invariant in
-    let head = head_is _ _ _ c.pass.inside.replica c.pass.inside.ring p is c.head.result.now c.head.ensures in
+    let p = c.find_room.new.pass in
     let Looked : View → Type 0 = λ v. HasLooked depth replicas v p.view in
+    let Appended : List LogEntry → Type 0 = λ batch. c.try_append.new.pass.view ≡ with_event p.view (Append batch) in
     record {
       seen_before = p.view;
-      looked = subst Looked (ap (λ (k : Known). k.view) c.pass.view_is) c.refresh.ensures.looked;
-      appended = c.if-try_append.ensures.view;
-      place_is = head.tail_is;
+      looked = subst Looked (ap (λ (k : Known). k.view) c.pass.view_is) c.find_room.ensures.looked;
+      appended = subst Appended (c.pack_all.ensures) c.if-try_append.ensures.view;
+      place_is = c.in_ok-place.ensures.place;
     }
 
 pub returns-then-try_append-clause-history : goal.returns-then-try_append-clause-history
 returns-then-try_append-clause-history g c =
-    (c.try_append.ensures.known c.pass.inside.replica (c.refresh.ensures.known c.pass.inside.replica c.pass.inside.ring c.pass.invariant)).is_history
+    (c.try_append.ensures.known c.pass.inside.replica (c.find_room.ensures.known c.pass.inside.replica c.pass.inside.ring c.pass.invariant)).is_history
 
 pub why_not-requires : goal.why_not-requires
 why_not-requires g c =
-    let is = c.try_append.ensures.known c.pass.inside.replica (c.refresh.ensures.known c.pass.inside.replica c.pass.inside.ring c.pass.invariant) in
-    (head_small _ _ _ c.pass.inside.replica c.pass.inside.ring c.try_append.new.pass is c.head-3.result.now c.head-3.ensures, c.requires.count.1)
+    let is = c.try_append.ensures.known c.pass.inside.replica (c.find_room.ensures.known c.pass.inside.replica c.pass.inside.ring c.pass.invariant) in
+    (head_small _ _ _ c.pass.inside.replica c.pass.inside.ring c.try_append.new.pass is c.head.result.now c.head.ensures, c.requires.count.1)
 
 pub invariant_of-pass-2 : goal.invariant_of-pass-2
 invariant_of-pass-2 g c =
-    c.try_append.ensures.known c.pass.inside.replica (c.refresh.ensures.known c.pass.inside.replica c.pass.inside.ring c.pass.invariant)
+    c.try_append.ensures.known c.pass.inside.replica (c.find_room.ensures.known c.pass.inside.replica c.pass.inside.ring c.pass.invariant)
 
 pub returns-clause-refused : goal.returns-clause-refused
 returns-clause-refused g c =
@@ -91,13 +86,13 @@ returns-clause-refused g c =
     let replicas = g.J.LogName.replicas in
     let old = c.args.pass.now.view in
     let q = c.try_append.new.pass in
-    let is = c.try_append.ensures.known c.pass.inside.replica (c.refresh.ensures.known c.pass.inside.replica c.pass.inside.ring c.pass.invariant) in
+    let is = c.try_append.ensures.known c.pass.inside.replica (c.find_room.ensures.known c.pass.inside.replica c.pass.inside.ring c.pass.invariant) in
     let log = log_after replicas q.view.seen in
-    let head = head_is _ _ _ c.pass.inside.replica c.pass.inside.ring q is c.head-3.result.now c.head-3.ensures in
-    let Looked : View → Type 0 = λ v. HasLooked depth replicas v c.refresh.new.pass.view in
-    let first = subst Looked (ap (λ (k : Known). k.view) c.pass.view_is) c.refresh.ensures.looked in
+    let head = head_is _ _ _ c.pass.inside.replica c.pass.inside.ring q is c.head.result.now c.head.ensures in
+    let Looked : View → Type 0 = λ v. HasLooked depth replicas v c.find_room.new.pass.view in
+    let first = subst Looked (ap (λ (k : Known). k.view) c.pass.view_is) c.find_room.ensures.looked in
     let second = c.if-try_append.ensures.view in (
-      looked_twice depth replicas old c.refresh.new.pass.view q.view first second.0,
+      looked_twice depth replicas old c.find_room.new.pass.view q.view first second.0,
       reason log _ old q.view c.why_not.result (c.why_not.ensures log (last_ring q.value) head)
-          (moved_later depth replicas old c.refresh.new.pass.view q.view first second.1),
+          (moved_later depth replicas old c.find_room.new.pass.view q.view first second.1),
     )

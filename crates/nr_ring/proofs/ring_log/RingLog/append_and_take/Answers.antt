@@ -1,4 +1,4 @@
-use Rattle.std.proofs.Common.{rules, Some, refl, ap, subst, sym, ◌∙◌, arith}
+use Rattle.std.proofs.Common.{rules, Some, refl, ap, subst, sym, ◌∙◌}
 use Rattle.std.proofs.lemmas.Result.{err_from_is_err_and}
 use Rattle.nr_ring.specs.Calls.{HasLooked}
 use Rattle.nr_ring.specs.LogHistory.{MayAppend, log_after}
@@ -11,48 +11,40 @@ use Rattle.nr_ring.proofs.BothDone.{both_done}
 use Rattle.nr_ring.proofs.FirstWords.{head_is, head_small}
 use Rattle.nr_ring.proofs.ring_log.RingLog.append_and_take.Goals as goal
 
-pub overflow_cast-place : goal.overflow_cast-place
-overflow_cast-place g c =
-    let is = c.refresh.ensures.known c.pass.inside.replica c.pass.inside.ring c.pass.invariant in
-    let small = head_small _ _ _ c.pass.inside.replica c.pass.inside.ring c.refresh.new.pass is c.head.result.now c.head.ensures in
-    omega (arith, small.tails 0 (omega arith))
-
-pub test_room-requires : goal.test_room-requires
-test_room-requires g c =
-    let is = c.refresh.ensures.known c.pass.inside.replica c.pass.inside.ring c.pass.invariant in
-    (head_small _ _ _ c.pass.inside.replica c.pass.inside.ring c.refresh.new.pass is c.head-2.result.now c.head-2.ensures, c.requires.count.1)
+pub find_room-requires : goal.find_room-requires
+find_room-requires g c = (
+  search rules,
+  (
+    ap (λ (k : Known). k.log) c.pass.view_is ∙ c.requires.log,
+    ((c.pass.inside.replica, c.pass.inside.ring, c.pass.invariant), c.requires.count.1),
+  ),
+)
 
 pub invariant_of-pass : goal.invariant_of-pass
-invariant_of-pass g c = c.refresh.ensures.known c.pass.inside.replica c.pass.inside.ring c.pass.invariant
+invariant_of-pass g c = c.find_room.ensures.known c.pass.inside.replica c.pass.inside.ring c.pass.invariant
 
-pub returns-in_err-test_room-clause-refused : goal.returns-in_err-test_room-clause-refused
-returns-in_err-test_room-clause-refused g c =
-    let depth = g.J.LogName.depth in
-    let replicas = g.J.LogName.replicas in
-    let p = c.refresh.new.pass in
-    let is = c.refresh.ensures.known c.pass.inside.replica c.pass.inside.ring c.pass.invariant in
-    let head = head_is _ _ _ c.pass.inside.replica c.pass.inside.ring p is c.head-2.result.now c.head-2.ensures in
-    let log = log_after replicas p.view.seen in
-    let bars = c.in_err-test_room.ensures log (last_ring p.value) head in
-    let Looked : View → Type 0 = λ v. HasLooked depth replicas v p.view in
-    let looked = subst Looked (ap (λ (k : Known). k.view) c.pass.view_is) c.refresh.ensures.looked in
+pub returns-in_err-place-clause-refused : goal.returns-in_err-place-clause-refused
+returns-in_err-place-clause-refused g c =
+    let p = c.find_room.new.pass in
+    let Looked : View → Type 0 = λ v. HasLooked g.J.LogName.depth g.J.LogName.replicas v p.view in
+    let looked = subst Looked (ap (λ (k : Known). k.view) c.pass.view_is) c.find_room.ensures.looked in
     let e = err_from_is_err_and c.from_residual.result c.from_residual.ensures.1 in
-    rw (e.1, e.2) (looked, barred log _ c.args.pass.now.view p.view c.in_err-test_room.field-0.0 bars)
+    rw (e.1, e.2)
+    (looked, barred (log_after g.J.LogName.replicas p.view.seen) _ c.args.pass.now.view p.view c.in_err-place.field-0.0 c.in_err-place.ensures.room)
 
 pub try_append_and_take-requires : goal.try_append_and_take-requires
 try_append_and_take-requires g c =
     let replicas = g.J.LogName.replicas in
-    let p = c.refresh.new.pass in
-    let known = c.refresh.ensures.known c.pass.inside.replica c.pass.inside.ring c.pass.invariant in
+    let p = c.find_room.new.pass in
+    let known = c.find_room.ensures.known c.pass.inside.replica c.pass.inside.ring c.pass.invariant in
     let is = owner_remembers _ _ _ c.pass.inside.replica (Some c.in-Some.replica) c.pass.inside.ring p known c.in-Some.is in
-    let head = head_is _ _ _ c.pass.inside.replica c.pass.inside.ring p known c.head-2.result.now c.head-2.ensures in
-    let room = c.in_ok-test_room.ensures (log_after replicas p.view.seen) (last_ring p.value) head in
+    let room = c.in_ok-place.ensures.room in
     let may : MayAppend g.J.LogName.depth (log_after replicas p.view.seen) c.args.batch.now =
     record { some = c.requires.count.0; few = c.requires.count.1; entries = c.requires.entries; room = room.0; kept_up = room.1 } in (
       search rules,
       (
-        c.refresh.ensures.log ∙ ap (λ (k : Known). k.log) c.pass.view_is ∙ c.requires.log,
-        (is, (c.refresh.ensures.fresh, (may, ((refl, refl), c.requires.empty)))),
+        c.find_room.ensures.log ∙ ap (λ (k : Known). k.log) c.pass.view_is ∙ c.requires.log,
+        (is, (c.find_room.ensures.fresh, (may, ((refl, refl), c.requires.empty)))),
       ),
     )
 
@@ -65,20 +57,18 @@ pub returns-then-try_append_and_take-clause-done : goal.returns-then-try_append_
 returns-then-try_append_and_take-clause-done g c =
     let depth = g.J.LogName.depth in
     let replicas = g.J.LogName.replicas in
-    let p = c.refresh.new.pass in
+    let p = c.find_room.new.pass in
     let r = c.in-Some.replica in
     let ring = c.pass.inside.ring in
-    let known = c.refresh.ensures.known c.pass.inside.replica ring c.pass.invariant in
+    let known = c.find_room.ensures.known c.pass.inside.replica ring c.pass.invariant in
     let is = owner_remembers _ _ _ c.pass.inside.replica (Some r) ring p known c.in-Some.is in
-    let head = head_is _ _ _ (Some r) ring p is c.head-2.result.now c.head-2.ensures in
-    let at = head_is _ _ _ (Some r) ring p is c.head.result.now c.head.ensures in
-    let room = c.in_ok-test_room.ensures (log_after replicas p.view.seen) (last_ring p.value) head in
+    let room = c.in_ok-place.ensures.room in
     let may : MayAppend depth (log_after replicas p.view.seen) c.args.batch.now =
     record { some = c.requires.count.0; few = c.requires.count.1; entries = c.requires.entries; room = room.0; kept_up = room.1 } in
     let Looked : View → Type 0 = λ v. HasLooked depth replicas v p.view in
-    let looked = subst Looked (ap (λ (k : Known). k.view) c.pass.view_is) c.refresh.ensures.looked in
+    let looked = subst Looked (ap (λ (k : Known). k.view) c.pass.view_is) c.find_room.ensures.looked in
     both_done depth replicas _ r ring c.args.pass.now.view c.try_append_and_take.new.pass.view p c.args.batch.now c.try_append_and_take.new.before.items _
-    looked is may c.try_append_and_take.ensures.known.is_history at.tail_is c.if-try_append_and_take.ensures.view
+    looked is may c.try_append_and_take.ensures.known.is_history c.in_ok-place.ensures.place c.if-try_append_and_take.ensures.view
     (c.try_append_and_take.ensures.taken c.if-try_append_and_take.true)
 
 pub returns-then-try_append_and_take-clause-history : goal.returns-then-try_append_and_take-clause-history
@@ -86,8 +76,8 @@ returns-then-try_append_and_take-clause-history g c = c.try_append_and_take.ensu
 
 pub why_not-requires : goal.why_not-requires
 why_not-requires g c = (
-  head_small _ _ _ (Some c.in-Some.replica) c.pass.inside.ring c.try_append_and_take.new.pass c.try_append_and_take.ensures.known c.head-3.result.now
-      c.head-3.ensures,
+  head_small _ _ _ (Some c.in-Some.replica) c.pass.inside.ring c.try_append_and_take.new.pass c.try_append_and_take.ensures.known c.head.result.now
+      c.head.ensures,
   c.requires.count.1,
 )
 
@@ -104,11 +94,11 @@ returns-clause-refused g c =
     let q = c.try_append_and_take.new.pass in
     let is = c.try_append_and_take.ensures.known in
     let log = log_after replicas q.view.seen in
-    let head = head_is _ _ _ (Some c.in-Some.replica) c.pass.inside.ring q is c.head-3.result.now c.head-3.ensures in
-    let Looked : View → Type 0 = λ v. HasLooked depth replicas v c.refresh.new.pass.view in
-    let first = subst Looked (ap (λ (k : Known). k.view) c.pass.view_is) c.refresh.ensures.looked in
+    let head = head_is _ _ _ (Some c.in-Some.replica) c.pass.inside.ring q is c.head.result.now c.head.ensures in
+    let Looked : View → Type 0 = λ v. HasLooked depth replicas v c.find_room.new.pass.view in
+    let first = subst Looked (ap (λ (k : Known). k.view) c.pass.view_is) c.find_room.ensures.looked in
     let second = c.if-try_append_and_take.ensures.view in (
-      looked_twice depth replicas old c.refresh.new.pass.view q.view first second.0,
+      looked_twice depth replicas old c.find_room.new.pass.view q.view first second.0,
       reason log _ old q.view c.why_not.result (c.why_not.ensures log (last_ring q.value) head)
-          (moved_later depth replicas old c.refresh.new.pass.view q.view first second.1),
+          (moved_later depth replicas old c.find_room.new.pass.view q.view first second.1),
     )

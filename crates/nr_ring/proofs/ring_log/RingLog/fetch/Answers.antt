@@ -15,7 +15,7 @@ read-requires g c =
         c.refresh.ensures.log ∙ ap (λ (k : Known). k.log) c.pass.view_is ∙ c.requires.log,
         (
           (c.pass.inside.ring, owner_remembers _ _ _ c.pass.inside.replica (Some c.in-Some.replica) c.pass.inside.ring c.refresh.new.pass is c.in-Some.is),
-          (c.refresh.ensures.fresh, c.requires.empty),
+          (c.refresh.ensures.fresh, c.new-packed.ensures),
         ),
       ),
     )
