@@ -6,7 +6,7 @@ ghost use Rattle.vs_types.specs.Operation.{IsAction};
 use arrayvec::ArrayVec;
 use nr_dump::check;
 use nr_node::{Held, Node};
-use nr_ring::{AppendFault, LogName, PackedEntry, RingLog, Tails};
+use nr_ring::{AppendFault, LogName, RingLog, Tails};
 use nr_slots::{Answered, Slots, Waiting};
 use std::alloc::Global;
 use std::marker::Model;
@@ -44,13 +44,6 @@ impl Update {
         assert!(rt; call < CALLS);
         LogEntry { call, op }
     }
-
-    /// The same, in its two words.
-    pub fn packed(self, rt: &impl Abort, depth: Depth, call: u32) -> PackedEntry
-        ensures { IsLogEntry depth result }
-    {
-        PackedEntry::new(self.entry(rt, depth, call))
-    }
 }
 
 /// An update of a thread, by its call; and at its place what it is answered.
@@ -85,10 +78,10 @@ pub enum Does {
 
 /// A batch of two updates that are well formed at this depth.
 fn pair(first: Waiting, second: Waiting, depth: Depth) -> ArrayVec<Waiting, 16>
-    requires first { IsAction depth first.entry.op }
-    requires second { IsAction depth second.entry.op }
+    requires first { IsAction depth first.op }
+    requires second { IsAction depth second.op }
     ensures items { result.items ≡ first ∷ second ∷ [] }
-    ensures fit { All (λ waiting. IsAction depth waiting.entry.op) result.items }
+    ensures fit { All (λ waiting. IsAction depth waiting.op) result.items }
 {
     let mut batch = ArrayVec::new();
     batch.push(first);
@@ -183,13 +176,17 @@ impl<'a, S: FrameStore, J: LogName> Bench<'a, S, J> {
 
     /// An update of a thread, by its call.
     fn waiting(&self, rt: &impl Abort, update: (u16, u32, Update)) -> Waiting
-        ensures { IsAction J.depth result.entry.op }
+        ensures { IsAction J.depth result.op }
     {
-        let entry = update.2.packed(rt, self.depth, update.1);
-        Waiting {
-            thread: update.0,
-            entry,
-        }
+        let (thread, call, update) = update;
+        assert!(rt; call < CALLS);
+        Waiting::new(thread, call, update.op(rt, self.depth))
+    }
+
+    /// The same, with its place and its answer.
+    fn answered(&self, rt: &impl Abort, given: Given) -> Answered {
+        let Given(thread, call, update, place, answer) = given;
+        Answered::new(self.waiting(rt, (thread, call, update)), place, answer)
     }
 
     /// Puts the batch that it holds.
@@ -209,15 +206,7 @@ impl<'a, S: FrameStore, J: LogName> Bench<'a, S, J> {
             return false;
         }
         for at in 0..wanted.len() {
-            let Given(thread, call, update, place, answer) = wanted[at];
-            let entry = update.packed(rt, self.depth, call);
-            let given = Answered {
-                thread,
-                entry,
-                place,
-                answer,
-            };
-            if answers[at] != given {
+            if answers[at] != self.answered(rt, wanted[at]) {
                 return false;
             }
         }
@@ -227,9 +216,9 @@ impl<'a, S: FrameStore, J: LogName> Bench<'a, S, J> {
     /// Has the slots of the threads be taken with their updates, as where a combiner has collected them.
     fn collect(&self, rt: &impl Abort, updates: [Given; 2]) {
         for Given(thread, call, update, _, _) in updates {
-            let entry = update.packed(rt, self.depth, call);
-            assert!(rt; thread < 8);
-            assert!(rt; self.slots.post(thread, entry).is_ok());
+            let op = update.op(rt, self.depth);
+            assert!(rt; thread < 8 && call < CALLS);
+            assert!(rt; self.slots.post(thread, call, op).is_ok());
         }
         let mut batch = ArrayVec::new();
         self.slots.collect(&mut batch);
@@ -239,28 +228,24 @@ impl<'a, S: FrameStore, J: LogName> Bench<'a, S, J> {
     /// Whether it puts its batch and catches up at once, gives the answer of the first update, and leaves the other one in its slot.
     fn puts_and_catches_up(&mut self, rt: &impl Abort, answers: [Given; 2]) -> bool {
         let [first, second] = answers;
-        let entry = first.2.packed(rt, self.depth, first.1);
+        let Given(thread, call, update, _, _) = first;
+        let entry = self.waiting(rt, (thread, call, update)).entry();
         let mut own = None;
         let put = match self.node.held() {
             Held::Unplaced(_) => {
                 let (log, slots) = (self.log, &self.slots);
                 self.node
-                    .put_and_catch_up(log, slots, first.0, entry, &mut own)
+                    .put_and_catch_up(log, slots, thread, entry, &mut own)
             }
             _ => panic!(rt; "no batch without a place"),
         };
-        let left = Answered {
-            thread: second.0,
-            entry: second.2.packed(rt, self.depth, second.1),
-            place: second.3,
-            answer: second.4,
-        };
-        assert!(rt; first.0 < 8 && second.0 < 8);
+        let left = self.answered(rt, second);
+        assert!(rt; thread < 8 && second.0 < 8);
         put.is_ok()
             && own == Some((first.3, first.4))
             && self.slots.poll(second.0) == Some(left)
-            && self.slots.poll(first.0).is_none()
-            && self.slots.close(first.0, first.1).is_ok()
+            && self.slots.poll(thread).is_none()
+            && self.slots.close(thread, call).is_ok()
     }
 
     /// A read, or an access in user mode.

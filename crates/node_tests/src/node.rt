@@ -167,7 +167,7 @@ impl LogName for Two {
 fn append_others(rt: &impl Abort, log: &RingLog<Two>, pass: &mut LogPass<Two>)
     requires { pass.old.log ≡ log.now }
 {
-    let others = [Update::Unmap.packed(rt, Depth::Four, 100); 16];
+    let others = [Update::Unmap.entry(rt, Depth::Four, 100); 16];
     assert!(rt; log.append(pass, &others) == Ok(0));
 }
 

@@ -1,16 +1,15 @@
 -- What an entry that was applied is answered stays so as more are applied.
-use Rattle.std.proofs.Common.{◌≡◌, ◌≢◌, ℕ, ◌+◌, ◌<◌, List, [], ◌∷◌, ◌++◌, All, Option, Some, None, IfNone, IfSome, length, length-append, take, get_or, refl, ap, sym, subst, ◌∙◌, arith, append_assoc}
-use Rattle.std.specs.Prelude.{slice_get, slice_set}
-use Rattle.std.proofs.lemmas.List.{length-map, length-take-le, take-append-le, take_more_set}
+use Rattle.std.proofs.Common.{◌≡◌, ◌≢◌, ℕ, ◌+◌, ◌<◌, List, [], ◌∷◌, ◌++◌, Option, Some, None, IfNone, IfSome, length, length-append, take, get_or, refl, ap}
+use Rattle.std.proofs.Common.{sym, subst, ◌∙◌, arith, append_assoc}
+use Rattle.std.specs.Prelude.{slice_get}
+use Rattle.std.proofs.lemmas.List.{length-map, length-take-le, take-append-le}
 use Rattle.std.proofs.lemmas.List.Elements.{All-append}
 use Rattle.std.proofs.lemmas.Option.{slice_get_read, slice_get_within}
-use Rattle.vs_types.specs.LogEntry.{IsLogEntry}
 use Rattle.vs_types.specs.Step.{step}
 use Rattle.vs_types.specs.declared.answer.Answer.{Answer}
 use Rattle.vs_types.specs.declared.depth.Depth.{Depth}
-use Rattle.vs_types.specs.declared.depth.Depth.TheVariants.{Five}
 use Rattle.vs_types.specs.declared.log_entry.LogEntry.{LogEntry}
-use Rattle.nr_slots.specs.declared.waiting.Waiting.{Waiting}
+use Rattle.nr_slots.specs.Updates.{Waiting}
 use Rattle.nr_node.specs.Calls.{IsAnsweredIn, IsOwnPlace, LacksUpdate, entries_of, entry_of}
 use Rattle.nr_node.specs.Spaces.{answer_at, space_of}
 use Rattle.nr_node.specs.inside.Replica.{ReplicaState}
@@ -47,17 +46,6 @@ answered_last depth tables entries entry place answer at made =
 pub if_none_on : {T : Type 0} (o : Option T) (P Q : Type 0) → (P → Q) → IfNone o P → IfNone o Q
 if_none_on (Some x) P Q on is = tt
 if_none_on None P Q on is = on is
-
--- the next entry of a batch is asked for
-pub asked_more : (asked : List LogEntry) (batch : List Waiting) (i : ℕ) (x : Waiting) → i < length asked → i < length batch → x ≡ get_or batch i x
-    → IsLogEntry Five x.entry → take i asked ≡ entries_of (take i batch) → All (IsLogEntry Five) (take i asked)
-    → (take (i + 1) (slice_set asked i x.entry) ≡ entries_of (take (i + 1) batch)) × All (IsLogEntry Five) (take (i + 1) (slice_set asked i x.entry))
-asked_more asked batch i x room lt here fits same all =
-    let now : take (i + 1) (slice_set asked i x.entry) ≡ take i asked ++ x.entry ∷ [] = take_more_set asked i x.entry room in (
-      now ∙ ap (λ (l : List LogEntry). l ++ x.entry ∷ []) same ∙ sym (map_one_more entry_of batch i x lt here),
-      subst (All (IsLogEntry Five)) (sym now)
-          (All-append (IsLogEntry Five) (take i asked) (x.entry ∷ []) all (all_one (IsLogEntry Five) x.entry fits)),
-    )
 
 -- the next update of a batch isn't the one either that a thread asks for
 pub lacks_more : (thread : ℕ) (entry : LogEntry) (batch : List Waiting) (i : ℕ) (x : Waiting) → i < length batch → x ≡ get_or batch i x

@@ -7,10 +7,9 @@ use Rattle.std.proofs.Math.Seq.{take-length}
 use Rattle.std.proofs.lemmas.List.{length-take-le, take-append-drop, take-append-le}
 use Rattle.std.proofs.lemmas.Option.{slice_get_within, slice_get-map, get_or_from_slice_get, slice_get-get_or}
 use Rattle.vs_types.specs.LogEntry.{IsLogEntry}
-use Rattle.vs_types.specs.declared.depth.Depth.TheVariants.{Five}
 use Rattle.vs_types.specs.Operation.{IsAction}
 use Rattle.vs_types.specs.declared.depth.Depth.{Depth}
-use Rattle.vs_types.specs.declared.limits.TheConstants.{LOG_PLACES}
+use Rattle.vs_types.specs.declared.limits.TheConstants.{CALLS, LOG_PLACES}
 use Rattle.vs_types.specs.declared.log_entry.LogEntry.{LogEntry}
 use Rattle.nr_ring.specs.Calls.{HasLooked, with_event}
 use Rattle.nr_ring.specs.Entries.{HasAppended, HasAppendedAndTaken, HasTakenAll}
@@ -20,7 +19,7 @@ use Rattle.nr_ring.specs.declared.log_event.LogEvent.TheVariants.{Append}
 use Rattle.nr_ring.specs.declared.view.View.{View}
 use Rattle.vs_types.specs.declared.limits.TheConstants.{RING}
 use Rattle.nr_ring.proofs.Views.{after_one_more}
-use Rattle.nr_slots.specs.declared.waiting.Waiting.{Waiting}
+use Rattle.nr_slots.specs.Updates.{Waiting}
 use Rattle.nr_node.specs.Calls.{HasCaughtUp, HasPutAndCaughtUp, answers_of, entries_of, entry_of, left_of}
 use Rattle.nr_node.specs.Node.{IsNode, NodeState, StandFrom, applied_of, log_of, replica_of, taken_by}
 use Rattle.nr_node.specs.inside.Node.{Follows, node_state}
@@ -63,7 +62,7 @@ take_still entries later more n on le = ap (take n) on ∙ take-append-le n entr
 
 -- a node that holds nothing holds these calls instead
 pub holding_node : (depth : Depth) (replicas : ℕ) (known : Known) (replica : ReplicaState) (before batch : List Waiting) (first : Option ℕ)
-    → before ≡ [] → length batch ≤ RING → All (λ waiting. IsAction depth waiting.entry.op) batch
+    → before ≡ [] → length batch ≤ RING → All (λ waiting. IsAction depth waiting.op) batch
     → IsNode depth replicas (node_state known replica before first) → IsNode depth replicas (node_state known replica batch first)
 holding_node depth replicas known replica before batch first none few fit is = record {
   owner = is.owner;
@@ -156,7 +155,7 @@ took_node depth replicas known after replica next batch first entries took is =
     record {
       owner = subst P (sym took.owns) is.owner;
       written = omega (arith, took.all);
-      fit = left_holds (λ waiting. IsAction depth waiting.entry.op) first batch is.fit;
+      fit = left_holds (λ waiting. IsAction depth waiting.op) first batch is.fit;
       few = left_few first batch is.few;
       placed = λ place at. absurd (cc);
     }
@@ -244,11 +243,11 @@ took_room depth replicas known after replica batch first entries took is follows
 -- ---- an append
 
 -- the entries of a batch fit
-pub batch_fits : (depth : Depth) (batch : List Waiting) → All (λ waiting. IsAction depth waiting.entry.op) batch
-    → All (IsLogEntry Five) (entries_of batch)
+pub batch_fits : (depth : Depth) (batch : List Waiting) → All (λ waiting. IsAction depth waiting.op) batch
+    → All (λ entry. entry.call < CALLS) (entries_of batch)
     → All (IsLogEntry depth) (entries_of batch)
 batch_fits depth [] fit calls k d lt = absurd (omega arith)
-batch_fits depth (w ∷ ws) fit calls zero d lt = record { well_formed = fit zero w (omega arith); in_range = (calls zero d (omega arith)).in_range }
+batch_fits depth (w ∷ ws) fit calls zero d lt = record { well_formed = fit zero w (omega arith); in_range = calls zero d (omega arith) }
 batch_fits depth (w ∷ ws) fit calls (suc k) d lt =
     batch_fits depth ws (λ j e l. fit (suc j) e (omega arith)) (λ j e l. calls (suc j) e (omega arith)) k d (omega arith)
 
@@ -338,17 +337,21 @@ pub record PutAndTook (depth : Depth) (replicas : ℕ) (known after : Known) (re
   pub follows : Follows depth replicas (node_state (middle known between) replica batch (Some place)) replica
   pub all : TookAll depth replicas between (entries ++ entries_of batch) after.view
 
-pub put_and_took : (depth : Depth) (replicas : ℕ) (known after : Known) (replica : ReplicaState) (batch : List Waiting) (first : Option ℕ) (place : ℕ)
-    (entries asked : List LogEntry) → asked ≡ entries_of batch
-    → HasAppendedAndTaken depth replicas known.view asked place entries after.view → 1 ≤ length batch
-    → IsNode depth replicas (node_state known replica batch first) → Follows depth replicas (node_state known replica batch first) replica
+-- the batch is what a node holds, and its entries are asked for by the first places of an array
+pub put_and_took : (depth : Depth) (replicas : ℕ) (known after : Known) (replica : ReplicaState) (batch : List Waiting) (first : Option ℕ)
+    (old : NodeState) (asked entries : List LogEntry) (count place : ℕ) → node_state known replica batch first ≡ old → 1 ≤ length old.batch
+    → count ≡ length batch → take (length batch) asked ≡ entries_of batch
+    → HasAppendedAndTaken depth replicas known.view (take count asked) place entries after.view
+    → IsNode depth replicas (node_state known replica batch first) × Follows depth replicas (node_state known replica batch first) replica
     → PutAndTook depth replicas known after replica batch place entries
-put_and_took depth replicas known after replica batch first place entries asked same done some is follows =
+put_and_took depth replicas known after replica batch first old asked entries count place holds some counts asks done is =
+    let same : take count asked ≡ entries_of batch = ap (λ (n : ℕ). take n asked) counts ∙ asks in
+    let Holds : NodeState → Type 0 = λ n. 1 ≤ length n.batch in
     let Appends : List LogEntry → Type 0 = λ l. HasAppended depth replicas known.view l place done.between in
     let Takes : List LogEntry → Type 0 = λ l. HasTakenAll depth replicas done.between (entries ++ l) after.view in
     let appended = subst Appends same done.appended in
     let taken = subst Takes same done.taken in
-    let put = appended_node depth replicas known (middle known done.between) replica batch first place appended some is follows in
+    let put = appended_node depth replicas known (middle known done.between) replica batch first place appended (subst Holds (sym holds) some) is.0 is.1 in
     record {
       between = done.between;
       appended = appended;
@@ -379,13 +382,13 @@ module _ (depth : Depth) (replicas : ℕ) (known after : Known) (replica : Repli
     pub put_entries : next.entries ≡ (log_after replicas after.view.seen).entries
     put_entries = next_entries depth replicas mid after replica next batch (Some place) (entries ++ entries_of batch) did.all did.is did.follows same
 
-    pub put_node : IsNode depth replicas (node_state after next [] None) × Follows depth replicas (node_state after next [] None) next
+    put_node : IsNode depth replicas (node_state after next [] None) × Follows depth replicas (node_state after next [] None) next
     put_node = (
       took_node depth replicas mid after replica next batch (Some place) (entries ++ entries_of batch) did.all did.is,
       took_follows depth replicas mid after replica next batch [] (Some place) None (entries ++ entries_of batch) did.all did.is did.follows same,
     )
 
-    pub put_caught_up : (first : Option ℕ)
+    put_caught_up : (first : Option ℕ)
         → HasPutAndCaughtUp depth replicas (node_state known replica batch first) (node_state after next [] None)
     put_caught_up first = record {
       between = node_state mid replica batch (Some place);
@@ -395,3 +398,17 @@ module _ (depth : Depth) (replicas : ℕ) (known after : Known) (replica : Repli
       placed = refl;
       caught_up = caught_up depth replicas mid after replica next batch (Some place) (entries ++ entries_of batch) did.taken did.all did.is same;
     }
+
+    -- the batch had no place, and is emptied
+    pub put_left : (old : NodeState) (left : List Waiting) (first : Option ℕ) → node_state known replica batch first ≡ old → old.first ≡ None → left ≡ []
+        → HasPutAndCaughtUp depth replicas old (node_state after next left first)
+        × (IsNode depth replicas (node_state after next left first) × Follows depth replicas (node_state after next left first) next)
+    put_left old left first holds unplaced empty =
+        let Is : NodeState → NodeState → Type 0 = λ n now. HasPutAndCaughtUp depth replicas n now
+        × (IsNode depth replicas now × Follows depth replicas now next) in
+        let before : NodeState = node_state known replica batch first in
+        let none : first ≡ None = ap (λ (n : NodeState). n.first) holds ∙ unplaced in
+        let ByFirst : Option ℕ → Type 0 = λ f. Is before (node_state after next [] f) in
+        let ByLeft : List Waiting → Type 0 = λ l. Is before (node_state after next l first) in
+        let ByOld : NodeState → Type 0 = λ n. Is n (node_state after next left first) in
+        subst ByOld holds (subst ByLeft (sym empty) (subst ByFirst (sym none) (put_caught_up first, put_node)))

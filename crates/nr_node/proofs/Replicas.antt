@@ -12,7 +12,7 @@ use Rattle.vs_types.specs.declared.limits.TheConstants.{LOG_PLACES, TABLES}
 use Rattle.vs_types.specs.declared.log_entry.LogEntry.{LogEntry}
 use Rattle.vs_space.specs.Table.{PageTable, IsTableOf, IsTableStep}
 use Rattle.nr_ring.proofs.LocalTails.{le_or_lt}
-use Rattle.nr_slots.specs.declared.waiting.Waiting.{Waiting}
+use Rattle.nr_slots.specs.Updates.{Waiting}
 use Rattle.nr_node.specs.Calls.{answered}
 use Rattle.nr_node.specs.Spaces.{answer_at, space_of}
 use Rattle.nr_node.specs.declared.told.Told.{Told}
@@ -84,8 +84,8 @@ one_more old new told t room more is steps lt same_room =
 
 -- an update with its place and its answer
 pub answered_one : (depth : Depth) (tables : ℕ) (entries : List LogEntry) (place : ℕ) (waiting : Waiting) (answer : Answer)
-    → answer ≡ answer_at depth tables entries place waiting.entry.op
+    → answer ≡ answer_at depth tables entries place waiting.op
     → answered depth tables entries place waiting
-    ≡ (record { thread = waiting.thread; entry = waiting.entry; place = place; answer = answer })
+    ≡ (record { thread = waiting.thread; call = waiting.call; op = waiting.op; place = place; answer = answer })
 answered_one depth tables entries place waiting answer answered_so =
-    ap (λ (a : Answer). record { thread = waiting.thread; entry = waiting.entry; place = place; answer = a }) (sym answered_so)
+    ap (λ (a : Answer). record { thread = waiting.thread; call = waiting.call; op = waiting.op; place = place; answer = a }) (sym answered_so)

@@ -7,14 +7,13 @@ use Rattle.nr_ring.specs.LogHistory.{Log, tail, log_after}
 use Rattle.nr_ring.specs.Calls.{HasLooked, HasTaken}
 use Rattle.nr_ring.specs.Entries.{HasAppended}
 use Rattle.nr_ring.specs.declared.view.View.{View}
-use Rattle.nr_slots.specs.declared.answered.Answered.{Answered}
-use Rattle.nr_slots.specs.declared.waiting.Waiting.{Waiting}
+use Rattle.nr_slots.specs.Updates.{Answered, Waiting}
 use Rattle.nr_node.specs.Spaces.{answer_at}
 use Rattle.nr_node.specs.Node.{NodeState, StandFrom, applied_of, log_of}
 
 -- the entry that a call asks for
 abbrev pub entry_of : Waiting → LogEntry
-entry_of waiting = waiting.entry
+entry_of waiting = record { call = waiting.call; op = waiting.op }
 
 -- the entries that a batch asks for
 abbrev pub entries_of : List Waiting → List LogEntry
@@ -24,9 +23,10 @@ entries_of batch = map entry_of batch
 abbrev pub answered : Depth → ℕ → List LogEntry → ℕ → Waiting → Answered
 answered depth tables entries place waiting = record {
   thread = waiting.thread;
-  entry = waiting.entry;
+  call = waiting.call;
+  op = waiting.op;
   place = place;
-  answer = answer_at depth tables entries place waiting.entry.op;
+  answer = answer_at depth tables entries place waiting.op;
 }
 
 -- calls that are one after another from a place on

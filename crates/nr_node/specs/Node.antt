@@ -8,7 +8,7 @@ use Rattle.nr_ring.specs.LogHistory.{Log, tail, local_of, log_after}
 use Rattle.nr_ring.specs.Pass.{Known}
 use Rattle.nr_ring.specs.declared.view.View.{View}
 use Rattle.vs_types.specs.declared.limits.TheConstants.{RING}
-use Rattle.nr_slots.specs.declared.waiting.Waiting.{Waiting}
+use Rattle.nr_slots.specs.Updates.{Waiting}
 use Rattle.nr_node.specs.Spaces.{space_at}
 use Rattle.nr_node.specs.declared.held.Held.{Held}
 use Rattle.nr_node.specs.declared.held.Held.TheVariants.{Nothing, Unplaced, Placed}
@@ -44,7 +44,7 @@ node_space depth replicas node = space_at depth node.tables (log_of replicas nod
 -- the calls of a batch are among entries one after another, from a place on
 abbrev pub StandFrom : List LogEntry → ℕ → List Waiting → Type 0
 StandFrom entries place batch = (i : ℕ) (waiting : Waiting) → slice_get batch i ≡ Some waiting
-    → slice_get entries (place + i) ≡ Some waiting.entry
+    → slice_get entries (place + i) ≡ Some (record { call = waiting.call; op = waiting.op })
 
 -- a batch has places: its calls, of which there is one at least, are in the log from the first on, which is not below what is applied
 pub record IsPlaced (log : Log) (applied first : ℕ) (batch : List Waiting) : Type 0 where
@@ -57,7 +57,7 @@ pub record IsPlaced (log : Log) (applied first : ℕ) (batch : List Waiting) : T
 pub record IsNode (depth : Depth) (replicas : ℕ) (node : NodeState) : Type 0 where
   pub owner : node.known.view.owns ≡ replica_of node.known.view ∷ []
   pub written : applied_of replicas node ≤ tail (log_of replicas node)
-  pub fit : All (λ waiting. IsAction depth waiting.entry.op) node.batch
+  pub fit : All (λ waiting. IsAction depth waiting.op) node.batch
   pub few : length node.batch ≤ RING
   pub placed : (first : ℕ) → node.first ≡ Some first → IsPlaced (log_of replicas node) (applied_of replicas node) first node.batch
 

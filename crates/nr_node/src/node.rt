@@ -1,4 +1,5 @@
-ghost use Rattle.std.specs.Prelude.{◌≡◌, ◌≢◌, ◌<◌, ◌≤◌, ◌+◌, ◌-◌, ℕ, All, IfErr, IfNone, IfOk, IfSome, MatchOption, None, OnErr, OnOk, Some, [], ◌∷◌, length, slice_get};
+ghost use Rattle.std.specs.Prelude.{◌≡◌, ◌≢◌, ◌<◌, ◌≤◌, ◌+◌, ◌-◌, ℕ, All, IfErr, IfNone, IfOk, IfSome, MatchOption, None, OnErr, OnOk, Some, [], ◌∷◌, length};
+ghost use Rattle.std.specs.Prelude.{slice_get};
 ghost use Rattle.std.specs.FinMap as finite;
 ghost use Rattle.vs_types.specs.Depth.{IsCanonical};
 ghost use Rattle.vs_types.specs.LogEntry.{IsLogEntry};
@@ -13,13 +14,12 @@ ghost use Rattle.nr_ring.specs.Entries.{HasAppended, IsReason};
 ghost use Rattle.nr_ring.specs.LogHistory.{log_after, tail};
 ghost use Rattle.nr_ring.specs.View.{HasSeenAdvances, StartsWith};
 ghost use Rattle.nr_slots.specs.Batch.{Rises};
-ghost use Rattle.nr_slots.specs.declared.answered.Answered.{Answered};
-ghost use Rattle.nr_slots.specs.declared.waiting.Waiting.{Waiting};
+ghost use Rattle.nr_slots.specs.Updates.{Answered, Waiting};
 ghost use Rattle.nr_node.specs.Calls.{HasCaughtUp, HasPutAndCaughtUp, HasStayed, IsAnsweredIn, IsOwnPlace, LacksUpdate, answers_of, entries_of};
 ghost use Rattle.nr_node.specs.Node.{IsNode, applied_of, held_of, log_of, new_node, node_space, replica_of, taken_by};
 ghost use Rattle.nr_node.specs.Spaces.{answer_at};
 
-use crate::batch::{ask_for, keep_unplaced};
+use crate::batch::{ask_for, entries_of, keep_unplaced};
 use crate::held::Held;
 use crate::replica::Replica;
 use arrayvec::ArrayVec;
@@ -112,6 +112,14 @@ impl<S: FrameStore, J: LogName> Node<S, J> {
         self.replica.applied()
     }
 
+    /// A law: its pass owns one replica, it has applied no more than the log has, and its batch is one.
+    #[inline(always)]
+    pub fn is_well_formed(&self)
+        ensures is_node { IsNode J.depth J.replicas self.now }
+    {
+        let _known = &self.pass;
+    }
+
     /// The number of its replica.
     pub fn number(&self) -> u8
         ensures { self.now.known.view.owns ≡ result ∷ [] }
@@ -138,7 +146,7 @@ impl<S: FrameStore, J: LogName> Node<S, J> {
     pub fn hold(&mut self, batch: &ArrayVec<Waiting, RING>)
         requires nothing { self.old.batch ≡ [] }
         requires some { 1 ≤ length batch.now.items }
-        requires fit { All (λ waiting. IsAction J.depth waiting.entry.op) batch.now.items }
+        requires fit { All (λ waiting. IsAction J.depth waiting.op) batch.now.items }
         ensures { self.new ≡ record self.old { batch = batch.now.items } }
     {
         match self.batch.try_extend_from_slice(batch.as_slice()) {
@@ -153,11 +161,11 @@ impl<S: FrameStore, J: LogName> Node<S, J> {
     pub fn collect<P: SlotRule>(&mut self, slots: &Slots<P>)
         requires nothing { self.old.batch ≡ [] }
         requires fit { (waiting : Waiting)
-            → ∥ P.posted waiting.thread waiting.entry ∥₁ → IsAction J.depth waiting.entry.op }
+            → ∥ P.posted waiting.thread waiting.call waiting.op ∥₁ → IsAction J.depth waiting.op }
         ensures held { self.new ≡ record self.old { batch = self.new.batch } }
         ensures rising { Rises self.new.batch }
         ensures below { All (λ waiting. waiting.thread < slots.now) self.new.batch }
-        ensures rule { All (λ waiting. ∥ P.posted waiting.thread waiting.entry ∥₁)
+        ensures rule { All (λ waiting. ∥ P.posted waiting.thread waiting.call waiting.op ∥₁)
             self.new.batch }
     {
         slots.collect(&mut self.batch);
@@ -184,9 +192,8 @@ impl<S: FrameStore, J: LogName> Node<S, J> {
             (IsReason (log_of J.replicas self.new)
             (length self.old.batch) self.old.known.view self.new.known.view) }
     {
-        ask_for(&self.batch, &mut self.asked);
-        let asked = &self.asked[..self.batch.len()];
-        let first = log.append(&mut self.pass, asked)?;
+        let entries = entries_of(&self.batch);
+        let first = log.append(&mut self.pass, entries.as_slice())?;
         self.first = Some(first);
         Ok(first)
     }

@@ -8,7 +8,7 @@ ghost use Rattle.vs_types.specs.Step.{allow, look};
 ghost use Rattle.vs_types.specs.declared.limits.TheConstants.{LOG_PLACES, TABLES};
 ghost use Rattle.vs_types.specs.declared.log_entry.LogEntry.{LogEntry};
 ghost use Rattle.vs_walk.specs.Walk.{TranslatesAs};
-ghost use Rattle.nr_slots.specs.declared.answered.Answered.{Answered};
+ghost use Rattle.nr_slots.specs.Updates.{Answered};
 ghost use Rattle.nr_node.specs.Calls.{IsAnsweredIn, IsOwnPlace, LacksUpdate, answered_from, answers_of, entries_of};
 ghost use Rattle.nr_node.specs.Node.{StandFrom};
 ghost use Rattle.nr_node.specs.Spaces.{answer_at, space_of};
@@ -125,17 +125,12 @@ impl<S: FrameStore> Replica<S> {
     {
         for waiting in batch.as_slice() {
             let place = self.applied();
-            let entry = waiting.entry;
+            let entry = waiting.entry();
             let answer = self.apply(entry);
-            if waiting.thread == thread && entry.is(wanted) {
+            if waiting.thread() == thread && entry.is(wanted) {
                 *own = Some((place, answer));
             } else {
-                let _taken = slots.answer(Answered {
-                    thread: waiting.thread,
-                    entry: waiting.entry,
-                    place,
-                    answer,
-                });
+                let _taken = slots.answer(Answered::new(*waiting, place, answer));
             }
         }
     }
@@ -175,12 +170,7 @@ impl<S: FrameStore> Replica<S> {
             let Some(answer) = self.answered(place) else {
                 unreachable!();
             };
-            answers.push(Answered {
-                thread: waiting.thread,
-                entry: waiting.entry,
-                place,
-                answer,
-            });
+            answers.push(Answered::new(*waiting, place, answer));
             place += 1;
         }
     }

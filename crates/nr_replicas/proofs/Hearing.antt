@@ -1,5 +1,5 @@
 -- Passes that hear of more, one time after another.
-use Rattle.std.proofs.Common.{ℕ, ◌≤◌, List, [], ◌++◌, All, get_or, refl, ap, sym, subst, ◌∙◌, arith}
+use Rattle.std.proofs.Common.{ℕ, List, [], ◌++◌, All, get_or, refl, ap, sym, subst, ◌∙◌, arith}
 use Rattle.std.proofs.lemmas.List.{append_assoc, append-nil}
 use Rattle.std.proofs.lemmas.List.Elements.{All-append}
 use Rattle.vs_types.specs.declared.depth.Depth.{Depth}
@@ -13,8 +13,8 @@ use Rattle.nr_node.proofs.Looks.{later_goes_on}
 use Rattle.nr_ring.proofs.Appends.{begins}
 use Rattle.nr_replicas.specs.Replicas.{HasHeard}
 
-pub looked_heard : (depth : Depth) (replicas : ℕ) (a b : View) → HasLooked depth replicas a b → HasHeard depth replicas a b
-looked_heard depth replicas a b is = record {
+pub looked_heard : {depth : Depth} {replicas : ℕ} {a b : View} → HasLooked depth replicas a b → HasHeard depth replicas a b
+looked_heard is = record {
   is_history = is.is_history;
   seen = is.seen;
   advances = is.advances;
@@ -38,8 +38,8 @@ advances_on : (replica : ℕ) (first second third : List LogEvent) → HasSeenAd
 advances_on replica first second third p q =
     (p.0 ++ q.0, q.1 ∙ ap (λ (l : List LogEvent). l ++ q.0) p.1 ∙ append_assoc first p.0 q.0, All-append (IsElse replica) p.0 q.0 p.2 q.2)
 
-pub heard_twice : (depth : Depth) (replicas : ℕ) (a b c : View) → HasHeard depth replicas a b → HasHeard depth replicas b c → HasHeard depth replicas a c
-heard_twice depth replicas a b c p q = record {
+pub heard_twice : {depth : Depth} {replicas : ℕ} {a b c : View} → HasHeard depth replicas a b → HasHeard depth replicas b c → HasHeard depth replicas a c
+heard_twice {depth} {replicas} {a} {b} {c} p q = record {
   is_history = q.is_history;
   seen = begins a.seen b.seen c.seen p.seen q.seen;
   advances = λ k d lt.
@@ -50,8 +50,10 @@ heard_twice depth replicas a b c p q = record {
   rights = q.rights ∙ p.rights;
 }
 
+-- a pass looked, and then heard of more
+pub looked_and_heard : {depth : Depth} {replicas : ℕ} {a b c : View} → HasLooked depth replicas a b → HasHeard depth replicas b c
+    → HasHeard depth replicas a c
+looked_and_heard looked heard = heard_twice (looked_heard looked) heard
+
 pub heard_on : (depth : Depth) (replicas : ℕ) (a b : View) → HasHeard depth replicas a b → HasGoneOn (log_after replicas a.seen) (log_after replicas b.seen)
 heard_on depth replicas a b is = later_goes_on depth replicas a.seen b.seen is.is_history is.seen
-
-pub later_than : {a b c : ℕ} → a ≤ b → b ≤ c → a ≤ c
-later_than p q = omega (arith, p, q)

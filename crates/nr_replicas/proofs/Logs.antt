@@ -1,19 +1,23 @@
 -- What was answered in a log is so in each later one; and what a pass hears of another.
-use Rattle.std.proofs.Common.{ℕ, ◌≤◌, List, length, ap, sym, ◌∙◌, arith}
+use Rattle.std.proofs.Common.{◌≡◌, ℕ, ◌≤◌, List, length, ap, sym, subst, ◌∙◌, arith}
 use Rattle.std.proofs.Math.ListN.{length-append}
 use Rattle.std.proofs.lemmas.Option.{slice_get_within}
 use Rattle.vs_types.specs.Space.{Space}
 use Rattle.vs_types.specs.declared.answer.Answer.{Answer}
 use Rattle.vs_types.specs.declared.depth.Depth.{Depth}
 use Rattle.vs_types.specs.declared.log_entry.LogEntry.{LogEntry}
+use Rattle.vs_types.specs.declared.op.Op.{Op}
 use Rattle.nr_ring.specs.Calls.{HasLooked, copy_of, joint_view}
 use Rattle.nr_ring.specs.Laws.{HasGoneOn}
 use Rattle.nr_ring.specs.LogHistory.{Log, log_after, tail}
+use Rattle.nr_ring.specs.Pass.{tails_of}
 use Rattle.nr_ring.specs.View.{StartsWith}
+use Rattle.nr_ring.specs.declared.tails.Tails.{Tails}
 use Rattle.nr_ring.specs.declared.view.View.{View}
 use Rattle.nr_node.proofs.LaterLogs.{same_answer, same_entry, same_space}
 use Rattle.nr_node.proofs.Looks.{later_goes_on}
 use Rattle.nr_replicas.specs.Replicas.{HasHeard, IsAnsweredAt, IsReadAt}
+use Rattle.nr_replicas.proofs.Hearing.{heard_on, looked_heard}
 
 pub tail_rises : (p q : Log) → HasGoneOn p q → tail p ≤ tail q
 tail_rises p q on = omega (arith, ap (λ (l : List LogEntry). length l) on.entries.1, length-append p.entries on.entries.0)
@@ -34,6 +38,21 @@ read_stays depth tables from p q answer_in at answer on is = record {
   answered = is.answered ∙ ap answer_in (sym (same_space depth tables at p q on is.known));
 }
 
+-- an update that is not placed below the tail that a pass found when it looked is not placed below the one that it had seen before
+pub answered_since : {depth : Depth} {replicas tables place call c : ℕ} {op o : Op} {before after : View} {found : Tails} {log : Log} {wanted : LogEntry}
+    {answer : Answer} → HasLooked depth replicas before after → found ≡ tails_of (log_after replicas after.seen)
+    → wanted ≡ record { call = c; op = o } → c ≡ call → o ≡ op → IsAnsweredAt depth tables found.tail log wanted place answer
+    → IsAnsweredAt depth tables (tail (log_after replicas before.seen)) log (record { call = call; op = op }) place answer
+answered_since {depth} {replicas} {tables} {place} {call} {c} {op} {o} {before} {after} {found} {log} {wanted} {answer} looked tails asked calls ops is =
+    let on = heard_on depth replicas before after (looked_heard looked) in
+    let Is : LogEntry → Type 0 = λ e. IsAnsweredAt depth tables found.tail log e place answer in
+    let here = subst Is (asked ∙ (λ i. record { call = calls i; op = ops i })) is in
+    record {
+      fresh = omega (arith, here.fresh, tail_rises _ _ on, ap (λ (t : Tails). t.tail) tails);
+      stands = here.stands;
+      answered = here.answered;
+    }
+
 -- a pass that was given what another had seen, and then looked, has heard of more
 pub told_heard : (depth : Depth) (replicas : ℕ) (before other after : View) → HasLooked depth replicas (joint_view before (copy_of other)) after
     → HasHeard depth replicas before after
@@ -50,5 +69,3 @@ told_heard depth replicas before other after is = record {
 pub told_goes_on : (depth : Depth) (replicas : ℕ) (before other after : View) → HasLooked depth replicas (joint_view before (copy_of other)) after
     → StartsWith after.seen other.seen → HasGoneOn (log_after replicas other.seen) (log_after replicas after.seen)
 told_goes_on depth replicas before other after is begins = later_goes_on depth replicas other.seen after.seen is.is_history begins
-
--- hearing twice

@@ -3,9 +3,10 @@ use Rattle.std.proofs.Common.{◌≡◌, ℕ, zero, suc, ◌+◌, ◌<◌, ◌�
 use Rattle.std.specs.Prelude.{slice_get, slice_index}
 use Rattle.std.specs.List.{remove}
 use Rattle.std.proofs.Math.ListN.{length-append}
-use Rattle.std.proofs.lemmas.List.{append_assoc, append_cancel_left, get_or_append_left, map-append, take-append-drop}
+use Rattle.std.proofs.lemmas.List.{append_assoc, append_cancel_left, get_or_append_left, length-map, map-append, take-append-drop}
 use Rattle.std.proofs.lemmas.List.Elements.{All-append, All-map}
 use Rattle.std.proofs.lemmas.Option.{slice_get_within}
+use Rattle.vs_types.specs.Config.{Layout}
 use Rattle.vs_types.specs.Space.{table_count}
 use Rattle.vs_types.specs.declared.depth.Depth.{Depth}
 use Rattle.vs_types.specs.declared.log_entry.LogEntry.{LogEntry}
@@ -26,10 +27,11 @@ use Rattle.nr_ring.proofs.Appends.{begins}
 use Rattle.nr_node.proofs.Nodes.{take_still}
 use Rattle.nr_replicas.specs.Replicas.{HasHeard}
 use Rattle.nr_replicas.specs.Settled.{IsDumpOf, IsSettled}
-use Rattle.nr_replicas.specs.inside.Replicas.{IsNodeOf}
+use Rattle.nr_replicas.specs.inside.Replicas.{AreShared, IsNodeOf}
 use Rattle.nr_replicas.specs.inside.Settling.{AreDumpsOf, HasAppliedOwn, HasSeenOwnAdvances, OwnInTurn}
 use Rattle.nr_replicas.proofs.Hearing.{heard_on, heard_twice}
 use Rattle.nr_replicas.proofs.Logs.{tail_rises}
+use Rattle.nr_replicas.proofs.Rests.{first_and_rest}
 
 -- ---- what passes have seen
 
@@ -158,7 +160,7 @@ one_more_in_turn replica (n ∷ ns) node own is =
     (own.0, one_more_in_turn (replica + 1) ns node own.1 (is ∙ ap (λ (k : ℕ). k ∷ []) at))
 
 -- the first node's pass, and the others
-pub first_known : (nodes : List NodeState) (passes others : List Known) (node : NodeState) (first : Known) → 0 < length nodes
+first_known : (nodes : List NodeState) (passes others : List Known) (node : NodeState) (first : Known) → 0 < length nodes
     → passes ≡ map (λ node. node.known) nodes → node ≡ get_or nodes 0 node → first ≡ get_or passes 0 first → others ≡ remove passes 0
     → (first ≡ node.known) × (passes ≡ node.known ∷ others)
 first_known [] passes others node first lt are here taken left = absurd (omega (arith, lt))
@@ -168,11 +170,36 @@ first_known (n ∷ ns) passes others node first lt are here taken left =
     let rest : others ≡ map known_of ns = left ∙ ap (λ (l : List Known). remove l 0) are in
     (is ∙ same, are ∙ ap (λ (k : Known). k ∷ map known_of ns) same ∙ ap (λ (l : List Known). node.known ∷ l) (sym rest))
 
-pub all_of_log : (log : TableId) (tables : ℕ) (nodes : List NodeState) (passes : List Known) → passes ≡ map (λ node. node.known) nodes
+all_of_log : (log : TableId) (tables : ℕ) (nodes : List NodeState) (passes : List Known) → passes ≡ map (λ node. node.known) nodes
     → All (IsNodeOf log tables) nodes → All (λ pass. pass.log ≡ log) passes
 all_of_log log tables nodes passes are each =
     let Of : Known → Type 0 = λ pass. pass.log ≡ log in
     subst (All Of) (sym are) (All-map Of known_of nodes (λ k d lt. (each k d lt).log_is))
+
+-- the passes of nodes of one log: the first one's, and the others
+pub record AreParted (log : TableId) (passes others : List Known) (node : NodeState) (first : Known) : Type 0 where
+  pub first_is : first ≡ node.known
+  pub split : passes ≡ node.known ∷ others
+  pub first_log : first.log ≡ log
+  pub others_log : All (λ pass. pass.log ≡ log) others
+
+-- of replicas that are shared there is one at least
+pub parted : {S : Type 0} {depth : Depth} {replicas tables : ℕ} {own log : TableId} {layout : Layout} {passes others : List Known}
+    {node : NodeState} {first : Known} (slots : S → ℕ) (shared : List S) (nodes : List NodeState) → own ≡ log
+    → AreShared depth replicas tables layout (map slots shared) → length nodes ≡ length shared
+    → All (IsNodeOf log tables) nodes → passes ≡ map (λ node. node.known) nodes
+    → node ≡ get_or nodes 0 node → first ≡ get_or passes 0 first → others ≡ remove passes 0 → AreParted own passes others node first
+parted {S} {depth} {replicas} {tables} {own} {log} {layout} {passes} {others} {node} {first} slots shared nodes of are count each known here taken left =
+    let many : 0 < length nodes = omega (arith, count, length-map shared slots, are.count, are.some) in
+    let split = first_known nodes passes others node first many known here taken left in
+    let Of : Known → Type 0 = λ pass. pass.log ≡ log in
+    let logs = first_and_rest Of passes others node.known split.1 (all_of_log log tables nodes passes known each) in
+    record {
+      first_is = split.0;
+      split = split.1;
+      first_log = ap (λ (k : Known). k.log) split.0 ∙ logs.0 ∙ sym of;
+      others_log = λ k d lt. logs.1 k d lt ∙ sym of;
+    }
 
 -- ---- settling
 
@@ -190,8 +217,8 @@ pub settled : (depth : Depth) (replicas tables : ℕ) (handed passes others : Li
 settled depth replicas tables handed passes others first dumps calls all a b c is_node split heard_a begin_a heard_b begin_b heard_c are own
     count first_calls all_are known =
     let v = first.known.view in
-    let ab = heard_twice depth replicas a b c heard_b heard_c in
-    let whole = heard_twice depth replicas v a c heard_a ab in
+    let ab = heard_twice heard_b heard_c in
+    let whole = heard_twice heard_a ab in
     let log = log_of replicas first in
     let later = log_after replicas c.seen in
     let n = applied_of replicas first in

@@ -11,7 +11,7 @@ impl<J: LogName> SlotRule for Fitting<J> {
     ghost use Rattle.std.specs.Prelude.{⊤};
     ghost use Rattle.vs_types.specs.Operation.{IsAction};
 
-    ghost posted = { λ thread entry. IsAction J.depth entry.op };
+    ghost posted = { λ thread call op. IsAction J.depth op };
 
     ghost answered = { λ answered. ⊤ };
 }

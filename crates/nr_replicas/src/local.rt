@@ -3,13 +3,12 @@ ghost use Rattle.std.specs.Option.{ForSome};
 ghost use Rattle.std.specs.Prelude.{◌≡◌, ◌-◌, ◌≤◌, ◌<◌, IfErr, IfNone, IfSome, None, OnErr, []};
 ghost use Rattle.vs_types.specs.declared.limits.TheConstants.{LOG_PLACES};
 ghost use Rattle.vs_types.specs.Depth.{IsCanonical};
-ghost use Rattle.vs_types.specs.LogEntry.{IsLogEntry};
 ghost use Rattle.nr_ring.specs.LogHistory.{log_after, tail};
 ghost use Rattle.nr_ring.specs.declared.tails.AppendFault.TheVariants.{LogEnded};
 ghost use Rattle.nr_node.specs.Calls.{IsAnsweredIn};
 ghost use Rattle.nr_node.specs.Node.{applied_of, log_of, node_space};
 ghost use Rattle.nr_replicas.specs.Replicas.{HasHeard, IsAnsweredAt, IsReadAt};
-ghost use Rattle.nr_replicas.specs.inside.Replicas.{answer_in};
+ghost use Rattle.nr_replicas.specs.inside.Replicas.{IsOwnAnswer, answer_in};
 
 use crate::fitting::Fitting;
 use crate::name::ReplicasName;
@@ -90,9 +89,8 @@ impl<J: LogName, K: ReplicasName> Local<J, K> {
         requires none { own.old ≡ None }
         ensures log { pass.new.log ≡ pass.old.log }
         ensures heard { HasHeard J.depth J.replicas pass.old.view pass.new.view }
-        ensures own { IfSome own.new (λ update.
-            IsAnsweredAt J.depth K.tables wanted.now.from
-            (log_after J.replicas pass.new.view.seen) wanted.now.entry update.0 update.1) }
+        ensures own { IsOwnAnswer J.depth K.tables wanted.now.from
+            (log_after J.replicas pass.new.view.seen) wanted.now.entry own.new }
         ensures none { OnErr result (own.new ≡ None) }
         ensures ended { IfErr result (λ fault. fault ≡ LogEnded
             → LOG_PLACES - RING < tail (log_of J.replicas self.new)) }
@@ -130,7 +128,7 @@ impl<J: LogName, K: ReplicasName> Local<J, K> {
         ensures ended { IfErr result (λ fault. fault ≡ LogEnded
             → LOG_PLACES - RING < tail (log_of J.replicas self.new)) }
     {
-        let _applied = self.node.applied();
+        self.node.is_well_formed();
         let slots = &self.slots;
         match self.node.held() {
             Held::Unplaced(_) => {
@@ -185,9 +183,8 @@ impl<J: LogName, K: ReplicasName> Local<J, K> {
         ensures same { self.new ≡ self.old }
         ensures log { pass.new.log ≡ pass.old.log }
         ensures heard { HasHeard J.depth J.replicas pass.old.view pass.new.view }
-        ensures own { IfSome own.new (λ update.
-            IsAnsweredAt J.depth K.tables wanted.now.from
-            (log_after J.replicas pass.new.view.seen) wanted.now.entry update.0 update.1) }
+        ensures own { IsOwnAnswer J.depth K.tables wanted.now.from
+            (log_after J.replicas pass.new.view.seen) wanted.now.entry own.new }
     {
         pass.has_seen_a_history();
         let Some((place, _)) = *own else {
@@ -273,7 +270,7 @@ impl<J: LogName, K: ReplicasName> Local<J, K> {
         ensures answer { result.1
             ≡ answer_in question address (node_space J.depth J.replicas self.now) }
     {
-        let _applied = self.node.applied();
+        self.node.is_well_formed();
         match question {
             Question::Resolve => self.node.read(address),
             Question::Access(mode, access) => self.node.access(address, mode, access),

@@ -1,16 +1,15 @@
 //! The replicas of an address space, which threads share.
 ghost use Rattle.std.specs.Arc.{arc_value};
-ghost use Rattle.std.specs.Prelude.{◌≡◌, ◌-◌, ◌/◌, ◌<◌, IfErr, IfOk, IfSome, None};
+ghost use Rattle.std.specs.Prelude.{◌≡◌, ◌-◌, ◌/◌, ◌<◌, IfErr, IfOk, None};
 ghost use Rattle.vs_types.specs.declared.limits.TheConstants.{LOG_PLACES, RING};
 ghost use Rattle.vs_types.specs.Depth.{IsCanonical};
-ghost use Rattle.vs_types.specs.LogEntry.{IsLogEntry};
 ghost use Rattle.vs_types.specs.Operation.{IsAction};
 ghost use Rattle.vs_types.specs.Step.{allow, look};
 ghost use Rattle.vs_types.specs.declared.limits.TheConstants.{CALLS};
 ghost use Rattle.nr_ring.specs.LogHistory.{completed, log_after, tail};
 ghost use Rattle.nr_replicas.specs.Replicas.{HasHeard, IsAnsweredAt, IsFaultOf, IsReadAt};
 ghost use Rattle.nr_replicas.specs.declared.replicas.Combined.TheVariants.{Ended};
-ghost use Rattle.nr_replicas.specs.inside.Replicas.{answer_in, slots_each};
+ghost use Rattle.nr_replicas.specs.inside.Replicas.{IsOwnAnswer, answer_in, slots_each};
 
 use crate::gate::{Gate, Point, Signal};
 use crate::local::{Local, Wanted};
@@ -19,11 +18,12 @@ use crate::patience::Patience;
 use crate::question::Question;
 use crate::shared::Shared;
 use crate::update_fault::{Stopped, UpdateFault};
-use nr_ring::{AppendFault, LogName, LogPass, PackedEntry, RingLog};
+use nr_ring::{AppendFault, LogName, LogPass, RingLog};
+use nr_slots::Waiting;
 use std::alloc::Global;
 use std::marker::Model;
 use std::sync::Wait;
-use vs_types::{Access, Answer, Config, LogEntry, Mode, Op};
+use vs_types::{Access, Answer, Config, Mode, Op};
 
 /// An address space with one copy for each memory node (Node Replication, ASPLOS 2017): a shared log of updates, and for each
 /// replica a node under a lock and a slot for each of its threads. Contracts see the configuration.
@@ -136,10 +136,11 @@ impl<J: LogName, K: ReplicasName> Replicas<J, K> {
         let from = self.log.look(pass).tail;
         let home = self.home(thread);
         let slot = self.slot_of(thread);
-        let entry = PackedEntry::new(LogEntry { call, op });
-        if home.slots.post(slot, entry).is_err() {
+        let waiting = Waiting::new(slot, call, op);
+        if home.slots.post_waiting(waiting).is_err() {
             return Err(UpdateFault::Occupied);
         }
+        let entry = waiting.entry();
         let wanted = Wanted {
             thread,
             slot,
@@ -178,9 +179,8 @@ impl<J: LogName, K: ReplicasName> Replicas<J, K> {
         requires none { own.old ≡ None }
         ensures log { pass.new.log ≡ pass.old.log }
         ensures heard { HasHeard J.depth J.replicas pass.old.view pass.new.view }
-        ensures own { IfSome own.new (λ update.
-            IsAnsweredAt J.depth K.tables wanted.now.from
-            (log_after J.replicas pass.new.view.seen) wanted.now.entry update.0 update.1) }
+        ensures own { IsOwnAnswer J.depth K.tables wanted.now.from
+            (log_after J.replicas pass.new.view.seen) wanted.now.entry own.new }
         ensures refused { IfErr result
             (IsFaultOf wanted.now.entry.call (log_after J.replicas pass.new.view.seen)) }
     {
@@ -191,7 +191,7 @@ impl<J: LogName, K: ReplicasName> Replicas<J, K> {
         for taken in 0..turns {
             turn = match turn {
                 Turn::Poll => match home.slots.poll(wanted.slot) {
-                    Some(answered) => return Ok(answered.place),
+                    Some(answered) => return Ok(answered.place()),
                     None => Turn::Combine,
                 },
                 Turn::Combine => {
@@ -207,7 +207,7 @@ impl<J: LogName, K: ReplicasName> Replicas<J, K> {
                         (None, Combined::Full) => Turn::CatchUp(0),
                         (None, Combined::Ended) => {
                             return match home.slots.poll(wanted.slot) {
-                                Some(answered) => Ok(answered.place),
+                                Some(answered) => Ok(answered.place()),
                                 None => Err(UpdateFault::Ended(call)),
                             };
                         }
@@ -235,9 +235,8 @@ impl<J: LogName, K: ReplicasName> Replicas<J, K> {
         requires none { own.old ≡ None }
         ensures log { pass.new.log ≡ pass.old.log }
         ensures heard { HasHeard J.depth J.replicas pass.old.view pass.new.view }
-        ensures own { IfSome own.new (λ update.
-            IsAnsweredAt J.depth K.tables wanted.now.from
-            (log_after J.replicas pass.new.view.seen) wanted.now.entry update.0 update.1) }
+        ensures own { IsOwnAnswer J.depth K.tables wanted.now.from
+            (log_after J.replicas pass.new.view.seen) wanted.now.entry own.new }
         ensures ended { result ≡ Ended
             → LOG_PLACES - RING < tail (log_after J.replicas pass.new.view.seen) }
     {
@@ -266,9 +265,8 @@ impl<J: LogName, K: ReplicasName> Replicas<J, K> {
         requires none { own.old ≡ None }
         ensures log { pass.new.log ≡ pass.old.log }
         ensures heard { HasHeard J.depth J.replicas pass.old.view pass.new.view }
-        ensures own { IfSome own.new (λ update.
-            IsAnsweredAt J.depth K.tables wanted.now.from
-            (log_after J.replicas pass.new.view.seen) wanted.now.entry update.0 update.1) }
+        ensures own { IsOwnAnswer J.depth K.tables wanted.now.from
+            (log_after J.replicas pass.new.view.seen) wanted.now.entry own.new }
         ensures ended { result ≡ Ended
             → LOG_PLACES - RING < tail (log_after J.replicas pass.new.view.seen) }
     {

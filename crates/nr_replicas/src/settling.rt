@@ -136,7 +136,7 @@ fn dump_of<J: LogName>(node: &Node<RawArena, J>) -> Result<Dump, Memory>
     ensures applied { IfOk result (λ dump. dump.applied ≡ applied_of J.replicas node.now) }
     ensures dump { IfOk result (IsDumpOf J.depth node.now.tables (log_of J.replicas node.now)) }
 {
-    let _applied = node.applied();
+    node.is_well_formed();
     node.dump()
 }
 
@@ -171,7 +171,7 @@ fn add_rest<J: LogName>(
     let mut entries = ArrayVec::new();
     log.fetch(pass, &mut entries);
     for entry in entries.as_slice() {
-        calls.push(entry.call())?;
+        calls.push(entry.call)?;
     }
     Ok(())
 }

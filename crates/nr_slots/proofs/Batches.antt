@@ -7,7 +7,7 @@ use Rattle.std.proofs.lemmas.List.{map-append}
 use Rattle.std.proofs.lemmas.List.Elements.{All-append, All-map}
 use Rattle.std.specs.List.Sorted.{IsStrictlyIncreasing}
 use Rattle.nr_slots.specs.Batch.{Rises}
-use Rattle.nr_slots.specs.declared.waiting.Waiting.{Waiting}
+use Rattle.nr_slots.specs.Updates.{Waiting}
 
 at_seam : (xs : List ℕ) (n i : ℕ) → i ≡ length xs → get_or (xs ++ n ∷ []) i 0 ≡ n
 at_seam xs n i e = ap (λ j. get_or (xs ++ n ∷ []) j 0) e ∙ get_or-append_seam xs n [] 0

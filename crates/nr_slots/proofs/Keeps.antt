@@ -1,5 +1,6 @@
 -- Each step on a slot keeps the rule of the table.
-use Rattle.std.proofs.Common.{◌≡◌, ◌≢◌, ℕ, zero, suc, ◌<◌, eqb, List, ◌∷◌, map, replicate, length, get_or, set, sym, refl, ap, ◌∙◌, subst, arith, length-set, get_or-set_other, get_or-set_same}
+use Rattle.std.proofs.Common.{◌≡◌, ◌≢◌, ℕ, zero, suc, ◌<◌, eqb, List, ◌∷◌, map, replicate, length, get_or, set, sym, refl, ap, ◌∙◌, subst, arith, length-set}
+use Rattle.std.proofs.Common.{get_or-set_other, get_or-set_same}
 use mathlib.Core.Logic.{dite}
 use mathlib.Core.Option.{Option, none, some}
 use native.Mathlib.Decide.{ℕ_discrete}
@@ -7,12 +8,11 @@ use prog.Atomic.{either}
 use lib.ListN.{get_elem?}
 use Rattle.atomic_table.specs.Table.{State, Me, step, keeps, takes, gives, Allows, Enters, opening, carried_after}
 use Rattle.atomic_table.proofs.Lists.{set_here, set_else, exchanged}
-use Rattle.nr_slots.specs.declared.answered.Answered.{Answered}
 use Rattle.nr_slots.specs.declared.slot.Slot.{Slot}
 use Rattle.nr_slots.specs.declared.slot.Slot.TheVariants.{Empty}
 use Rattle.nr_slots.specs.declared.state.TheConstants.{EMPTY, BUSY}
-use Rattle.nr_slots.specs.declared.waiting.Waiting.{Waiting}
 use Rattle.nr_slots.specs.inside.Kept.{Fits, AreKept, HasSlot, Lends}
+use Rattle.nr_slots.specs.Updates.{Answered, Waiting}
 
 -- the words of empty slots, and the slots
 zero_there : (n i : ℕ) → i < n → get_or (replicate n EMPTY) i 0 ≡ EMPTY

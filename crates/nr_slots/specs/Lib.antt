@@ -1,3 +1,4 @@
+pub mod Updates
 pub mod Batch
 -- the table
 pub mod inside

@@ -51,9 +51,9 @@ impl<P: SlotRule> Cells<P> {
     #[tactic(auto, using(crate::proofs::Goes::posts_on))]
     pub(crate) fn post(&self, waiting: Waiting) -> Result<(), Occupied>
         requires thread { waiting.thread < self.now.table.shared.table_id.words }
-        requires rule { ∥ P.posted waiting.thread waiting.entry ∥₁ }
+        requires rule { ∥ P.posted waiting.thread waiting.call waiting.op ∥₁ }
     {
-        let place = usize::from(waiting.thread);
+        let place = usize::from(waiting.thread());
         let Some(mut loan) = self.claim(place, EMPTY) else {
             return Err(Occupied);
         };
@@ -69,7 +69,7 @@ impl<P: SlotRule> Cells<P> {
         requires { place < self.now.table.shared.table_id.words }
         ensures thread { IfSome result (λ waiting. waiting.thread ≡ place) }
         ensures rule { IfSome result (λ waiting.
-            ∥ P.posted waiting.thread waiting.entry ∥₁) }
+            ∥ P.posted waiting.thread waiting.call waiting.op ∥₁) }
     {
         let mut loan = self.claim(place, POSTED)?;
         let taken = loan.seat.slot_mut(&self.table.shared, place).take();
@@ -83,7 +83,7 @@ impl<P: SlotRule> Cells<P> {
         requires thread { answered.thread < self.now.table.shared.table_id.words }
         requires rule { ∥ P.answered answered ∥₁ }
     {
-        let place = usize::from(answered.thread);
+        let place = usize::from(answered.thread());
         let Some(mut loan) = self.claim(place, TAKEN) else {
             return Err(NotTaken);
         };
@@ -138,7 +138,7 @@ impl<P: SlotRule> Cells<P> {
             loan.seat.table_id ≡ self.now.table.shared.table_id) }
         ensures from { IfSome result (λ loan. loan.from ≡ word) }
         ensures out { IfSome result (λ loan.
-            HasSlot (λ waiting. ∥ P.posted waiting.thread waiting.entry ∥₁)
+            HasSlot (λ waiting. ∥ P.posted waiting.thread waiting.call waiting.op ∥₁)
             (λ answered. ∥ P.answered answered ∥₁) place word loan.seat.me.1) }
     {
         let shared = &self.table.shared;
@@ -159,7 +159,7 @@ impl<P: SlotRule> Cells<P> {
         requires place { place < self.now.table.shared.table_id.words }
         requires table { loan.seat.table_id ≡ self.now.table.shared.table_id }
         requires goes { GoesTo loan.from word }
-        requires out { HasSlot (λ waiting. ∥ P.posted waiting.thread waiting.entry ∥₁)
+        requires out { HasSlot (λ waiting. ∥ P.posted waiting.thread waiting.call waiting.op ∥₁)
             (λ answered. ∥ P.answered answered ∥₁) place word loan.seat.me.1 }
     {
         let Loan { mut seat, from: _ } = loan;

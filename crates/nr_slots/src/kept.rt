@@ -14,7 +14,7 @@ pub struct Kept<P> {
 impl<P: SlotRule> TableRule<Slot, (), ()> for Kept<P> {
     ghost use Rattle.nr_slots.specs.inside.Kept.{AreKept};
 
-    ghost holds = { λ _. AreKept (λ waiting. ∥ P.posted waiting.thread waiting.entry ∥₁)
+    ghost holds = { λ _. AreKept (λ waiting. ∥ P.posted waiting.thread waiting.call waiting.op ∥₁)
         (λ answered. ∥ P.answered answered ∥₁) };
 
     ghost first = { λ _. tt };
@@ -35,7 +35,7 @@ pub(crate) struct Claim<P> {
 }
 
 impl<P: SlotRule> Play<Slot, ()> for Claim<P> {
-    ghost then = { Lends (λ waiting. ∥ P.posted waiting.thread waiting.entry ∥₁)
+    ghost then = { Lends (λ waiting. ∥ P.posted waiting.thread waiting.call waiting.op ∥₁)
         (λ answered. ∥ P.answered answered ∥₁) };
 }
 

@@ -4,11 +4,11 @@
 /// answers shows it; who collects or polls then knows it.
 pub trait SlotRule {
     ghost use Rattle.std.specs.Prelude.{ℕ};
-    ghost use Rattle.vs_types.specs.declared.log_entry.LogEntry.{LogEntry};
-    ghost use Rattle.nr_slots.specs.declared.answered.Answered.{Answered};
+    ghost use Rattle.vs_types.specs.declared.op.Op.{Op};
+    ghost use Rattle.nr_slots.specs.Updates.{Answered};
 
-    /// Of a thread and its update.
-    ghost posted: { ℕ → LogEntry → Type 0 };
+    /// Of a thread, the number of its call, and its update.
+    ghost posted: { ℕ → ℕ → Op → Type 0 };
 
     ghost answered: { Answered → Type 0 };
 }
@@ -19,7 +19,7 @@ pub struct Anything;
 impl SlotRule for Anything {
     ghost use Rattle.std.specs.Prelude.{⊤};
 
-    ghost posted = { λ thread entry. ⊤ };
+    ghost posted = { λ thread call op. ⊤ };
 
     ghost answered = { λ answered. ⊤ };
 }

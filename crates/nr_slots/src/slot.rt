@@ -2,7 +2,6 @@ ghost use Rattle.std.specs.Prelude.{◌≡◌, ◌≢◌, OnOk, OnErr, IfSome, I
 
 use crate::answered::Answered;
 use crate::waiting::Waiting;
-use std::mem;
 
 /// Where one thread puts its update and finds the answer.
 #[derive(Clone, Copy, Debug, PartialEq, Eq)]
@@ -49,13 +48,14 @@ impl Slot {
     /// Takes the update that waits, if one does.
     pub fn take(&mut self) -> Option<Waiting>
         ensures taken { IfSome result (λ waiting.
-            (self.old ≡ Posted waiting) × (self.new ≡ Taken waiting.entry.call)) }
+            (self.old ≡ Posted waiting) × (self.new ≡ Taken waiting.call)) }
         ensures none { IfNone result
             (((waiting : _) → self.old ≢ Posted waiting) × (self.new ≡ self.old)) }
     {
-        match *self {
+        match self {
             Slot::Posted(waiting) => {
-                *self = Slot::Taken(waiting.entry.call());
+                let waiting = *waiting;
+                *self = Slot::Taken(waiting.call());
                 Some(waiting)
             }
             _ => None,
@@ -69,12 +69,12 @@ impl Slot {
     /// `NotTaken` where the slot is not taken with that call; it stays as it was.
     pub fn answer(&mut self, answered: Answered) -> Result<(), NotTaken>
         ensures answered { OnOk result
-            ((self.old ≡ Taken answered.entry.call) × (self.new ≡ Ready answered)) }
+            ((self.old ≡ Taken answered.call) × (self.new ≡ Ready answered)) }
         ensures not_taken { OnErr result
-            ((self.old ≢ Taken answered.entry.call) × (self.new ≡ self.old)) }
+            ((self.old ≢ Taken answered.call) × (self.new ≡ self.old)) }
     {
         match *self {
-            Slot::Taken(call) if call == answered.entry.call() => {
+            Slot::Taken(call) if call == answered.call() => {
                 *self = Slot::Ready(answered);
                 Ok(())
             }
@@ -107,8 +107,9 @@ impl Slot {
         ensures none { IfNone result
             (((answered : _) → self.old ≢ Ready answered) × (self.new ≡ self.old)) }
     {
-        match *self {
+        match self {
             Slot::Ready(answered) => {
+                let answered = *answered;
                 *self = Slot::Empty;
                 Some(answered)
             }

@@ -1,4 +1,5 @@
 ghost use Rattle.std.specs.Prelude.{◌≡◌, ◌<◌, ◌≤◌, ◌^◌, ℕ, [], All, IfOk, IfSome, IsErr};
+ghost use Rattle.vs_types.specs.declared.limits.TheConstants.{CALLS};
 
 use crate::answered::Answered;
 use crate::cells::Cells;
@@ -6,10 +7,9 @@ use crate::rule::{Anything, SlotRule};
 use crate::slot::{NotTaken, Occupied};
 use crate::waiting::Waiting;
 use arrayvec::ArrayVec;
-use nr_ring::PackedEntry;
 use std::alloc::Global;
 use std::marker::Model;
-use vs_types::{Memory, RING};
+use vs_types::{Memory, Op, RING};
 
 /// A slot for each thread of a replica, each beside a word that says what lies in it. Contracts see how many there are.
 #[derive(Drop)]
@@ -45,11 +45,25 @@ impl<P: SlotRule> Slots<P> {
     /// # Errors
     ///
     /// `Occupied` where the slot is not empty.
-    pub fn post(&self, thread: u16, entry: PackedEntry) -> Result<(), Occupied>
+    pub fn post(&self, thread: u16, call: u32, op: Op) -> Result<(), Occupied>
         requires thread { thread < self.now }
-        requires rule { ∥ P.posted thread entry ∥₁ }
+        requires call { call < CALLS }
+        requires rule { ∥ P.posted thread call op ∥₁ }
     {
-        self.cells.post(Waiting { thread, entry })
+        self.post_waiting(Waiting::new(thread, call, op))
+    }
+
+    /// Puts an update into its thread's slot, as `post` does, where it is packed already. It waits for nobody.
+    ///
+    /// # Errors
+    ///
+    /// `Occupied` where the slot is not empty.
+    #[inline(always)]
+    pub fn post_waiting(&self, waiting: Waiting) -> Result<(), Occupied>
+        requires thread { waiting.thread < self.now }
+        requires rule { ∥ P.posted waiting.thread waiting.call waiting.op ∥₁ }
+    {
+        self.cells.post(waiting)
     }
 
     /// Takes updates that wait into the batch, by rising thread, until the batch is full: of each thread its own.
@@ -59,7 +73,7 @@ impl<P: SlotRule> Slots<P> {
         requires { batch.old.items ≡ [] }
         ensures rising { Rises batch.new.items }
         ensures below { All (λ waiting. waiting.thread < self.now) batch.new.items }
-        ensures rule { All (λ waiting. ∥ P.posted waiting.thread waiting.entry ∥₁)
+        ensures rule { All (λ waiting. ∥ P.posted waiting.thread waiting.call waiting.op ∥₁)
             batch.new.items }
     {
         for thread in 0..self.cells.count() {
@@ -81,7 +95,7 @@ impl<P: SlotRule> Slots<P> {
         requires { ∥ P.answered answered ∥₁ }
         ensures { self.now ≤ answered.thread → IsErr result }
     {
-        if usize::from(answered.thread) < self.cells.count() {
+        if usize::from(answered.thread()) < self.cells.count() {
             self.cells.answer(answered)
         } else {
             Err(NotTaken)

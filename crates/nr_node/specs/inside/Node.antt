@@ -2,7 +2,7 @@
 use Rattle.std.specs.Prelude.{◌≡◌, ℕ, List, Option, take}
 use Rattle.vs_types.specs.declared.depth.Depth.{Depth}
 use Rattle.nr_ring.specs.Pass.{Known}
-use Rattle.nr_slots.specs.declared.waiting.Waiting.{Waiting}
+use Rattle.nr_slots.specs.Updates.{Waiting}
 use Rattle.nr_node.specs.Node.{NodeState, applied_of, log_of}
 use Rattle.nr_node.specs.inside.Replica.{ReplicaState}
 

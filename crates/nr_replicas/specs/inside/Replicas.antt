@@ -1,12 +1,15 @@
 -- What holds inside the calls of the replicas.
-use Rattle.std.specs.Prelude.{◌≡◌, ℕ, ◌+◌, ◌-◌, ◌/◌, ◌≤◌, List, [], ◌∷◌, All, length}
+use Rattle.std.specs.Prelude.{◌≡◌, ℕ, ◌+◌, ◌-◌, ◌/◌, ◌≤◌, List, [], ◌∷◌, All, IfSome, Option, length}
 use Rattle.vs_types.specs.Config.{Layout}
 use Rattle.vs_types.specs.Space.{Space}
 use Rattle.vs_types.specs.Step.{allow, look}
 use Rattle.vs_types.specs.declared.answer.Answer.{Answer}
 use Rattle.vs_types.specs.declared.depth.Depth.{Depth}
+use Rattle.vs_types.specs.declared.log_entry.LogEntry.{LogEntry}
+use Rattle.nr_ring.specs.LogHistory.{Log}
 use Rattle.nr_node.specs.Node.{NodeState}
 use Rattle.nr_ring.specs.Pass.{Known, TableId, new_pass}
+use Rattle.nr_replicas.specs.Replicas.{IsAnsweredAt}
 use Rattle.nr_replicas.specs.declared.question.Question.{Question}
 use Rattle.nr_replicas.specs.declared.question.Question.TheVariants.{Resolve, Access}
 
@@ -14,6 +17,10 @@ use Rattle.nr_replicas.specs.declared.question.Question.TheVariants.{Resolve, Ac
 abbrev pub answer_in : Question → ℕ → Space → Answer
 answer_in Resolve address space = look space address
 answer_in (Access mode access) address space = allow space address mode access
+
+-- where a combiner's own update was answered, it is in the log at that place, which is not below this one, and was answered so there
+abbrev pub IsOwnAnswer : Depth → ℕ → ℕ → Log → LogEntry → Option (ℕ × Answer) → Type 0
+IsOwnAnswer depth tables from log entry own = IfSome own (λ update. IsAnsweredAt depth tables from log entry update.0 update.1)
 
 -- how many slots each replica has, so that there is one for each of its threads: replica 0 has the most, and no slot too many
 abbrev pub slots_each : Layout → ℕ

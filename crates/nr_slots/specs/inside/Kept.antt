@@ -3,11 +3,10 @@ use Rattle.std.specs.Prelude.{◌≡◌, ◌≢◌, ℕ, ◌<◌, List, [], ◌�
 use mathlib.Core.Option.{some}
 use lib.ListN.{get_elem?}
 use Rattle.atomic_table.specs.Table.{State, Me, Step}
-use Rattle.nr_slots.specs.declared.answered.Answered.{Answered}
 use Rattle.nr_slots.specs.declared.slot.Slot.{Slot}
 use Rattle.nr_slots.specs.declared.slot.Slot.TheVariants.{Empty, Posted, Taken, Ready}
 use Rattle.nr_slots.specs.declared.state.TheConstants.{EMPTY, BUSY, POSTED, TAKEN, READY}
-use Rattle.nr_slots.specs.declared.waiting.Waiting.{Waiting}
+use Rattle.nr_slots.specs.Updates.{Answered, Waiting}
 
 -- the state word of a slot
 abbrev pub state_of : Slot → ℕ

@@ -31,7 +31,7 @@ loop-i-preserved g c =
     let goes_on : StartsWith after.seen before.seen = c.meet.ensures.met.1 in (
       ap (λ (p : Known). slice_set c.loop-i.passes i p) c.meet.ensures.pass ∙ set-get_or c.loop-i.passes i found ∙ is.0,
       c.meet.ensures.log ∙ is.1,
-      heard_twice depth replicas c.args.first.now.view before after is.2 (told_heard depth replicas before pass.view after looked),
+      heard_twice is.2 (told_heard depth replicas before pass.view after looked),
       subst (All Begins) (sym (take_to_one_more was i pass within here))
           (All-append Begins (take i was) (pass ∷ []) (all_begin_later before.seen after.seen (take i was) goes_on is.3)
           (all_one Begins pass knows)),

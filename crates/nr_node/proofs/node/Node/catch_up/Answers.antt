@@ -1,16 +1,17 @@
-use Rattle.std.proofs.Common.{◌≡◌, ◌+◌, ◌++◌, ◌≤◌, ℕ, List, All, None, length, ap, sym, subst, ◌∙◌, arith}
+use Rattle.std.proofs.Common.{◌≡◌, ◌+◌, ◌++◌, ℕ, List, All, None, length, refl, ap, sym, subst, ◌∙◌, arith}
 use Rattle.std.proofs.lemmas.Result.{err_from_is_err_and}
 use Rattle.vs_types.specs.LogEntry.{IsLogEntry}
 use Rattle.vs_types.specs.declared.log_entry.LogEntry.{LogEntry}
 use Rattle.nr_ring.specs.Calls.{HasMoved}
 use Rattle.nr_ring.specs.LogHistory.{log_after}
-use Rattle.nr_slots.specs.declared.waiting.Waiting.{Waiting}
+use Rattle.nr_slots.specs.Updates.{Waiting}
 use Rattle.nr_node.specs.Calls.{HasCaughtUp, HasStayed, answers_of}
 use Rattle.nr_node.specs.Node.{NodeState, IsNode, replica_of}
 use Rattle.nr_node.specs.inside.Node.{node_state}
 use Rattle.nr_node.specs.inside.Replica.{ReplicaState}
 use Rattle.nr_node.proofs.Looks.{looked_owner, looked_taken, took_all}
-use Rattle.nr_node.proofs.Nodes.{answers_after, caught_up, looked_node, looked_follows, next_entries, stands_after, took_fit, took_follows, took_node, took_room}
+use Rattle.nr_node.proofs.Nodes.{answers_after, caught_up, looked_node, looked_follows, next_entries, stands_after, took_fit, took_follows, took_node}
+use Rattle.nr_node.proofs.Nodes.{took_room}
 use Rattle.nr_node.proofs.node.Node.catch_up.Goals as goal
 
 pub invariant_of-self : goal.invariant_of-self
@@ -32,7 +33,7 @@ returns-in_err-take-clause-stayed g c =
     rw p.1 (subst Stays c.self.view_is (record {
       looked = looked;
       applied = looked_taken _ _ self.pass.view c.take.new.pass.view looked c.self.invariant.0.owner;
-      same = Rattle.std.proofs.Common.refl;
+      same = refl;
     }))
 
 pub returns-in_err-take-clause-moved : goal.returns-in_err-take-clause-moved

@@ -1,6 +1,6 @@
 use Rattle.std.proofs.Common.{◌≡◌, ◌≤◌, [], List, get_or, length, sym, subst}
 use Rattle.vs_types.specs.declared.limits.TheConstants.{RING}
-use Rattle.nr_slots.specs.declared.waiting.Waiting.{Waiting}
+use Rattle.nr_slots.specs.Updates.{Waiting}
 use Rattle.nr_node.specs.Node.{NodeState}
 use Rattle.nr_node.proofs.Nodes.{holding_follows, holding_node}
 use Rattle.nr_node.proofs.node.Node.collect.Goals as goal

@@ -1,20 +1,20 @@
-use Rattle.std.proofs.Common.{◌≡◌, ◌-◌, ◌<◌, ◌≤◌, ℕ, List, [], All, IfNone, IfSome, None, Option, length, take, ap, sym, subst, ◌∙◌, refl, arith}
+use Rattle.std.proofs.Common.{◌≡◌, ◌-◌, ◌<◌, ℕ, List, All, IfNone, IfSome, length, take, ap, sym, subst, ◌∙◌, refl, arith}
 use Rattle.std.proofs.Math.ListN.{length-append}
 use Rattle.std.proofs.lemmas.List.{length-map}
 use Rattle.std.proofs.lemmas.Result.{err_from_is_err_and}
 use Rattle.vs_types.specs.LogEntry.{IsLogEntry}
 use Rattle.vs_types.specs.declared.depth.Depth.{Depth}
-use Rattle.vs_types.specs.declared.depth.Depth.TheVariants.{Five}
+use Rattle.vs_types.specs.declared.limits.TheConstants.{CALLS}
 use Rattle.vs_types.specs.declared.log_entry.LogEntry.{LogEntry}
 use Rattle.nr_ring.specs.LogHistory.{log_after}
-use Rattle.nr_slots.specs.declared.waiting.Waiting.{Waiting}
-use Rattle.nr_node.specs.Calls.{HasPutAndCaughtUp, HasStayed, IsAnsweredIn, IsOwnPlace, LacksUpdate, entries_of, entry_of}
-use Rattle.nr_node.specs.Node.{IsNode, NodeState}
-use Rattle.nr_node.specs.inside.Node.{Follows, node_state}
+use Rattle.nr_slots.specs.Updates.{Waiting}
+use Rattle.nr_node.specs.Calls.{HasStayed, IsAnsweredIn, IsOwnPlace, LacksUpdate, entries_of, entry_of}
+use Rattle.nr_node.specs.Node.{NodeState}
+use Rattle.nr_node.specs.inside.Node.{node_state}
 use Rattle.nr_node.specs.inside.Replica.{ReplicaState}
 use Rattle.nr_node.proofs.Answering.{both_applied}
 use Rattle.nr_node.proofs.Looks.{looked_taken}
-use Rattle.nr_node.proofs.Nodes.{batch_fits, looked_follows, looked_node, put_and_took, put_caught_up, put_entries, put_fit, put_node, put_room}
+use Rattle.nr_node.proofs.Nodes.{batch_fits, looked_follows, looked_node, put_and_took, put_entries, put_fit, put_left, put_room}
 use Rattle.nr_node.proofs.node.Node.put_and_catch_up.Goals as goal
 
 pub append_and_take-requires-clause-entries : goal.append_and_take-requires-clause-entries
@@ -22,9 +22,9 @@ append_and_take-requires-clause-entries g c =
     let self = c.self.inside in
     let same = ap (λ (n : ℕ). take n c.ask_for.new.asked) c.len.ensures.value ∙ c.ask_for.ensures.entries in
     let Fit : List LogEntry → Type 0 = λ l. All (IsLogEntry g.J.LogName.depth) l in
-    let Low : List LogEntry → Type 0 = λ l. All (IsLogEntry Five) l in
+    let Low : List LogEntry → Type 0 = λ l. All (λ entry. entry.call < CALLS) l in
     subst Fit (sym same)
-    (batch_fits g.J.LogName.depth self.batch.items c.self.invariant.0.fit (subst Low c.ask_for.ensures.entries c.ask_for.ensures.fit))
+    (batch_fits g.J.LogName.depth self.batch.items c.self.invariant.0.fit (subst Low c.ask_for.ensures.entries c.ask_for.ensures.in_range))
 
 pub invariant_of-self : goal.invariant_of-self
 invariant_of-self g c =
@@ -52,23 +52,16 @@ pub apply_all-requires-clause-fit : goal.apply_all-requires-clause-fit
 apply_all-requires-clause-fit g c =
     let self = c.self.inside in
     let is = c.self.invariant in
-    let same = ap (λ (n : ℕ). take n c.ask_for.new.asked) c.len.ensures.value ∙ c.ask_for.ensures.entries in
-    let Some : NodeState → Type 0 = λ n. 1 ≤ length n.batch in
-    let some = subst Some (sym c.self.view_is) c.requires.some in
-    let did = put_and_took _ _ self.pass c.append_and_take.new.pass self.replica self.batch.items self.first _ c.append_and_take.new.before.items _ same
-    c.in_ok-append_and_take.ensures.done some is.0 is.1 in
+    let did = put_and_took _ _ self.pass c.append_and_take.new.pass self.replica self.batch.items self.first _ c.ask_for.new.asked _ _ _ c.self.view_is
+    c.requires.some c.len.ensures.value c.ask_for.ensures.entries c.in_ok-append_and_take.ensures.done c.self.invariant in
     let Fit : List LogEntry → Type 0 = λ l. All (IsLogEntry self.replica.depth) l in
     subst Fit (sym c.as_slice.ensures.value) (put_fit _ _ _ _ _ _ _ _ did self.replica.depth is.1.depth_is).0
 
 pub apply_all-requires-clause-room : goal.apply_all-requires-clause-room
 apply_all-requires-clause-room g c =
     let self = c.self.inside in
-    let is = c.self.invariant in
-    let same = ap (λ (n : ℕ). take n c.ask_for.new.asked) c.len.ensures.value ∙ c.ask_for.ensures.entries in
-    let Some : NodeState → Type 0 = λ n. 1 ≤ length n.batch in
-    let some = subst Some (sym c.self.view_is) c.requires.some in
-    let did = put_and_took _ _ self.pass c.append_and_take.new.pass self.replica self.batch.items self.first _ c.append_and_take.new.before.items _ same
-    c.in_ok-append_and_take.ensures.done some is.0 is.1 in
+    let did = put_and_took _ _ self.pass c.append_and_take.new.pass self.replica self.batch.items self.first _ c.ask_for.new.asked _ _ _ c.self.view_is
+    c.requires.some c.len.ensures.value c.ask_for.ensures.entries c.in_ok-append_and_take.ensures.done c.self.invariant in
     let room = put_room _ _ _ _ _ _ _ _ did in
     omega (arith, room, ap (λ (l : List LogEntry). length l) c.as_slice.ensures.value)
 
@@ -76,22 +69,15 @@ pub apply_batch-requires-clause-fit : goal.apply_batch-requires-clause-fit
 apply_batch-requires-clause-fit g c =
     let self = c.self.inside in
     let is = c.self.invariant in
-    let same = ap (λ (n : ℕ). take n c.ask_for.new.asked) c.len.ensures.value ∙ c.ask_for.ensures.entries in
-    let Some : NodeState → Type 0 = λ n. 1 ≤ length n.batch in
-    let some = subst Some (sym c.self.view_is) c.requires.some in
-    let did = put_and_took _ _ self.pass c.append_and_take.new.pass self.replica self.batch.items self.first _ c.append_and_take.new.before.items _ same
-    c.in_ok-append_and_take.ensures.done some is.0 is.1 in
+    let did = put_and_took _ _ self.pass c.append_and_take.new.pass self.replica self.batch.items self.first _ c.ask_for.new.asked _ _ _ c.self.view_is
+    c.requires.some c.len.ensures.value c.ask_for.ensures.entries c.in_ok-append_and_take.ensures.done c.self.invariant in
     (put_fit _ _ _ _ _ _ _ _ did c.apply_all.new.self.depth (ap (λ (r : ReplicaState). r.depth) c.apply_all.ensures ∙ is.1.depth_is)).1
 
 pub apply_batch-requires-clause-room : goal.apply_batch-requires-clause-room
 apply_batch-requires-clause-room g c =
     let self = c.self.inside in
-    let is = c.self.invariant in
-    let same = ap (λ (n : ℕ). take n c.ask_for.new.asked) c.len.ensures.value ∙ c.ask_for.ensures.entries in
-    let Some : NodeState → Type 0 = λ n. 1 ≤ length n.batch in
-    let some = subst Some (sym c.self.view_is) c.requires.some in
-    let did = put_and_took _ _ self.pass c.append_and_take.new.pass self.replica self.batch.items self.first _ c.append_and_take.new.before.items _ same
-    c.in_ok-append_and_take.ensures.done some is.0 is.1 in
+    let did = put_and_took _ _ self.pass c.append_and_take.new.pass self.replica self.batch.items self.first _ c.ask_for.new.asked _ _ _ c.self.view_is
+    c.requires.some c.len.ensures.value c.ask_for.ensures.entries c.in_ok-append_and_take.ensures.done c.self.invariant in
     let room = put_room _ _ _ _ _ _ _ _ did in
     omega (
       arith,
@@ -105,45 +91,20 @@ apply_batch-requires-clause-room g c =
 pub invariant_of-self-2 : goal.invariant_of-self-2
 invariant_of-self-2 g c =
     let self = c.self.inside in
-    let is = c.self.invariant in
-    let after = c.append_and_take.new.pass in
-    let next = c.apply_batch.new.self in
-    let same = ap (λ (n : ℕ). take n c.ask_for.new.asked) c.len.ensures.value ∙ c.ask_for.ensures.entries in
-    let Some : NodeState → Type 0 = λ n. 1 ≤ length n.batch in
-    let some = subst Some (sym c.self.view_is) c.requires.some in
-    let Unplaced : NodeState → Type 0 = λ n. n.first ≡ None in
-    let none = subst Unplaced (sym c.self.view_is) c.requires.unplaced in
-    let did = put_and_took _ _ self.pass after self.replica self.batch.items self.first _ c.append_and_take.new.before.items _ same
-    c.in_ok-append_and_take.ensures.done some is.0 is.1 in
-    let both = both_applied self.replica c.apply_all.new.self next _ _ _ c.apply_all.ensures c.as_slice.ensures.value c.apply_batch.ensures.applied in
-    let By : List Waiting → Option ℕ → Type 0 = λ l f.
-    IsNode g.J.LogName.depth g.J.LogName.replicas (node_state after next l f)
-    × Follows g.J.LogName.depth g.J.LogName.replicas (node_state after next l f) next in
-    let ByFirst : Option ℕ → Type 0 = λ f. By [] f in
-    let ByBatch : List Waiting → Type 0 = λ l. By l self.first in
-    subst ByBatch (sym c.clear-2.ensures) (subst ByFirst (sym none) (put_node _ _ _ _ _ _ _ _ did next both))
+    let did = put_and_took _ _ self.pass c.append_and_take.new.pass self.replica self.batch.items self.first _ c.ask_for.new.asked _ _ _ c.self.view_is
+    c.requires.some c.len.ensures.value c.ask_for.ensures.entries c.in_ok-append_and_take.ensures.done c.self.invariant in
+    let both = both_applied self.replica c.apply_all.new.self c.apply_batch.new.self _ _ _ c.apply_all.ensures c.as_slice.ensures.value
+    c.apply_batch.ensures.applied in
+    (put_left _ _ _ _ _ _ _ _ did _ both _ _ self.first c.self.view_is c.requires.unplaced c.clear-2.ensures).1
 
 pub returns-clause-caught_up : goal.returns-clause-caught_up
 returns-clause-caught_up g c =
     let self = c.self.inside in
-    let is = c.self.invariant in
-    let after = c.append_and_take.new.pass in
-    let next = c.apply_batch.new.self in
-    let same = ap (λ (n : ℕ). take n c.ask_for.new.asked) c.len.ensures.value ∙ c.ask_for.ensures.entries in
-    let Some : NodeState → Type 0 = λ n. 1 ≤ length n.batch in
-    let some = subst Some (sym c.self.view_is) c.requires.some in
-    let Unplaced : NodeState → Type 0 = λ n. n.first ≡ None in
-    let none = subst Unplaced (sym c.self.view_is) c.requires.unplaced in
-    let did = put_and_took _ _ self.pass after self.replica self.batch.items self.first _ c.append_and_take.new.before.items _ same
-    c.in_ok-append_and_take.ensures.done some is.0 is.1 in
-    let both = both_applied self.replica c.apply_all.new.self next _ _ _ c.apply_all.ensures c.as_slice.ensures.value c.apply_batch.ensures.applied in
-    let Did : NodeState → NodeState → Type 0 = λ before now. HasPutAndCaughtUp g.J.LogName.depth g.J.LogName.replicas before now in
-    let old = node_state self.pass self.replica self.batch.items self.first in
-    let ByFirst : Option ℕ → Type 0 = λ f. Did old (node_state after next [] f) in
-    let ByBatch : List Waiting → Type 0 = λ l. Did old (node_state after next l self.first) in
-    let ByOld : NodeState → Type 0 = λ n. Did n (node_state after next c.clear-2.new.self.items self.first) in
-    subst ByOld c.self.view_is
-    (subst ByBatch (sym c.clear-2.ensures) (subst ByFirst (sym none) (put_caught_up _ _ _ _ _ _ _ _ did next both self.first)))
+    let did = put_and_took _ _ self.pass c.append_and_take.new.pass self.replica self.batch.items self.first _ c.ask_for.new.asked _ _ _ c.self.view_is
+    c.requires.some c.len.ensures.value c.ask_for.ensures.entries c.in_ok-append_and_take.ensures.done c.self.invariant in
+    let both = both_applied self.replica c.apply_all.new.self c.apply_batch.new.self _ _ _ c.apply_all.ensures c.as_slice.ensures.value
+    c.apply_batch.ensures.applied in
+    (put_left _ _ _ _ _ _ _ _ did _ both _ _ self.first c.self.view_is c.requires.unplaced c.clear-2.ensures).0
 
 pub returns-clause-own : goal.returns-clause-own
 returns-clause-own g c =
@@ -154,11 +115,8 @@ returns-clause-own g c =
     let mid = c.apply_all.new.self in
     let next = c.apply_batch.new.self in
     let later = log_after g.J.LogName.replicas after.view.seen in
-    let same = ap (λ (n : ℕ). take n c.ask_for.new.asked) c.len.ensures.value ∙ c.ask_for.ensures.entries in
-    let Some : NodeState → Type 0 = λ n. 1 ≤ length n.batch in
-    let some = subst Some (sym c.self.view_is) c.requires.some in
-    let did = put_and_took _ _ self.pass after self.replica self.batch.items self.first _ c.append_and_take.new.before.items _ same
-    c.in_ok-append_and_take.ensures.done some is.0 is.1 in
+    let did = put_and_took _ _ self.pass c.append_and_take.new.pass self.replica self.batch.items self.first _ c.ask_for.new.asked _ _ _ c.self.view_is
+    c.requires.some c.len.ensures.value c.ask_for.ensures.entries c.in_ok-append_and_take.ensures.done c.self.invariant in
     let both = both_applied self.replica mid next _ _ _ c.apply_all.ensures c.as_slice.ensures.value c.apply_batch.ensures.applied in
     let Own : Depth → ℕ → List LogEntry → Type 0 = λ d t l.
     IfSome c.apply_batch.new.own (λ update. IsAnsweredIn d t l c.args.wanted update.0 update.1) in
@@ -177,17 +135,13 @@ returns-clause-given g c =
 pub returns-clause-placed : goal.returns-clause-placed
 returns-clause-placed g c =
     let self = c.self.inside in
-    let is = c.self.invariant in
     let after = c.append_and_take.new.pass in
     let mid = c.apply_all.new.self in
     let next = c.apply_batch.new.self in
     let later = log_after g.J.LogName.replicas after.view.seen in
     let batch = self.batch.items in
-    let same = ap (λ (n : ℕ). take n c.ask_for.new.asked) c.len.ensures.value ∙ c.ask_for.ensures.entries in
-    let Some : NodeState → Type 0 = λ n. 1 ≤ length n.batch in
-    let some = subst Some (sym c.self.view_is) c.requires.some in
-    let did = put_and_took _ _ self.pass after self.replica batch self.first _ c.append_and_take.new.before.items _ same
-    c.in_ok-append_and_take.ensures.done some is.0 is.1 in
+    let did = put_and_took _ _ self.pass c.append_and_take.new.pass self.replica self.batch.items self.first _ c.ask_for.new.asked _ _ _ c.self.view_is
+    c.requires.some c.len.ensures.value c.ask_for.ensures.entries c.in_ok-append_and_take.ensures.done c.self.invariant in
     let both = both_applied self.replica mid next _ _ _ c.apply_all.ensures c.as_slice.ensures.value c.apply_batch.ensures.applied in
     let first : length mid.entries ≡ length later.entries - length batch = omega (
       arith,

@@ -1,8 +1,7 @@
 use Rattle.std.proofs.Common.{◌≡◌, ◌<◌, ◌+◌, ◌++◌, ◌∷◌, [], List, Some, length, drop, get_or, ap, sym, subst, ◌∙◌, arith, append_assoc, length-append}
 use Rattle.std.specs.Prelude.{slice_get}
 use Rattle.std.proofs.lemmas.Option.{slice_get-get_or, slice_get_within}
-use Rattle.nr_slots.specs.declared.answered.Answered.{Answered}
-use Rattle.nr_slots.specs.declared.waiting.Waiting.{Waiting}
+use Rattle.nr_slots.specs.Updates.{Answered, Waiting}
 use Rattle.nr_node.specs.Calls.{answered_from, entry_of}
 use Rattle.nr_node.proofs.Lists.{drop_here}
 use Rattle.nr_node.proofs.Replicas.{answered_one}
@@ -40,7 +39,7 @@ loop-waiting-preserved g c =
       ap (λ (l : List Answered). length l) c.push.ensures.items ∙ length-append c.loop-waiting.answers.items _ ∙ ap (λ k. k + 1) is.1,
       is.2
           ∙ ap (λ l. c.loop-waiting.answers.items ++ answered_from self.depth self.tables self.entries place l) (drop_here batch i x within here)
-          ∙ ap (λ a. c.loop-waiting.answers.items ++ a ∷ rest) made
+          ∙ ap (λ a. c.loop-waiting.answers.items ++ a ∷ rest) (made ∙ sym c.new.ensures)
           ∙ sym (append_assoc c.loop-waiting.answers.items (_ ∷ []) rest)
           ∙ ap (λ l. l ++ rest) (sym c.push.ensures.items),
     )
