@@ -24,10 +24,7 @@ pub(crate) fn feed_in_units(alloc: Global, bytes: &[u8], len: usize) -> Result<T
 {
     let mut feed = UnitFeed::new(alloc);
     for piece in bytes.chunks(len) {
-        match feed.feed(piece) {
-            Ok(next) => feed = next,
-            Err(unread) => return Err(unread),
-        }
+        feed.feed(piece)?;
     }
     feed.end()
 }

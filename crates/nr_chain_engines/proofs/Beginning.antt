@@ -1,5 +1,6 @@
 -- The first segment of a chain that is read in blocks, and what is said of its start.
-use Rattle.std.proofs.Common.{◌≡◌, ◌≤◌, ℕ, ◌++◌, inl, inr, Bool, true, false, List, [], ◌∷◌, Contains, length, take, drop, append-nil, Option, Some, None, Result, Ok, Err, refl, sym, ap, ◌∙◌, subst, arith}
+use Rattle.std.proofs.Common.{◌≡◌, ◌≤◌, ℕ, ◌++◌, inl, inr, Bool, true, false, List, [], ◌∷◌, Contains, length, take, drop, append-nil, Option, Some}
+use Rattle.std.proofs.Common.{None, Result, Ok, Err, refl, sym, ap, ◌∙◌, subst, arith}
 use Rattle.std.specs.Io.KnownBytes.{Consumes, IsAtEnd, Keeps}
 use Rattle.std.proofs.KnownBytes.{Consumes-kept, Consumes-nil, Consumes-trans}
 use Rattle.vs_types.specs.Space.{no_pages, pages}
@@ -38,7 +39,7 @@ use Rattle.nr_pages.specs.Dumps.{dump_text}
 use Rattle.nr_pages.specs.Listing.{pages_text}
 use Rattle.nr_chain_engines.specs.ChainPages.{HasReadFewOfStart, IsChainStart}
 use Rattle.nr_chain_engines.specs.inside.Begun.{BeginsSo, HasReadFirst, IsBegun, SaysOfFirst, SaysUnread}
-use Rattle.nr_chain_engines.proofs.Reading.{whole_read, whole_with}
+use Rattle.nr_engines.proofs.Input.{whole_read, whole_with}
 
 abbrev fed_first : List ℕ → FedSegment
 fed_first bytes = record { before = None; pieces = Taken bytes }

@@ -13,7 +13,7 @@ use Rattle.nr_chain_engines.specs.inside.Judged.{HasJudged, IsTextAfter, SaysEnd
 use Rattle.nr_chain_engines.specs.declared.audit.Judged.{Judged}
 use Rattle.nr_chain_engines.specs.declared.audit.Judged.TheVariants.{Ended, Faulty}
 use Rattle.nr_chain_engines.proofs.Going.{ended, lasting}
-use Rattle.nr_chain_engines.proofs.Reading.{whole_read, whole_with}
+use Rattle.nr_engines.proofs.Input.{whole_read, whole_with}
 
 -- an answer that was written
 pub reported : (IsReport : List ℕ → List ℕ → ℕ → Type 0) (known old new : Option (List ℕ)) (input text : List ℕ) (own status : ℕ) → IsReadOf known input

@@ -1,5 +1,6 @@
 -- A chain of which some segments are right, as far as it has come.
-use Rattle.std.proofs.Common.{◌≡◌, ◌≤◌, ◌<◌, ℕ, ◌+◌, ◌++◌, ◌⊎◌, inl, inr, Bool, List, [], ◌∷◌, length, take, drop, append-nil, append_assoc, Option, Some, None, Result, Ok, Err, IfErr, refl, sym, ap, ◌∙◌, subst, arith}
+use Rattle.std.proofs.Common.{◌≡◌, ◌≤◌, ◌<◌, ℕ, ◌+◌, ◌++◌, ◌⊎◌, inl, inr, Bool, List, [], ◌∷◌, length, take, drop, append_assoc, Option}
+use Rattle.std.proofs.Common.{Some, None, Result, Ok, Err, IfErr, refl, sym, ap, ◌∙◌, subst, arith}
 use Rattle.std.specs.Result.{IsErrAnd}
 use Rattle.std.specs.Io.KnownBytes.{Appends}
 use Rattle.std.proofs.KnownBytes.{Appends-nil, Appends-trans}
@@ -173,24 +174,6 @@ block_taken quiet old chain next number count block left before now under (is, s
         written = so_far.written;
       },
       subst (λ (k : Option Kept). IsShort k next.bytes) (sym kept_is) short,
-      omega arith,
-    )
-
--- and no byte of it is left
-pub block_done : (quiet : Bool) (old chain : ChainFed) (number count : ℕ) (block left : List ℕ) (before now : Option (List ℕ))
-    → IsUnderWay quiet old number block chain count left before now → left ≡ []
-    → TakesBlock quiet old number block before now (More chain count)
-block_done quiet old chain number count block left before now under none =
-    let so_far = under.taken in
-    let few = under.few in (
-      record {
-        orders = so_far.orders;
-        goes_on = subst (λ (l : List ℕ). GoesOnTo old.kept (old.bytes ++ block) so_far.orders chain.kept l)
-            (ap (λ (l : List ℕ). chain.bytes ++ l) none ∙ append-nil chain.bytes) so_far.goes_on;
-        counted = so_far.counted;
-        written = so_far.written;
-      },
-      under.short,
       omega arith,
     )
 

@@ -1,9 +1,11 @@
 -- A chain that is read in blocks, whose lines are written as its segments are judged.
-use Rattle.std.proofs.Common.{◌≡◌, ◌≢◌, ◌≤◌, ℕ, ◌+◌, ◌*◌, ◌++◌, ◌⊎◌, inl, inr, Bool, List, [], length, append-nil, Option, Some, None, Result, Ok, Err, IfErr, refl, sym, ap, ◌∙◌, subst, arith}
+use Rattle.std.proofs.Common.{◌≡◌, ◌≢◌, ◌≤◌, ℕ, ◌+◌, ◌*◌, ◌++◌, ◌⊎◌, inl, inr, Bool, List, [], length, append-nil, Option, Some, None, Result, Ok}
+use Rattle.std.proofs.Common.{Err, IfErr, refl, sym, ap, ◌∙◌, subst, arith}
 use Rattle.std.specs.Io.KnownBytes.{Appends, Consumes, IsAtEnd, Keeps}
 use Rattle.std.proofs.KnownBytes.{Appends-nil, Appends-trans, Consumes-kept, Consumes-nil, Consumes-trans}
 use Rattle.std.proofs.lemmas.List.{length-append}
-use Rattle.nr_engines.specs.Answers.{IsReadOf, WritesReport}
+use Rattle.nr_engines.proofs.Input.{whole_read, whole_with}
+use Rattle.nr_engines.specs.Answers.{WritesReport}
 use Rattle.nr_engines.specs.declared.fault.ProgFault.{ProgFault}
 use Rattle.nr_engines.specs.declared.fault.ProgFault.TheVariants.{CannotRead, CannotWrite, Memory}
 use Rattle.nr_segment.specs.declared.fault.SegmentFault.{SegmentFault}
@@ -193,12 +195,6 @@ pub text_is : (quiet : Bool) (orders : List (List ℕ)) (count : ℕ) (found : O
     → shown_lines quiet 0 orders ++ end_lines count found ≡ chain_text quiet orders found
 text_is quiet orders count found counted = ap (λ n. shown_lines quiet 0 orders ++ end_lines n found) counted
 
--- the whole input, where it has ended
-pub whole_read : (known next : Option (List ℕ)) (bytes : List ℕ) → Consumes known next bytes → IsAtEnd next → IsReadOf known bytes
-whole_read None next bytes lost end = tt
-whole_read (Some whole) None bytes lost end = absurd lost
-whole_read (Some whole) (Some left) bytes lost end = sym (lost ∙ ap (λ (l : List ℕ). bytes ++ l) end ∙ append-nil bytes)
-
 -- the input ends
 pub answers_end : (quiet : Bool) (known left old now new : Option (List ℕ)) (chain : ChainFed) (count status : ℕ) (found : Option SegmentFault)
     → IsAt quiet known left old now chain.kept chain.bytes count → EndsWith chain.kept chain.bytes found → status ≡ chain_status found
@@ -248,12 +244,6 @@ answers_wrong quiet known left old now new last rest count status fault here las
       (wrong_with quiet known left old now new last rest [] count status fault here lasts some exit);
   written = Appends-trans old now new (shown_lines quiet 0 here.orders) (end_lines count (Some fault)) here.written written;
 }
-
--- the input, with what was not read of it
-pub whole_with : (known left : Option (List ℕ)) (bytes : List ℕ) → Consumes known left bytes → (behind : List ℕ) × IsReadOf known (bytes ++ behind)
-whole_with None left bytes lost = ([], tt)
-whole_with (Some whole) None bytes lost = absurd lost
-whole_with (Some whole) (Some left) bytes lost = (left, sym lost)
 
 pub reports_wrong : (quiet : Bool) (known left old now new : Option (List ℕ)) (last : Option Kept) (rest : List ℕ) (count status : ℕ) (fault : SegmentFault)
     → IsAt quiet known left old now last rest count → LastsNext last rest fault → (rest ≡ [] → ⊥) → status ≡ 1

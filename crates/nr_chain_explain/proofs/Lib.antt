@@ -2,8 +2,6 @@ pub mod Cuts
 pub mod Walking
 pub mod Firsts
 pub mod Feeding
-pub mod Changes
-pub mod WrongAnswers
 pub mod Differing
 pub mod Wholes
 pub mod StartsShown

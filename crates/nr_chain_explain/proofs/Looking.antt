@@ -10,7 +10,8 @@ use Rattle.vs_walk.proofs.LawsOfLists.{all_pairs_append}
 use Rattle.vs_types.specs.declared.answer.Answer.{Answer}
 use Rattle.nr_trace.specs.Recording.{Recording}
 use Rattle.nr_chain_explain.specs.Evidence.{AreLooks}
-use Rattle.nr_chain_explain.specs.Facts.{looks_from, IsChangedAt}
+use Rattle.nr_explain.specs.Facts.{looks_from}
+use Rattle.nr_chain_explain.specs.Facts.{IsChangedAt}
 use Rattle.nr_chain_explain.specs.inside.Windows.{AreLooksBelow}
 use Rattle.nr_chain_explain.specs.declared.evidence.Moment.{Moment}
 

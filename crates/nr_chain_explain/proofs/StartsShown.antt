@@ -1,5 +1,5 @@
 -- What shows a fault of a start.
-use Rattle.std.proofs.Common.{◌≡◌, ℕ, Option, Some, None, Result, Ok, Err, refl, sym, ap, ◌∙◌, subst}
+use Rattle.std.proofs.Common.{◌≡◌, ℕ, Option, Some, Result, Ok, Err, refl, sym, ap, ◌∙◌, subst}
 use Rattle.std.specs.Prelude.{IfOk}
 use Rattle.std.proofs.lemmas.Option.{same_Some}
 use Rattle.vs_types.specs.Space.{Space}
@@ -29,11 +29,6 @@ pub holds_of : (before : Option Space) (segment : Recording) (start : Image) (fa
 holds_of before segment start fault is first =
     let holds : HasStartFault before segment fault = first.holds in
     subst (λ (s : Image). HoldsOfStart segment.layout.depth before s fault) (same_Some holds.0 start (sym holds.1 ∙ is)) holds.2
-
-pub none_of : (before : Option Space) (segment : Recording) (fault : StartFault) → segment.start ≡ None → IsFirstAfter before segment (Start fault) → ⊥
-none_of before segment fault none first =
-    let holds : HasStartFault before segment fault = first.holds in
-    let wrong : None ≡ Some holds.0 = sym none ∙ holds.1 in cc
 
 pub tables_first : (before : Option Space) (segment : Recording) (start : Image) (depth : Depth) (fault : StartFault) → segment.start ≡ Some start
     → depth ≡ segment.layout.depth → IsFirstAfter before segment (Start fault) → ((address : ℕ) → fault ≡ Differs address → ⊥)

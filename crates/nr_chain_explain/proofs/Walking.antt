@@ -1,6 +1,6 @@
 -- The units of a segment, walked to find the one that is bad.
-use Rattle.std.proofs.Common.{None, ◌≡◌, ◌<◌, ◌≤◌, ℕ, inl, inr, List, [], ◌∷◌, ◌++◌, length, take, drop, append_assoc, Option, Ok, Err, refl, sym, ap, ◌∙◌, subst, arith}
-use Rattle.std.specs.List.{concat}
+use Rattle.std.proofs.Common.{None, ◌≡◌, ◌<◌, ◌≤◌, ℕ, inl, inr, List, [], ◌∷◌, ◌++◌, length, take, drop, append_assoc, Option, Ok, Err, refl, sym, ap}
+use Rattle.std.proofs.Common.{◌∙◌, subst, arith}
 use Rattle.std.proofs.lemmas.List.{append-nil}
 use Rattle.vs_types.specs.Config.{Layout}
 use Rattle.vs_types.specs.declared.refusal.Fail.TheVariants.{Refused}
@@ -14,6 +14,7 @@ use Rattle.nr_trace.specs.declared.version.Form.TheVariants as forms
 use Rattle.nr_trace.proofs.LawsOfFormat.{no_fault_of_segment, one_fault}
 use Rattle.nr_chain.specs.inside.Between.{bytes_in}
 use Rattle.nr_chain.proofs.Pieces.{Took, refused, spelled_whole, took, took_all}
+use Rattle.nr_explain.proofs.Leads.{concat_further}
 use Rattle.nr_explain.specs.Fields.{field_fault}
 use Rattle.nr_chain_explain.proofs.Cuts.{cut_so}
 use Rattle.nr_chain_explain.specs.Units.{after, first_unit, size, GoesOn, IsBadUnit, LeadOn, Shows}
@@ -31,11 +32,6 @@ lead_further : (first : Next) (units : List (List ℕ)) (middle : Next) (bytes :
 lead_further first [] middle bytes is long =
     (long ∙ ap (λ (next : Next). size next.unit) (sym is), ap (λ (next : Next). after next bytes) is)
 lead_further first (unit ∷ units) middle bytes (is, leads) long = (is, lead_further (after first unit) units middle bytes leads long)
-
-concat_further : (units : List (List ℕ)) (bytes : List ℕ) → concat (units ++ (bytes ∷ [])) ≡ concat units ++ bytes
-concat_further [] bytes = append-nil bytes
-concat_further (unit ∷ units) bytes =
-    ap (λ (l : List ℕ). unit ++ l) (concat_further units bytes) ∙ sym (append_assoc unit (concat units) bytes)
 
 goes_further : (front bytes : List ℕ) (next : Next) → GoesOn front next → length bytes ≡ size next.unit → GoesOn (front ++ bytes) (after next bytes)
 goes_further front bytes next goes long = record {

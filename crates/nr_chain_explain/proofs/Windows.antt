@@ -20,16 +20,6 @@ use Rattle.nr_chain_explain.specs.declared.touches.Window.{Window}
 -- ---- the window
 
 module _ (start : Space) (segment : Recording) (address made answered : ℕ) where
-  pub window_at_start : (window : Window) → window.first ≡ 0 → window.last ≡ length segment.log
-      → IsWindowBelow start segment address made answered 0 window
-  window_at_start window first last = record {
-    flushed = λ place low h. absurd (omega arith);
-    reached = inl first;
-    not_foreseen = λ place low h. absurd (omega arith);
-    met = inl last;
-    within = omega arith;
-  }
-
   -- a place whose update doesn't change how the address looks
   pub window_stays : (window : Window) (end : ℕ) → (ChangesLook start segment address end → ⊥) → IsWindowBelow start segment address made answered end window
       → IsWindowBelow start segment address made answered (end + 1) window

@@ -11,9 +11,8 @@ use Rattle.vs_walk.specs.Differences.{IsStray}
 use Rattle.vs_walk.specs.Dump.{Image}
 use Rattle.vs_walk.specs.Walk.{walk, as_walk}
 use Rattle.nr_trace.specs.Recording.{Recording}
-use Rattle.nr_trace.specs.Calls.{reply_to}
-use Rattle.nr_trace.specs.Faults.{HasDump, StandsAfter}
-use Rattle.nr_trace.specs.Orders.{answer_in, before, recorded_order, space_from}
+use Rattle.nr_trace.specs.Faults.{HasDump}
+use Rattle.nr_trace.specs.Orders.{before}
 use Rattle.nr_trace.specs.declared.fault.Fault.{Fault}
 use Rattle.nr_trace.specs.declared.fault.Fault.TheVariants as faults
 use Rattle.nr_touch.specs.Touches.{IsAllowedPrefix}
@@ -23,11 +22,9 @@ use Rattle.nr_segment.specs.Touches.{HasTouch}
 use Rattle.nr_segment.specs.declared.fault.SegmentFault.{SegmentFault}
 use Rattle.nr_segment.specs.declared.fault.SegmentFault.TheVariants as segments
 use Rattle.nr_segment.specs.declared.fault.StartFault.TheVariants as starts
-use Rattle.nr_explain.specs.Evidence.{IsEvidence}
-use Rattle.nr_explain.specs.Facts.{IsCallOf, IsReplyOf, response, address_about, asked_address, entries_read, HasReservedWord, IsReservedBit}
-use Rattle.nr_explain.specs.declared.evidence.Difference.{Difference}
-use Rattle.nr_explain.specs.declared.evidence.OtherAnswer.{OtherAnswer}
-use Rattle.nr_chain_explain.specs.Facts.{looks_from, IsChangedAt, IsLastChangeFrom, IsOrigin, IsStartPath, LeadsInStart}
+use Rattle.nr_explain.specs.Evidence.{IsDifferenceFrom, IsEvidence, IsOtherAnswerFrom}
+use Rattle.nr_explain.specs.Facts.{IsCallOf, IsReplyOf, asked_address, entries_read, looks_from, HasReservedWord, IsReservedBit}
+use Rattle.nr_chain_explain.specs.Facts.{IsChangedAt, IsOrigin, IsStartPath, LeadsInStart}
 use Rattle.nr_chain_explain.specs.declared.evidence.Moment.{Moment}
 use Rattle.nr_chain_explain.specs.declared.evidence.StaleTouch.{StaleTouch}
 use Rattle.nr_chain_explain.specs.declared.evidence.StartMissing.{StartMissing}
@@ -37,28 +34,6 @@ use Rattle.nr_chain_explain.specs.declared.evidence.StartBeyond.{StartBeyond}
 use Rattle.nr_chain_explain.specs.declared.evidence.StartDiffers.{StartDiffers}
 use Rattle.nr_chain_explain.specs.declared.evidence.SegmentEvidence.{SegmentEvidence}
 use Rattle.nr_chain_explain.specs.declared.evidence.SegmentEvidence.TheVariants as evidence
-
--- the call is answered otherwise than the space answers it after the updates of the segment that come before it
-pub record IsOtherAnswerFrom (start : Space) (segment : Recording) (wrong : OtherAnswer) : Type 0 where
-  pub call : IsCallOf segment wrong.call
-  pub reply : IsReplyOf segment wrong.reply
-  pub first : reply_to segment wrong.call.event ≡ Some (response wrong.reply)
-  pub wanted : wrong.wanted
-      ≡ answer_in segment.layout (space_from start segment (before wrong.call.event (recorded_order segment))) wrong.call.request
-  pub differs : wrong.reply.answer ≢ wrong.wanted
-  pub address : wrong.address ≡ address_about wrong.call.request wrong.wanted
-  pub stands : StandsAfter segment wrong.call.event wrong.reply.at
-  pub changed : IsLastChangeFrom start segment wrong.address wrong.reply.at wrong.changed
-
--- the dump translates the address so, by these entries, and the space after the entries of the segment that it has applied otherwise
-pub record IsDifferenceFrom (start : Space) (segment : Recording) (wrong : Difference) (dump : Image) : Type 0 where
-  pub applied : wrong.applied ≡ dump.applied
-  pub canonical : IsCanonical segment.layout.depth wrong.address
-  pub found : wrong.found ≡ walk segment.layout.depth dump.frames dump.root wrong.address
-  pub path : wrong.path.items ≡ entries_read dump.frames (levels segment.layout.depth) dump.root wrong.address
-  pub wanted : wrong.wanted ≡ looks_from start segment wrong.address wrong.applied
-  pub differs : wrong.found ≢ as_walk wrong.wanted
-  pub changed : IsLastChangeFrom start segment wrong.address wrong.applied wrong.changed
 
 -- ---- starts
 

@@ -1,40 +1,20 @@
 -- Facts of a segment that evidence is made of, from the space on with which it begins.
-use Rattle.std.specs.Prelude.{◌≡◌, ◌≢◌, ℕ, ◌+◌, ◌-◌, ◌<◌, ◌≤◌, List, take, slice_get, Option, Some, None}
+use Rattle.std.specs.Prelude.{◌≡◌, ◌≢◌, ℕ, ◌-◌, ◌<◌, List, Option, Some, None}
 use Rattle.vs_types.specs.Depth.{levels}
 use Rattle.vs_types.specs.Space.{Space, no_pages}
 use Rattle.vs_types.specs.Step.{look}
-use Rattle.vs_types.specs.declared.answer.Answer.{Answer}
 use Rattle.vs_types.specs.declared.depth.Depth.{Depth}
 use Rattle.vs_walk.specs.Dump.{Image}
 use Rattle.nr_trace.specs.Recording.{Recording}
-use Rattle.nr_trace.specs.Orders.{space_from}
-use Rattle.nr_explain.specs.Facts.{IsCallOf, IsPath}
-use Rattle.nr_explain.specs.declared.evidence.PlacedUpdate.{PlacedUpdate}
+use Rattle.nr_explain.specs.Facts.{IsPath, looks_from}
 use Rattle.nr_explain.specs.declared.evidence.Step.{Step}
 use Rattle.nr_chain_explain.specs.declared.evidence.Origin.{Origin}
 use Rattle.nr_chain_explain.specs.declared.evidence.Origin.TheVariants.{Nothing, Start, Earlier}
-
--- how an address looks in the space after the first places of the log, this many
-abbrev pub looks_from : Space → Recording → ℕ → ℕ → Answer
-looks_from start segment address places = look (space_from start segment (take places segment.log)) address
-
--- the address looks the same after each number of places from the first to the last
-abbrev pub LooksSameFrom : Space → Recording → ℕ → ℕ → ℕ → Type 0
-LooksSameFrom start segment address first last = (places : ℕ) → first ≤ places → places ≤ last
-    → looks_from start segment address places ≡ looks_from start segment address last
 
 -- after so many places, some, the address looks otherwise than after one less
 pub record IsChangedAt (start : Space) (segment : Recording) (address places : ℕ) : Type 0 where
   pub some : 0 < places
   pub changed : looks_from start segment address (places - 1) ≢ looks_from start segment address places
-
--- of the places below an end, the last one whose update changed how the address looks; or none, where none did
-abbrev pub IsLastChangeFrom : Space → Recording → ℕ → ℕ → Option PlacedUpdate → Type 0
-IsLastChangeFrom start segment address end None = LooksSameFrom start segment address 0 end
-IsLastChangeFrom start segment address end (Some update) =
-    (update.place < end) × IsCallOf segment update.call × (slice_get segment.log update.place ≡ Some update.call.event)
-    × (looks_from start segment address update.place ≢ looks_from start segment address (update.place + 1))
-    × LooksSameFrom start segment address (update.place + 1) end
 
 -- the space with which a chain begins, that of its start or no pages
 abbrev pub first_of : Option Space → Space

@@ -7,7 +7,8 @@ use Rattle.nr_trace.specs.FirstFault.{HasSegmentFault}
 use Rattle.nr_trace.specs.declared.fault.Format.TheVariants.{Truncated}
 use Rattle.nr_trace.specs.declared.version.Form.TheVariants as forms
 use Rattle.nr_explain.specs.Fields.{field_fault, number_32}
-use Rattle.nr_explain.specs.Units.{no_numbers as none_in_trace, numbers_after as numbers_in_trace, place_unit, size as size_in_trace, unit_after as after_in_trace}
+use Rattle.nr_explain.specs.Units.{no_numbers as none_in_trace, numbers_after as numbers_in_trace, place_unit, size as size_in_trace}
+use Rattle.nr_explain.specs.Units.{unit_after as after_in_trace}
 use Rattle.nr_explain.specs.declared.units.TraceUnit.TheVariants.{Magic, Counts}
 use Rattle.nr_chain_explain.specs.Came.{sum_up}
 use Rattle.nr_chain_explain.specs.declared.evidence.BadSegment.{BadSegment}

@@ -4,10 +4,9 @@ ghost use Rattle.std.specs.Prelude.{◌≡◌, IfOk};
 ghost use Rattle.nr_trace.specs.Faults.{IsFirstFrom};
 ghost use Rattle.nr_trace.specs.declared.fault.Fault.TheVariants.{WrongAnswer};
 ghost use Rattle.nr_audit.specs.Verdict.{space_of};
-ghost use Rattle.nr_chain_explain.specs.Evidence.{IsOtherAnswerFrom};
+ghost use Rattle.nr_explain.specs.Evidence.{IsOtherAnswerFrom};
 
-use crate::replay::{answer_after, last_look};
-use nr_explain::{OtherAnswer, address_about, call_at, reply_to};
+use nr_explain::{OtherAnswer, address_about, answer_after, call_at, last_look, reply_to};
 use nr_segment::copy;
 use nr_trace::Trace;
 use std::alloc::Global;

@@ -4,16 +4,14 @@ ghost use Rattle.std.specs.Prelude.{◌≡◌, IfOk};
 ghost use Rattle.nr_trace.specs.Faults.{HasDump, IsFirstFrom};
 ghost use Rattle.nr_trace.specs.declared.fault.Fault.TheVariants.{Differs};
 ghost use Rattle.nr_audit.specs.Verdict.{space_of};
-ghost use Rattle.nr_chain_explain.specs.Evidence.{IsDifferenceFrom};
+ghost use Rattle.nr_explain.specs.Evidence.{IsDifferenceFrom};
 
-use crate::replay::last_look;
-use nr_explain::{Difference, entries_read};
+use nr_explain::Difference;
 use nr_segment::copy;
 use nr_trace::Trace;
 use std::alloc::Global;
 use vs_plain::PlainSpace;
 use vs_types::Memory;
-use vs_walk::translate;
 
 /// How the dump of a replica translates an address and by which entries, how the address looks in the space, where the segment begins with
 /// this one, and the last update of the segment that made it so. Allocates the entries, and a copy of the space.
@@ -31,20 +29,6 @@ pub(crate) fn difference(
     ensures is { IfOk result (λ wrong.
         HasDump segment.now wrong.replica (IsDifferenceFrom first.now.space segment.now wrong)) }
 {
-    let dump = &segment.dumps()[replica as usize];
-    let depth = segment.layout().depth();
-    let applied = dump.applied();
-    let found = translate(dump, dump.root(), depth, address);
-    let path = entries_read(alloc, dump, depth, address)?;
     let space = copy(alloc, segment.layout().tables(), first)?;
-    let (wanted, changed) = last_look(segment, space, address, applied)?;
-    Ok(Difference {
-        replica,
-        applied,
-        address,
-        found,
-        path,
-        wanted,
-        changed,
-    })
+    nr_explain::difference(alloc, segment, space, replica, address)
 }

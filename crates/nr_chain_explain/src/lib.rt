@@ -12,7 +12,6 @@ pub mod laws;
 mod origins;
 mod reader;
 mod refusing;
-mod replay;
 mod spaces;
 mod starts;
 mod touches;

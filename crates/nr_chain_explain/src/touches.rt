@@ -12,8 +12,7 @@ ghost use Rattle.nr_chain_explain.specs.inside.Windows.{IsWindowBelow, Narrows};
 
 use crate::evidence::{Moment, StaleTouch};
 use crate::origins::is_same;
-use crate::replay::apply_place;
-use nr_explain::{asked_address, call_at, reply_to};
+use nr_explain::{apply_place, asked_address, call_at, reply_to};
 use nr_segment::copy;
 use nr_trace::Trace;
 use std::alloc::Global;

@@ -1,6 +1,6 @@
 -- What is known of a chain that is read in blocks and explained.
-use Rattle.std.proofs.Common.{◌≡◌, ◌≤◌, ℕ, Bool, List, [], ◌++◌, length, Option, Some, None, refl, ap, sym, subst, ◌∙◌, arith}
-use Rattle.std.specs.Io.KnownBytes.{Appends, Consumes, IsAtEnd, Keeps}
+use Rattle.std.proofs.Common.{◌≡◌, ◌≤◌, ℕ, Bool, List, [], ◌++◌, length, Option, None, refl, sym, subst, arith}
+use Rattle.std.specs.Io.KnownBytes.{Consumes, IsAtEnd, Keeps}
 use Rattle.std.proofs.KnownBytes.{Consumes-kept, Consumes-nil, Consumes-trans}
 use Rattle.std.proofs.lemmas.List.{append-nil, append_assoc}
 use Rattle.nr_trace.specs.Recording.{Recording}
@@ -14,7 +14,7 @@ use Rattle.nr_chain_explain.proofs.Verdicts.{goes_on_so, orders_in}
 use Rattle.nr_chain_engines.specs.ChainAudit.{HasReadFewOfChain}
 use Rattle.nr_chain_engines.proofs.Going.{ends_yet, none_short}
 use Rattle.nr_chain_explain.specs.declared.explanation.ChainExplanation.{ChainExplanation}
-use Rattle.nr_engines.specs.Answers.{IsReadOf, WritesReport}
+use Rattle.nr_engines.proofs.Input.{whole_read, whole_with}
 use Rattle.nr_chain_texts.specs.ChainExplained.{IsChainExplained, chain_explanation_status, told_chain}
 use Rattle.nr_chain_texts.specs.inside.Explaining.{HasExplained}
 
@@ -69,11 +69,6 @@ few_kept known left new chain here keeps =
     few_read known left new chain [] here (Consumes-kept left left new [] (Consumes-nil left) keeps) (omega arith)
 
 -- nothing is left to read
-whole_read : (known new : Option (List ℕ)) (bytes : List ℕ) → Consumes known new bytes → IsAtEnd new → IsReadOf known bytes
-whole_read None new bytes lost end = tt
-whole_read (Some whole) None bytes lost end = absurd lost
-whole_read (Some whole) (Some left) bytes lost end = sym (lost ∙ ap (λ (l : List ℕ). bytes ++ l) end ∙ append-nil bytes)
-
 pub explained_at_end : (known left new : Option (List ℕ)) (chain : Seen) (block : List ℕ) (explanation : ChainExplanation)
     → IsExplaining known left chain → Consumes left new block → block ≡ [] → IsAtEnd new → Explains chain [] explanation
     → HasExplained known explanation
@@ -88,11 +83,6 @@ explained_at_end known left new chain block explanation here lost none end expla
     }
 
 -- the fault shows in a block, whatever comes behind it
-whole_with : (known left : Option (List ℕ)) (bytes : List ℕ) → Consumes known left bytes → (behind : List ℕ) × IsReadOf known (bytes ++ behind)
-whole_with None left bytes lost = ([], tt)
-whole_with (Some whole) None bytes lost = absurd lost
-whole_with (Some whole) (Some left) bytes lost = (left, sym lost)
-
 pub explained_in_block : (known left new : Option (List ℕ)) (chain : Seen) (block : List ℕ) (explanation : ChainExplanation)
     → IsExplaining known left chain → Consumes left new block → ((rest : List ℕ) → Explains chain (block ++ rest) explanation)
     → HasExplained known explanation
@@ -114,17 +104,4 @@ told_as as_json bytes explanation text status is text_is status_is = record {
   is_explanation = is;
   text_is = text_is;
   status_is = status_is;
-}
-
--- a report that was written
-pub writes_explained : (IsReport : List ℕ → List ℕ → ℕ
-    → Type 0) (known : Option (List ℕ)) (explanation : ChainExplanation) (text : List ℕ) (old new : Option (List ℕ)) (status exit : ℕ)
-    → (has : HasExplained known explanation) → IsReport has.input text status → exit ≡ status → Appends old new text
-    → WritesReport IsReport known old new exit
-writes_explained IsReport known explanation text old new status exit has is_report is_status appends = record {
-  input = has.input;
-  is_read = has.is_read;
-  text = text;
-  is_report = subst (λ n. IsReport has.input text n) (sym is_status) is_report;
-  written = appends;
 }

@@ -1,7 +1,9 @@
 -- No float is in the JSON of an explanation of a chain.
-use Rattle.std.proofs.Common.{◌≡◌, Bool, false, ◌||◌, List, [], ◌∷◌, Option, Some, None, ap, ap₂, map, refl}
+use Rattle.std.proofs.Common.{◌≡◌, Bool, false, ◌||◌, ◌++◌, List, [], ◌∷◌, Option, Some, None, ap, ap₂, map, refl}
 use Rattle.serde_json.specs.View.{items_of}
 use Rattle.serde_json.specs.Written.{has_float, items_have_float}
+use Rattle.nr_explain.specs.declared.evidence.Difference.{Difference}
+use Rattle.nr_explain.specs.declared.evidence.OtherAnswer.{OtherAnswer}
 use Rattle.nr_explain.specs.declared.evidence.PlacedUpdate.{PlacedUpdate}
 use Rattle.nr_explain.specs.declared.evidence.Step.{Step}
 use Rattle.nr_chain_explain.specs.declared.evidence.Origin.{Origin}
@@ -13,11 +15,14 @@ use Rattle.nr_chain_explain.specs.declared.explanation.ChainExplanation.{ChainEx
 use Rattle.nr_chain_explain.specs.declared.explanation.ChainExplanation.TheVariants.{Yes, No}
 use Rattle.nr_engines.specs.EvidenceJson.{step_data, way_data}
 use Rattle.nr_engines.proofs.NoFloats.{evidence_has_no_float}
-use Rattle.nr_engines.specs.Parts.{says_data}
+use Rattle.nr_engines.specs.Parts.{parts_data, says_data}
+use Rattle.nr_engines.specs.Evidence.{answer_parts, look_parts, missing_frame_parts, read_parts, reserved_entry_parts, shared_frame_parts}
+use Rattle.nr_engines.specs.Evidence.{stray_frame_parts, unlike_parts}
 use Rattle.nr_chain_texts.specs.ChainExplained.{chain_explanation_data}
-use Rattle.nr_chain_texts.specs.Evidence.{bad_segment_parts, chain_counts_parts, change_says, difference_parts, moment_data, origin_says}
-use Rattle.nr_chain_texts.specs.Evidence.{other_answer_parts, segment_evidence_data, start_beyond_parts, start_differs_parts, start_missing_parts}
-use Rattle.nr_chain_texts.specs.Evidence.{start_reserved_parts, start_shared_parts, start_stray_parts, window_parts}
+use Rattle.nr_chain_texts.specs.Evidence.{allowed_parts, bad_segment_parts, begin_parts, chain_counts_parts, change_parts}
+use Rattle.nr_chain_texts.specs.Evidence.{difference_parts, moment_data, origin_parts, origin_says, other_answer_parts, segment_evidence_data}
+use Rattle.nr_chain_texts.specs.Evidence.{segment_parts, start_beyond_parts, start_differs_parts, start_missing_parts, start_reserved_parts}
+use Rattle.nr_chain_texts.specs.Evidence.{start_shared_parts, start_stray_parts, window_parts, with_looks}
 
 steps : (entries : List Step) → items_have_float (items_of (map step_data entries)) ≡ false
 steps [] = refl
@@ -36,11 +41,6 @@ from Nothing = refl
 from Start = refl
 from Earlier = refl
 
-change : (update : Option PlacedUpdate) (origin : Origin) → has_float (says_data (change_says update origin)) ≡ false
-unfolding says_data change_says
-change None origin = from origin
-change (Some update) origin = refl
-
 -- one of the members may be any of these, or two
 abbrev one : Bool → Bool
 one b = b || false
@@ -48,13 +48,27 @@ one b = b || false
 abbrev two : Bool → Bool → Bool
 two a b = a || (b || false)
 
+answered : (wrong : OtherAnswer) (update : Option PlacedUpdate) (origin : Origin)
+    → has_float (parts_data (answer_parts wrong ++ change_parts update origin)) ≡ false
+unfolding says_data answer_parts change_parts origin_parts
+answered wrong None origin = ap one (from origin)
+answered wrong (Some update) origin = refl
+
+translated : (wrong : Difference) (update : Option PlacedUpdate) (origin : Origin)
+    → has_float (parts_data (unlike_parts wrong ++ change_parts update origin)) ≡ false
+unfolding says_data unlike_parts look_parts change_parts origin_parts
+translated wrong None origin = ap₂ two (from origin) (way wrong.path.items)
+translated wrong (Some update) origin = ap one (way wrong.path.items)
+
 segment_evidence_has_no_float : (evidence : SegmentEvidence) → has_float (segment_evidence_data evidence) ≡ false
-unfolding segment_evidence_data says_data bad_segment_parts other_answer_parts difference_parts start_missing_parts start_shared_parts
-    start_reserved_parts start_stray_parts start_beyond_parts start_differs_parts window_parts
+unfolding says_data bad_segment_parts other_answer_parts difference_parts start_missing_parts start_shared_parts
+    start_reserved_parts start_stray_parts start_beyond_parts start_differs_parts window_parts segment_parts with_looks change_parts begin_parts
+    allowed_parts origin_parts read_parts missing_frame_parts shared_frame_parts reserved_entry_parts stray_frame_parts answer_parts look_parts
+    unlike_parts
 segment_evidence_has_no_float (shown.Format bad) = refl
 segment_evidence_has_no_float (shown.Within evidence) = evidence_has_no_float evidence
-segment_evidence_has_no_float (shown.WrongAnswer wrong origin) = ap one (change wrong.changed origin)
-segment_evidence_has_no_float (shown.Differs wrong origin) = ap₂ two (change wrong.changed origin) (way wrong.path.items)
+segment_evidence_has_no_float (shown.WrongAnswer wrong origin) = answered wrong wrong.changed origin
+segment_evidence_has_no_float (shown.Differs wrong origin) = translated wrong wrong.changed origin
 segment_evidence_has_no_float (shown.StartMissing wrong) = ap one (way wrong.path.items)
 segment_evidence_has_no_float (shown.StartShared wrong) = ap₂ two (way wrong.first.items) (way wrong.second.items)
 segment_evidence_has_no_float (shown.StartReserved wrong) = ap one (way wrong.path.items)

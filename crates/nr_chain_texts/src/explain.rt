@@ -11,9 +11,8 @@ ghost use Rattle.nr_chain_texts.specs.ChainExplained.{chain_explanation_data, ch
 ghost use Rattle.nr_chain_texts.specs.ChainExplained.{chain_explanation_text, shown_text, told_chain, IsChainExplained};
 ghost use Rattle.nr_chain_texts.specs.inside.Explaining.{HasExplained};
 
-use crate::evidence::{
-    chain_counts_lines, chain_counts_value, segment_evidence_text, segment_evidence_value,
-};
+use crate::counts::{chain_counts_lines, chain_counts_value};
+use crate::evidence::{segment_evidence_text, segment_evidence_value};
 use crate::sentence::segment_sentence;
 use nr_chain_engines::segment_fault_text;
 use nr_chain_explain::{ChainCounts, ChainExplanation, ChainReader, Fed, SegmentEvidence};

@@ -2,6 +2,7 @@
 //! that reads a chain and prints it: `explain_chain_io`. What it writes is a function of what it reads.
 #![tactic(auto)]
 
+mod counts;
 mod evidence;
 mod explain;
 mod sentence;

@@ -1,23 +1,41 @@
 -- What a parse by clap says of the inspection that is asked for.
-use Rattle.std.proofs.Common.{◌≡◌, ◌∙◌, ◌≤◌, ◌⊎◌, map, ℕ, Bool, true, false, List, [], ◌∷◌, Option, Some, None, Result, Ok, Err, ap, inl, inr, sym, refl, subst, codes, option_map, unwrap_or}
+use Rattle.std.proofs.Common.{◌≡◌, ◌∙◌, ◌≤◌, ◌⊎◌, ◌||◌, map, ℕ, Bool, true, false, List, [], ◌∷◌, Option, Some, None, Result, Ok, Err, ap, ap₂, inl}
+use Rattle.std.proofs.Common.{inr, sym, refl, subst, codes, option_map, unwrap_or}
 use Rattle.std.proofs.Common.{Bor, Box, IfErr, IfOk}
 use Rattle.std.specs.Result.{IsErrAnd}
 use Rattle.std.specs.Box.{box_value}
 use Rattle.std.specs.Str.Parse.{ParsesUnsigned}
-use Rattle.clap.specs.Words.{HasKind, Kinds, ReadsOne, kind_of, Row, Text, subcommand_rows}
+use Rattle.clap.specs.Words.{AddsArg, App, HasKind, Kinds, ReadsOne, Row, Rule, Text, app_of, kind_of, rule_of, subcommand_rows, with_rule}
 use Rattle.clap.specs.Walk.{one_of}
 use Rattle.std.proofs.lemmas.List.{length-map}
+use Rattle.clap.specs.declared.builder.arg.Arg.{Arg}
+use Rattle.clap.specs.declared.builder.command.Command.{Command}
 use Rattle.clap.specs.declared.error.Error.{Error}
 use Rattle.clap.specs.declared.error.kind.ErrorKind.{ErrorKind}
 use Rattle.clap.specs.declared.error.kind.ErrorKind.TheVariants.{OutOfMemory}
 use Rattle.clap.specs.declared.parser.matches.SubCommand.{SubCommand}
 use Rattle.clap.specs.declared.parser.matches.ArgMatches.TheViews.{out-SubCommand}
-use Rattle.nr_commands.specs.Words.{AsksAudit, AsksTraces, HasSeveralFiles, IsFlag, IsMisuse, IsMisused, IsPagesMisuse, IsReplica}
+use Rattle.nr_commands.specs.Words.{AsksAudit, AsksTraces, HasSeveralFiles, IsFlag, IsLocal, IsMisuse, IsMisused, IsPagesMisuse, IsReplica}
 use Rattle.nr_commands.specs.declared.inspection.Inspection.{Inspection}
 use Rattle.nr_commands.specs.declared.inspection.Inspection.TheVariants.{One, Each, Chain}
 use Rattle.nr_commands.specs.declared.task.ChainTask.TheVariants as chains
 use Rattle.nr_commands.specs.declared.task.Task.{Task}
 use Rattle.nr_commands.specs.declared.task.Task.TheVariants.{Audit, Explain, Resolve, Pages}
+
+-- what the options of a command come to so far, none of them for its subcommands
+pub record IsSoFar (command : Command) (app : App) : Type 0 where
+  pub app_is : app_of command ≡ app
+  pub local : IsLocal command
+
+pub so_far : {command : Command} {app : App} → app_of command ≡ app → IsLocal command → IsSoFar command app
+so_far app_is local = record { app_is = app_is; local = local }
+
+pub with_option : {old new : Command} {arg : Arg} {app : App} {rule : Rule} → AddsArg old arg new → IsSoFar old app → rule_of arg ≡ rule
+    → arg.global ≡ false → IsSoFar new (with_rule app rule)
+with_option adds so rule_is own = record {
+  app_is = adds.shape own ∙ ap₂ with_rule so.app_is rule_is;
+  local = adds.globals ∙ ap₂ (λ (a b : Bool). a || b) so.local own;
+}
 
 -- one kind more may come
 pub one_more : (k : ErrorKind) (kinds : Kinds) (e : Error) → HasKind kinds e → HasKind (k ∷ kinds) e

@@ -1,6 +1,6 @@
 -- What is said of several files, one after another.
-use Rattle.std.proofs.Common.{◌≡◌, ◌∙◌, ◌++◌, ◌+◌, ◌<◌, ℕ, Bor, List, [], ◌∷◌, Option, Result, Ok, Err, IfErr, ap, ap₂, append-nil, arith, get_or, length, map, max, refl, subst, sym, take, inl, inr}
-use Rattle.std.specs.Prelude.{IfOk}
+use Rattle.std.proofs.Common.{◌≡◌, ◌∙◌, ◌++◌, ◌+◌, ◌<◌, ℕ, Bor, List, [], ◌∷◌, Option, ap, ap₂, append-nil, arith, get_or}
+use Rattle.std.proofs.Common.{length, map, max, refl, subst, sym, take, inl, inr}
 use Rattle.std.specs.List.{concat}
 use Rattle.std.specs.Io.KnownBytes.{Appends}
 use Rattle.std.proofs.KnownBytes.{Appends-nil, Appends-trans}
@@ -8,11 +8,9 @@ use Rattle.std.proofs.Math.Nat.{max-zero, zero-max}
 use Rattle.std.proofs.lemmas.List.{map-append, map_more}
 use Rattle.std.proofs.lemmas.List.Elements.{All-nil, All-push}
 use Rattle.std.proofs.lemmas.List.Folds.{concat-append}
-use Rattle.nr_engines.specs.Answers.{WritesReport}
-use Rattle.nr_engines.specs.Refusals.{WritesAnswersAlone, refusal_status}
+use Rattle.nr_engines.specs.Refusals.{refusal_status}
 use Rattle.nr_engines.specs.declared.fault.ProgFault.{ProgFault}
-use Rattle.nr_commands.specs.Tasks.{AuditsEach, AuditsOne, FileLine, IsFileLine, IsTaskFault, IsTaskReport, IsVerdictLine, RunsTaskOnFile, worst}
-use Rattle.nr_commands.specs.declared.task.Task.{Task}
+use Rattle.nr_commands.specs.Tasks.{AuditsEach, AuditsOne, FileLine, IsFileLine, IsVerdictLine, worst}
 
 max_in_turn : (a b c : ℕ) → max a (max b c) ≡ max (max a b) c
 max_in_turn a b c = omega arith
@@ -79,12 +77,3 @@ no_line file_bytes name fault old new status is same = record {
   written = subst (λ (k : Option (List ℕ)). Appends old k []) (sym same) (Appends-nil old);
   status_is = refl;
 }
-
--- what was done of a task is what was done of a file with these bytes
-pub task_of_file : {W : Type 0} (task : Task) (known has : Option (List ℕ)) (contents : W → Option (List ℕ)) (old new : W) (outcome : Result ℕ ProgFault)
-    → known ≡ has → IfOk outcome (WritesReport (IsTaskReport task) known (contents old) (contents new)) → IfErr outcome (IsTaskFault task known)
-    → WritesAnswersAlone old new outcome → RunsTaskOnFile task has contents old new outcome
-task_of_file task known has contents old new (Ok status) is ok err alone =
-    subst (λ (k : Option (List ℕ)). RunsTaskOnFile task k contents old new (Ok status)) is (inl (record { ends = ok; alone = alone }))
-task_of_file task known has contents old new (Err fault) is ok err alone =
-    subst (λ (k : Option (List ℕ)). RunsTaskOnFile task k contents old new (Err fault)) is (inl (record { ends = err; alone = alone }))

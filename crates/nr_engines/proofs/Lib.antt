@@ -1,5 +1,5 @@
 pub mod Input
 pub mod Reports
-pub mod UnitInput
 pub mod UnitTexts
 pub mod NoFloats
+pub mod Puts

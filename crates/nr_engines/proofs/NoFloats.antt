@@ -17,8 +17,12 @@ use Rattle.nr_engines.specs.FullExplained.{dump_data, full_data}
 use Rattle.nr_engines.specs.EvidenceJson.{changed_data, event_data, number_data, option_data, own_data, step_data, way_data}
 use Rattle.nr_engines.specs.Parts.{says_data}
 use Rattle.nr_engines.specs.Evidence.{counts_parts, evidence_data, evidence_parts}
-use Rattle.nr_engines.specs.Evidence.{bad_unit_parts, difference_parts, early_parts, long_prefix_parts, misplaced_parts, missing_parts, no_update_parts, open_parts, other_answer_parts}
-use Rattle.nr_engines.specs.Evidence.{past_end_parts, reserved_parts, shared_parts, short_prefix_parts, stray_parts, stray_reply_parts, two_places_parts, two_replies_parts}
+use Rattle.nr_engines.specs.Evidence.{bad_unit_parts, difference_parts, early_parts, long_prefix_parts, misplaced_parts, missing_parts, no_update_parts}
+use Rattle.nr_engines.specs.Evidence.{open_parts, other_answer_parts}
+use Rattle.nr_engines.specs.Evidence.{past_end_parts, reserved_parts, shared_parts, short_prefix_parts, stray_parts, stray_reply_parts, two_places_parts}
+use Rattle.nr_engines.specs.Evidence.{two_replies_parts}
+use Rattle.nr_engines.specs.Evidence.{answer_parts, changed_parts, look_parts, missing_frame_parts, read_parts, replica_parts, reserved_entry_parts}
+use Rattle.nr_engines.specs.Evidence.{shared_frame_parts, stray_frame_parts, unlike_parts}
 use Rattle.nr_engines.specs.Explained.{explanation_data}
 
 numbers : (order : List ℕ) → items_have_float (items_of (map number_data order)) ≡ false
@@ -60,7 +64,8 @@ two a b = a || (b || false)
 pub evidence_has_no_float : (shown : Evidence) → has_float (evidence_data shown) ≡ false
 unfolding evidence_parts says_data bad_unit_parts open_parts stray_reply_parts two_replies_parts no_update_parts two_places_parts
     misplaced_parts past_end_parts early_parts other_answer_parts long_prefix_parts short_prefix_parts missing_parts shared_parts
-    reserved_parts stray_parts difference_parts
+    reserved_parts stray_parts difference_parts read_parts missing_frame_parts shared_frame_parts reserved_entry_parts stray_frame_parts
+    answer_parts look_parts unlike_parts changed_parts replica_parts
 evidence_has_no_float (evidence.Format bad) = refl
 evidence_has_no_float (evidence.ThreadOpen calls) = refl
 evidence_has_no_float (evidence.NoSuchCall stray) = ap one (event stray.reply.call stray.named)

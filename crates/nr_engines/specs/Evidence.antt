@@ -1,9 +1,13 @@
 -- What shows a fault, each fact of it, and how much a right trace has; the lines and the JSON object of it.
-use Rattle.std.specs.Prelude.{ℕ, List, [], ◌∷◌, codes, length}
+use Rattle.std.specs.Prelude.{ℕ, ◌++◌, List, [], ◌∷◌, codes, length, Option}
 use Rattle.serde_json.specs.Data.{Data}
+use Rattle.vs_types.specs.declared.answer.Answer.{Answer}
+use Rattle.vs_walk.specs.declared.walk.Walk.{Walk}
 use Rattle.nr_explain.specs.Units.{size}
 use Rattle.nr_explain.specs.declared.counts.Counts.{Counts}
 use Rattle.nr_explain.specs.declared.units.BadUnit.{BadUnit}
+use Rattle.nr_explain.specs.declared.evidence.PlacedUpdate.{PlacedUpdate}
+use Rattle.nr_explain.specs.declared.evidence.Step.{Step}
 use Rattle.nr_explain.specs.declared.evidence.OpenCalls.{OpenCalls}
 use Rattle.nr_explain.specs.declared.evidence.StrayReply.{StrayReply}
 use Rattle.nr_explain.specs.declared.evidence.TwoReplies.{TwoReplies}
@@ -24,17 +28,66 @@ use Rattle.nr_explain.specs.declared.evidence.Evidence.{Evidence}
 use Rattle.nr_explain.specs.declared.evidence.Evidence.TheVariants as evidence
 use Rattle.nr_engines.specs.Text.{line_end}
 use Rattle.nr_engines.specs.Parts.{Part, said, told, words, named, parts_data, parts_text}
-use Rattle.nr_engines.specs.Parts.{address, allowed, answer, bytes, call, changed, count, event, frame, own, place, reply, reserved, step, steps, text, unit, walk, way}
+use Rattle.nr_engines.specs.Parts.{address, allowed, answer, bytes, call, changed, count, event, frame, own, place, reply, reserved, step, steps, text, unit}
+use Rattle.nr_engines.specs.Parts.{walk, way}
 
 -- the name of the fault
 abbrev pub fault_is : List ℕ → Part
 fault_is name = named (codes "fault") (text name)
 
+-- what was read of a unit of this size, behind its name
+unfoldable pub read_parts : ℕ → List ℕ → ℕ → List Part
+read_parts offset read size = words (codes ", at byte ") ∷ told (codes "offset") (count offset) ∷ words (codes "\nread ")
+    ∷ told (codes "there") (count (length read)) ∷ words (codes " of ") ∷ told (codes "size") (count size) ∷ words (codes " bytes: ")
+    ∷ told (codes "read") (bytes read) ∷ words line_end ∷ []
+
+-- a frame that isn't there, and the way to it
+unfoldable pub missing_frame_parts : List ℕ → List Step → ℕ → List ℕ → List Part
+missing_frame_parts fault path number end = fault_is fault ∷ told (codes "path") (way path) ∷ words (codes "frame ") ∷ told (codes "frame") (frame number)
+    ∷ words end ∷ []
+
+-- a frame to which tables lead twice, and the ways to it
+unfoldable pub shared_frame_parts : List ℕ → List Step → List Step → ℕ → List Part
+shared_frame_parts fault first second number = fault_is fault ∷ words (codes "one way:\n") ∷ told (codes "first") (way first)
+    ∷ words (codes "another:\n") ∷ told (codes "second") (way second) ∷ named (codes "frame") (frame number) ∷ []
+
+-- an entry with a reserved bit set, and the way to it
+unfoldable pub reserved_entry_parts : List ℕ → List Step → Step → ℕ → List Part
+reserved_entry_parts fault path entry bit = fault_is fault ∷ told (codes "path") (steps path) ∷ told (codes "entry") (step entry)
+    ∷ words (codes "bit ") ∷ told (codes "bit") (count bit) ∷ words (codes " is set: ") ∷ said (reserved entry.level) ∷ words line_end ∷ []
+
+-- a frame to which no table leads
+unfoldable pub stray_frame_parts : List ℕ → ℕ → List Part
+stray_frame_parts fault number = fault_is fault ∷ words (codes "no table leads to frame ") ∷ told (codes "frame") (frame number) ∷ words line_end ∷ []
+
+-- a wrong answer, and the one of the space, up to the address
+unfoldable pub answer_parts : OtherAnswer → List Part
+answer_parts wrong = fault_is (codes "WrongAnswer") ∷ told (codes "call") (call wrong.call) ∷ told (codes "reply") (reply wrong.reply)
+    ∷ words (codes "the space answers: ") ∷ told (codes "wanted") (answer wrong.wanted) ∷ words (codes "\naddress ")
+    ∷ told (codes "address") (address wrong.address) ∷ []
+
+-- how tables translate an address, and how it looks in the space, up to the address
+unfoldable pub look_parts : Walk → List Step → Answer → ℕ → List Part
+look_parts found path wanted at = told (codes "found") (walk found) ∷ words line_end ∷ told (codes "path") (steps path)
+    ∷ words (codes "the space: ") ∷ told (codes "wanted") (answer wanted) ∷ words (codes "\naddress ") ∷ told (codes "address") (address at) ∷ []
+
+-- how a dump translates an address and the space doesn't, up to the address
+unfoldable pub unlike_parts : Difference → List Part
+unlike_parts wrong = (fault_is (codes "Differs") ∷ named (codes "replica") (count wrong.replica) ∷ words (codes "applied: ")
+    ∷ told (codes "applied") (count wrong.applied) ∷ words (codes "\nthe dump: ") ∷ [])
+    ++ look_parts wrong.found wrong.path.items wrong.wanted wrong.address
+
+-- the last change of an address, behind the address
+unfoldable pub changed_parts : Option PlacedUpdate → List Part
+changed_parts update = words (codes ", ") ∷ told (codes "changed") (changed update) ∷ []
+
+-- the replica of a dump
+unfoldable pub replica_parts : ℕ → List Part
+replica_parts replica = named (codes "replica") (count replica) ∷ []
+
 unfoldable pub bad_unit_parts : BadUnit → List Part
-bad_unit_parts bad = fault_is (codes "Format") ∷ told (codes "unit") (unit bad.unit) ∷ words (codes ", at byte ")
-    ∷ told (codes "offset") (count bad.offset) ∷ words (codes "\nread ") ∷ told (codes "there") (count (length bad.read.items)) ∷ words (codes " of ")
-    ∷ told (codes "size") (count (size bad.unit)) ∷ words (codes " bytes: ") ∷ told (codes "read") (bytes bad.read.items) ∷ words line_end
-    ∷ told (codes "format") (allowed bad.fault) ∷ []
+bad_unit_parts bad = ((fault_is (codes "Format") ∷ told (codes "unit") (unit bad.unit) ∷ [])
+    ++ read_parts bad.offset bad.read.items (size bad.unit)) ++ (told (codes "format") (allowed bad.fault) ∷ [])
 
 unfoldable pub open_parts : OpenCalls → List Part
 open_parts calls = fault_is (codes "ThreadOpen") ∷ told (codes "first") (call calls.first) ∷ told (codes "second") (call calls.second) ∷ []
@@ -70,9 +123,7 @@ early_parts early = fault_is (codes "Early") ∷ told (codes "call") (call early
     ∷ told (codes "floor") (count early.floor) ∷ words line_end ∷ told (codes "reply") (reply early.reply) ∷ told (codes "answered") (call early.answered) ∷ []
 
 unfoldable pub other_answer_parts : OtherAnswer → List Part
-other_answer_parts wrong = fault_is (codes "WrongAnswer") ∷ told (codes "call") (call wrong.call) ∷ told (codes "reply") (reply wrong.reply)
-    ∷ words (codes "the space answers: ") ∷ told (codes "wanted") (answer wrong.wanted) ∷ words (codes "\naddress ")
-    ∷ told (codes "address") (address wrong.address) ∷ words (codes ", ") ∷ told (codes "changed") (changed wrong.changed) ∷ []
+other_answer_parts wrong = answer_parts wrong ++ changed_parts wrong.changed
 
 unfoldable pub long_prefix_parts : LongPrefix → List Part
 long_prefix_parts wrong = fault_is (codes "PrefixPastLog") ∷ words (codes "applied: ") ∷ told (codes "applied") (count wrong.applied)
@@ -84,27 +135,20 @@ short_prefix_parts wrong = fault_is (codes "PrefixShort") ∷ words (codes "appl
     ∷ told (codes "call") (call wrong.call) ∷ named (codes "replica") (count wrong.replica) ∷ []
 
 unfoldable pub missing_parts : MissingTable → List Part
-missing_parts wrong = fault_is (codes "MissingFrame") ∷ told (codes "path") (way wrong.path.items) ∷ words (codes "frame ")
-    ∷ told (codes "frame") (frame wrong.frame) ∷ words (codes ", which the dump doesn't have\n") ∷ named (codes "replica") (count wrong.replica) ∷ []
+missing_parts wrong = missing_frame_parts (codes "MissingFrame") wrong.path.items wrong.frame (codes ", which the dump doesn't have\n")
+    ++ replica_parts wrong.replica
 
 unfoldable pub shared_parts : SharedTable → List Part
-shared_parts wrong = fault_is (codes "SharedFrame") ∷ words (codes "one way:\n") ∷ told (codes "first") (way wrong.first.items) ∷ words (codes "another:\n")
-    ∷ told (codes "second") (way wrong.second.items) ∷ named (codes "frame") (frame wrong.frame) ∷ named (codes "replica") (count wrong.replica) ∷ []
+shared_parts wrong = shared_frame_parts (codes "SharedFrame") wrong.first.items wrong.second.items wrong.frame ++ replica_parts wrong.replica
 
 unfoldable pub reserved_parts : ReservedEntry → List Part
-reserved_parts wrong = fault_is (codes "ReservedBit") ∷ told (codes "path") (steps wrong.path.items) ∷ told (codes "entry") (step wrong.entry)
-    ∷ words (codes "bit ") ∷ told (codes "bit") (count wrong.bit) ∷ words (codes " is set: ") ∷ said (reserved wrong.entry.level) ∷ words line_end
-    ∷ named (codes "replica") (count wrong.replica) ∷ []
+reserved_parts wrong = reserved_entry_parts (codes "ReservedBit") wrong.path.items wrong.entry wrong.bit ++ replica_parts wrong.replica
 
 unfoldable pub stray_parts : StrayTable → List Part
-stray_parts wrong = fault_is (codes "StrayFrame") ∷ words (codes "no table leads to frame ") ∷ told (codes "frame") (frame wrong.frame) ∷ words line_end
-    ∷ named (codes "replica") (count wrong.replica) ∷ []
+stray_parts wrong = stray_frame_parts (codes "StrayFrame") wrong.frame ++ replica_parts wrong.replica
 
 unfoldable pub difference_parts : Difference → List Part
-difference_parts wrong = fault_is (codes "Differs") ∷ words (codes "applied: ") ∷ told (codes "applied") (count wrong.applied) ∷ words (codes "\nthe dump: ")
-    ∷ told (codes "found") (walk wrong.found) ∷ words line_end ∷ told (codes "path") (steps wrong.path.items) ∷ words (codes "the space: ")
-    ∷ told (codes "wanted") (answer wrong.wanted) ∷ words (codes "\naddress ") ∷ told (codes "address") (address wrong.address) ∷ words (codes ", ")
-    ∷ told (codes "changed") (changed wrong.changed) ∷ named (codes "replica") (count wrong.replica) ∷ []
+difference_parts wrong = unlike_parts wrong ++ changed_parts wrong.changed
 
 -- the facts of the evidence
 unfoldable pub evidence_parts : Evidence → List Part

@@ -2,7 +2,8 @@
 use Rattle.std.specs.Prelude.{ℕ, ◌++◌, ◌==◌, List, [], codes, decimal, Option, Some, None, if◌then◌else◌}
 use Rattle.vs_text.specs.Words.{hexadecimal}
 use Rattle.nr_explain.specs.declared.fields.EventField.{EventField}
-use Rattle.nr_explain.specs.declared.fields.EventField.TheVariants.{Tag, Replica, Thread, Kind, Size, Access, Rights, Mode, Unused, Address, Physical, Answer, Value}
+use Rattle.nr_explain.specs.declared.fields.EventField.TheVariants.{Tag, Replica, Thread, Kind, Size, Access, Rights, Mode, Unused, Address, Physical, Answer}
+use Rattle.nr_explain.specs.declared.fields.EventField.TheVariants.{Value}
 use Rattle.nr_explain.specs.declared.fields.FieldFault.{FieldFault}
 use Rattle.nr_explain.specs.declared.fields.FieldFault.TheVariants.{NotBelow, NotCanonical, NotMultiple, Beyond}
 use Rattle.nr_explain.specs.declared.fields.BadField.{BadField}

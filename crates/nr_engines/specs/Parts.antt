@@ -1,5 +1,5 @@
 -- What is said of a fault, as a list of parts: words, and facts with their names. One walk makes lines of it, another a JSON object.
-use Rattle.std.specs.Prelude.{ℕ, List, [], decimal, flat_map, fold, Option}
+use Rattle.std.specs.Prelude.{ℕ, ◌++◌, List, [], decimal, flat_map, fold, Option}
 use Rattle.serde_json.specs.Data.{Data, Members, no_members, object, put, string}
 use Rattle.vs_types.specs.declared.answer.Answer.{Answer}
 use Rattle.vs_text.specs.Words.{hexadecimal}
@@ -113,6 +113,16 @@ put_part members (named name it) = put name (says_data it) members
 -- the object with the members of all parts
 abbrev pub parts_data : List Part → Data
 parts_data parts = object (fold put_part no_members parts)
+
+-- what takes parts has: lines, or the members of an object
+pub data Put : Type 0 where
+  lines : List ℕ → Put
+  members : Members → Put
+
+-- with these parts behind
+unfoldable pub put_all : List Part → Put → Put
+put_all parts (lines it) = lines (it ++ parts_text parts)
+put_all parts (members them) = members (fold put_part them parts)
 
 -- what the values of the code are
 abbrev pub says_of : Spoken → Says

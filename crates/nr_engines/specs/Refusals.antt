@@ -4,7 +4,8 @@ use Rattle.vs_text.specs.Words.{SpellsAddress}
 use Rattle.nr_engines.specs.Text.{line_end}
 use Rattle.nr_engines.specs.Answers.{IsReadOf, IsOutOfItsDepth, IsResolve, LacksReplica}
 use Rattle.nr_engines.specs.declared.fault.ProgFault.{ProgFault}
-use Rattle.nr_engines.specs.declared.fault.ProgFault.TheVariants.{BadAddress, NotCanonical, NoSuchReplica, InputTooLong, BadLine, NoThread, CannotRead, CannotWrite, Memory}
+use Rattle.nr_engines.specs.declared.fault.ProgFault.TheVariants.{BadAddress, NotCanonical, NoSuchReplica, InputTooLong, BadLine, NoThread, CannotRead}
+use Rattle.nr_engines.specs.declared.fault.ProgFault.TheVariants.{CannotWrite, Memory}
 
 -- 3 where memory ran out, else 2
 abbrev pub refusal_status : ProgFault → ℕ

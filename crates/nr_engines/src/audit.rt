@@ -7,10 +7,11 @@ ghost use Rattle.nr_engines.specs.Text.{verdict_line};
 ghost use Rattle.nr_engines.specs.Refusals.{IsEndFault, WritesAnswersAlone};
 ghost use Rattle.nr_engines.specs.Answers.{HasReadFew, IsAudit, IsNamedAudit, WritesReport};
 
-use crate::ends::{read_trace, write_report};
+use crate::ends::write_report;
 use crate::fault::ProgFault;
 use crate::report::Report;
 use crate::text::{verdict_line, verdict_text};
+use crate::unit_input::read_trace;
 use nr_audit::{Verdict, judge_read};
 use nr_trace::{Format, Trace};
 use std::alloc::{AllocError, Global};

@@ -1,83 +1,118 @@
 //! What shows each fault, and how much a right trace has.
 
-ghost use Rattle.std.specs.Prelude.{◌≡◌, IfOk, map, string_bytes};
+ghost use Rattle.std.specs.Prelude.{◌≡◌, IfOk, OnOk, map, string_bytes};
 ghost use Rattle.serde_json.specs.View.{view};
-ghost use Rattle.nr_engines.specs.Evidence.{bad_unit_parts, counts_data, counts_lines, counts_parts, difference_parts, early_parts, evidence_data};
-ghost use Rattle.nr_engines.specs.Evidence.{evidence_text, long_prefix_parts, misplaced_parts, missing_parts, no_update_parts};
-ghost use Rattle.nr_engines.specs.Evidence.{open_parts, other_answer_parts, past_end_parts, reserved_parts, shared_parts, short_prefix_parts};
-ghost use Rattle.nr_engines.specs.Evidence.{stray_parts, stray_reply_parts, two_places_parts, two_replies_parts};
-ghost use Rattle.nr_engines.specs.Parts.{part_of};
+ghost use Rattle.nr_engines.specs.Evidence.{bad_unit_parts, changed_parts, counts_data, counts_lines, counts_parts, difference_parts};
+ghost use Rattle.nr_engines.specs.Evidence.{early_parts, evidence_data, evidence_parts, evidence_text, long_prefix_parts, misplaced_parts};
+ghost use Rattle.nr_engines.specs.Evidence.{missing_parts, no_update_parts, open_parts, other_answer_parts, past_end_parts};
+ghost use Rattle.nr_engines.specs.Evidence.{replica_parts, reserved_parts, shared_parts, short_prefix_parts, stray_parts, stray_reply_parts};
+ghost use Rattle.nr_engines.specs.Evidence.{two_places_parts, two_replies_parts};
+ghost use Rattle.nr_engines.specs.Parts.{part_of, put_all};
 
+use crate::output::Output;
 use crate::part_json::parts_value;
 use crate::part_text::parts_text;
 use crate::parts::{Part, Says};
+use crate::shared::{
+    put_answer, put_missing_frame, put_read, put_reserved_entry, put_shared_frame, put_stray_frame,
+    put_unlike,
+};
 use nr_explain::{
     BadUnit, Counts, Difference, EarlyCall, Evidence, LongPrefix, Misplaced, MissingTable,
-    NoUpdate, OpenCalls, OtherAnswer, PastEnd, ReservedEntry, SharedTable, ShortPrefix, StrayReply,
-    StrayTable, TwoPlaces, TwoReplies,
+    NoUpdate, OpenCalls, OtherAnswer, PastEnd, PlacedUpdate, ReservedEntry, SharedTable,
+    ShortPrefix, StrayReply, StrayTable, TwoPlaces, TwoReplies,
 };
-use serde_json::Value;
+use serde_json::{Map, Value};
 use std::alloc::{AllocError, Global};
 
-#[tactic(auto, unfolding(crate::specs::Evidence::bad_unit_parts))]
-fn bad_unit_parts(bad: &BadUnit) -> [Part<'_>; 12]
-    ensures { map part_of result ≡ bad_unit_parts bad.now }
+/// Puts the replica of a dump.
+#[tactic(auto, unfolding(crate::specs::Evidence::replica_parts))]
+fn put_replica<O: Output>(out: &mut O, alloc: Global, replica: u8) -> Result<(), AllocError>
+    ensures { OnOk result (O.held out.new ≡ put_all (replica_parts replica) (O.held out.old)) }
 {
-    [
+    let parts = [Part::Named("replica", Says::Count(u64::from(replica)))];
+    out.put_all(alloc, &parts)
+}
+
+/// Puts the last change of an address, behind the address.
+#[tactic(auto, unfolding(crate::specs::Evidence::changed_parts))]
+fn put_changed<O: Output>(
+    out: &mut O,
+    alloc: Global,
+    changed: Option<PlacedUpdate>,
+) -> Result<(), AllocError>
+    ensures { OnOk result (O.held out.new ≡ put_all (changed_parts changed) (O.held out.old)) }
+{
+    let parts = [
+        Part::Words(", "),
+        Part::Told("changed", Says::Changed(changed)),
+    ];
+    out.put_all(alloc, &parts)
+}
+
+#[tactic(auto, unfolding(crate::specs::Evidence::bad_unit_parts))]
+fn put_bad_unit<O: Output>(out: &mut O, alloc: Global, bad: &BadUnit) -> Result<(), AllocError>
+    ensures { OnOk result (O.held out.new ≡ put_all (bad_unit_parts bad.now) (O.held out.old)) }
+{
+    let begin = [
         Part::Named("fault", Says::Text("Format")),
         Part::Told("unit", Says::Unit(bad.unit)),
-        Part::Words(", at byte "),
-        Part::Told("offset", Says::Count(bad.offset)),
-        Part::Words("\nread "),
-        Part::Told("there", Says::Count(bad.read.len() as u64)),
-        Part::Words(" of "),
-        Part::Told("size", Says::Count(bad.unit.size() as u64)),
-        Part::Words(" bytes: "),
-        Part::Told("read", Says::Bytes(bad.read.as_slice())),
-        Part::Words("\n"),
-        Part::Told("format", Says::Allowed(bad.fault)),
-    ]
+    ];
+    out.put_all(alloc, &begin)?;
+    put_read(out, alloc, bad.offset, bad.read.as_slice(), bad.unit.size())?;
+    out.put_all(alloc, &[Part::Told("format", Says::Allowed(bad.fault))])
 }
 
 #[tactic(auto, unfolding(crate::specs::Evidence::open_parts))]
-fn open_parts<'a>(calls: OpenCalls) -> [Part<'a>; 3]
-    ensures { map part_of result ≡ open_parts calls }
+fn put_open<O: Output>(out: &mut O, alloc: Global, calls: OpenCalls) -> Result<(), AllocError>
+    ensures { OnOk result (O.held out.new ≡ put_all (open_parts calls) (O.held out.old)) }
 {
-    [
+    let parts = [
         Part::Named("fault", Says::Text("ThreadOpen")),
         Part::Told("first", Says::Call(calls.first)),
         Part::Told("second", Says::Call(calls.second)),
-    ]
+    ];
+    out.put_all(alloc, &parts)
 }
 
 #[tactic(auto, unfolding(crate::specs::Evidence::stray_reply_parts))]
-fn stray_reply_parts<'a>(stray: StrayReply) -> [Part<'a>; 3]
-    ensures { map part_of result ≡ stray_reply_parts stray }
+fn put_stray_reply<O: Output>(
+    out: &mut O,
+    alloc: Global,
+    stray: StrayReply,
+) -> Result<(), AllocError>
+    ensures { OnOk result (O.held out.new ≡ put_all (stray_reply_parts stray) (O.held out.old)) }
 {
-    [
+    let parts = [
         Part::Named("fault", Says::Text("NoSuchCall")),
         Part::Told("reply", Says::Reply(stray.reply)),
         Part::Told("named", Says::Event(stray.reply.call, stray.named)),
-    ]
+    ];
+    out.put_all(alloc, &parts)
 }
 
 #[tactic(auto, unfolding(crate::specs::Evidence::two_replies_parts))]
-fn two_replies_parts<'a>(replies: TwoReplies) -> [Part<'a>; 4]
-    ensures { map part_of result ≡ two_replies_parts replies }
+fn put_two_replies<O: Output>(
+    out: &mut O,
+    alloc: Global,
+    replies: TwoReplies,
+) -> Result<(), AllocError>
+    ensures { OnOk result (O.held out.new ≡ put_all (two_replies_parts replies) (O.held out.old)) }
 {
-    [
+    let parts = [
         Part::Named("fault", Says::Text("AnsweredTwice")),
         Part::Told("call", Says::Call(replies.call)),
         Part::Told("first", Says::Reply(replies.first)),
         Part::Told("second", Says::Reply(replies.second)),
-    ]
+    ];
+    out.put_all(alloc, &parts)
 }
 
 #[tactic(auto, unfolding(crate::specs::Evidence::no_update_parts))]
-fn no_update_parts<'a>(wrong: NoUpdate) -> [Part<'a>; 7]
-    ensures { map part_of result ≡ no_update_parts wrong }
+fn put_no_update<O: Output>(out: &mut O, alloc: Global, wrong: NoUpdate) -> Result<(), AllocError>
+    ensures { OnOk result (O.held out.new ≡ put_all (no_update_parts wrong) (O.held out.old)) }
 {
-    [
+    let parts = [
         Part::Named("fault", Says::Text("NotAnUpdate")),
         Part::Words("place "),
         Part::Told("place", Says::Count(u64::from(wrong.place))),
@@ -85,14 +120,19 @@ fn no_update_parts<'a>(wrong: NoUpdate) -> [Part<'a>; 7]
         Part::Told("call", Says::Count(u64::from(wrong.call))),
         Part::Words("\n"),
         Part::Told("named", Says::Event(wrong.call, wrong.named)),
-    ]
+    ];
+    out.put_all(alloc, &parts)
 }
 
 #[tactic(auto, unfolding(crate::specs::Evidence::two_places_parts))]
-fn two_places_parts<'a>(places: TwoPlaces) -> [Part<'a>; 7]
-    ensures { map part_of result ≡ two_places_parts places }
+fn put_two_places<O: Output>(
+    out: &mut O,
+    alloc: Global,
+    places: TwoPlaces,
+) -> Result<(), AllocError>
+    ensures { OnOk result (O.held out.new ≡ put_all (two_places_parts places) (O.held out.old)) }
 {
-    [
+    let parts = [
         Part::Named("fault", Says::Text("PlacedTwice")),
         Part::Words("places "),
         Part::Told("first", Says::Count(u64::from(places.first))),
@@ -100,14 +140,15 @@ fn two_places_parts<'a>(places: TwoPlaces) -> [Part<'a>; 7]
         Part::Told("second", Says::Count(u64::from(places.second))),
         Part::Words("\n"),
         Part::Told("call", Says::Call(places.call)),
-    ]
+    ];
+    out.put_all(alloc, &parts)
 }
 
 #[tactic(auto, unfolding(crate::specs::Evidence::misplaced_parts))]
-fn misplaced_parts<'a>(wrong: Misplaced) -> [Part<'a>; 8]
-    ensures { map part_of result ≡ misplaced_parts wrong }
+fn put_misplaced<O: Output>(out: &mut O, alloc: Global, wrong: Misplaced) -> Result<(), AllocError>
+    ensures { OnOk result (O.held out.new ≡ put_all (misplaced_parts wrong) (O.held out.old)) }
 {
-    [
+    let parts = [
         Part::Named("fault", Says::Text("NotPlaced")),
         Part::Told("call", Says::Call(wrong.call)),
         Part::Told("reply", Says::Reply(wrong.reply)),
@@ -116,28 +157,30 @@ fn misplaced_parts<'a>(wrong: Misplaced) -> [Part<'a>; 8]
         Part::Words("\nthe call there: "),
         Part::Told("there", Says::Place(wrong.there)),
         Part::Words("\n"),
-    ]
+    ];
+    out.put_all(alloc, &parts)
 }
 
 #[tactic(auto, unfolding(crate::specs::Evidence::past_end_parts))]
-fn past_end_parts<'a>(wrong: PastEnd) -> [Part<'a>; 6]
-    ensures { map part_of result ≡ past_end_parts wrong }
+fn put_past_end<O: Output>(out: &mut O, alloc: Global, wrong: PastEnd) -> Result<(), AllocError>
+    ensures { OnOk result (O.held out.new ≡ put_all (past_end_parts wrong) (O.held out.old)) }
 {
-    [
+    let parts = [
         Part::Named("fault", Says::Text("PastLog")),
         Part::Told("call", Says::Call(wrong.call)),
         Part::Told("reply", Says::Reply(wrong.reply)),
         Part::Words("entries of the log: "),
         Part::Told("places", Says::Count(u64::from(wrong.places))),
         Part::Words("\n"),
-    ]
+    ];
+    out.put_all(alloc, &parts)
 }
 
 #[tactic(auto, unfolding(crate::specs::Evidence::early_parts))]
-fn early_parts<'a>(early: EarlyCall) -> [Part<'a>; 10]
-    ensures { map part_of result ≡ early_parts early }
+fn put_early<O: Output>(out: &mut O, alloc: Global, early: EarlyCall) -> Result<(), AllocError>
+    ensures { OnOk result (O.held out.new ≡ put_all (early_parts early) (O.held out.old)) }
 {
-    [
+    let parts = [
         Part::Named("fault", Says::Text("Early")),
         Part::Told("call", Says::Call(early.call)),
         Part::Told("own", Says::Own(early.own)),
@@ -148,31 +191,32 @@ fn early_parts<'a>(early: EarlyCall) -> [Part<'a>; 10]
         Part::Words("\n"),
         Part::Told("reply", Says::Reply(early.reply)),
         Part::Told("answered", Says::Call(early.answered)),
-    ]
+    ];
+    out.put_all(alloc, &parts)
 }
 
 #[tactic(auto, unfolding(crate::specs::Evidence::other_answer_parts))]
-fn other_answer_parts<'a>(wrong: OtherAnswer) -> [Part<'a>; 9]
-    ensures { map part_of result ≡ other_answer_parts wrong }
+fn put_other_answer<O: Output>(
+    out: &mut O,
+    alloc: Global,
+    wrong: OtherAnswer,
+) -> Result<(), AllocError>
+    ensures { OnOk result (O.held out.new ≡ put_all (other_answer_parts wrong) (O.held out.old)) }
 {
-    [
-        Part::Named("fault", Says::Text("WrongAnswer")),
-        Part::Told("call", Says::Call(wrong.call)),
-        Part::Told("reply", Says::Reply(wrong.reply)),
-        Part::Words("the space answers: "),
-        Part::Told("wanted", Says::Answer(wrong.wanted)),
-        Part::Words("\naddress "),
-        Part::Told("address", Says::Address(wrong.address)),
-        Part::Words(", "),
-        Part::Told("changed", Says::Changed(wrong.changed)),
-    ]
+    let changed = wrong.changed;
+    put_answer(out, alloc, wrong)?;
+    put_changed(out, alloc, changed)
 }
 
 #[tactic(auto, unfolding(crate::specs::Evidence::long_prefix_parts))]
-fn long_prefix_parts<'a>(wrong: LongPrefix) -> [Part<'a>; 7]
-    ensures { map part_of result ≡ long_prefix_parts wrong }
+fn put_long_prefix<O: Output>(
+    out: &mut O,
+    alloc: Global,
+    wrong: LongPrefix,
+) -> Result<(), AllocError>
+    ensures { OnOk result (O.held out.new ≡ put_all (long_prefix_parts wrong) (O.held out.old)) }
 {
-    [
+    let parts = [
         Part::Named("fault", Says::Text("PrefixPastLog")),
         Part::Words("applied: "),
         Part::Told("applied", Says::Count(u64::from(wrong.applied))),
@@ -180,14 +224,19 @@ fn long_prefix_parts<'a>(wrong: LongPrefix) -> [Part<'a>; 7]
         Part::Told("places", Says::Count(u64::from(wrong.places))),
         Part::Words("\n"),
         Part::Named("replica", Says::Count(u64::from(wrong.replica))),
-    ]
+    ];
+    out.put_all(alloc, &parts)
 }
 
 #[tactic(auto, unfolding(crate::specs::Evidence::short_prefix_parts))]
-fn short_prefix_parts<'a>(wrong: ShortPrefix) -> [Part<'a>; 9]
-    ensures { map part_of result ≡ short_prefix_parts wrong }
+fn put_short_prefix<O: Output>(
+    out: &mut O,
+    alloc: Global,
+    wrong: ShortPrefix,
+) -> Result<(), AllocError>
+    ensures { OnOk result (O.held out.new ≡ put_all (short_prefix_parts wrong) (O.held out.old)) }
 {
-    [
+    let parts = [
         Part::Named("fault", Says::Text("PrefixShort")),
         Part::Words("applied: "),
         Part::Told("applied", Says::Count(u64::from(wrong.applied))),
@@ -197,148 +246,130 @@ fn short_prefix_parts<'a>(wrong: ShortPrefix) -> [Part<'a>; 9]
         Part::Told("reply", Says::Reply(wrong.reply)),
         Part::Told("call", Says::Call(wrong.call)),
         Part::Named("replica", Says::Count(u64::from(wrong.replica))),
-    ]
+    ];
+    out.put_all(alloc, &parts)
 }
 
 #[tactic(auto, unfolding(crate::specs::Evidence::missing_parts))]
-fn missing_parts(wrong: &MissingTable) -> [Part<'_>; 6]
-    ensures { map part_of result ≡ missing_parts wrong.now }
+fn put_missing<O: Output>(
+    out: &mut O,
+    alloc: Global,
+    wrong: &MissingTable,
+) -> Result<(), AllocError>
+    ensures { OnOk result (O.held out.new ≡ put_all (missing_parts wrong.now) (O.held out.old)) }
 {
-    [
-        Part::Named("fault", Says::Text("MissingFrame")),
-        Part::Told("path", Says::Way(wrong.path.as_slice())),
-        Part::Words("frame "),
-        Part::Told("frame", Says::Frame(wrong.frame)),
-        Part::Words(", which the dump doesn't have\n"),
-        Part::Named("replica", Says::Count(u64::from(wrong.replica))),
-    ]
+    let end = ", which the dump doesn't have\n";
+    put_missing_frame(
+        out,
+        alloc,
+        "MissingFrame",
+        wrong.path.as_slice(),
+        wrong.frame,
+        end,
+    )?;
+    put_replica(out, alloc, wrong.replica)
 }
 
 #[tactic(auto, unfolding(crate::specs::Evidence::shared_parts))]
-fn shared_parts(wrong: &SharedTable) -> [Part<'_>; 7]
-    ensures { map part_of result ≡ shared_parts wrong.now }
+fn put_shared<O: Output>(out: &mut O, alloc: Global, wrong: &SharedTable) -> Result<(), AllocError>
+    ensures { OnOk result (O.held out.new ≡ put_all (shared_parts wrong.now) (O.held out.old)) }
 {
-    [
-        Part::Named("fault", Says::Text("SharedFrame")),
-        Part::Words("one way:\n"),
-        Part::Told("first", Says::Way(wrong.first.as_slice())),
-        Part::Words("another:\n"),
-        Part::Told("second", Says::Way(wrong.second.as_slice())),
-        Part::Named("frame", Says::Frame(wrong.frame)),
-        Part::Named("replica", Says::Count(u64::from(wrong.replica))),
-    ]
+    let (first, second) = (wrong.first.as_slice(), wrong.second.as_slice());
+    put_shared_frame(out, alloc, "SharedFrame", first, second, wrong.frame)?;
+    put_replica(out, alloc, wrong.replica)
 }
 
 #[tactic(auto, unfolding(crate::specs::Evidence::reserved_parts))]
-fn reserved_parts(wrong: &ReservedEntry) -> [Part<'_>; 9]
-    ensures { map part_of result ≡ reserved_parts wrong.now }
+fn put_reserved<O: Output>(
+    out: &mut O,
+    alloc: Global,
+    wrong: &ReservedEntry,
+) -> Result<(), AllocError>
+    ensures { OnOk result (O.held out.new ≡ put_all (reserved_parts wrong.now) (O.held out.old)) }
 {
-    [
-        Part::Named("fault", Says::Text("ReservedBit")),
-        Part::Told("path", Says::Steps(wrong.path.as_slice())),
-        Part::Told("entry", Says::Step(wrong.entry)),
-        Part::Words("bit "),
-        Part::Told("bit", Says::Count(u64::from(wrong.bit))),
-        Part::Words(" is set: "),
-        Part::Said(Says::Reserved(wrong.entry.level)),
-        Part::Words("\n"),
-        Part::Named("replica", Says::Count(u64::from(wrong.replica))),
-    ]
+    put_reserved_entry(
+        out,
+        alloc,
+        "ReservedBit",
+        wrong.path.as_slice(),
+        wrong.entry,
+        wrong.bit,
+    )?;
+    put_replica(out, alloc, wrong.replica)
 }
 
 #[tactic(auto, unfolding(crate::specs::Evidence::stray_parts))]
-fn stray_parts<'a>(wrong: StrayTable) -> [Part<'a>; 5]
-    ensures { map part_of result ≡ stray_parts wrong }
+fn put_stray<O: Output>(out: &mut O, alloc: Global, wrong: StrayTable) -> Result<(), AllocError>
+    ensures { OnOk result (O.held out.new ≡ put_all (stray_parts wrong) (O.held out.old)) }
 {
-    [
-        Part::Named("fault", Says::Text("StrayFrame")),
-        Part::Words("no table leads to frame "),
-        Part::Told("frame", Says::Frame(wrong.frame)),
-        Part::Words("\n"),
-        Part::Named("replica", Says::Count(u64::from(wrong.replica))),
-    ]
+    put_stray_frame(out, alloc, "StrayFrame", wrong.frame)?;
+    put_replica(out, alloc, wrong.replica)
 }
 
 #[tactic(auto, unfolding(crate::specs::Evidence::difference_parts))]
-fn difference_parts(wrong: &Difference) -> [Part<'_>; 14]
-    ensures { map part_of result ≡ difference_parts wrong.now }
+fn put_difference<O: Output>(
+    out: &mut O,
+    alloc: Global,
+    wrong: &Difference,
+) -> Result<(), AllocError>
+    ensures { OnOk result (O.held out.new ≡ put_all (difference_parts wrong.now) (O.held out.old)) }
 {
-    [
-        Part::Named("fault", Says::Text("Differs")),
-        Part::Words("applied: "),
-        Part::Told("applied", Says::Count(u64::from(wrong.applied))),
-        Part::Words("\nthe dump: "),
-        Part::Told("found", Says::Walk(wrong.found)),
-        Part::Words("\n"),
-        Part::Told("path", Says::Steps(wrong.path.as_slice())),
-        Part::Words("the space: "),
-        Part::Told("wanted", Says::Answer(wrong.wanted)),
-        Part::Words("\naddress "),
-        Part::Told("address", Says::Address(wrong.address)),
-        Part::Words(", "),
-        Part::Told("changed", Says::Changed(wrong.changed)),
-        Part::Named("replica", Says::Count(u64::from(wrong.replica))),
-    ]
+    put_unlike(out, alloc, wrong)?;
+    put_changed(out, alloc, wrong.changed)
 }
 
-/// The lines of the evidence of a fault. Allocates the text.
+/// Puts the evidence of a fault. Allocates what it says.
 ///
 /// # Errors
 ///
-/// Out of memory.
+/// Out of memory. Some of it may have been put.
 #[tactic(auto, unfolding(crate::specs::Evidence::evidence_parts))]
-pub fn evidence_lines(alloc: Global, shown: &Evidence) -> Result<String, AllocError>
+pub fn put_evidence<O: Output>(
+    out: &mut O,
+    alloc: Global,
+    shown: &Evidence,
+) -> Result<(), AllocError>
+    ensures { OnOk result (O.held out.new ≡ put_all (evidence_parts shown.now) (O.held out.old)) }
+{
+    match shown {
+        Evidence::Format(bad) => put_bad_unit(out, alloc, bad),
+        Evidence::ThreadOpen(calls) => put_open(out, alloc, *calls),
+        Evidence::NoSuchCall(stray) => put_stray_reply(out, alloc, *stray),
+        Evidence::AnsweredTwice(replies) => put_two_replies(out, alloc, *replies),
+        Evidence::NotAnUpdate(wrong) => put_no_update(out, alloc, *wrong),
+        Evidence::PlacedTwice(places) => put_two_places(out, alloc, *places),
+        Evidence::NotPlaced(wrong) => put_misplaced(out, alloc, *wrong),
+        Evidence::PastLog(wrong) => put_past_end(out, alloc, *wrong),
+        Evidence::Early(early) => put_early(out, alloc, *early),
+        Evidence::WrongAnswer(wrong) => put_other_answer(out, alloc, *wrong),
+        Evidence::PrefixPastLog(wrong) => put_long_prefix(out, alloc, *wrong),
+        Evidence::PrefixShort(wrong) => put_short_prefix(out, alloc, *wrong),
+        Evidence::MissingFrame(wrong) => put_missing(out, alloc, wrong),
+        Evidence::SharedFrame(wrong) => put_shared(out, alloc, wrong),
+        Evidence::ReservedBit(wrong) => put_reserved(out, alloc, wrong),
+        Evidence::StrayFrame(wrong) => put_stray(out, alloc, *wrong),
+        Evidence::Differs(wrong) => put_difference(out, alloc, wrong),
+    }
+}
+
+/// The lines of the evidence of a fault.
+#[tactic(auto, unfolding(crate::specs::Parts::put_all))]
+pub(crate) fn evidence_lines(alloc: Global, shown: &Evidence) -> Result<String, AllocError>
     ensures { IfOk result (λ text. string_bytes text ≡ evidence_text shown.now) }
 {
-    match shown {
-        Evidence::Format(bad) => parts_text(alloc, &bad_unit_parts(bad)),
-        Evidence::ThreadOpen(calls) => parts_text(alloc, &open_parts(*calls)),
-        Evidence::NoSuchCall(stray) => parts_text(alloc, &stray_reply_parts(*stray)),
-        Evidence::AnsweredTwice(replies) => parts_text(alloc, &two_replies_parts(*replies)),
-        Evidence::NotAnUpdate(wrong) => parts_text(alloc, &no_update_parts(*wrong)),
-        Evidence::PlacedTwice(places) => parts_text(alloc, &two_places_parts(*places)),
-        Evidence::NotPlaced(wrong) => parts_text(alloc, &misplaced_parts(*wrong)),
-        Evidence::PastLog(wrong) => parts_text(alloc, &past_end_parts(*wrong)),
-        Evidence::Early(early) => parts_text(alloc, &early_parts(*early)),
-        Evidence::WrongAnswer(wrong) => parts_text(alloc, &other_answer_parts(*wrong)),
-        Evidence::PrefixPastLog(wrong) => parts_text(alloc, &long_prefix_parts(*wrong)),
-        Evidence::PrefixShort(wrong) => parts_text(alloc, &short_prefix_parts(*wrong)),
-        Evidence::MissingFrame(wrong) => parts_text(alloc, &missing_parts(wrong)),
-        Evidence::SharedFrame(wrong) => parts_text(alloc, &shared_parts(wrong)),
-        Evidence::ReservedBit(wrong) => parts_text(alloc, &reserved_parts(wrong)),
-        Evidence::StrayFrame(wrong) => parts_text(alloc, &stray_parts(*wrong)),
-        Evidence::Differs(wrong) => parts_text(alloc, &difference_parts(wrong)),
-    }
+    let mut text = String::new(alloc);
+    put_evidence(&mut text, alloc, shown)?;
+    Ok(text)
 }
 
-/// The evidence of a fault as JSON. Allocates the value.
-///
-/// # Errors
-///
-/// Out of memory.
-#[tactic(auto, unfolding(crate::specs::Evidence::evidence_parts))]
-pub fn evidence_value(alloc: Global, shown: &Evidence) -> Result<Value, AllocError>
+/// The evidence of a fault as JSON.
+#[tactic(auto, unfolding(crate::specs::Parts::put_all))]
+pub(crate) fn evidence_value(alloc: Global, shown: &Evidence) -> Result<Value, AllocError>
     ensures { IfOk result (λ value. view value ≡ evidence_data shown.now) }
 {
-    match shown {
-        Evidence::Format(bad) => parts_value(alloc, &bad_unit_parts(bad)),
-        Evidence::ThreadOpen(calls) => parts_value(alloc, &open_parts(*calls)),
-        Evidence::NoSuchCall(stray) => parts_value(alloc, &stray_reply_parts(*stray)),
-        Evidence::AnsweredTwice(replies) => parts_value(alloc, &two_replies_parts(*replies)),
-        Evidence::NotAnUpdate(wrong) => parts_value(alloc, &no_update_parts(*wrong)),
-        Evidence::PlacedTwice(places) => parts_value(alloc, &two_places_parts(*places)),
-        Evidence::NotPlaced(wrong) => parts_value(alloc, &misplaced_parts(*wrong)),
-        Evidence::PastLog(wrong) => parts_value(alloc, &past_end_parts(*wrong)),
-        Evidence::Early(early) => parts_value(alloc, &early_parts(*early)),
-        Evidence::WrongAnswer(wrong) => parts_value(alloc, &other_answer_parts(*wrong)),
-        Evidence::PrefixPastLog(wrong) => parts_value(alloc, &long_prefix_parts(*wrong)),
-        Evidence::PrefixShort(wrong) => parts_value(alloc, &short_prefix_parts(*wrong)),
-        Evidence::MissingFrame(wrong) => parts_value(alloc, &missing_parts(wrong)),
-        Evidence::SharedFrame(wrong) => parts_value(alloc, &shared_parts(wrong)),
-        Evidence::ReservedBit(wrong) => parts_value(alloc, &reserved_parts(wrong)),
-        Evidence::StrayFrame(wrong) => parts_value(alloc, &stray_parts(*wrong)),
-        Evidence::Differs(wrong) => parts_value(alloc, &difference_parts(wrong)),
-    }
+    let mut members = Map::new(alloc);
+    put_evidence(&mut members, alloc, shown)?;
+    Ok(Value::Object(members))
 }
 
 #[tactic(auto, unfolding(crate::specs::Evidence::counts_parts))]

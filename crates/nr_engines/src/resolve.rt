@@ -8,11 +8,12 @@ ghost use Rattle.nr_trace.specs.Feed.{Reads};
 ghost use Rattle.nr_engines.specs.Answers.{HasReadFew, IsResolve, IsWalk, WritesReport, walk_lines};
 ghost use Rattle.nr_engines.specs.Refusals.{IsWalkFault, IsResolveFault, WritesAnswersAlone};
 
-use crate::ends::{read_trace, write_report};
+use crate::ends::write_report;
 use crate::fact_text::push_steps;
 use crate::fault::ProgFault;
 use crate::report::Report;
 use crate::text::{no_text, walk_text};
+use crate::unit_input::read_trace;
 use nr_explain::entries_read;
 use nr_trace::{Fault, Format, Trace};
 use std::alloc::Global;

@@ -1,29 +1,34 @@
-//! A trace that is read in blocks, of which each unit is known.
+//! A trace that is read in blocks, to its end or to the first refusal.
 
-ghost use Rattle.std.specs.Prelude.{◌≡◌, [], IfOk, IfErr, length, take};
-ghost use Rattle.nr_engines.specs.Answers.{HasReadFew, HasReadUnits};
+ghost use Rattle.std.specs.Prelude.{◌≡◌, ℕ, List, IfOk, IfErr, length, take};
+ghost use Rattle.nr_trace.specs.Feed.{Reads};
+ghost use Rattle.nr_explain.specs.Units.{ReadsUnits};
+ghost use Rattle.nr_engines.specs.Answers.{HasRead, HasReadFew, HasReadUnits};
 
-use crate::ends::{BLOCK, MOST_BYTES, read_block};
+use crate::ends::{BLOCK, read_block};
 use crate::fault::ProgFault;
 use nr_explain::{UnitFeed, Unread};
-use nr_trace::Trace;
+use nr_trace::{Format, Trace};
 use std::alloc::Global;
 use std::io::Read;
+use vs_types::Fail;
+
+/// The most bytes that are read of an input: one more than any trace has, so that the last of them is refused.
+const MOST_BYTES: usize = 70_647_893;
 
 /// Reads blocks and feeds each, to the end of the input or to the first refusal, which comes at the latest with the last byte
 /// that there is room for.
 fn feed_units<R: Read>(
+    alloc: Global,
     reader: &mut R,
-    empty: UnitFeed,
     block: &mut [u8],
 ) -> Result<Result<Trace, Unread>, ProgFault>
-    requires empty { empty ≡ [] }
-    requires block { length block.old ≡ 4096 }
+    requires { length block.old ≡ 4096 }
     ensures ok { IfOk result (HasReadUnits (R.remaining reader.old)) }
     ensures err { IfErr result (λ fault. fault ≡ ProgFault.CannotRead) }
     ensures few { HasReadFew (R.remaining reader.old) (R.remaining reader.new) }
 {
-    let mut feed = empty;
+    let mut feed = UnitFeed::new(alloc);
     let mut room = MOST_BYTES;
     while room > 0 {
         let piece = &mut block[..room.min(BLOCK)];
@@ -31,9 +36,8 @@ fn feed_units<R: Read>(
         if count == 0 {
             return Ok(feed.end());
         }
-        match feed.feed(&piece[..count]) {
-            Ok(next) => feed = next,
-            Err(unread) => return Ok(Err(unread)),
+        if let Err(unread) = feed.feed(&piece[..count]) {
+            return Ok(Err(unread));
         }
         room -= count;
     }
@@ -41,8 +45,8 @@ fn feed_units<R: Read>(
 }
 
 /// Reads the input in blocks of at most 4,096 bytes and feeds each to the reader of units: the trace that the input spells, or
-/// the unit that shows why it spells none. It reads as much as `read_trace` does, and allocates the memory of that, and for the beginning
-/// of one unit.
+/// the unit that shows why it spells none. It reads nothing after the first refusal, and never more than 70,647,893 bytes, one more than
+/// the greatest trace has. Allocates memory for the trace and for the beginning of one unit, and keeps no other bytes than one block.
 ///
 /// # Errors
 ///
@@ -55,5 +59,32 @@ pub fn read_units<R: Read>(
     ensures err { IfErr result (λ fault. fault ≡ ProgFault.CannotRead) }
     ensures few { HasReadFew (R.remaining reader.old) (R.remaining reader.new) }
 {
-    feed_units(reader, UnitFeed::new(alloc), &mut [0; BLOCK])
+    feed_units(alloc, reader, &mut [0; BLOCK])
+}
+
+/// What was read, of which the unit that is bad isn't known.
+fn without_unit(read: Result<Trace, Unread>) -> Result<Trace, Fail<Format>>
+    ensures { (bytes : List ℕ) → ReadsUnits bytes read → Reads bytes result }
+{
+    match read {
+        Ok(trace) => Ok(trace),
+        Err(Unread::Memory) => Err(Fail::Memory),
+        Err(Unread::Bad(bad)) => Err(Fail::Refused(bad.fault)),
+    }
+}
+
+/// Reads as `read_units` does: the trace that the input spells, or why it spells none.
+///
+/// # Errors
+///
+/// Those of `read_units`.
+pub fn read_trace<R: Read>(
+    alloc: Global,
+    reader: &mut R,
+) -> Result<Result<Trace, Fail<Format>>, ProgFault>
+    ensures ok { IfOk result (HasRead (R.remaining reader.old)) }
+    ensures err { IfErr result (λ fault. fault ≡ ProgFault.CannotRead) }
+    ensures few { HasReadFew (R.remaining reader.old) (R.remaining reader.new) }
+{
+    Ok(without_unit(read_units(alloc, reader)?))
 }

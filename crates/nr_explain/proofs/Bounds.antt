@@ -8,7 +8,8 @@ use Rattle.vs_types.specs.Frame.{IsFrame}
 use Rattle.nr_trace.specs.Recording.{IsEvent}
 use Rattle.nr_trace.specs.Spelling.{version_word, counts, log_word, event, dump_head, frame_number, frame_words}
 use Rattle.nr_trace.specs.Versions.{IsVersionOf}
-use Rattle.nr_trace.specs.FirstFault.{counts_bytes, magic_of, AtUnit, AtEnd, AtFrames, AtStart, AtDumps, AtEvents, AtLog, HasFormatFault, IsCounts, IsDumpHead, IsNext}
+use Rattle.nr_trace.specs.FirstFault.{counts_bytes, magic_of, AtUnit, AtEnd, AtFrames, AtStart, AtDumps, AtEvents, AtLog, HasFormatFault, IsCounts, IsDumpHead}
+use Rattle.nr_trace.specs.FirstFault.{IsNext}
 use Rattle.nr_trace.specs.Feed.{HasLastingFault, HasNoFaultYet}
 use Rattle.nr_trace.specs.declared.version.Version.{Version}
 use Rattle.nr_trace.specs.declared.version.Version.TheVariants.{Segment}

@@ -4,54 +4,52 @@ use Rattle.std.specs.Prelude.{option_and_then, if◌then◌else◌}
 use Rattle.std.proofs.lemmas.Option.{get_or_from_slice_get}
 use Rattle.std.proofs.lemmas.Bool.{cases_lt}
 use Rattle.nr_trace.specs.Recording.{Recording}
-use Rattle.vs_types.specs.Space.{Space, no_pages}
+use Rattle.vs_types.specs.Space.{Space}
 use Rattle.vs_types.specs.Step.{look}
 use Rattle.nr_trace.specs.Calls.{call_of}
 use Rattle.nr_audit.specs.Served.{asked_by}
 use Rattle.nr_audit.proofs.AnswerFaults.{space_stays}
 use Rattle.nr_explain.specs.inside.Searches.{HasCallAt}
 use Rattle.nr_explain.proofs.FirstFaults.{some_or_none}
-use Rattle.nr_explain.specs.Facts.{IsCallOf, IsLastChange, LooksSame, looks_after}
+use Rattle.nr_explain.specs.Facts.{IsCallOf, IsLastChangeFrom, LooksSameFrom, looks_from}
 use Rattle.nr_explain.specs.declared.evidence.PlacedUpdate.{PlacedUpdate}
 
-same_more : (trace : Recording) (address first last : ℕ) → LooksSame trace address first last
-    → looks_after trace address last ≡ looks_after trace address (last + 1) → LooksSame trace address first (last + 1)
-same_more trace address first last same e places low high = elim (cases_lt places (last + 1)) [
+same_more : (start : Space) (trace : Recording) (address first last : ℕ) → LooksSameFrom start trace address first last
+    → looks_from start trace address last ≡ looks_from start trace address (last + 1) → LooksSameFrom start trace address first (last + 1)
+same_more start trace address first last same e places low high = elim (cases_lt places (last + 1)) [
   | inl lt ↦ same places low (omega arith) ∙ e
-  | inr past ↦ ap (looks_after trace address) (omega arith)
+  | inr past ↦ ap (looks_from start trace address) (omega arith)
 ]
 
-same_at : (trace : Recording) (address first last : ℕ) → last ≤ first → LooksSame trace address first last
-same_at trace address first last le places low high = ap (looks_after trace address) (omega arith)
-
-pub change_at_start : (trace : Recording) (address : ℕ) → IsLastChange trace address 0 None
-change_at_start trace address = same_at trace address 0 0 (omega arith)
+same_at : (start : Space) (trace : Recording) (address first last : ℕ) → last ≤ first → LooksSameFrom start trace address first last
+same_at start trace address first last le places low high = ap (looks_from start trace address) (omega arith)
 
 -- an update that leaves how the address looks
-pub change_stays : (trace : Recording) (address end : ℕ) (changed : Option PlacedUpdate) → looks_after trace address end ≡ looks_after trace address (end + 1)
-    → IsLastChange trace address end changed → IsLastChange trace address (end + 1) changed
-change_stays trace address end None e is = same_more trace address 0 end is e
-change_stays trace address end (Some update) e is =
-    let lt = is.0 in (omega arith, is.1, is.2, is.3, same_more trace address (update.place + 1) end is.4 e)
+pub change_stays : (start : Space) (trace : Recording) (address end : ℕ) (changed : Option PlacedUpdate)
+    → looks_from start trace address end ≡ looks_from start trace address (end + 1)
+    → IsLastChangeFrom start trace address end changed → IsLastChangeFrom start trace address (end + 1) changed
+change_stays start trace address end None e is = same_more start trace address 0 end is e
+change_stays start trace address end (Some update) e is =
+    let lt = is.0 in (omega arith, is.1, is.2, is.3, same_more start trace address (update.place + 1) end is.4 e)
 
 -- an update that changes it
-pub change_here : (trace : Recording) (address end : ℕ) (update : PlacedUpdate) → update.place ≡ end → IsCallOf trace update.call
-    → slice_get trace.log end ≡ Some update.call.event → looks_after trace address end ≢ looks_after trace address (end + 1)
-    → IsLastChange trace address (end + 1) (Some update)
-change_here trace address end update at call placed differs = (
+pub change_here : (start : Space) (trace : Recording) (address end : ℕ) (update : PlacedUpdate) → update.place ≡ end → IsCallOf trace update.call
+    → slice_get trace.log end ≡ Some update.call.event → looks_from start trace address end ≢ looks_from start trace address (end + 1)
+    → IsLastChangeFrom start trace address (end + 1) (Some update)
+change_here start trace address end update at call placed differs = (
   omega arith,
   call,
   ap (slice_get trace.log) at ∙ placed,
-  (λ same. differs (ap (looks_after trace address) (sym at) ∙ same ∙ ap (λ n. looks_after trace address (n + 1)) at)),
-  same_at trace address (update.place + 1) (end + 1) (omega arith),
+  (λ same. differs (ap (looks_from start trace address) (sym at) ∙ same ∙ ap (λ n. looks_from start trace address (n + 1)) at)),
+  same_at start trace address (update.place + 1) (end + 1) (omega arith),
 )
 
 -- where the looks change, there is a call
-pub change_has_call : (trace : Recording) (address place : ℕ) → place < length trace.log
-    → looks_after trace address place ≢ looks_after trace address (place + 1) → HasCallAt trace place
-change_has_call trace address place within differs call is = elim (some_or_none (call_of trace call)) [
+pub change_has_call : (start : Space) (trace : Recording) (address place : ℕ) → place < length trace.log
+    → looks_from start trace address place ≢ looks_from start trace address (place + 1) → HasCallAt trace place
+change_has_call start trace address place within differs call is = elim (some_or_none (call_of trace call)) [
   | inl made ↦ made
-  | inr none ↦ absurd (differs (ap (λ (s : Space). look s address) (space_stays no_pages trace trace.log place 0 within (asked none))))
+  | inr none ↦ absurd (differs (ap (λ (s : Space). look s address) (space_stays start trace trace.log place 0 within (asked none))))
 ] where
   asked : call_of trace call ≡ None → asked_by trace (get_or trace.log place 0) ≡ None
   asked none = ap (asked_by trace) (get_or_from_slice_get trace.log place call 0 is)

@@ -14,7 +14,8 @@ use Rattle.vs_walk.specs.declared.walk.WalkFault.TheVariants as walks
 use Rattle.vs_walk.proofs.LawsOfVisits.{reached_is_met}
 use Rattle.vs_walk.proofs.LawsOfTraversals.{shared_reached}
 use Rattle.vs_walk.proofs.Walks.{few_levels}
-use Rattle.nr_trace.specs.Recording.{Recording}
+use Rattle.nr_trace.specs.Faults.{HasDump}
+use Rattle.nr_trace.specs.Recording.{IsThere, Recording}
 use Rattle.nr_explain.specs.Facts.{IsPath}
 use Rattle.nr_explain.specs.inside.Ways.{GoesNowhere, GoesOnTo, HasTwoWays, IsAnotherWay, IsMet, IsReservedAt}
 use Rattle.nr_explain.specs.declared.evidence.Step.{Step}
@@ -22,15 +23,23 @@ use Rattle.nr_explain.specs.declared.paths.Target.{Target}
 use Rattle.nr_explain.proofs.Ways.{levels_of_way, way_to_frame, way_to_reserved}
 
 -- the dump of a replica that is read
-pub dump_read : (trace : Recording) (dumps : List Image) (replica : ℕ) (dump other : Image) → dumps ≡ trace.dumps
+dump_read : (trace : Recording) (dumps : List Image) (replica : ℕ) (dump other : Image) → dumps ≡ trace.dumps
     → slice_get trace.dumps replica ≡ Some other → dump ≡ get_or dumps replica dump → slice_get trace.dumps replica ≡ Some dump
 dump_read trace dumps replica dump other same there read =
     slice_get-get_or trace.dumps replica dump (slice_get_within trace.dumps replica other there)
     ∙ ap (λ (d : Image). Some d) (sym (read ∙ ap (λ (ds : List Image). get_or ds replica dump) same))
 
-pub one_dump : (trace : Recording) (replica : ℕ) (dump other : Image) → slice_get trace.dumps replica ≡ Some dump
+one_dump : (trace : Recording) (replica : ℕ) (dump other : Image) → slice_get trace.dumps replica ≡ Some dump
     → slice_get trace.dumps replica ≡ Some other → other ≡ dump
 one_dump trace replica dump other is there = same_Some other dump (sym there ∙ is)
+
+-- the dump that is read is the one of which it is so
+pub read_as : (trace : Recording) (dumps : List Image) (replica : ℕ) (Is : Image → Type 0) (dump : Image) → HasDump trace replica Is → dumps ≡ trace.dumps
+    → dump ≡ get_or dumps replica dump → (slice_get trace.dumps replica ≡ Some dump) × IsThere dump × Is dump
+read_as trace dumps replica Is dump (other, has, is_there, is) same read =
+    let there = dump_read trace dumps replica dump other same has read in
+    let one = one_dump trace replica dump other there has in
+    (there, subst IsThere one is_there, subst Is one is)
 
 -- a frame that is visited is found
 pub frame_is_found : (depth given : Depth) (dump : Image) (frame : ℕ) (target : Target) → given ≡ depth → target.frame ≡ frame

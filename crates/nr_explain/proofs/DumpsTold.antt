@@ -21,9 +21,6 @@ pub record AreToldBelow (trace : Recording) (own : Option ℕ) (end : ℕ) (dump
   pub replicas : map told_replica dumps ≡ filter (is_other own) (below end)
   pub told : All (IsToldOfDump trace) dumps
 
-pub none_told : (trace : Recording) (own : Option ℕ) → AreToldBelow trace own 0 []
-none_told trace own = record { replicas = refl; told = All-nil (IsToldOfDump trace) }
-
 below_more : (own : Option ℕ) (end : ℕ) → filter (is_other own) (below (end + 1)) ≡ filter (is_other own) (below end) ++ filter (is_other own) (end ∷ [])
 below_more own end = ap (λ (n : ℕ). filter (is_other own) (below n)) (add-one end) ∙ filter-append (is_other own) (below end) (end ∷ [])
 
@@ -46,24 +43,3 @@ own_left trace own end dumps left_out are = record {
 } where
   left : is_other own end ≡ false → filter (is_other own) (end ∷ []) ≡ []
   left is = rw is refl
-
-pub all_told : (trace : Recording) (own : Option ℕ) (end : ℕ) (dumps : List DumpExplanation) → end ≡ length trace.dumps → AreToldBelow trace own end dumps
-    → AreToldOfDumps trace own dumps
-all_told trace own end dumps at_end are = record {
-  replicas = are.replicas ∙ ap (λ (n : ℕ). filter (is_other own) (below n)) at_end;
-  told = are.told;
-}
-
--- ---- the whole
-
-dumps_of_fault : (bytes : List ℕ) (trace : Recording) (fault : Fault) (shown : Evidence) (dumps : List DumpExplanation) → Spells bytes trace
-    → IsEvidence trace fault shown → AreToldOfDumps trace (replica_of fault) dumps → AreDumpsOf bytes (No fault shown) dumps
-dumps_of_fault bytes trace fault (evidence.Format bad) dumps spelled is are = absurd is
-dumps_of_fault bytes trace fault shown dumps spelled is are = (trace, spelled, are)
-
-pub dumps_of_no : (bytes : List ℕ) (trace : Recording) (explanation : Explanation) (fault : Fault) (shown : Evidence) (dumps : List DumpExplanation)
-    → explanation ≡ No fault shown → Spells bytes trace → IsExplanationOn trace explanation → AreToldOfDumps trace (replica_of fault) dumps
-    → AreDumpsOf bytes explanation dumps
-dumps_of_no bytes trace explanation fault shown dumps same spelled is are =
-    subst (λ e. AreDumpsOf bytes e dumps) (sym same)
-    (dumps_of_fault bytes trace fault shown dumps spelled (subst (IsExplanationOn trace) same is).1 are)

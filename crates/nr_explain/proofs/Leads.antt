@@ -20,7 +20,7 @@ lead_further first [] middle bytes is long =
     (long ∙ ap (λ (next : Next). size next.unit) (sym is), ap (λ (next : Next). after next bytes) is)
 lead_further first (unit ∷ units) middle bytes (is, leads) long = (is, lead_further (after first unit) units middle bytes leads long)
 
-concat_further : (units : List (List ℕ)) (bytes : List ℕ) → concat (units ++ (bytes ∷ [])) ≡ concat units ++ bytes
+pub concat_further : (units : List (List ℕ)) (bytes : List ℕ) → concat (units ++ (bytes ∷ [])) ≡ concat units ++ bytes
 concat_further [] bytes = append-nil bytes
 concat_further (unit ∷ units) bytes =
     ap (λ (l : List ℕ). unit ++ l) (concat_further units bytes) ∙ sym (append_assoc unit (concat units) bytes)

@@ -14,11 +14,3 @@ pub placed_so : (trace : Recording) (log : List ℕ) (place call : ℕ) → log 
 placed_so trace log place call same is =
     subst (λ (xs : List ℕ). slice_get trace.log place ≡ Some (get_or xs place 0)) (sym same)
     (slice_get-get_or trace.log place 0 (slice_get_within trace.log place call is))
-
--- a touch is an access that is well formed at the depth
-pub touch_fits : (trace : Recording) (index replica thread address : ℕ) (mode : Mode) (access : accesses.Access) → IsRecording trace
-    → slice_get trace.events index ≡ Some (Touch replica thread address mode access) → IsQuery trace.layout.depth (Access address mode access)
-touch_fits trace index replica thread address mode access ranged is =
-    let event = Touch replica thread address mode access in
-    (subst (IsEvent trace.version trace.layout) (get_or_from_slice_get trace.events index event event is)
-    (ranged.events index event (slice_get_within trace.events index event is))).2

@@ -10,7 +10,8 @@ use Rattle.vs_types.specs.Frame.{IsFrame}
 use Rattle.nr_trace.specs.Recording.{IsEvent}
 use Rattle.nr_trace.specs.Spelling.{version_word, counts, log_word, event, dump_head, frame_number, frame_words}
 use Rattle.nr_trace.specs.Versions.{most_frames, most_start, IsVersionOf}
-use Rattle.nr_trace.specs.FirstFault.{counts_bytes, magic_of, AtUnit, AtEnd, AtFrames, AtStart, AtDumps, AtEvents, AtLog, HasFormatFault, IsCounts, IsDumpHead, IsNext}
+use Rattle.nr_trace.specs.FirstFault.{counts_bytes, magic_of, AtUnit, AtEnd, AtFrames, AtStart, AtDumps, AtEvents, AtLog, HasFormatFault, IsCounts, IsDumpHead}
+use Rattle.nr_trace.specs.FirstFault.{IsNext}
 use Rattle.nr_trace.specs.Feed.{HasLastingFault, HasNoFaultYet}
 use Rattle.nr_trace.specs.declared.version.Form.TheVariants as forms
 use Rattle.nr_trace.specs.declared.version.Version.{Version}
@@ -26,7 +27,8 @@ use Rattle.nr_explain.specs.Units.{after, dump_unit, event_unit, frame_unit, no_
 use Rattle.nr_explain.specs.declared.next_unit.Next.{Next}
 use Rattle.nr_explain.specs.declared.next_unit.Numbers.{Numbers}
 use Rattle.nr_explain.specs.declared.units.TraceUnit.{TraceUnit}
-use Rattle.nr_explain.specs.declared.units.TraceUnit.TheVariants.{Magic, Version as VersionWord, Counts, Place, Event, DumpHead, FrameNumber, FrameWords, Behind}
+use Rattle.nr_explain.specs.declared.units.TraceUnit.TheVariants.{Magic, Version as VersionWord, Counts, Place, Event, DumpHead, FrameNumber, FrameWords}
+use Rattle.nr_explain.specs.declared.units.TraceUnit.TheVariants.{Behind}
 use Rattle.nr_explain.proofs.Leads.{goes_first, goes_further, some_size}
 
 -- ---- which unit comes next

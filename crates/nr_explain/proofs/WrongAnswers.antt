@@ -1,18 +1,18 @@
 -- An answer that is not the space's.
 use Rattle.std.proofs.Common.{◌≡◌, ℕ, ◌≤◌, Option, length, take, sym, ap, ◌∙◌}
 use Rattle.std.proofs.lemmas.Option.{same_Some}
-use Rattle.vs_types.specs.Space.{Space, no_pages}
+use Rattle.vs_types.specs.Space.{Space}
 use Rattle.vs_types.specs.declared.answer.Answer.{Answer}
 use Rattle.nr_trace.specs.Recording.{Recording}
 use Rattle.nr_trace.specs.Calls.{Invocation, Response}
-use Rattle.nr_trace.specs.Faults.{IsFirst}
-use Rattle.nr_trace.specs.Orders.{answer_in, before, recorded_order, space_after}
+use Rattle.nr_trace.specs.Faults.{IsFirstFrom}
+use Rattle.nr_trace.specs.Orders.{answer_in, before, recorded_order, space_from}
 use Rattle.nr_trace.specs.declared.fault.Fault.TheVariants.{WrongAnswer}
 use Rattle.nr_trace.proofs.LawsOfCalls.{answered_stands, ordered_from_made}
 use Rattle.nr_trace.proofs.LawsOfFaults.{clean_before_answers}
 use Rattle.nr_trace.proofs.LawsOfOrder.{space_before}
-use Rattle.nr_explain.specs.Evidence.{IsOtherAnswer}
-use Rattle.nr_explain.specs.Facts.{IsCallOf, IsReplyOf, IsLastChange, address_about, response}
+use Rattle.nr_explain.specs.Evidence.{IsOtherAnswerFrom}
+use Rattle.nr_explain.specs.Facts.{IsCallOf, IsLastChangeFrom, IsReplyOf, address_about, response}
 use Rattle.nr_explain.specs.declared.evidence.PlacedUpdate.{PlacedUpdate}
 use Rattle.nr_explain.specs.declared.evidence.RecordedCall.{RecordedCall}
 use Rattle.nr_explain.specs.declared.evidence.RecordedReply.{RecordedReply}
@@ -20,26 +20,28 @@ use Rattle.nr_explain.proofs.Lasts.{made_in}
 use Rattle.nr_explain.proofs.Replies.{first_to}
 
 -- the reply gives no more entries than the log has
-pub few_seen : (trace : Recording) (index : ℕ) (reply : RecordedReply) → IsFirst trace (WrongAnswer index) → IsReplyOf trace reply → reply.call ≡ index
+pub few_seen : (start : Space) (trace : Recording) (index : ℕ) (reply : RecordedReply) → IsFirstFrom start trace (WrongAnswer index)
+    → IsReplyOf trace reply → reply.call ≡ index
     → reply.at ≤ length trace.log
-few_seen trace index reply first is names =
-    let clean = clean_before_answers no_pages trace index first in
+few_seen start trace index reply first is names =
+    let clean = clean_before_answers start trace index first in
     let wrong = first.holds in
     let ordered = ordered_from_made trace index wrong.made wrong.is_made wrong.no_touch in
     (answered_stands trace index (response reply) clean ordered (first_to trace index reply clean is names)).1
 
-pub wrong_facts : (trace : Recording) (call : RecordedCall) (reply : RecordedReply) (wanted : Answer) (address : ℕ) (changed : Option PlacedUpdate)
-    → IsFirst trace (WrongAnswer call.event) → IsCallOf trace call → IsReplyOf trace reply → reply.call ≡ call.event
-    → wanted ≡ answer_in trace.layout (space_after trace (take reply.at trace.log)) call.request → address ≡ address_about call.request wanted
-    → IsLastChange trace address reply.at changed
-    → IsOtherAnswer trace (record { call = call; reply = reply; wanted = wanted; address = address; changed = changed })
-wrong_facts trace call reply wanted address changed first is_call is_reply names told about change =
-    let clean = clean_before_answers no_pages trace call.event first in
+pub wrong_facts : (start : Space) (trace : Recording) (call : RecordedCall) (reply : RecordedReply) (wanted : Answer) (address : ℕ)
+    (changed : Option PlacedUpdate)
+    → IsFirstFrom start trace (WrongAnswer call.event) → IsCallOf trace call → IsReplyOf trace reply → reply.call ≡ call.event
+    → wanted ≡ answer_in trace.layout (space_from start trace (take reply.at trace.log)) call.request → address ≡ address_about call.request wanted
+    → IsLastChangeFrom start trace address reply.at changed
+    → IsOtherAnswerFrom start trace (record { call = call; reply = reply; wanted = wanted; address = address; changed = changed })
+wrong_facts start trace call reply wanted address changed first is_call is_reply names told about change =
+    let clean = clean_before_answers start trace call.event first in
     let to = first_to trace call.event reply clean is_reply names in
     let wrong = first.holds in
     let ordered = ordered_from_made trace call.event wrong.made wrong.is_made wrong.no_touch in
     let stands = answered_stands trace call.event (response reply) clean ordered to in
-    let space = space_before no_pages trace reply.at call.event clean stands.1 stands.0 in
+    let space = space_before start trace reply.at call.event clean stands.1 stands.0 in
     let is = told ∙ ap (λ (s : Space). answer_in trace.layout s call.request) (sym space) in
     let one_reply = same_Some wrong.reply (response reply) (sym wrong.is_reply ∙ to) in
     let one_call = same_Some (made_in call) wrong.made (sym is_call ∙ wrong.is_made) in
@@ -49,7 +51,7 @@ wrong_facts trace call reply wanted address changed first is_call is_reply names
       first = to;
       wanted = is;
       differs = λ same. wrong.differs (ap (λ (r : Response). r.answer) one_reply ∙ same ∙ is
-          ∙ ap (λ (m : Invocation). answer_in trace.layout (space_after trace (before call.event (recorded_order trace))) m.request) one_call);
+          ∙ ap (λ (m : Invocation). answer_in trace.layout (space_from start trace (before call.event (recorded_order trace))) m.request) one_call);
       address = about;
       stands = stands.0;
       changed = change;

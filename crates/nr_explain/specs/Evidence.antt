@@ -2,16 +2,18 @@
 use Rattle.std.specs.Prelude.{◌≡◌, ◌≢◌, ℕ, ◌<◌, ◌≤◌, List, length, slice_get, Option, Some, None}
 use Rattle.std.specs.FinMap as finite
 use Rattle.vs_types.specs.Depth.{levels, IsCanonical}
+use Rattle.vs_types.specs.Space.{Space, no_pages}
 use Rattle.vs_walk.specs.Dump.{Image}
 use Rattle.vs_walk.specs.Differences.{IsStray}
 use Rattle.vs_walk.specs.Walk.{walk, as_walk}
 use Rattle.nr_trace.specs.Recording.{Recording}
 use Rattle.nr_trace.specs.Calls.{Answers, Invocation, IsCall, IsUpdate, IsRead, Response, call_of, reply_of, reply_to}
 use Rattle.nr_trace.specs.Faults.{HasDump, StandsAfter}
-use Rattle.nr_trace.specs.Orders.{answer_in, before, floor, known_by, recorded_order, space_after}
+use Rattle.nr_trace.specs.Orders.{answer_in, before, floor, known_by, recorded_order, space_from}
 use Rattle.nr_trace.specs.declared.fault.Fault.{Fault}
 use Rattle.nr_trace.specs.declared.fault.Fault.TheVariants as faults
-use Rattle.nr_explain.specs.Facts.{IsCallOf, IsReplyOf, IsFirstReplyTo, response, entries_read, looks_after, IsLastChange, address_about, IsPath, HasReservedWord, IsReservedBit}
+use Rattle.nr_explain.specs.Facts.{IsCallOf, IsReplyOf, IsFirstReplyTo, response, entries_read, looks_from, IsLastChangeFrom, address_about, IsPath}
+use Rattle.nr_explain.specs.Facts.{HasReservedWord, IsReservedBit}
 use Rattle.nr_explain.specs.declared.evidence.Step.{Step}
 use Rattle.nr_explain.specs.declared.evidence.OpenCalls.{OpenCalls}
 use Rattle.nr_explain.specs.declared.evidence.StrayReply.{StrayReply}
@@ -109,16 +111,19 @@ pub record IsEarly (trace : Recording) (early : EarlyCall) : Type 0 where
   pub names : early.reply.call ≡ early.answered.event
   pub own : IsFirstReplyTo trace early.call.event early.own
 
--- the call is answered otherwise than the space answers it after the updates that come before it
-pub record IsOtherAnswer (trace : Recording) (wrong : OtherAnswer) : Type 0 where
+-- the call is answered otherwise than the space answers it after the updates that come before it, from this space on
+pub record IsOtherAnswerFrom (start : Space) (trace : Recording) (wrong : OtherAnswer) : Type 0 where
   pub call : IsCallOf trace wrong.call
   pub reply : IsReplyOf trace wrong.reply
   pub first : reply_to trace wrong.call.event ≡ Some (response wrong.reply)
-  pub wanted : wrong.wanted ≡ answer_in trace.layout (space_after trace (before wrong.call.event (recorded_order trace))) wrong.call.request
+  pub wanted : wrong.wanted ≡ answer_in trace.layout (space_from start trace (before wrong.call.event (recorded_order trace))) wrong.call.request
   pub differs : wrong.reply.answer ≢ wrong.wanted
   pub address : wrong.address ≡ address_about wrong.call.request wrong.wanted
   pub stands : StandsAfter trace wrong.call.event wrong.reply.at
-  pub changed : IsLastChange trace wrong.address wrong.reply.at wrong.changed
+  pub changed : IsLastChangeFrom start trace wrong.address wrong.reply.at wrong.changed
+
+abbrev pub IsOtherAnswer : Recording → OtherAnswer → Type 0
+IsOtherAnswer trace wrong = IsOtherAnswerFrom no_pages trace wrong
 
 -- the dump has applied more entries than the log has
 pub record IsLongPrefix (trace : Recording) (wrong : LongPrefix) : Type 0 where
@@ -167,15 +172,18 @@ IsReservedEntry trace wrong = HasDump trace wrong.replica (λ dump.
 abbrev pub IsStrayTable : Recording → StrayTable → Type 0
 IsStrayTable trace wrong = HasDump trace wrong.replica (λ dump. IsStray trace.layout.depth dump.frames dump.root wrong.frame)
 
--- the dump translates the address so, by these entries, and the space after the entries that it has applied otherwise
-pub record IsDifference (trace : Recording) (wrong : Difference) (dump : Image) : Type 0 where
+-- the dump translates the address so, by these entries, and the space after the entries that it has applied otherwise, from this space on
+pub record IsDifferenceFrom (start : Space) (trace : Recording) (wrong : Difference) (dump : Image) : Type 0 where
   pub applied : wrong.applied ≡ dump.applied
   pub canonical : IsCanonical trace.layout.depth wrong.address
   pub found : wrong.found ≡ walk trace.layout.depth dump.frames dump.root wrong.address
   pub path : wrong.path.items ≡ entries_read dump.frames (levels trace.layout.depth) dump.root wrong.address
-  pub wanted : wrong.wanted ≡ looks_after trace wrong.address wrong.applied
+  pub wanted : wrong.wanted ≡ looks_from start trace wrong.address wrong.applied
   pub differs : wrong.found ≢ as_walk wrong.wanted
-  pub changed : IsLastChange trace wrong.address wrong.applied wrong.changed
+  pub changed : IsLastChangeFrom start trace wrong.address wrong.applied wrong.changed
+
+abbrev pub IsDifference : Recording → Difference → Image → Type 0
+IsDifference trace wrong dump = IsDifferenceFrom no_pages trace wrong dump
 
 -- the evidence shows the fault, and what it says is so
 abbrev pub IsEvidence : Recording → Fault → Evidence → Type 0

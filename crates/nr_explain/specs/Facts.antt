@@ -1,9 +1,11 @@
 -- Facts of a trace that evidence is made of.
-use Rattle.std.specs.Prelude.{◌≡◌, ◌≢◌, ℕ, zero, suc, ◌+◌, ◌-◌, ◌*◌, ◌<◌, ◌≤◌, List, [], ◌∷◌, length, take, slice_get, slice_index, MatchBool, Option, Some, None}
+use Rattle.std.specs.Prelude.{◌≡◌, ◌≢◌, ℕ, zero, suc, ◌+◌, ◌-◌, ◌*◌, ◌<◌, ◌≤◌, List, [], ◌∷◌, length, take, slice_get, slice_index, MatchBool, Option, Some}
+use Rattle.std.specs.Prelude.{None}
 use Rattle.std.specs.FinMap as finite
 use Rattle.std.specs.Int.{bit_at}
 use Rattle.vs_types.specs.Depth.{index_at}
 use Rattle.vs_types.specs.Entry.{is_leaf, meaning}
+use Rattle.vs_types.specs.Space.{Space}
 use Rattle.vs_types.specs.Step.{look}
 use Rattle.vs_types.specs.declared.answer.Answer.{Answer}
 use Rattle.vs_types.specs.declared.answer.Answer.TheVariants as answers
@@ -16,7 +18,7 @@ use Rattle.vs_types.specs.declared.request.Query.TheVariants.{Update, Resolve, A
 use Rattle.vs_walk.specs.Memory.{Memory}
 use Rattle.nr_trace.specs.Recording.{Recording}
 use Rattle.nr_trace.specs.Calls.{Answers, call_of, Response, reply_of}
-use Rattle.nr_trace.specs.Orders.{space_after}
+use Rattle.nr_trace.specs.Orders.{space_from}
 use Rattle.nr_explain.specs.declared.evidence.RecordedCall.{RecordedCall}
 use Rattle.nr_explain.specs.declared.evidence.RecordedReply.{RecordedReply}
 use Rattle.nr_explain.specs.declared.evidence.PlacedUpdate.{PlacedUpdate}
@@ -40,21 +42,22 @@ IsFirstReplyTo trace call None = (index : ℕ) → Answers trace index call → 
 IsFirstReplyTo trace call (Some reply) =
     IsReplyOf trace reply × (reply.call ≡ call) × ((index : ℕ) → index < reply.event → Answers trace index call → ⊥)
 
--- how an address looks in the space after the first places of the log, this many
-abbrev pub looks_after : Recording → ℕ → ℕ → Answer
-looks_after trace address places = look (space_after trace (take places trace.log)) address
+-- how an address looks after the first places of the log, this many, from this space on
+abbrev pub looks_from : Space → Recording → ℕ → ℕ → Answer
+looks_from start trace address places = look (space_from start trace (take places trace.log)) address
 
 -- the address looks the same after each number of places from the first to the last
-abbrev pub LooksSame : Recording → ℕ → ℕ → ℕ → Type 0
-LooksSame trace address first last = (places : ℕ) → first ≤ places → places ≤ last → looks_after trace address places ≡ looks_after trace address last
+abbrev pub LooksSameFrom : Space → Recording → ℕ → ℕ → ℕ → Type 0
+LooksSameFrom start trace address first last = (places : ℕ) → first ≤ places → places ≤ last
+    → looks_from start trace address places ≡ looks_from start trace address last
 
 -- of the places below an end, the last one whose update changed how the address looks; or none, where none did
-abbrev pub IsLastChange : Recording → ℕ → ℕ → Option PlacedUpdate → Type 0
-IsLastChange trace address end None = LooksSame trace address 0 end
-IsLastChange trace address end (Some update) =
+abbrev pub IsLastChangeFrom : Space → Recording → ℕ → ℕ → Option PlacedUpdate → Type 0
+IsLastChangeFrom start trace address end None = LooksSameFrom start trace address 0 end
+IsLastChangeFrom start trace address end (Some update) =
     (update.place < end) × IsCallOf trace update.call × (slice_get trace.log update.place ≡ Some update.call.event)
-    × (looks_after trace address update.place ≢ looks_after trace address (update.place + 1))
-    × LooksSame trace address (update.place + 1) end
+    × (looks_from start trace address update.place ≢ looks_from start trace address (update.place + 1))
+    × LooksSameFrom start trace address (update.place + 1) end
 
 -- the address that an answer is about: the base that it names, where it names one, else what the call asks for
 abbrev pub asked_address : Query → ℕ

@@ -12,7 +12,8 @@ use Rattle.vs_types.specs.declared.page.TheConstants.Page.{PHYS_END}
 use Rattle.nr_trace.specs.declared.fault.Format.{Format}
 use Rattle.nr_trace.specs.declared.fault.Format.TheVariants.{BadEvent}
 use Rattle.nr_explain.specs.declared.fields.EventField.{EventField}
-use Rattle.nr_explain.specs.declared.fields.EventField.TheVariants.{Tag, Replica, Thread, Kind, Size, Access, Rights, Mode, Unused, Address, Physical, Answer, Value}
+use Rattle.nr_explain.specs.declared.fields.EventField.TheVariants.{Tag, Replica, Thread, Kind, Size, Access, Rights, Mode, Unused, Address, Physical, Answer}
+use Rattle.nr_explain.specs.declared.fields.EventField.TheVariants.{Value}
 use Rattle.nr_explain.specs.declared.fields.FieldFault.{FieldFault}
 use Rattle.nr_explain.specs.declared.fields.FieldFault.TheVariants.{NotBelow, NotCanonical, NotMultiple, Beyond}
 use Rattle.nr_explain.specs.declared.fields.BadField.{BadField}

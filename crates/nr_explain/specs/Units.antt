@@ -12,7 +12,8 @@ use Rattle.nr_explain.specs.declared.next_unit.Next.{Next}
 use Rattle.nr_explain.specs.declared.next_unit.Numbers.{Numbers}
 use Rattle.nr_explain.specs.declared.next_unit.TheConstants.{HEADER_BYTES}
 use Rattle.nr_explain.specs.declared.units.TraceUnit.{TraceUnit}
-use Rattle.nr_explain.specs.declared.units.TraceUnit.TheVariants.{Magic, Version as VersionWord, Counts, Place, Event, DumpHead, FrameNumber, FrameWords, Behind}
+use Rattle.nr_explain.specs.declared.units.TraceUnit.TheVariants.{Magic, Version as VersionWord, Counts, Place, Event, DumpHead, FrameNumber, FrameWords}
+use Rattle.nr_explain.specs.declared.units.TraceUnit.TheVariants.{Behind}
 use Rattle.nr_explain.specs.declared.units.BadUnit.{BadUnit}
 use Rattle.nr_explain.specs.declared.units.Unread.{Unread}
 use Rattle.nr_explain.specs.declared.units.Unread.TheVariants.{Memory, Bad}

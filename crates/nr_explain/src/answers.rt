@@ -8,7 +8,7 @@ ghost use Rattle.nr_explain.specs.Facts.{address_about, asked_address};
 
 use crate::evidence::OtherAnswer;
 use crate::lookup::call_at;
-use crate::replay::{answer_after, last_look};
+use crate::replay::{answer_after, last_look, no_pages};
 use crate::searching::first_reply;
 use nr_trace::Trace;
 use std::alloc::Global;
@@ -48,9 +48,9 @@ pub(crate) fn other_answer(alloc: Global, trace: &Trace, index: u32) -> Result<O
     let Some(reply) = first_reply(trace, index, trace.events().len() as u32) else {
         unreachable!()
     };
-    let wanted = answer_after(alloc, trace, call.request, reply.at)?;
+    let wanted = answer_after(trace, no_pages(alloc, trace), call.request, reply.at)?;
     let address = address_about(call.request, wanted);
-    let last = last_look(alloc, trace, address, reply.at)?;
+    let last = last_look(trace, no_pages(alloc, trace), address, reply.at)?;
     Ok(OtherAnswer {
         call,
         reply,

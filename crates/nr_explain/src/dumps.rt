@@ -1,10 +1,12 @@
 //! What shows a fault of a dump.
 
-ghost use Rattle.std.specs.Prelude.{◌≡◌, IfOk};
-ghost use Rattle.nr_trace.specs.Faults.{HasDump};
+ghost use Rattle.std.specs.Prelude.{◌≡◌, ◌≤◌, IfOk, length};
+ghost use Rattle.nr_trace.specs.Faults.{HasDump, HasFaultFrom};
 ghost use Rattle.nr_trace.specs.declared.fault.Fault.TheVariants.{Differs, MissingFrame, PrefixPastLog, ReservedBit, SharedFrame, StrayFrame};
+ghost use Rattle.nr_audit.specs.Verdict.{space_of};
 ghost use Rattle.nr_explain.specs.Dumps.{IsFirstOfItsDump};
-ghost use Rattle.nr_explain.specs.Evidence.{IsDifference, IsEvidence, IsLongPrefix, IsMissingTable, IsReservedEntry, IsSharedTable, IsStrayTable};
+ghost use Rattle.nr_explain.specs.Evidence.{IsDifference, IsDifferenceFrom, IsEvidence, IsLongPrefix, IsMissingTable, IsReservedEntry, IsSharedTable};
+ghost use Rattle.nr_explain.specs.Evidence.{IsStrayTable};
 
 use crate::evidence::{
     Difference, Evidence, LongPrefix, MissingTable, ReservedEntry, SharedTable, StrayTable,
@@ -12,9 +14,10 @@ use crate::evidence::{
 use crate::floors::short_prefix;
 use crate::log::places;
 use crate::paths::{Target, another_way, entries_read, entry_at, find_way, reserved_bit};
-use crate::replay::last_look;
+use crate::replay::{last_look, no_pages};
 use nr_trace::{Fault, Trace};
 use std::alloc::Global;
+use vs_plain::PlainSpace;
 use vs_types::Memory;
 use vs_walk::translate;
 
@@ -134,21 +137,33 @@ fn stray_table(trace: &Trace, replica: u8, frame: u64) -> StrayTable
     StrayTable { replica, frame }
 }
 
-/// How the dump of a replica translates an address and by which entries, how the address looks in the space, and the last update
-/// that made it so. Allocates the entries, and a space.
-fn difference(alloc: Global, trace: &Trace, replica: u8, address: u64) -> Result<Difference, Memory>
-    requires { IsFirstOfItsDump trace.now (Differs replica address) }
+/// How the dump of a replica translates an address and by which entries, how the address looks in the space, from this space on, and
+/// the last update that made it so. Allocates the entries, and memory for the space.
+///
+/// # Errors
+///
+/// `Memory` where a growth of memory was refused.
+pub fn difference(
+    alloc: Global,
+    trace: &Trace,
+    start: PlainSpace,
+    replica: u8,
+    address: u64,
+) -> Result<Difference, Memory>
+    requires start { start ≡ space_of trace.now.layout start.space }
+    requires few { HasDump trace.now replica (λ dump. dump.applied ≤ length trace.now.log) }
+    requires differs { HasFaultFrom start.space trace.now (Differs replica address) }
     ensures replica { IfOk result (λ wrong. wrong.replica ≡ replica) }
     ensures address { IfOk result (λ wrong. wrong.address ≡ address) }
     ensures is { IfOk result (λ wrong.
-        HasDump trace.now wrong.replica (IsDifference trace.now wrong)) }
+        HasDump trace.now wrong.replica (IsDifferenceFrom start.space trace.now wrong)) }
 {
     let dump = &trace.dumps()[replica as usize];
     let depth = trace.layout().depth();
     let applied = dump.applied();
     let found = translate(dump, dump.root(), depth, address);
     let path = entries_read(alloc, dump, depth, address)?;
-    let (wanted, changed) = last_look(alloc, trace, address, applied)?;
+    let (wanted, changed) = last_look(trace, start, address, applied)?;
     Ok(Difference {
         replica,
         applied,
@@ -158,6 +173,22 @@ fn difference(alloc: Global, trace: &Trace, replica: u8, address: u64) -> Result
         wanted,
         changed,
     })
+}
+
+/// The same of a trace, from no pages on.
+fn trace_difference(
+    alloc: Global,
+    trace: &Trace,
+    replica: u8,
+    address: u64,
+) -> Result<Difference, Memory>
+    requires { IsFirstOfItsDump trace.now (Differs replica address) }
+    ensures replica { IfOk result (λ wrong. wrong.replica ≡ replica) }
+    ensures address { IfOk result (λ wrong. wrong.address ≡ address) }
+    ensures is { IfOk result (λ wrong.
+        HasDump trace.now wrong.replica (IsDifference trace.now wrong)) }
+{
+    difference(alloc, trace, no_pages(alloc, trace), replica, address)
 }
 
 /// What shows the first fault of a dump. Allocates it, and for a difference a space.
@@ -185,7 +216,7 @@ pub fn explain_dump(alloc: Global, trace: &Trace, fault: Fault) -> Result<Eviden
             trace, replica, frame,
         ))),
         Fault::Differs(replica, address) => {
-            Ok(Evidence::Differs(difference(alloc, trace, replica, address)?))
+            Ok(Evidence::Differs(trace_difference(alloc, trace, replica, address)?))
         }
         _ => unreachable!(),
     }

@@ -23,7 +23,7 @@ mod units;
 pub use all_dumps::{DumpExplanation, FullExplanation, explain_all_read};
 pub use answers::{address_about, asked_address};
 pub use counts::Counts;
-pub use dumps::explain_dump;
+pub use dumps::{difference, explain_dump};
 pub use evidence::{
     Difference, EarlyCall, Evidence, LongPrefix, Misplaced, MissingTable, NoUpdate, OpenCalls,
     OtherAnswer, PastEnd, PlacedUpdate, RecordedCall, RecordedReply, ReservedEntry, SharedTable,
@@ -34,6 +34,7 @@ pub use fields::{BadField, EventField, FieldFault, field_fault};
 pub use lookup::call_at;
 pub use next_unit::Numbers;
 pub use paths::{Target, another_way, entries_read, entry_at, find_way, reserved_bit};
+pub use replay::{answer_after, apply_place, last_look};
 pub use searching::reply_to;
 pub use unit_feed::UnitFeed;
 pub use units::{BadUnit, TraceUnit, Unread};

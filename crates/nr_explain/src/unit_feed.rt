@@ -1,6 +1,6 @@
 //! A trace that comes in pieces, of which each unit is known: where it begins, and what was read of it.
 
-ghost use Rattle.std.specs.Prelude.{◌≡◌, ◌≢◌, ◌≤◌, ◌<◌, ◌-◌, ◌^◌, ◌++◌, ℕ, List, [], length, min, take, IfErr, MatchResult, OnOk};
+ghost use Rattle.std.specs.Prelude.{◌≡◌, ◌≢◌, ◌≤◌, ◌<◌, ◌-◌, ◌^◌, ◌++◌, ℕ, List, [], length, min, take, IfErr, MatchResult, OnErr, OnOk};
 ghost use Rattle.nr_trace.specs.Feed.{HasNoFaultYet};
 ghost use Rattle.nr_explain.specs.Units.{IfBad, IsBadFor, ReadsUnits};
 ghost use Rattle.nr_explain.specs.inside.UnitsFed.{bad_unit, taken, HasBegun, IsFed, IsPart, IsRefused, IsRun};
@@ -12,6 +12,7 @@ use crate::units::{BadUnit, TraceUnit, Unread};
 use nr_trace::{Feed, Format, Trace};
 use std::alloc::{AllocError, Global};
 use std::marker::Model;
+use std::mem::replace;
 use vs_types::Fail;
 
 /// A reader that knows its units.
@@ -171,25 +172,28 @@ impl UnitFeed {
     }
 
     /// Takes the next piece. It allocates the memory that `nr_trace::Feed` takes, and for the beginning of one unit, at most 4,096
-    /// bytes.
+    /// bytes. After an error nothing was given to the feed, as to a new one.
     ///
     /// # Errors
     ///
     /// The bad unit, as soon as it is whole: no later piece can mend it. And `Memory` where a growth of memory was refused.
-    pub fn feed(self, piece: &[u8]) -> Result<UnitFeed, Unread>
-        ensures { MatchResult result
-            (λ fed. (fed ≡ self ++ piece.now) × HasNoFaultYet (self ++ piece.now))
-            (IfBad (IsBadFor (self ++ piece.now))) }
+    pub fn feed(&mut self, piece: &[u8]) -> Result<(), Unread>
+        ensures fed { OnOk result ((self.new ≡ self.old ++ piece.now)
+            × HasNoFaultYet (self.old ++ piece.now)) }
+        ensures bad { IfErr result (IfBad (IsBadFor (self.old ++ piece.now))) }
+        ensures emptied { OnErr result (self.new ≡ []) }
     {
+        let empty = UnitFeed::new(self.walk.alloc);
         let UnitFeed {
             mut walk,
             mut begun,
-        } = self;
+        } = replace(self, empty);
         let mut rest = piece;
         'units: while !rest.is_empty() {
             rest = step(&mut walk, &mut begun, rest)?;
         }
-        Ok(UnitFeed { walk, begun })
+        *self = UnitFeed { walk, begun };
+        Ok(())
     }
 
     /// The trace that the pieces spell one after the other. It allocates no memory.

@@ -1,5 +1,5 @@
 -- What the words of the command line ask for, as clap's definitions read words.
-use Rattle.std.specs.Prelude.{◌≡◌, ◌≤◌, ◌⊎◌, ℕ, List, [], ◌∷◌, Option, Some, None, Ok, Err, codes, pos, true}
+use Rattle.std.specs.Prelude.{◌≡◌, ◌≤◌, ◌⊎◌, ℕ, List, [], ◌∷◌, Option, Some, None, Ok, codes, pos, true}
 use Rattle.std.specs.Str.Parse.{ParsesUnsigned}
 use Rattle.vs_types.specs.Depth.{levels}
 use Rattle.clap.specs.Words.{App, Row, Rule, Text, new_app, new_rule, with_rule, with_subcommand}

@@ -3,7 +3,8 @@ use Rattle.std.specs.Prelude.{◌≡◌, ℕ, ◌+◌, ◌<◌, ◌≤◌, ◌�
 use Rattle.vs_types.specs.Space.{Space}
 use Rattle.nr_trace.specs.Recording.{Recording}
 use Rattle.nr_touch.specs.Touches.{ChangesLook, IsAnsweredBefore, IsMadeAfter}
-use Rattle.nr_chain_explain.specs.Facts.{looks_from, IsChangedAt}
+use Rattle.nr_explain.specs.Facts.{looks_from}
+use Rattle.nr_chain_explain.specs.Facts.{IsChangedAt}
 use Rattle.nr_chain_explain.specs.declared.evidence.Moment.{Moment}
 use Rattle.nr_chain_explain.specs.declared.touches.Window.{Window}
 

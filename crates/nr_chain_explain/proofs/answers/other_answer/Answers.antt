@@ -5,8 +5,8 @@ use Rattle.nr_trace.specs.Faults.{IsFirstFrom}
 use Rattle.nr_trace.specs.Orders.{answer_in, space_from}
 use Rattle.nr_trace.specs.declared.fault.Fault.TheVariants.{WrongAnswer}
 use Rattle.nr_explain.proofs.Replies.{some_reply}
-use Rattle.nr_chain_explain.specs.Facts.{IsLastChangeFrom}
-use Rattle.nr_chain_explain.proofs.WrongAnswers.{few_seen, wrong_facts}
+use Rattle.nr_explain.specs.Facts.{IsLastChangeFrom}
+use Rattle.nr_explain.proofs.WrongAnswers.{few_seen, wrong_facts}
 use Rattle.nr_chain_explain.proofs.answers.other_answer.Goals as goal
 
 pub unreachable-requires : goal.unreachable-requires

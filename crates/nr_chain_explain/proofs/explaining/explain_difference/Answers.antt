@@ -6,7 +6,7 @@ use Rattle.nr_trace.specs.declared.fault.Fault.TheVariants.{Differs}
 use Rattle.nr_segment.specs.Start.{first_space}
 use Rattle.nr_segment.specs.declared.fault.SegmentFault.TheVariants.{Within}
 use Rattle.nr_chain_explain.specs.Came.{began_with, space_in}
-use Rattle.nr_chain_explain.specs.Evidence.{IsDifferenceFrom}
+use Rattle.nr_explain.specs.Evidence.{IsDifferenceFrom}
 use Rattle.nr_chain_explain.specs.Facts.{IsOrigin}
 use Rattle.nr_chain_explain.specs.inside.Reading.{all_seen}
 use Rattle.nr_chain_explain.proofs.Firsts.{well_within}

@@ -1,7 +1,7 @@
 use Rattle.std.proofs.Common.{◌≡◌, inl, inr, ℕ, ◌+◌, ◌++◌, ◌∷◌, [], List, Vec, Global, refl, sym, ap, subst, ◌∙◌, arith}
 use Rattle.vs_types.specs.Step.{look}
 use Rattle.vs_plain.specs.Plain.{BoundedSpace}
-use Rattle.nr_chain_explain.specs.Facts.{looks_from}
+use Rattle.nr_explain.specs.Facts.{looks_from}
 use Rattle.nr_chain_explain.specs.inside.Windows.{AreLooksBelow}
 use Rattle.nr_chain_explain.specs.declared.evidence.Moment.{Moment}
 use Rattle.nr_chain_explain.proofs.Looking.{all_looks, changed_at, differs_at, look_first, look_later, look_pushed, look_skipped}

@@ -1,7 +1,7 @@
 use Rattle.std.proofs.Common.{◌≡◌, ◌+◌, take}
 use Rattle.nr_trace.specs.Orders.{space_from}
 use Rattle.nr_audit.specs.Verdict.{space_of}
-use Rattle.nr_chain_explain.specs.Facts.{looks_from}
+use Rattle.nr_explain.specs.Facts.{looks_from}
 use Rattle.nr_chain_explain.specs.inside.Windows.{AreLooksBelow}
 use Rattle.nr_chain_explain.proofs.touches.looks_in.Given as goal
 

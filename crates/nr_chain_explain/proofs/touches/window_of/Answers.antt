@@ -4,7 +4,7 @@ use Rattle.vs_types.specs.Space.{Space, IsSpace}
 use Rattle.vs_types.specs.Step.{look, look_in_page}
 use Rattle.vs_plain.specs.Plain.{BoundedSpace}
 use Rattle.nr_trace.specs.Orders.{space_from}
-use Rattle.nr_chain_explain.specs.Facts.{looks_from}
+use Rattle.nr_explain.specs.Facts.{looks_from}
 use Rattle.nr_chain_explain.specs.inside.Windows.{IsWindowBelow}
 use Rattle.nr_chain_explain.proofs.Windows.{same_page, window_narrows, window_stays}
 use Rattle.nr_chain_explain.proofs.touches.window_of.Goals as goal

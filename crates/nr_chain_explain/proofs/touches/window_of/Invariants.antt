@@ -2,7 +2,7 @@ use Rattle.std.proofs.Common.{◌≡◌, take}
 use Rattle.vs_types.specs.Space.{IsSpace}
 use Rattle.nr_trace.specs.Orders.{space_from}
 use Rattle.nr_audit.specs.Verdict.{space_of}
-use Rattle.nr_chain_explain.specs.Facts.{looks_from}
+use Rattle.nr_explain.specs.Facts.{looks_from}
 use Rattle.nr_chain_explain.specs.inside.Windows.{IsWindowBelow}
 use Rattle.nr_chain_explain.proofs.touches.window_of.Given as goal
 

@@ -1,5 +1,5 @@
 use Rattle.std.proofs.lemmas.Result.{IfOk-weaker}
-use Rattle.nr_engines.proofs.UnitInput.{writes_units}
+use Rattle.nr_engines.proofs.Reports.{writes}
 use Rattle.nr_engines.specs.FullExplained.{IsFullyExplained}
 use Rattle.nr_engines.proofs.full.explain_all_io.Goals as goal
 
@@ -8,7 +8,7 @@ returns-clause-ok g c =
     let report = c.in_ok-report.report in
     let has = c.in_ok-read.ensures.ok in
     IfOk-weaker c.write_report.result _ _
-    (λ status h. writes_units (IsFullyExplained c.args.as_json) (g.R.Read.remaining c.args.reader.now) c.in_ok-read.read report.text.bytes.items
-    (g.W.Write.contents c.args.writer.now) (g.W.Write.contents c.write_report.new.writer) report.status status has
+    (λ status h. writes (IsFullyExplained c.args.as_json) (g.R.Read.remaining c.args.reader.now) has.input report.text.bytes.items
+    (g.W.Write.contents c.args.writer.now) (g.W.Write.contents c.write_report.new.writer) report.status status has.is_read
     (c.in_ok-report.ensures has.input has.read_is) h.0 h.1)
     c.write_report.ensures.ok

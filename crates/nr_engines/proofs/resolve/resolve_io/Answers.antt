@@ -15,7 +15,7 @@ returns-clause-ok g c =
     c.spelled_address.ensures in
     IfOk-weaker c.write_report.result _ _
     (λ status h. writes (IsResolve c.args.address.now c.args.replica c.args.with_steps) (g.R.Read.remaining c.args.reader.now)
-    c.in_ok-read.read report.text.bytes.items
-    (g.W.Write.contents c.args.writer.now) (g.W.Write.contents c.write_report.new.writer) report.status status has
+    has.input report.text.bytes.items
+    (g.W.Write.contents c.args.writer.now) (g.W.Write.contents c.write_report.new.writer) report.status status has.is_read
     record { address = c.in_ok-address.address; spelled = spelled; is_walk = c.in_ok-report.ensures has.input has.read_is } h.0 h.1)
     c.write_report.ensures.ok

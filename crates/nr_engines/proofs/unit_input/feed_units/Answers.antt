@@ -1,7 +1,8 @@
 use Rattle.std.proofs.Common.{◌≡◌, ℕ, ◌-◌, [], ap, take, arith}
 use Rattle.std.proofs.lemmas.List.{length-take}
 use Rattle.std.specs.Io.KnownBytes.{IsAtEnd}
-use Rattle.nr_engines.proofs.UnitInput.{units_go_on, units_stop, units_end, units_read_a_block, units_read_no_more, units_read_to_here}
+use Rattle.std.proofs.KnownBytes.{Keeps-refl}
+use Rattle.nr_engines.proofs.Input.{units_go_on, units_stop, units_end, units_read_a_block, units_read_no_more}
 use Rattle.nr_engines.proofs.unit_input.feed_units.Goals as goal
 
 pub returns-in_err-count-clause-few : goal.returns-in_err-count-clause-few
@@ -18,7 +19,7 @@ returns-then-count-eq0-clause-ok g c =
     let room = length-take c.min.result c.loop-room.block in
     let block = c.read_block.auto.block in
     let whole = c.loop-room.auto.block in
-    let asked = c.requires.block in
+    let asked = c.requires in
     let nothing : piece ≡ [] = ap (λ (n : ℕ). take n c.read_block.new.block) c.if-count-eq0.true in
     let end : IsAtEnd (known c.read_block.new.reader) = c.in_ok-count.ensures.end c.if-count-eq0.true (omega arith) in
     units_end (known c.args.reader.now) (known c.loop-room.reader)
@@ -43,7 +44,7 @@ returns-in-Err-clause-ok g c =
     let piece = take c.in_ok-count.count c.read_block.new.block in
     units_stop (known c.args.reader.now) (known c.loop-room.reader)
     (known c.read_block.new.reader) c.loop-room.feed piece c.in-Err.unread c.loop-room.room c.loop-room.invariant
-    c.in_ok-count.ensures.ok c.in-Err.ensures
+    c.in_ok-count.ensures.ok c.in-Err.ensures.bad
 
 pub returns-in-Err-clause-few : goal.returns-in-Err-clause-few
 returns-in-Err-clause-few g c =
@@ -60,7 +61,8 @@ returns-in-Err-clause-few g c =
 pub returns-clause-few : goal.returns-clause-few
 returns-clause-few g c =
     let known = g.R.Read.remaining in
-    units_read_to_here (known c.args.reader.now) (known c.loop-room.reader) c.loop-room.feed c.loop-room.room c.loop-room.invariant
+    units_read_no_more (known c.args.reader.now) (known c.loop-room.reader) (known c.loop-room.reader) c.loop-room.feed c.loop-room.room
+    c.loop-room.invariant (Keeps-refl (known c.loop-room.reader))
 
 pub loop-room-preserved : goal.loop-room-preserved
 loop-room-preserved g c =
@@ -72,5 +74,5 @@ loop-room-preserved g c =
     let block = c.read_block.auto.block in
     let bound = c.in_ok-count.ensures.bound in
     units_go_on (known c.args.reader.now) (known c.loop-room.reader)
-    (known c.read_block.new.reader) c.loop-room.feed c.in-Ok.next piece c.loop-room.room (c.loop-room.room - c.in_ok-count.count)
-    c.loop-room.invariant c.in_ok-count.ensures.ok (omega arith) c.in-Ok.ensures.0 c.in-Ok.ensures.1
+    (known c.read_block.new.reader) c.loop-room.feed c.feed-in-loop-room.new.self piece c.loop-room.room (c.loop-room.room - c.in_ok-count.count)
+    c.loop-room.invariant c.in_ok-count.ensures.ok (omega arith) c.in_default.ensures.fed.0 c.in_default.ensures.fed.1

@@ -1,52 +1,44 @@
-use Rattle.std.proofs.Common.{◌≡◌, ℕ, ◌≤◌, length, ap, sym, subst, ◌∙◌, arith}
+use Rattle.std.proofs.Common.{◌≡◌, ℕ, ap, sym, ◌∙◌, arith}
 use Rattle.vs_types.specs.Config.{Layout}
 use Rattle.vs_types.specs.Depth.{levels}
 use Rattle.vs_types.specs.declared.depth.Depth.{Depth}
-use Rattle.vs_walk.specs.Dump.{Image}
 use Rattle.vs_walk.specs.Walk.{as_walk, walk}
-use Rattle.nr_trace.specs.Recording.{IsThere}
-use Rattle.nr_explain.specs.Facts.{entries_read, looks_after}
-use Rattle.nr_explain.proofs.Dumped.{dump_read, one_dump}
-use Rattle.nr_explain.proofs.FirstFaults.{few_before_differs}
+use Rattle.nr_explain.specs.Facts.{entries_read, looks_from}
+use Rattle.nr_explain.proofs.Dumped.{read_as}
 use Rattle.nr_explain.proofs.dumps.difference.Goals as goal
 
-pub last_look-requires : goal.last_look-requires
-last_look-requires c =
+pub last_look-requires-clause-within : goal.last_look-requires-clause-within
+last_look-requires-clause-within c =
     let trace = c.args.trace.now in
-    let holds = c.requires.holds in
     let dump = c.index-dumps-replica.result in
-    let there = dump_read trace c.dumps.result.now c.args.replica dump holds.0 c.dumps.ensures.reads holds.1 c.index-dumps-replica.is in
-    let one = one_dump trace c.args.replica dump holds.0 there holds.1 in
-    let few : dump.applied ≤ length trace.log = few_before_differs trace c.args.replica c.args.address dump c.requires there in
+    let (there, is_there, few) = read_as trace c.dumps.result.now c.args.replica _ dump c.requires.few c.dumps.ensures.reads c.index-dumps-replica.is in
     omega (arith, c.applied-applied.ensures)
 
 pub returns-clause-is : goal.returns-clause-is
 returns-clause-is c =
     let trace = c.args.trace.now in
-    let holds = c.requires.holds in
+    let start = c.args.start.space in
     let dump = c.index-dumps-replica.result in
-    let there = dump_read trace c.dumps.result.now c.args.replica dump holds.0 c.dumps.ensures.reads holds.1 c.index-dumps-replica.is in
-    let one = one_dump trace c.args.replica dump holds.0 there holds.1 in
+    let (there, is_there, differs) = read_as trace c.dumps.result.now c.args.replica _ dump c.requires.differs c.dumps.ensures.reads
+    c.index-dumps-replica.is in
     let address = c.args.address in
     let depth = trace.layout.depth in
     let given = c.depth-depth.ensures ∙ ap (λ (l : Layout). l.depth) c.layout.ensures.reads in
-    let differs = holds.3.0 in
-    let walked = ap (λ (d : Image). walk depth d.frames d.root address) one in
     let found : c.translate-found.result ≡ walk depth dump.frames dump.root address = c.translate-found.ensures
     ∙ ap (λ (d : Depth). walk d dump.frames c.root.result address) given ∙ ap (λ (r : ℕ). walk depth dump.frames r address) c.root.ensures in
     let applied = c.applied-applied.ensures in
-    let wanted : c.in_ok-wanted.wanted ≡ looks_after trace address c.applied-applied.result = c.in_ok-wanted.ensures.looks in
-    let looks = ap (looks_after trace address) (applied ∙ sym (ap (λ (d : Image). d.applied) one)) in (
+    let wanted : c.in_ok-wanted.wanted ≡ looks_from start trace address c.applied-applied.result = c.in_ok-wanted.ensures.looks in
+    let looks = ap (looks_from start trace address) applied in (
       dump,
       there,
-      subst IsThere one holds.2,
+      is_there,
       record {
         applied = applied;
-        canonical = differs.0;
+        canonical = differs.0.0;
         found = found;
         path = c.in_ok-path.ensures ∙ ap (λ (d : Depth). entries_read dump.frames (levels d) dump.root address) given;
         wanted = wanted;
-        differs = λ same. differs.1 (walked ∙ sym found ∙ same ∙ ap as_walk (wanted ∙ looks));
+        differs = λ same. differs.0.1 (sym found ∙ same ∙ ap as_walk (wanted ∙ looks));
         changed = c.in_ok-wanted.ensures.changed;
       },
     )

@@ -8,20 +8,17 @@ use Rattle.vs_walk.proofs.LawsOfTraversals.{missing_reached}
 use Rattle.nr_trace.specs.Recording.{IsThere}
 use Rattle.nr_explain.specs.declared.evidence.Step.{Step}
 use Rattle.nr_explain.specs.declared.paths.Target.{Target}
-use Rattle.nr_explain.proofs.Dumped.{IsSought, dump_read, found_from, frame_is_found, one_dump}
+use Rattle.nr_explain.proofs.Dumped.{IsSought, found_from, frame_is_found, read_as}
 use Rattle.nr_explain.proofs.dumps.missing_table.Goals as goal
 
 pub unreachable-requires : goal.unreachable-requires
 unreachable-requires c =
     let trace = c.args.trace.now in
-    let holds = c.requires.holds in
     let dump = c.index-dumps-replica.result in
-    let there = dump_read trace c.dumps.result.now c.args.replica dump holds.0 c.dumps.ensures.reads holds.1 c.index-dumps-replica.is in
-    let one = one_dump trace c.args.replica dump holds.0 there holds.1 in
+    let (there, is_there, fault) = read_as trace c.dumps.result.now c.args.replica _ dump c.requires.holds c.dumps.ensures.reads c.index-dumps-replica.is in
     let depth = trace.layout.depth in
     let target : Target = record { frame = c.args.frame; reserved = None; other = None } in
     let given = c.depth.ensures ∙ ap (λ (l : Layout). l.depth) c.layout.ensures.reads in
-    let fault = subst (λ (d : Image). walk_fault depth d.frames d.root ≡ Some (walks.Missing c.args.frame)) one holds.3 in
     let nowhere = subst (λ (o : Option (Vec Step Global)). IsSought dump target (levels c.depth.result) o) c.in-None.is c.in_ok-path.ensures in
     frame_is_found depth c.depth.result dump c.args.frame target given refl (missing_reached depth dump.frames dump.root c.args.frame fault).0
     (λ end way. record { reserved = tt; other = tt }) nowhere
@@ -29,14 +26,11 @@ unreachable-requires c =
 pub returns-clause-is : goal.returns-clause-is
 returns-clause-is c =
     let trace = c.args.trace.now in
-    let holds = c.requires.holds in
     let dump = c.index-dumps-replica.result in
-    let there = dump_read trace c.dumps.result.now c.args.replica dump holds.0 c.dumps.ensures.reads holds.1 c.index-dumps-replica.is in
-    let one = one_dump trace c.args.replica dump holds.0 there holds.1 in
+    let (there, is_there, fault) = read_as trace c.dumps.result.now c.args.replica _ dump c.requires.holds c.dumps.ensures.reads c.index-dumps-replica.is in
     let depth = trace.layout.depth in
     let target : Target = record { frame = c.args.frame; reserved = None; other = None } in
     let given = c.depth.ensures ∙ ap (λ (l : Layout). l.depth) c.layout.ensures.reads in
-    let fault = subst (λ (d : Image). walk_fault depth d.frames d.root ≡ Some (walks.Missing c.args.frame)) one holds.3 in
     let sought = subst (λ (o : Option (Vec Step Global)). IsSought dump target (levels c.depth.result) o) c.in-Some.is c.in_ok-path.ensures in
     let found = found_from depth c.depth.result dump target c.in-Some.path.items given sought in
-    (dump, there, subst IsThere one holds.2, ((missing_reached depth dump.frames dump.root c.args.frame fault).1, (found.end, found.leads)))
+    (dump, there, is_there, ((missing_reached depth dump.frames dump.root c.args.frame fault).1, (found.end, found.leads)))

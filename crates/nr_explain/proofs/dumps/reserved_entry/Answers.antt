@@ -11,20 +11,17 @@ use Rattle.nr_explain.specs.Facts.{IsPath}
 use Rattle.nr_explain.specs.inside.Ways.{IsReservedAt}
 use Rattle.nr_explain.specs.declared.evidence.Step.{Step}
 use Rattle.nr_explain.specs.declared.paths.Target.{Target}
-use Rattle.nr_explain.proofs.Dumped.{Found, IsSought, dump_read, found_from, one_dump, word_is_found}
+use Rattle.nr_explain.proofs.Dumped.{Found, IsSought, found_from, read_as, word_is_found}
 use Rattle.nr_explain.proofs.dumps.reserved_entry.Goals as goal
 
 pub unreachable-requires : goal.unreachable-requires
 unreachable-requires c =
     let trace = c.args.trace.now in
-    let holds = c.requires.holds in
     let dump = c.index-dumps-replica.result in
-    let there = dump_read trace c.dumps.result.now c.args.replica dump holds.0 c.dumps.ensures.reads holds.1 c.index-dumps-replica.is in
-    let one = one_dump trace c.args.replica dump holds.0 there holds.1 in
+    let (there, is_there, fault) = read_as trace c.dumps.result.now c.args.replica _ dump c.requires.holds c.dumps.ensures.reads c.index-dumps-replica.is in
     let depth = trace.layout.depth in
     let target : Target = record { frame = c.args.frame; reserved = Some c.args.index; other = None } in
     let given = c.depth-depth.ensures ∙ ap (λ (l : Layout). l.depth) c.layout.ensures.reads in
-    let fault = subst (λ (d : Image). walk_fault depth d.frames d.root ≡ Some (walks.Reserved c.args.frame c.args.index)) one holds.3 in
     let nowhere = subst (λ (o : Option (Vec Step Global)). IsSought dump target (levels c.depth-depth.result) o) c.in_default.is c.in_ok-path.ensures in
     word_is_found depth c.depth-depth.result dump c.args.frame c.args.index target given refl
     (reserved_met depth dump.frames dump.root c.args.frame c.args.index fault)
@@ -76,10 +73,8 @@ reserved_bit-requires-clause-reserved c = c.entry_at-entry.ensures.reserved.rese
 pub returns-clause-is : goal.returns-clause-is
 returns-clause-is c =
     let trace = c.args.trace.now in
-    let holds = c.requires.holds in
     let dump = c.index-dumps-replica.result in
-    let there = dump_read trace c.dumps.result.now c.args.replica dump holds.0 c.dumps.ensures.reads holds.1 c.index-dumps-replica.is in
-    let one = one_dump trace c.args.replica dump holds.0 there holds.1 in
+    let (there, is_there, fault) = read_as trace c.dumps.result.now c.args.replica _ dump c.requires.holds c.dumps.ensures.reads c.index-dumps-replica.is in
     let given = c.depth-depth.ensures ∙ ap (λ (l : Layout). l.depth) c.layout.ensures.reads in
     let found = found_in _ _ dump c.args.frame c.args.index c.in_ok-path.field-0 c.in-Some.path given c.in-Some.is c.in_ok-path.ensures in
     let high = c.levels.ensures ∙ ap levels given in
@@ -87,7 +82,7 @@ returns-clause-is c =
     let level : found.end ≡ entry.result.level = omega (arith, found.down, high, c.len.ensures, c.in-Some.path.ok.0, entry.ensures.level) in (
       dump,
       there,
-      subst IsThere one holds.2,
+      is_there,
       (
         subst (λ (n : ℕ). IsPath dump.frames (levels trace.layout.depth) dump.root entry.result.level n c.in-Some.path.items) (sym entry.ensures.frame)
             (subst (λ (l : ℕ). IsPath dump.frames (levels trace.layout.depth) dump.root l c.args.frame c.in-Some.path.items) level found.leads),

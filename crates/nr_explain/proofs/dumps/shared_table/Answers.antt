@@ -11,21 +11,18 @@ use Rattle.nr_explain.specs.Facts.{IsPath}
 use Rattle.nr_explain.specs.inside.Ways.{HasTwoWays}
 use Rattle.nr_explain.specs.declared.evidence.Step.{Step}
 use Rattle.nr_explain.specs.declared.paths.Target.{Target}
-use Rattle.nr_explain.proofs.Dumped.{IsSought, dump_read, found_from, frame_is_found, one_dump, shared_is_visited}
+use Rattle.nr_explain.proofs.Dumped.{IsSought, found_from, frame_is_found, read_as, shared_is_visited}
 use Rattle.nr_explain.proofs.TwoWays.{shared_has_two}
 use Rattle.nr_explain.proofs.dumps.shared_table.Goals as goal
 
 pub unreachable-requires : goal.unreachable-requires
 unreachable-requires c =
     let trace = c.args.trace.now in
-    let holds = c.requires.holds in
     let dump = c.index-dumps-replica.result in
-    let there = dump_read trace c.dumps.result.now c.args.replica dump holds.0 c.dumps.ensures.reads holds.1 c.index-dumps-replica.is in
-    let one = one_dump trace c.args.replica dump holds.0 there holds.1 in
+    let (there, is_there, fault) = read_as trace c.dumps.result.now c.args.replica _ dump c.requires.holds c.dumps.ensures.reads c.index-dumps-replica.is in
     let depth = trace.layout.depth in
     let target : Target = record { frame = c.args.frame; reserved = None; other = None } in
     let given = c.depth-depth.ensures ∙ ap (λ (l : Layout). l.depth) c.layout.ensures.reads in
-    let fault = subst (λ (d : Image). walk_fault depth d.frames d.root ≡ Some (walks.Shared c.args.frame)) one holds.3 in
     let nowhere = subst (λ (o : Option (Vec Step Global)). IsSought dump target (levels c.depth-depth.result) o) c.in_default.is c.in_ok-first.ensures in
     frame_is_found depth c.depth-depth.result dump c.args.frame target given refl (shared_is_visited depth dump c.args.frame fault)
     (λ end way. record { reserved = tt; other = tt }) nowhere
@@ -33,10 +30,8 @@ unreachable-requires c =
 pub returns-clause-is : goal.returns-clause-is
 returns-clause-is c =
     let trace = c.args.trace.now in
-    let holds = c.requires.holds in
     let dump = c.index-dumps-replica.result in
-    let there = dump_read trace c.dumps.result.now c.args.replica dump holds.0 c.dumps.ensures.reads holds.1 c.index-dumps-replica.is in
-    let one = one_dump trace c.args.replica dump holds.0 there holds.1 in
+    let (there, is_there, fault) = read_as trace c.dumps.result.now c.args.replica _ dump c.requires.holds c.dumps.ensures.reads c.index-dumps-replica.is in
     let depth = trace.layout.depth in
     let target : Target = record { frame = c.args.frame; reserved = None; other = None } in
     let given = c.depth-depth.ensures ∙ ap (λ (l : Layout). l.depth) c.layout.ensures.reads in
@@ -46,7 +41,7 @@ returns-clause-is c =
     let same = sym c.in_ok-first-2.ensures.first in (
       dump,
       there,
-      subst IsThere one holds.2,
+      is_there,
       (
         subst (λ (v : Vec Step Global). StepsLeadTo trace dump c.args.frame v.items) same (found.end, found.leads),
         (other.0, subst (λ (d : Depth). IsPath dump.frames (levels d) dump.root other.0 c.args.frame c.in_ok-first-2.second.items) given other.1),
@@ -57,11 +52,8 @@ returns-clause-is c =
 pub another_way-requires : goal.another_way-requires
 another_way-requires c =
     let trace = c.args.trace.now in
-    let holds = c.requires.holds in
     let dump = c.index-dumps-replica.result in
-    let there = dump_read trace c.dumps.result.now c.args.replica dump holds.0 c.dumps.ensures.reads holds.1 c.index-dumps-replica.is in
-    let one = one_dump trace c.args.replica dump holds.0 there holds.1 in
+    let (there, is_there, fault) = read_as trace c.dumps.result.now c.args.replica _ dump c.requires.holds c.dumps.ensures.reads c.index-dumps-replica.is in
     let given = c.depth-depth.ensures ∙ ap (λ (l : Layout). l.depth) c.layout.ensures.reads in
-    let fault = subst (λ (d : Image). walk_fault trace.layout.depth d.frames d.root ≡ Some (walks.Shared c.args.frame)) one holds.3 in
     subst (λ (d : Depth). HasTwoWays dump.frames (levels d) dump.root c.args.frame) (sym given)
     (shared_has_two trace.layout.depth dump.frames dump.root c.args.frame fault)

@@ -5,18 +5,15 @@ use Rattle.nr_trace.specs.Orders.{known_by}
 use Rattle.nr_trace.specs.Recording.{IsThere}
 use Rattle.nr_trace.proofs.LawsOfCalls.{reply_in_event}
 use Rattle.nr_explain.proofs.BindingReplies.{no_more_known}
-use Rattle.nr_explain.proofs.Dumped.{dump_read, one_dump}
+use Rattle.nr_explain.proofs.Dumped.{read_as}
 use Rattle.nr_explain.proofs.floors.short_prefix.Goals as goal
 
 pub unreachable-requires : goal.unreachable-requires
 unreachable-requires c =
     let trace = c.args.trace.now in
-    let holds = c.requires.holds in
-    let rests = holds.3 in
     let dump = c.index-dumps-replica.result in
-    let there = dump_read trace c.dumps.result.now c.args.replica dump holds.0 c.dumps.ensures.reads holds.1 c.index-dumps-replica.is in
-    let same : holds.0.applied ≡ dump.applied = ap (λ (d : Image). d.applied) (one_dump trace c.args.replica dump holds.0 there holds.1) in
-    let more : holds.0.applied < known_by trace rests.reply = rests.more in
+    let (there, is_there, rests) = read_as trace c.dumps.result.now c.args.replica _ dump c.requires.holds c.dumps.ensures.reads c.index-dumps-replica.is in
+    let more : dump.applied < known_by trace rests.reply = rests.more in
     let told : c.applied-applied.result ≡ dump.applied = c.applied-applied.ensures in
     let at = reply_in_event (slice_get trace.events rests.index) rests.reply rests.is_reply in
     c.in-None.ensures rests.index (slice_get_within trace.events rests.index at.0 at.1) (record {
@@ -31,15 +28,14 @@ unreachable-requires c =
 pub returns-clause-is : goal.returns-clause-is
 returns-clause-is c =
     let trace = c.args.trace.now in
-    let holds = c.requires.holds in
     let dump = c.index-dumps-replica.result in
-    let there = dump_read trace c.dumps.result.now c.args.replica dump holds.0 c.dumps.ensures.reads holds.1 c.index-dumps-replica.is in
+    let (there, is_there, rests) = read_as trace c.dumps.result.now c.args.replica _ dump c.requires.holds c.dumps.ensures.reads c.index-dumps-replica.is in
     let found = c.in-Some.ensures.0 in
     record {
       applied = (
         dump,
         subst (λ (r : ℕ). slice_get trace.dumps r ≡ Some dump) (sym found.replica_is) there,
-        subst IsThere (one_dump trace c.args.replica dump holds.0 there holds.1) holds.2,
+        is_there,
         sym c.applied-applied.ensures ∙ sym found.applied_is,
       );
       reply = found.reply;

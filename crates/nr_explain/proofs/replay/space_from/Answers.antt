@@ -1,4 +1,4 @@
-use Rattle.nr_chain_explain.proofs.replay.space_at.Goals as goal
+use Rattle.nr_explain.proofs.replay.space_from.Goals as goal
 
 pub apply_place-requires-clause-before : goal.apply_place-requires-clause-before
 apply_place-requires-clause-before c = (c.args.start.space, c.loop-place.invariant)

@@ -1,0 +1,48 @@
+//! How much a right chain has.
+
+ghost use Rattle.std.specs.Prelude.{◌≡◌, IfOk, map, string_bytes};
+ghost use Rattle.serde_json.specs.View.{view};
+ghost use Rattle.nr_engines.specs.Parts.{part_of};
+ghost use Rattle.nr_chain_texts.specs.Evidence.{chain_counts_data, chain_counts_lines, chain_counts_parts};
+
+use nr_chain_explain::ChainCounts;
+use nr_engines::{Part, Says, parts_text, parts_value};
+use serde_json::Value;
+use std::alloc::{AllocError, Global};
+
+#[tactic(auto, unfolding(crate::specs::Evidence::chain_counts_parts))]
+fn chain_counts_parts<'a>(counts: ChainCounts) -> [Part<'a>; 15]
+    ensures { map part_of result ≡ chain_counts_parts counts }
+{
+    [
+        Part::Words("calls: "),
+        Part::Told("calls", Says::Count(counts.calls)),
+        Part::Words("\nupdates: "),
+        Part::Told("updates", Says::Count(counts.updates)),
+        Part::Words("\nreads: "),
+        Part::Told("reads", Says::Count(counts.reads)),
+        Part::Words("\ntouches: "),
+        Part::Told("touches", Says::Count(counts.touches)),
+        Part::Words("\ndumps: "),
+        Part::Told("dumps", Says::Count(counts.dumps)),
+        Part::Words("\nreplicas: "),
+        Part::Told("replicas", Says::Count(u64::from(counts.replicas))),
+        Part::Words("\npages: "),
+        Part::Told("pages", Says::Count(counts.pages)),
+        Part::Words("\n"),
+    ]
+}
+
+/// The lines of how much a right chain has.
+pub(crate) fn chain_counts_lines(alloc: Global, counts: ChainCounts) -> Result<String, AllocError>
+    ensures { IfOk result (λ text. string_bytes text ≡ chain_counts_lines counts) }
+{
+    parts_text(alloc, &chain_counts_parts(counts))
+}
+
+/// How much a right chain has, as JSON.
+pub(crate) fn chain_counts_value(alloc: Global, counts: ChainCounts) -> Result<Value, AllocError>
+    ensures { IfOk result (λ value. view value ≡ chain_counts_data counts) }
+{
+    parts_value(alloc, &chain_counts_parts(counts))
+}
