@@ -13,7 +13,8 @@ use Rattle.nr_trace.specs.declared.fault.Fault.TheVariants.{Format, ThreadOpen, 
 use Rattle.nr_trace.specs.declared.fault.Fault.TheVariants.{WrongAnswer, PrefixPastLog, PrefixShort, MissingFrame, SharedFrame, ReservedBit, StrayFrame}
 use Rattle.nr_trace.specs.declared.fault.Fault.TheVariants.{Differs}
 use Rattle.nr_trace.proofs.LawsOfLists.{In}
-use Rattle.nr_trace.proofs.LawsOfCalls.{call_within, is_some_from, update_is_call, read_is_call, update_from_not_not, behind_its_call, answered_stands, ordered_from_made}
+use Rattle.nr_trace.proofs.LawsOfCalls.{call_within, is_some_from, update_is_call, read_is_call, update_from_not_not, behind_its_call, answered_stands}
+use Rattle.nr_trace.proofs.LawsOfCalls.{ordered_from_made}
 use Rattle.nr_trace.proofs.LawsOfOrder.{member_stands, standing_is_member}
 use Rattle.nr_trace.proofs.LawsOfPrecedence.{known_of_read}
 use Rattle.nr_chain.specs.Cut.{IsClosed, without_dumps}

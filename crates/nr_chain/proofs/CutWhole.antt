@@ -1,5 +1,6 @@
 -- Where the two runs of a joined run have no fault, it has none.
-use Rattle.std.proofs.Common.{◌≡◌, ◌≢◌, ℕ, ◌+◌, ◌<◌, ◌≤◌, ◌⊎◌, inl, inr, List, length, take, slice_get, Option, None, Some, is_some, refl, ap, sym, ◌∙◌, subst, arith}
+use Rattle.std.proofs.Common.{◌≡◌, ◌≢◌, ℕ, ◌+◌, ◌<◌, ◌≤◌, ◌⊎◌, inl, inr, List, length, take, slice_get, Option, None, Some, is_some, refl, ap, sym, ◌∙◌, subst}
+use Rattle.std.proofs.Common.{arith}
 use Rattle.std.specs.Prelude.{◌↔◌}
 use Rattle.std.proofs.lemmas.Option.{slice_get-map, slice_get_within}
 use Rattle.vs_types.specs.Config.{Layout}
@@ -8,7 +9,8 @@ use Rattle.vs_types.specs.declared.op.Action.{Action}
 use Rattle.vs_walk.specs.Differences.{HasMissingFrame, HasSharedFrame, HasReservedBit, HasStrayFrame, HasDifference}
 use Rattle.vs_walk.specs.Dump.{Image}
 use Rattle.nr_trace.specs.Recording.{IsThere, Recording}
-use Rattle.nr_trace.specs.Calls.{Invocation, call_of, operation_of, touch_of, IsCall, IsOrdered, IsTouch, IsUpdate, IsRead, Response, reply_of, reply_to, Answers}
+use Rattle.nr_trace.specs.Calls.{Invocation, call_of, operation_of, touch_of, IsCall, IsOrdered, IsTouch, IsUpdate, IsRead, Response, reply_of, reply_to}
+use Rattle.nr_trace.specs.Calls.{Answers}
 use Rattle.nr_trace.specs.Orders.{before, space_from, answer_in, recorded_order, known_by}
 use Rattle.nr_trace.specs.Faults.{HasFaultFrom, OpensTwice, IsWrongFrom, RestsOnMore, StandsAfter}
 use Rattle.nr_trace.specs.Laws.{HasCleanLog, IsFaultlessFrom}
@@ -16,7 +18,8 @@ use Rattle.nr_trace.specs.declared.fault.Fault.{Fault}
 use Rattle.nr_trace.specs.declared.fault.Fault.TheVariants.{Format, ThreadOpen, NoSuchCall, AnsweredTwice, NotAnUpdate, PlacedTwice, NotPlaced, PastLog, Early}
 use Rattle.nr_trace.specs.declared.fault.Fault.TheVariants.{WrongAnswer, PrefixPastLog, PrefixShort, MissingFrame, SharedFrame, ReservedBit, StrayFrame}
 use Rattle.nr_trace.specs.declared.fault.Fault.TheVariants.{Differs}
-use Rattle.nr_trace.proofs.LawsOfCalls.{call_within, is_some_from, reply_behind_call, reply_is_first, ordered_from_made, ordered_or_touch, the_some, answered_stands, not_both}
+use Rattle.nr_trace.proofs.LawsOfCalls.{call_within, is_some_from, reply_behind_call, reply_is_first, ordered_from_made, ordered_or_touch, the_some}
+use Rattle.nr_trace.proofs.LawsOfCalls.{answered_stands, not_both}
 use Rattle.nr_trace.proofs.LawsOfDumps.{clean_if_faultless}
 use Rattle.nr_trace.proofs.LawsOfOrder.{standing_is_member}
 use Rattle.nr_trace.proofs.LawsOfPrecedence.{known_of_update, known_of_read}
@@ -24,7 +27,8 @@ use Rattle.nr_chain.specs.Cut.{IsClosed, without_dumps}
 use Rattle.nr_chain.specs.Joined.{calls_behind, dump_behind, joined_traces}
 use Rattle.nr_chain.proofs.Lists.{split_at, of_mapped, before_left}
 use Rattle.nr_chain.proofs.Orders.{space_left}
-use Rattle.nr_chain.proofs.Parts.{call_left, call_right, reply_left, reply_from_right, reply_behind, HasEarlierCalls, answers_within, answered_left, answered_right}
+use Rattle.nr_chain.proofs.Parts.{call_left, call_right, reply_left, reply_from_right, reply_behind, HasEarlierCalls, answers_within, answered_left}
+use Rattle.nr_chain.proofs.Parts.{answered_right}
 use Rattle.nr_chain.proofs.Parts.{answers_to_left, answers_to_right, reply_to_left, reply_to_right, is_call_from_left, is_call_from_right}
 use Rattle.nr_chain.proofs.Parts.{is_update_left, is_update_from_left, is_update_right, is_update_from_right, is_read_right}
 use Rattle.nr_chain.proofs.Places.{is_read_left, placed_left, placed_right, placed_in, PlacedRight, stood_left, stood_right, known_left, known_right}

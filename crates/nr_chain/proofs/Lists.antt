@@ -1,6 +1,7 @@
 -- Lists one behind the other, and numbers of calls behind so many events.
 use Rattle.std.proofs.Common.{◌≡◌, ℕ, zero, suc, ◌+◌, ◌-◌, ◌<◌, ◌≤◌, ◌⊎◌, inl, inr, Bool, true, false, cond, nat_eq, List, [], ◌∷◌, ◌++◌, length, take, map}
-use Rattle.std.proofs.Common.{slice_get, filter, Option, Some, None, is_some, IsSome, option_to_list, option_and_then, option_map, refl, ap, ap₂, sym, ◌∙◌, subst}
+use Rattle.std.proofs.Common.{slice_get, filter, Option, Some, None, is_some, IsSome, option_to_list, option_and_then, option_map, refl, ap, ap₂, sym, ◌∙◌}
+use Rattle.std.proofs.Common.{subst}
 use Rattle.std.proofs.Common.{arith}
 use Rattle.std.specs.Prelude.{filter_map, flat_map}
 use Rattle.std.specs.List.{IsDistinct, cons_option}

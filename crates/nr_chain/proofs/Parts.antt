@@ -7,7 +7,8 @@ use Rattle.std.proofs.lemmas.List.{append-nil}
 use Rattle.std.proofs.lemmas.List.Elements.{filter_map-append}
 use Rattle.std.proofs.lemmas.Option.{slice_get-map, slice_get_within}
 use Rattle.nr_trace.specs.Recording.{Recording}
-use Rattle.nr_trace.specs.Calls.{Invocation, made_by, call_of, operation_in, read_address, operation_of, address_of, touch_of, IsCall, IsUpdate, IsRead, Response}
+use Rattle.nr_trace.specs.Calls.{Invocation, made_by, call_of, operation_in, read_address, operation_of, address_of, touch_of, IsCall, IsUpdate, IsRead}
+use Rattle.nr_trace.specs.Calls.{Response}
 use Rattle.nr_trace.specs.Calls.{reply_in, reply_of, reply_to, IsAnswered, Answers}
 use Rattle.nr_trace.specs.declared.event.Event.{Event}
 use Rattle.nr_trace.specs.declared.event.Event.TheVariants.{Reply}

@@ -16,7 +16,8 @@ use Rattle.nr_trace.proofs.LawsOfLists.{In}
 use Rattle.nr_trace.proofs.LawsOfPrecedence.{known_below_floor}
 use Rattle.nr_chain.specs.Joined.{calls_behind, joined_traces}
 use Rattle.nr_chain.proofs.Lists.{get_left, get_right, split_at, of_mapped, in_mapped}
-use Rattle.nr_chain.proofs.Parts.{operation_left, operation_right, address_left, address_right, touch_left, touch_right, reply_behind, HasEarlierCalls, reply_to_left, reply_to_right}
+use Rattle.nr_chain.proofs.Parts.{operation_left, operation_right, address_left, address_right, touch_left, touch_right, reply_behind, HasEarlierCalls}
+use Rattle.nr_chain.proofs.Parts.{reply_to_left, reply_to_right}
 use Rattle.nr_chain.proofs.Parts.{is_update_left, is_update_from_left, is_update_right, is_update_from_right, is_read_right}
 
 pub is_read_left : (first second : Recording) (call : ℕ) → call < length first.events → IsRead (joined_traces first second) call → IsRead first call

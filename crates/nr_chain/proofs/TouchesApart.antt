@@ -1,5 +1,6 @@
 -- Where a run that is cut in two has right touches, so have the two, if no call is open at the cut.
-use Rattle.std.proofs.Common.{◌≡◌, ℕ, zero, suc, ◌+◌, ◌-◌, ◌<◌, ◌≤◌, ◌⊎◌, inl, inr, List, length, get_or, slice_get, Some, option_map, ap, sym, ◌∙◌, subst, arith}
+use Rattle.std.proofs.Common.{◌≡◌, ℕ, zero, suc, ◌+◌, ◌-◌, ◌<◌, ◌≤◌, ◌⊎◌, inl, inr, List, length, get_or, slice_get, Some, option_map, ap, sym, ◌∙◌, subst}
+use Rattle.std.proofs.Common.{arith}
 use Rattle.std.proofs.lemmas.Bool.{cases_lt}
 use Rattle.std.proofs.lemmas.Option.{slice_get_within, slice_get-get_or}
 use Rattle.vs_types.specs.Space.{Space}
@@ -17,7 +18,8 @@ use Rattle.nr_chain.specs.Joined.{joined_traces}
 use Rattle.nr_chain.proofs.CutRest.{log_within}
 use Rattle.nr_chain.proofs.Lists.{split_at}
 use Rattle.nr_chain.proofs.Orders.{AreOf}
-use Rattle.nr_chain.proofs.Parts.{touch_left, touch_right, reply_behind, reply_left, reply_right, within_events, answers_within, answers_to_left, answers_to_right}
+use Rattle.nr_chain.proofs.Parts.{touch_left, touch_right, reply_behind, reply_left, reply_right, within_events, answers_within, answers_to_left}
+use Rattle.nr_chain.proofs.Parts.{answers_to_right}
 use Rattle.nr_chain.proofs.Places.{placed_left, placed_right}
 use Rattle.nr_chain.proofs.Touched.{touch_behind, whole_log, space_front, look_front, look_rest, changes_to_front, changes_to_rest, touches_both}
 

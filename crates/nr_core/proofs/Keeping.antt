@@ -1,5 +1,6 @@
 -- The parts of a state: what is read of one, and that a change of one keeps the others.
-use Rattle.std.proofs.Common.{◌≡◌, ℕ, ◌+◌, ◌<◌, ◌≤◌, List, [], ◌∷◌, ◌++◌, length, map, Some, None, slice_set, slice_index_or, refl, sym, ap, subst, ◌∙◌, arith, nat_lt, true, false, inl, inr}
+use Rattle.std.proofs.Common.{◌≡◌, ℕ, ◌+◌, ◌<◌, ◌≤◌, List, [], ◌∷◌, ◌++◌, length, map, Some, None, slice_set, slice_index_or, refl, sym, ap, subst, ◌∙◌, arith}
+use Rattle.std.proofs.Common.{nat_lt, true, false, inl, inr}
 use Rattle.std.specs.Prelude.{All, slice_get, option_map, MatchBool}
 use Rattle.std.proofs.lemmas.Bool.Decides.{nat_tests}
 use Rattle.std.proofs.lemmas.List.{length-set, map-set, length-map, length-append, set-get_or}

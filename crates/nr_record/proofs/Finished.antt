@@ -1,5 +1,6 @@
 -- The events of a run are what the pens were given, at their stamps and thread by thread.
-use Rattle.std.proofs.Common.{◌≡◌, ◌≢◌, ℕ, zero, suc, ◌+◌, ◌-◌, ◌<◌, ◌≤◌, Bool, true, false, List, [], ◌∷◌, ◌++◌, All, Contains, length, get_or, map, replicate, eqb, cond, eq-eqb, refl, ap, sym, ◌∙◌, subst, arith}
+use Rattle.std.proofs.Common.{◌≡◌, ◌≢◌, ℕ, zero, suc, ◌+◌, ◌-◌, ◌<◌, ◌≤◌, Bool, true, false, List, [], ◌∷◌, ◌++◌, All, Contains, length, get_or, map, replicate}
+use Rattle.std.proofs.Common.{eqb, cond, eq-eqb, refl, ap, sym, ◌∙◌, subst, arith}
 use Rattle.std.specs.Prelude.{None, Some, slice_get, option_and_then, filter}
 use Rattle.std.specs.Option.{option_map_or}
 use Rattle.std.specs.List.{flat_map}

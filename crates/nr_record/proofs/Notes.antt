@@ -1,5 +1,6 @@
 -- What a pen holds stays true as it draws stamps.
-use Rattle.std.proofs.Common.{◌≡◌, ℕ, zero, suc, ◌+◌, ◌<◌, ◌≤◌, List, [], ◌∷◌, ◌++◌, All, Contains, length, get_or, take, drop, map, cond, refl, ap, sym, ◌∙◌, subst, arith, ◌*◌, Option}
+use Rattle.std.proofs.Common.{◌≡◌, ℕ, zero, suc, ◌+◌, ◌<◌, ◌≤◌, List, [], ◌∷◌, ◌++◌, All, Contains, length, get_or, take, drop, map, cond, refl, ap, sym, ◌∙◌}
+use Rattle.std.proofs.Common.{subst, arith, ◌*◌, Option}
 use Rattle.std.specs.Prelude.{None, Some, sum}
 use Rattle.std.proofs.Math.ListN.{length-append}
 use Rattle.std.proofs.lemmas.List.{map-append}

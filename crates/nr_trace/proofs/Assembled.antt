@@ -16,7 +16,8 @@ use Rattle.vs_walk.specs.Dump.{Image}
 use Rattle.nr_trace.specs.Recording.{Recording, IsRecording, IsImage, IsStart, IsEvent, start_frames}
 use Rattle.nr_trace.specs.Versions.{Follows, IsVersionOf}
 use Rattle.vs_types.specs.declared.limits.TheConstants.{FRAMES}
-use Rattle.nr_trace.specs.Spelling.{magic, version_word, counts, counts_of, dump_head, spelling, start_units, SpellsAs, log_word, event, dump, frame_number, frame_words}
+use Rattle.nr_trace.specs.Spelling.{magic, version_word, counts, counts_of, dump_head, spelling, start_units, SpellsAs, log_word, event, dump, frame_number}
+use Rattle.nr_trace.specs.Spelling.{frame_words}
 use Rattle.nr_trace.specs.FirstFault.{IsCounts, IsDumpHead, IsNext, magic_of}
 use Rattle.nr_trace.specs.declared.version.Version.{Version}
 use Rattle.nr_trace.specs.declared.version.Version.TheVariants.{Segment}

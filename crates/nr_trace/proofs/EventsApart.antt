@@ -18,7 +18,8 @@ use Rattle.nr_trace.specs.declared.fields.AnswerFields.{AnswerFields}
 use Rattle.nr_trace.specs.declared.version.Version.{Version}
 use Rattle.nr_trace.specs.declared.event.Event.{Event}
 use Rattle.nr_trace.specs.declared.event.Event.TheVariants.{Call, Reply, Touch}
-use Rattle.nr_trace.proofs.LawsOfUnits.{ToldApart, IsWide, apart_by, length-event, request_from, request_back, request_fits, touch_back, answer_from, answer_back, answer_fits}
+use Rattle.nr_trace.proofs.LawsOfUnits.{ToldApart, IsWide, apart_by, length-event, request_from, request_back, request_fits, touch_back, answer_from}
+use Rattle.nr_trace.proofs.LawsOfUnits.{answer_back, answer_fits}
 
 -- what comes after the tag of a call, and of a reply; the unused field of each has this number
 abbrev pub call_bytes : ℕ → ℕ → RequestFields → ℕ → List ℕ

@@ -18,7 +18,8 @@ use Rattle.nr_trace.specs.Spelling.{dump, dump_head, event, frame_number, frame_
 use Rattle.nr_trace.specs.inside.Reading.{HasWords}
 use Rattle.nr_trace.specs.FirstFault.{AtUnit, AtFrames, AtDumps, AtLog, AtStart, IsNext}
 use Rattle.vs_types.specs.Config.{Layout}
-use Rattle.nr_trace.specs.inside.Progress.{HasRead, AreInRange, IsEmpty, IsOpened, IsOwner, IsReady, AreBelow, BehindDumps, BehindFrames, Belongs, AtWords, Ahead}
+use Rattle.nr_trace.specs.inside.Progress.{HasRead, AreInRange, IsEmpty, IsOpened, IsOwner, IsReady, AreBelow, BehindDumps, BehindFrames, Belongs, AtWords}
+use Rattle.nr_trace.specs.inside.Progress.{Ahead}
 use Rattle.nr_trace.specs.inside.Progress.{front_with, header_units, numbers_of, opened_spelling, own_fault, parts_spelling, said, whole_of, whole_spelling}
 use Rattle.nr_trace.specs.inside.Progress.{begun, opened_of, frame_begun, words_begun}
 use Rattle.nr_trace.specs.declared.fault.Format.{Format}

@@ -19,7 +19,8 @@ use Rattle.vs_types.specs.declared.request.Query.{Query}
 use Rattle.vs_types.specs.declared.request.Query.TheVariants.{Update, Resolve, Access}
 use Rattle.vs_types.specs.declared.answer.Answer.{Answer}
 use Rattle.vs_types.specs.declared.answer.Answer.TheVariants.{Overlap, Full, Removed, Inside, Mapped, Allowed, Fault}
-use Rattle.nr_trace.specs.Versions.{KnowsDepth, KnowsQuery, KnowsAnswer, KnowsTouch, IsVersionOf, least_frames, most_frames, most_start, most_tables, most_threads}
+use Rattle.nr_trace.specs.Versions.{KnowsDepth, KnowsQuery, KnowsAnswer, KnowsTouch, IsVersionOf, least_frames, most_frames, most_start, most_tables}
+use Rattle.nr_trace.specs.Versions.{most_threads}
 use Rattle.nr_trace.specs.Recording.{IsAnswer, IsEvent}
 use Rattle.nr_trace.specs.FirstFault.{IsCounts, IsDumpHead, IsNext}
 use Rattle.nr_trace.specs.declared.version.Version.{Version}

@@ -10,7 +10,8 @@ use Rattle.vs_types.specs.Frame.{IsFrame}
 use Rattle.nr_trace.specs.Recording.{Recording, IsImage, IsEvent}
 use Rattle.nr_trace.specs.Versions.{Follows, IsVersionOf}
 use Rattle.nr_trace.specs.Spelling.{version_word, counts, dump_head, Spells, log_word, event, dump, frame_number, frame_words}
-use Rattle.nr_trace.specs.FirstFault.{AtUnit, IsCounts, IsDumpHead, IsNext, AtFrames, AtDumps, AtEvents, AtLayout, AtLog, AtStart, HasFaultAs, HasFormatFault, HasSegmentFault, counts_bytes, magic_of}
+use Rattle.nr_trace.specs.FirstFault.{AtUnit, IsCounts, IsDumpHead, IsNext, AtFrames, AtDumps, AtEvents, AtLayout, AtLog, AtStart, HasFaultAs, HasFormatFault}
+use Rattle.nr_trace.specs.FirstFault.{HasSegmentFault, counts_bytes, magic_of}
 use Rattle.nr_trace.specs.declared.fault.Format.{Format}
 use Rattle.nr_trace.specs.declared.fault.Format.TheVariants.{Truncated, BadMagic, BadVersion, BadCount, BadChain, BadStart, BadEvent, BadFrame, Trailing}
 use Rattle.nr_trace.specs.declared.version.Version.{Version}
@@ -22,9 +23,11 @@ use Rattle.nr_trace.proofs.LawsOfUnits.{IsWide, is_wide}
 use Rattle.nr_trace.proofs.LawsOfSpelling.{frame}
 use Rattle.nr_trace.proofs.LawsOfFormat.{BehindCounts, BehindVersion, BehindMagic, no_fault, one_fault}
 use Rattle.nr_trace.proofs.LawsOfFronts.{trailing_after}
-use Rattle.nr_trace.proofs.Assembled.{HasUnits, FramesFit, HasDumps, HasEvents, HasLog, HasFrames, HasFront, HasStart, no_unit, one_unit, one_frame, one_dump, one_front}
+use Rattle.nr_trace.proofs.Assembled.{HasUnits, FramesFit, HasDumps, HasEvents, HasLog, HasFrames, HasFront, HasStart, no_unit, one_unit, one_frame, one_dump}
+use Rattle.nr_trace.proofs.Assembled.{one_front}
 use Rattle.nr_trace.proofs.Known.{Known, below, same_layout}
-use Rattle.nr_trace.proofs.UnitsOfBytes.{IsTold, AreBytes, magic_told, version_told, counts_told, event_told, head_told, number_told, place_told, word_told, words_told}
+use Rattle.nr_trace.proofs.UnitsOfBytes.{IsTold, AreBytes, magic_told, version_told, counts_told, event_told, head_told, number_told, place_told, word_told}
+use Rattle.nr_trace.proofs.UnitsOfBytes.{words_told}
 
 -- the property holds of the rest, or the rest has another fault by the relation than `Trailing`
 abbrev Either : (List ℕ → Type 0) → (List ℕ → Format → Type 0) → List ℕ → Type 0

@@ -16,9 +16,11 @@ use Rattle.vs_walk.specs.Dump.{Image}
 use Rattle.vs_types.specs.Frame.{IsFrame}
 use Rattle.nr_trace.specs.Recording.{Recording, IsRecording, IsImage, IsStart, IsEvent, start_frames}
 use Rattle.nr_trace.specs.Versions.{Follows, IsVersionOf}
-use Rattle.nr_trace.specs.Spelling.{version_word, counts, counts_of, dump_head, head_of, start_units, SpellsAs, SpellsSegment, log_word, event, dump, frame_number}
+use Rattle.nr_trace.specs.Spelling.{version_word, counts, counts_of, dump_head, head_of, start_units, SpellsAs, SpellsSegment, log_word, event, dump}
+use Rattle.nr_trace.specs.Spelling.{frame_number}
 use Rattle.nr_trace.specs.Spelling.{frame_words}
-use Rattle.nr_trace.specs.FirstFault.{AtUnit, IsCounts, IsDumpHead, IsNext, AtEnd, AtFrames, AtDumps, AtEvents, AtLayout, AtLog, AtStart, HasFaultAs, HasSegmentFault, counts_bytes}
+use Rattle.nr_trace.specs.FirstFault.{AtUnit, IsCounts, IsDumpHead, IsNext, AtEnd, AtFrames, AtDumps, AtEvents, AtLayout, AtLog, AtStart, HasFaultAs}
+use Rattle.nr_trace.specs.FirstFault.{HasSegmentFault, counts_bytes}
 use Rattle.nr_trace.specs.FirstFault.{magic_of}
 use Rattle.nr_trace.specs.declared.fault.Format.{Format}
 use Rattle.nr_trace.specs.declared.fault.Format.TheVariants.{BadMagic, BadVersion, BadCount, BadEvent, BadFrame, BadStart}
@@ -30,7 +32,8 @@ use Rattle.nr_trace.specs.declared.version.Form.TheVariants as forms
 use Rattle.nr_trace.specs.declared.fields.Counts.{Counts}
 use Rattle.nr_trace.proofs.LawsOfSpelling.{Frame, FrameFits, frame, image_frames_fit, head_fits, frames_of, counts_fit, logs, events, dumps, numbered}
 use Rattle.nr_trace.proofs.LawsOfSpelling.{counted, magic_is, spelling_is, versioned}
-use Rattle.nr_trace.proofs.LawsOfUnits.{IsWide, ToldApart, is_wide, number_64, versions_apart, counts_apart, length-counts, heads_apart, length-head, frame_numbers_apart, words_apart}
+use Rattle.nr_trace.proofs.LawsOfUnits.{IsWide, ToldApart, is_wide, number_64, versions_apart, counts_apart, length-counts, heads_apart, length-head}
+use Rattle.nr_trace.proofs.LawsOfUnits.{frame_numbers_apart, words_apart}
 use Rattle.nr_trace.proofs.LawsOfUnits.{length-frame_words, log_words_apart, length-event}
 use Rattle.nr_trace.proofs.EventsApart.{events_apart}
 

@@ -1,5 +1,6 @@
 -- Bytes beside the spelling of a trace, unit by unit: those with more after it, and those that are a front of it.
-use Rattle.std.proofs.Common.{◌≡◌, ◌≢◌, ℕ, zero, suc, ◌+◌, ◌<◌, ◌≤◌, ◌^◌, ◌⊎◌, inl, inr, List, [], ◌∷◌, ◌++◌, length, Option, Some, None, refl, ap, ap₂, sym, ◌∙◌, subst, arith}
+use Rattle.std.proofs.Common.{◌≡◌, ◌≢◌, ℕ, zero, suc, ◌+◌, ◌<◌, ◌≤◌, ◌^◌, ◌⊎◌, inl, inr, List, [], ◌∷◌, ◌++◌, length, Option, Some, None, refl, ap, ap₂, sym}
+use Rattle.std.proofs.Common.{◌∙◌, subst, arith}
 use Rattle.std.specs.Prelude.{flat_map, IfSome, ⊤}
 use Rattle.std.specs.List.{AllByRecursion}
 use Rattle.std.specs.FinMap as finite
@@ -10,10 +11,12 @@ use Rattle.vs_types.specs.Frame.{IsFrame}
 use Rattle.vs_walk.specs.Dump.{Image}
 use Rattle.nr_trace.specs.Recording.{Recording, IsRecording, IsImage, IsStart, IsEvent, start_frames}
 use Rattle.nr_trace.specs.Versions.{Follows, IsVersionOf}
-use Rattle.nr_trace.specs.Spelling.{version_word, counts, counts_of, dump_head, head_of, spelling, start_units, Spells, SpellsAs, SpellsSegment, log_word, event}
+use Rattle.nr_trace.specs.Spelling.{version_word, counts, counts_of, dump_head, head_of, spelling, start_units, Spells, SpellsAs, SpellsSegment, log_word}
+use Rattle.nr_trace.specs.Spelling.{event}
 use Rattle.nr_trace.specs.Spelling.{dump}
 use Rattle.nr_trace.specs.Spelling.{frame_number, frame_words}
-use Rattle.nr_trace.specs.FirstFault.{AtUnit, AtEnd, IsCounts, IsDumpHead, IsNext, AtFrames, AtDumps, AtEvents, AtLog, AtStart, HasFaultAs, HasFormatFault, counts_bytes, magic_of}
+use Rattle.nr_trace.specs.FirstFault.{AtUnit, AtEnd, IsCounts, IsDumpHead, IsNext, AtFrames, AtDumps, AtEvents, AtLog, AtStart, HasFaultAs, HasFormatFault}
+use Rattle.nr_trace.specs.FirstFault.{counts_bytes, magic_of}
 use Rattle.nr_trace.specs.declared.fault.Format.{Format}
 use Rattle.nr_trace.specs.declared.fault.Format.TheVariants.{Truncated, BadMagic, BadVersion, BadCount, BadEvent, BadFrame, BadStart, Trailing}
 use Rattle.nr_trace.specs.declared.event.Event.{Event}

@@ -9,9 +9,11 @@ use Rattle.vs_walk.specs.Dump.{Image}
 use Rattle.nr_trace.specs.Recording.{Recording, IsImage, IsRecording, IsStart, start_frames}
 use Rattle.nr_trace.specs.Versions.{IsVersionOf, most_frames, most_start}
 use Rattle.nr_trace.specs.FirstFault.{counts_bytes}
-use Rattle.nr_trace.specs.Spelling.{spelling, start_units, Spells, magic, version_word, counts, counts_of, dump_head, head_of, log_word, event, dump, frame_number, frame_words}
+use Rattle.nr_trace.specs.Spelling.{spelling, start_units, Spells, magic, version_word, counts, counts_of, dump_head, head_of, log_word, event, dump}
+use Rattle.nr_trace.specs.Spelling.{frame_number, frame_words}
 use Rattle.nr_trace.proofs.LawsOfUnits.{length-counts, length-head, length-event, length_of_units, length-frame_words}
-use Rattle.nr_trace.proofs.LawsOfSpelling.{Frame, FrameFits, frame, image_frames_fit, frames_of, logs, events, dumps, counted, magic_is, numbered, spelling_is, starts, versioned}
+use Rattle.nr_trace.proofs.LawsOfSpelling.{Frame, FrameFits, frame, image_frames_fit, frames_of, logs, events, dumps, counted, magic_is, numbered, spelling_is}
+use Rattle.nr_trace.proofs.LawsOfSpelling.{starts, versioned}
 use Rattle.nr_trace.specs.declared.version.Version.{Version}
 use Rattle.nr_trace.specs.declared.version.Version.TheVariants.{Segment}
 use Rattle.nr_trace.specs.declared.version.Form.TheVariants as forms

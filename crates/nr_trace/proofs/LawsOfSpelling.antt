@@ -10,7 +10,8 @@ use Rattle.vs_walk.specs.Dump.{Image}
 use Rattle.vs_types.specs.Frame.{IsFrame}
 use Rattle.nr_trace.specs.Recording.{Recording, IsRecording, IsImage, IsStart, IsEvent, start_frames}
 use Rattle.nr_trace.specs.Versions.{IsVersionOf}
-use Rattle.nr_trace.specs.Spelling.{spelling, Spells, SpellsAs, magic, start_units, version_word, counts, counts_of, log_word, event, dump, dump_head, head_of, frame_number, frame_words}
+use Rattle.nr_trace.specs.Spelling.{spelling, Spells, SpellsAs, magic, start_units, version_word, counts, counts_of, log_word, event, dump, dump_head, head_of}
+use Rattle.nr_trace.specs.Spelling.{frame_number, frame_words}
 use Rattle.nr_trace.specs.FirstFault.{IsCounts, IsDumpHead, magic_of}
 use Rattle.nr_trace.specs.declared.fields.Counts.{Counts}
 use Rattle.nr_trace.specs.declared.fields.DumpHead.{DumpHead}

@@ -46,8 +46,8 @@ struct Wanted {
     depth: Depth,
 }
 
-/// The first word is the number of rounds, up to 65,535, or one round where there is none. Where there are more, the first isn't timed. After it `raw` asks for frames in
-/// one block of memory, or `lent` for frames that are lent, and then `five` for five levels.
+/// The first word is the number of rounds, up to 65,535, or one round where there is none. Where there are more, the first isn't timed.
+/// After it `raw` asks for frames in one block of memory, or `lent` for frames that are lent, and then `five` for five levels.
 fn parse_words(words: &[String]) -> Result<Wanted, ProgFault> {
     let (rounds, (store, depth)) = match words {
         [] | [_] => {

@@ -1,5 +1,6 @@
 //! The cell.
-ghost use Rattle.std.specs.Prelude.{◌≡◌, ◌<◌, ◌≤◌, ◌+◌, ◌-◌, ◌^◌, ◌⊎◌, ℕ, List, [], ◌∷◌, true, false, drop, take, length, replicate, IfOk, MatchBool, slice_set};
+ghost use Rattle.std.specs.Prelude.{◌≡◌, ◌<◌, ◌≤◌, ◌+◌, ◌-◌, ◌^◌, ◌⊎◌, ℕ, List, [], ◌∷◌, true, false, drop, take, length, replicate, IfOk, MatchBool};
+ghost use Rattle.std.specs.Prelude.{slice_set};
 ghost use Rattle.crossbeam_utils.specs.Register.{Forks, Merges, Turns, TurnsAt};
 ghost use Rattle.version_cell.specs.Meetings.{HaveComeFurther, Recalls};
 ghost use Rattle.version_cell.specs.Passes.{beside};

@@ -1,7 +1,9 @@
 -- Arenas over lent memory: how a change of a mark changes what the marks say.
-use Rattle.std.proofs.Common.{◌≡◌, ℕ, zero, suc, subst, ◌+◌, ◌<◌, ◌≤◌, ◌≢◌, ◌^◌, Bool, true, false, nat_eq, List, [], ◌∷◌, ◌++◌, map, take, length, get_or, set, refl, sym, ap, ◌∙◌, inl, inr, arith}
+use Rattle.std.proofs.Common.{◌≡◌, ℕ, zero, suc, subst, ◌+◌, ◌<◌, ◌≤◌, ◌≢◌, ◌^◌, Bool, true, false, nat_eq, List, [], ◌∷◌, ◌++◌, map, take, length, get_or, set}
+use Rattle.std.proofs.Common.{refl, sym, ap, ◌∙◌, inl, inr, arith}
 use Rattle.std.proofs.lemmas.Bool.{cases_lt, ne_eqb, eqb-false}
-use Rattle.std.proofs.lemmas.List.{length-set, length-map, length-take-le, get_or-take, get_or-map, get_or_past, map-set, map-append, take-set-le, take_more, take_more_set, set_past, length-take, length_push, get_or_push, get_or_append_left, get_or-set_same, get_or-set_other}
+use Rattle.std.proofs.lemmas.List.{length-set, length-map, length-take-le, get_or-take, get_or-map, get_or_past, map-set, map-append, take-set-le, take_more}
+use Rattle.std.proofs.lemmas.List.{take_more_set, set_past, length-take, length_push, get_or_push, get_or_append_left, get_or-set_same, get_or-set_other}
 use Rattle.std.proofs.Math.Seq.{take-set-lt, map-set_same}
 use Rattle.std.specs.FinMap as finite
 use Rattle.vs_types.specs.declared.limits.TheConstants.{TABLES}
@@ -11,7 +13,8 @@ use Rattle.vs_arena.specs.declared.mark.FrameMark.{FrameMark}
 use Rattle.vs_arena.specs.declared.mark.TheConstants.{IN_USE}
 use Rattle.vs_arena.specs.Marked.{marked_frames, IsGivenBack}
 use Rattle.vs_arena.specs.LentMarks.{column, uses_of_first, notes_of_first, chain, given_back, IsLentArena}
-use Rattle.vs_arena.proofs.MarkedFrames.{IsMarked, apart, last_given, apart_from_rest, IsArena-write, IsArena-note, IsArena-give, IsArena-again, IsArena-first, IsArena-new, room_for_one}
+use Rattle.vs_arena.proofs.MarkedFrames.{IsMarked, apart, last_given, apart_from_rest, IsArena-write, IsArena-note, IsArena-give, IsArena-again, IsArena-first}
+use Rattle.vs_arena.proofs.MarkedFrames.{IsArena-new, room_for_one}
 
 -- a mark of zeros
 abbrev pub blank : FrameMark

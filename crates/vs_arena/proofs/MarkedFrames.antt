@@ -5,7 +5,8 @@ use Rattle.std.specs.Prelude.{Option, Some, None, IsSome, IfSome, IfNone}
 use Rattle.std.specs.FinMap as finite
 use Rattle.std.specs.Ordering.{nat_cmp}
 use Rattle.std.proofs.lemmas.Grind.{get_or-set_at}
-use Rattle.std.proofs.lemmas.List.{length-set, length-replicate, length_push, get_or-set_same, get_or-set_other, get_or_past, get_or_push, get_or_append_left, set-get_or}
+use Rattle.std.proofs.lemmas.List.{length-set, length-replicate, length_push, get_or-set_same, get_or-set_other, get_or_past, get_or_push, get_or_append_left}
+use Rattle.std.proofs.lemmas.List.{set-get_or}
 use Rattle.std.proofs.lemmas.List.Elements.{All-set, All-replicate, All-push}
 use Rattle.std.proofs.lemmas.Bool.{cases_eq, cases_lt, true≢false}
 use Rattle.vs_types.specs.declared.limits.TheConstants.{TABLES}

@@ -26,7 +26,8 @@ use Rattle.vs_plan.specs.Stores.{stored_all, filled}
 use Rattle.vs_plan.specs.Target.{highest_link}
 use Rattle.vs_plan.proofs.Forms.{form_suffices}
 use Rattle.vs_plan.proofs.Given.{WasUnlinked, parts_of, was_unlinked}
-use Rattle.vs_plan.proofs.OtherRoots.{one_less, IsStore, OnWay, OffWays, AreMeant, IsOther, shared_walk, shared_stays, apart_walk, other_switched, other_freed, for_other}
+use Rattle.vs_plan.proofs.OtherRoots.{one_less, IsStore, OnWay, OffWays, AreMeant, IsOther, shared_walk, shared_stays, apart_walk, other_switched, other_freed}
+use Rattle.vs_plan.proofs.OtherRoots.{for_other}
 use Rattle.vs_plan.proofs.PlansSuffice.{form_of, are_for, switched}
 use Rattle.vs_plan.proofs.Filled.{own_as, insert_same, table_as, walk_as}
 

@@ -38,7 +38,8 @@ use Rattle.vs_plan.proofs.PartSpaces.{refused_there}
 use Rattle.vs_plan.proofs.Pages.{page_here, premise_table}
 use Rattle.vs_plan.proofs.Parts.{none_named, Parts, safe_one, store_at, words_apart, EndAt}
 use Rattle.vs_plan.proofs.Runs.{IsRun}
-use Rattle.vs_plan.proofs.Splitting.{LiesLarge, are_bits_in, large_at, own_parts, parts_reached, run_filled, smaller_at, split_is, split_translates, stepping_long, walk_parts}
+use Rattle.vs_plan.proofs.Splitting.{LiesLarge, are_bits_in, large_at, own_parts, parts_reached, run_filled, smaller_at, split_is, split_translates}
+use Rattle.vs_plan.proofs.Splitting.{stepping_long, walk_parts}
 use Rattle.vs_plan.proofs.Stored.{used_word}
 use Rattle.vs_plan.proofs.Ways.{way_table}
 use Rattle.vs_plan.specs.Other.{HasSameTables}

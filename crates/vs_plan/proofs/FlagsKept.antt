@@ -24,7 +24,8 @@ use Rattle.vs_plan.specs.declared.plan.Store.{Store}
 use Rattle.vs_plan.specs.Flushed.{Suffices}
 use Rattle.vs_plan.specs.Lived.{AreButFlags, AsTold, Next, Later, Flushed, SufficesButFlags}
 use Rattle.vs_plan.specs.Premise.{IsPremise, HasOwnWay}
-use Rattle.vs_plan.specs.Processor.{region_number, Kept, PagingEntry, MayKeepBy, KeptBefore, OfRoot, OfTable, OfPage, Moment, MayKeep, MayFind, ByTranslation, ByWalk, IsUpToDate}
+use Rattle.vs_plan.specs.Processor.{region_number, Kept, PagingEntry, MayKeepBy, KeptBefore, OfRoot, OfTable, OfPage, Moment, MayKeep, MayFind, ByTranslation}
+use Rattle.vs_plan.specs.Processor.{ByWalk, IsUpToDate}
 use Rattle.vs_plan.proofs.Kept.{IsClosed, Reads, all_kept, all_reads}
 use Rattle.vs_plan.proofs.OtherFlags.{same_translations}
 use Rattle.vs_plan.proofs.Ways.{walk_alike}

@@ -21,7 +21,8 @@ use Rattle.vs_plan.proofs.Orders.{IsLess, less_refl, less_trans, less_reads, All
 use Rattle.vs_plan.proofs.Stays.{KeepsLinks, ChangesPageAlone, ChangesRangeAlone, entry_stays, entry_reached}
 use Rattle.vs_plan.proofs.Replaced.{IsCalm, word_calm}
 use Rattle.vs_plan.proofs.WordOrders.{elsewhere_or_here, clear_is_less}
-use Rattle.vs_plan.proofs.Sufficing.{IsSwitched, AreUnreached, adding_suffices, taking_suffices, passes_page, passes_tables, passes_range, switched_once, replacing_suffices}
+use Rattle.vs_plan.proofs.Sufficing.{IsSwitched, AreUnreached, adding_suffices, taking_suffices, passes_page, passes_tables, passes_range, switched_once}
+use Rattle.vs_plan.proofs.Sufficing.{replacing_suffices}
 use Rattle.vs_plan.proofs.Stored.{found_word, used_word}
 
 -- ---- stores of 0

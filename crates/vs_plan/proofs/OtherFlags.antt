@@ -1,5 +1,6 @@
 -- Memories in which the accessed flag and the dirty flag differ: they translate alike, and so they do after stores that differ so.
-use Rattle.std.proofs.Common.{◌≡◌, ◌≢◌, ℕ, zero, suc, ◌+◌, ◌-◌, ◌*◌, ◌/◌, ◌%◌, ◌^◌, ◌<◌, ◌≤◌, true, false, List, [], ◌∷◌, Some, ⊎_elim, refl, sym, ap, subst, ◌∙◌, nat_eq, cond, Bool, arith}
+use Rattle.std.proofs.Common.{◌≡◌, ◌≢◌, ℕ, zero, suc, ◌+◌, ◌-◌, ◌*◌, ◌/◌, ◌%◌, ◌^◌, ◌<◌, ◌≤◌, true, false, List, [], ◌∷◌, Some, ⊎_elim, refl, sym, ap, subst}
+use Rattle.std.proofs.Common.{◌∙◌, nat_eq, cond, Bool, arith}
 use Rattle.std.specs.Prelude.{IsSome, is_some, slice_set, unwrap_or, not}
 use Rattle.std.specs.FinMap as finite
 use Rattle.std.specs.Int.{bit_at}

@@ -1,5 +1,6 @@
 -- A plan that lets a page lead elsewhere.
-use Rattle.std.proofs.Common.{◌≡◌, ◌≢◌, ℕ, ◌+◌, ◌-◌, ◌%◌, ◌^◌, ◌≤◌, ◌⊎◌, inl, inr, [], ◌∷◌, Some, None, Bool, true, false, not, min, cond, ⊎_elim, eqb-true, refl, sym, ap, subst, ◌∙◌, arith}
+use Rattle.std.proofs.Common.{◌≡◌, ◌≢◌, ℕ, ◌+◌, ◌-◌, ◌%◌, ◌^◌, ◌≤◌, ◌⊎◌, inl, inr, [], ◌∷◌, Some, None, Bool, true, false, not, min, cond, ⊎_elim, eqb-true}
+use Rattle.std.proofs.Common.{refl, sym, ap, subst, ◌∙◌, arith}
 use Rattle.std.specs.Prelude.{◌==◌, nat_lt, if◌then◌else◌}
 use lib.Pow.{pow_mono}
 use Rattle.std.proofs.lemmas.Bool.{ltb-false}
@@ -44,7 +45,8 @@ use Rattle.vs_plan.proofs.Asking.{entry_of}
 use Rattle.vs_plan.proofs.Changing.{change_here, why_here, change_cases}
 use Rattle.vs_plan.proofs.EntryStores.{walk_off, walk_here, whole_store, fewer, own_after}
 use Rattle.vs_plan.proofs.Pages.{table_from, page_here, premise_table}
-use Rattle.vs_plan.proofs.Parts.{none_named, Parts, right_as, safe_one, nothing_right, nothing_parts, nothing_as, due_as, store_at, EndAt, end_at, own_table, rights_right}
+use Rattle.vs_plan.proofs.Parts.{none_named, Parts, right_as, safe_one, nothing_right, nothing_parts, nothing_as, due_as, store_at, EndAt, end_at, own_table}
+use Rattle.vs_plan.proofs.Parts.{rights_right}
 use Rattle.vs_space.proofs.LeafSteps.{begins_at, leaf_translates}
 use Rattle.vs_plan.proofs.Words.{with_rights_reads}
 use Rattle.vs_plan.proofs.Ways.{way_table, walk_at}

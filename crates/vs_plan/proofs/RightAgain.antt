@@ -1,5 +1,6 @@
 -- A right plan, where flags were set in the memory since it was shown.
-use Rattle.std.proofs.Common.{◌≡◌, ◌≢◌, ℕ, suc, ◌+◌, ◌*◌, ◌%◌, ◌^◌, ◌<◌, List, [], ◌∷◌, All, Contains, Option, Some, None, true, inl, inr, ⊎_elim, refl, sym, ap, subst, ◌∙◌, arith, get_or}
+use Rattle.std.proofs.Common.{◌≡◌, ◌≢◌, ℕ, suc, ◌+◌, ◌*◌, ◌%◌, ◌^◌, ◌<◌, List, [], ◌∷◌, All, Contains, Option, Some, None, true, inl, inr, ⊎_elim, refl, sym}
+use Rattle.std.proofs.Common.{ap, subst, ◌∙◌, arith, get_or}
 use Rattle.std.specs.FinMap as finite
 use Rattle.std.specs.List.{AllZip}
 use Rattle.std.proofs.lemmas.List.Elements.{All-nil, All-cons, All-head}
@@ -30,11 +31,15 @@ use Rattle.vs_plan.specs.declared.target.Target.{Target}
 use Rattle.vs_plan.specs.Changes.{phys_refusal}
 use Rattle.vs_plan.specs.Premise.{HasOwnWay, IsSpare}
 use Rattle.vs_plan.specs.Request.{address_of, stepped, refusal}
-use Rattle.vs_plan.specs.Right.{IsReply, refusal_in, space_after, LiesOverEmpty, AllowsLess, WantsMore, KeepsApart, IsOnWay, IsMeant, OfPage, OfLink, OfSpare, IsMeantBy, IsUnlinked, IsLeft, IsUnlinkedBy, IsPruned, IsOneWay, IsTold, IsEntryOf, IsJoined, IsPut, Fits, IsSoAlready, IsAlready, IsFlushed, IsWritten, written_frames}
+use Rattle.vs_plan.specs.Right.{IsReply, refusal_in, space_after, LiesOverEmpty, AllowsLess, WantsMore, KeepsApart, IsOnWay, IsMeant, OfPage, OfLink, OfSpare}
+use Rattle.vs_plan.specs.Right.{IsMeantBy, IsUnlinked, IsLeft, IsUnlinkedBy, IsPruned, IsOneWay, IsTold, IsEntryOf, IsJoined, IsPut, Fits, IsSoAlready}
+use Rattle.vs_plan.specs.Right.{IsAlready, IsFlushed, IsWritten, written_frames}
 use Rattle.vs_plan.specs.Target.{frames_end}
 use Rattle.vs_plan.specs.Stores.{stored, stored_all, filled, FindTheirWords}
 use Rattle.vs_plan.proofs.Changing.{why_here}
-use Rattle.vs_plan.proofs.FlaggedEntries.{ArePaired, absent_flags, alike_even, alike_unflagged, alike_zero, all_stored, at_before, at_flags, entry_flags, follow_flags, has_word, leaf_odd, own_before, place_stays, rights_stay, set_flags, some_stored, spare_flags, way_flags, word_flags, zeros_flags, zip_all, zip_length, zip_none}
+use Rattle.vs_plan.proofs.FlaggedEntries.{ArePaired, absent_flags, alike_even, alike_unflagged, alike_zero, all_stored, at_before, at_flags, entry_flags}
+use Rattle.vs_plan.proofs.FlaggedEntries.{follow_flags, has_word, leaf_odd, own_before, place_stays, rights_stay, set_flags, some_stored, spare_flags}
+use Rattle.vs_plan.proofs.FlaggedEntries.{way_flags, word_flags, zeros_flags, zip_all, zip_length, zip_none}
 use Rattle.vs_plan.proofs.FlagsKept.{flags_own, flags_whole}
 use Rattle.vs_plan.proofs.Given.{change_begins}
 use Rattle.vs_plan.proofs.OtherFlags.{same_translations}

@@ -1,5 +1,6 @@
 -- The plan of an unmap is right: the page's entry becomes 0, and then the links to tables that are emptied, from the lowest up.
-use Rattle.std.proofs.Common.{◌≡◌, ◌≢◌, ℕ, true, false, le_trans, zero, suc, ◌+◌, ◌-◌, ◌%◌, ◌<◌, ◌≤◌, [], ◌∷◌, take, All, Some, inl, ⊎_elim, refl, sym, ap, subst, ◌∙◌, arith, None}
+use Rattle.std.proofs.Common.{◌≡◌, ◌≢◌, ℕ, true, false, le_trans, zero, suc, ◌+◌, ◌-◌, ◌%◌, ◌<◌, ◌≤◌, [], ◌∷◌, take, All, Some, inl, ⊎_elim, refl, sym, ap}
+use Rattle.std.proofs.Common.{subst, ◌∙◌, arith, None}
 use Rattle.std.specs.Prelude.{slice_index, if◌then◌else◌}
 use Rattle.std.proofs.lemmas.List.Elements.{All-cons, All-contains}
 use Rattle.std.proofs.lemmas.Bool.{cases_eq, cases_lt}

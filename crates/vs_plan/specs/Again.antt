@@ -1,6 +1,7 @@
 -- Flags that a processor sets in an entry between the moment when its table is shown and the store: bits 5 and 6, accessed and dirty (Intel
 -- SDM volume 3A, chapter "Paging": accessed and dirty flags).
-use Rattle.std.specs.Prelude.{◌≡◌, ℕ, zero, suc, ◌+◌, ◌*◌, ◌/◌, ◌%◌, ◌^◌, ◌<◌, List, [], ◌∷◌, length, slice_index_or, slice_set, Option, Some, None, nat_eq, if◌then◌else◌}
+use Rattle.std.specs.Prelude.{◌≡◌, ℕ, zero, suc, ◌+◌, ◌*◌, ◌/◌, ◌%◌, ◌^◌, ◌<◌, List, [], ◌∷◌, length, slice_index_or, slice_set, Option, Some, None, nat_eq}
+use Rattle.std.specs.Prelude.{if◌then◌else◌}
 use Rattle.vs_space.specs.Flags.{IsSameButFlags}
 use Rattle.vs_plan.specs.declared.plan.Fill.{Fill}
 use Rattle.vs_plan.specs.declared.plan.Plan.{Plan}

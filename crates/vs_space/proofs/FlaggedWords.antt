@@ -1,5 +1,6 @@
 -- Words in which the accessed flag and the dirty flag change: they say the same, stay as written, and are 0 where they were.
-use Rattle.std.proofs.Common.{◌≡◌, ◌≢◌, ℕ, zero, suc, ◌+◌, ◌*◌, ◌/◌, ◌%◌, ◌^◌, ◌<◌, ◌≤◌, Bool, List, [], ◌∷◌, length, replicate, ⊎_elim, refl, sym, ap, subst, ◌∙◌, arith}
+use Rattle.std.proofs.Common.{◌≡◌, ◌≢◌, ℕ, zero, suc, ◌+◌, ◌*◌, ◌/◌, ◌%◌, ◌^◌, ◌<◌, ◌≤◌, Bool, List, [], ◌∷◌, length, replicate, ⊎_elim, refl, sym, ap, subst}
+use Rattle.std.proofs.Common.{◌∙◌, arith}
 use lib.Pow.{shr-shr}
 use Rattle.std.specs.Prelude.{not, if◌then◌else◌, ◌==◌, ◌||◌, ◌&&◌, nat_le, slice_index}
 use Rattle.std.specs.Int.{bit_at}

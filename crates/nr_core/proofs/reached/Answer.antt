@@ -1,5 +1,6 @@
 -- Answer.
-use Rattle.std.proofs.Common.{◌≡◌, ℕ, ◌<◌, slice_get, Bool, true, false, cond, nat_eq, ◌==◌, ◌&&◌, not, List, [], ◌∷◌, length, map, filter, Some, refl, ap, sym, ◌∙◌, subst, arith, eq-eqb}
+use Rattle.std.proofs.Common.{◌≡◌, ℕ, ◌<◌, slice_get, Bool, true, false, cond, nat_eq, ◌==◌, ◌&&◌, not, List, [], ◌∷◌, length, map, filter, Some, refl, ap, sym}
+use Rattle.std.proofs.Common.{◌∙◌, subst, arith, eq-eqb}
 use Rattle.std.specs.Prelude.{slice_set, ◌%◌}
 use Rattle.std.specs.List.{IsDistinct}
 use Rattle.std.proofs.lemmas.Bool.{false≢true}

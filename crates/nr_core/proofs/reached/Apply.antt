@@ -1,5 +1,6 @@
 -- Apply.
-use Rattle.std.proofs.Common.{◌≡◌, ℕ, ◌+◌, ◌<◌, ◌≤◌, slice_get, Bool, true, false, nat_eq, ◌==◌, List, [], ◌∷◌, map, Some, refl, ap, ap₂, sym, ◌∙◌, subst, arith, eqb-true}
+use Rattle.std.proofs.Common.{◌≡◌, ℕ, ◌+◌, ◌<◌, ◌≤◌, slice_get, Bool, true, false, nat_eq, ◌==◌, List, [], ◌∷◌, map, Some, refl, ap, ap₂, sym, ◌∙◌, subst}
+use Rattle.std.proofs.Common.{arith, eqb-true}
 use Rattle.std.specs.Prelude.{slice_set, if◌then◌else◌}
 use Rattle.std.specs.List.{IsDistinct}
 use Rattle.std.proofs.lemmas.List.{take-map}

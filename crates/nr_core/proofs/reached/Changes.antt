@@ -1,5 +1,6 @@
 -- A reached state where one thread, one replica, the completed tail or the log changes.
-use Rattle.std.proofs.Common.{◌≡◌, ℕ, ◌+◌, ◌<◌, ◌≤◌, ◌⊎◌, inl, inr, Bool, false, nat_eq, List, ◌++◌, length, map, slice_get, Some, refl, ap, sym, ◌∙◌, subst, arith}
+use Rattle.std.proofs.Common.{◌≡◌, ℕ, ◌+◌, ◌<◌, ◌≤◌, ◌⊎◌, inl, inr, Bool, false, nat_eq, List, ◌++◌, length, map, slice_get, Some, refl, ap, sym, ◌∙◌, subst}
+use Rattle.std.proofs.Common.{arith}
 use Rattle.std.specs.Prelude.{slice_set}
 use Rattle.std.specs.List.{IsDistinct}
 use Rattle.std.proofs.lemmas.Bool.{cases_eq}
@@ -19,7 +20,8 @@ use Rattle.nr_core.specs.Laws.{IsTaken}
 use Rattle.nr_core.specs.inside.Reached.{At, call_at, RepliesTo, made_of, Behind, calls_of, Shared, shared_in, IsRight, FitsStage, open_in, waiting_in}
 use Rattle.nr_core.specs.inside.Reached.{IsUnanswered, HasOpen, IsFresh, IsCollected, IsReplicaOf, AreCalls, AreCollected, IsReached}
 use Rattle.nr_core.proofs.reached.Places.{each_set, at_set, at_other, at_front, at_either}
-use Rattle.nr_core.proofs.reached.Growth.{Longer, Grows, HaveCalls, read_within, read_stays, replies_have_calls, behind_completed, behind_more, space_stays, right_stays}
+use Rattle.nr_core.proofs.reached.Growth.{Longer, Grows, HaveCalls, read_within, read_stays, replies_have_calls, behind_completed, behind_more, space_stays}
+use Rattle.nr_core.proofs.reached.Growth.{right_stays}
 use Rattle.nr_core.proofs.reached.Growth.{stage_fits, replies_stay}
 
 pub same_events : (events : List Event) → Longer events events

@@ -1,5 +1,6 @@
 -- What each step makes of a state, where it is enabled; and what each step keeps holds after all.
-use Rattle.std.proofs.Common.{◌≡◌, ℕ, ◌<◌, ◌≤◌, ◌⊎◌, inl, inr, Bool, true, false, nat_lt, nat_le, ◌==◌, ◌&&◌, not, List, [], ◌∷◌, ◌++◌, length, map, slice_get, Option, Some, None, option_and_then, refl, eqb-true}
+use Rattle.std.proofs.Common.{◌≡◌, ℕ, ◌<◌, ◌≤◌, ◌⊎◌, inl, inr, Bool, true, false, nat_lt, nat_le, ◌==◌, ◌&&◌, not, List, [], ◌∷◌, ◌++◌, length, map, slice_get}
+use Rattle.std.proofs.Common.{Option, Some, None, option_and_then, refl, eqb-true}
 use Rattle.std.specs.Prelude.{⊤, find, is_none, if◌then◌else◌, unwrap_or}
 use Rattle.std.proofs.lemmas.Bool.{and_parts, leb-true, ltb-true, not-true}
 use Rattle.vs_types.specs.declared.log_entry.LogEntry.{LogEntry}
@@ -12,7 +13,8 @@ use Rattle.nr_trace.specs.declared.event.Event.TheVariants as events
 use Rattle.nr_trace.proofs.LawsOfLists.{In}
 use Rattle.nr_core.specs.Run.{after_steps}
 use Rattle.nr_core.specs.State.{State, Thread, Replica, home, tail, has_applied_all, with_thread, with_replica}
-use Rattle.nr_core.specs.Steps.{act, after_step, when, by_thread, by_holder, call, with_call, post, with_post, take_lock, collect, has_place, with_collected, with_update}
+use Rattle.nr_core.specs.Steps.{act, after_step, when, by_thread, by_holder, call, with_call, post, with_post, take_lock, collect, has_place, with_collected}
+use Rattle.nr_core.specs.Steps.{with_update}
 use Rattle.nr_core.specs.Steps.{append, may_append, has_room, advance, apply, with_entry, answer, noted_for, with_answer, without, release, look, with_look}
 use Rattle.nr_core.specs.Steps.{read, with_read, reply, reply_at}
 use Rattle.nr_core.specs.declared.stage.Answered.{Answered}

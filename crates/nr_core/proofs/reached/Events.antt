@@ -9,9 +9,11 @@ use Rattle.nr_trace.specs.declared.event.Event.{Event}
 use Rattle.nr_core.specs.State.{State, Thread, with_thread}
 use Rattle.nr_core.specs.declared.stage.Stage.TheVariants.{Taken}
 use Rattle.nr_core.specs.inside.Reached.{HasOpen, IsUnanswered, open_in}
-use Rattle.nr_core.specs.inside.Reached.{At, call_at, reply_at, RepliesTo, Behind, Shared, shared_in, FitsStage, IsRight, IsFresh, waiting_in, AreCalls, IsReached}
+use Rattle.nr_core.specs.inside.Reached.{At, call_at, reply_at, RepliesTo, Behind, Shared, shared_in, FitsStage, IsRight, IsFresh, waiting_in, AreCalls}
+use Rattle.nr_core.specs.inside.Reached.{IsReached}
 use Rattle.nr_core.proofs.reached.Places.{each_set, at_front, at_last, at_end, at_other}
-use Rattle.nr_core.proofs.reached.Growth.{Longer, Grows, HaveCalls, then_parts, then_from, read_at, read_within, read_stays, read_stood, answer_stays, answer_stood, replies_have_calls, behind_stays, right_stays}
+use Rattle.nr_core.proofs.reached.Growth.{Longer, Grows, HaveCalls, then_parts, then_from, read_at, read_within, read_stays, read_stood, answer_stays}
+use Rattle.nr_core.proofs.reached.Growth.{answer_stood, replies_have_calls, behind_stays, right_stays}
 use Rattle.nr_core.proofs.reached.Growth.{stage_fits}
 use Rattle.nr_core.proofs.reached.Changes.{collected_stays, taken_keeps}
 

@@ -1,5 +1,6 @@
 -- What an update does to one page, and the changes that the updates of a trace make. No public clause cites this file.
-use Rattle.std.specs.Prelude.{◌≡◌, ◌≢◌, ℕ, ◌+◌, ◌-◌, ◌%◌, ◌<◌, ◌^◌, ◌↔◌, if◌then◌else◌, nat_lt, false, List, [], ◌∷◌, length, slice_get, slice_index, Option, Some, None, Contains, IsTrue}
+use Rattle.std.specs.Prelude.{◌≡◌, ◌≢◌, ℕ, ◌+◌, ◌-◌, ◌%◌, ◌<◌, ◌^◌, ◌↔◌, if◌then◌else◌, nat_lt, false, List, [], ◌∷◌, length, slice_get, slice_index, Option}
+use Rattle.std.specs.Prelude.{Some, None, Contains, IsTrue}
 use Rattle.vs_types.specs.Page.{bytes_of, covers, level_of, IsPage}
 use Rattle.vs_types.specs.Space.{Space, page_at}
 use Rattle.vs_types.specs.declared.depth.Depth.{Depth}

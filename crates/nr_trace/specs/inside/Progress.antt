@@ -11,7 +11,8 @@ use Rattle.vs_walk.specs.Dump.{Image}
 use Rattle.nr_trace.specs.Versions.{Follows, IsVersionOf, KnowsDepth, most_frames, most_start, most_tables, most_threads}
 use Rattle.nr_trace.specs.Recording.{IsEvent, IsImage, IsStart, start_frames}
 use Rattle.nr_trace.specs.Spelling.{magic, version_word, counts, log_word, event, dump_head, frame_number, frame_words, frames, dump, start_units}
-use Rattle.nr_trace.specs.FirstFault.{AtUnit, AtVersion, AtCounts, AtStart, AtLog, AtEvents, AtDumps, AtFrames, IsCounts, IsNext, HasFaultAs, counts_bytes, magic_of}
+use Rattle.nr_trace.specs.FirstFault.{AtUnit, AtVersion, AtCounts, AtStart, AtLog, AtEvents, AtDumps, AtFrames, IsCounts, IsNext, HasFaultAs, counts_bytes}
+use Rattle.nr_trace.specs.FirstFault.{magic_of}
 use Rattle.nr_trace.specs.declared.fault.Format.{Format}
 use Rattle.nr_trace.specs.declared.fault.Format.TheVariants.{BadFrame, BadStart}
 use Rattle.nr_trace.specs.declared.fields.Counts.{Counts}

@@ -2,7 +2,8 @@ use Rattle.std.proofs.Common.{map, refl}
 use Rattle.nr_trace.proofs.LawsOfFormat.{no_fault}
 use Rattle.nr_trace.specs.Spelling.{spelling}
 use Rattle.nr_trace.specs.declared.version.Form.TheVariants as forms
-use Rattle.nr_trace.specs.declared.fault.Fault.TheVariants.{Early, WrongAnswer, PrefixPastLog, PrefixShort, MissingFrame, SharedFrame, ReservedBit, StrayFrame, Differs}
+use Rattle.nr_trace.specs.declared.fault.Fault.TheVariants.{Early, WrongAnswer, PrefixPastLog, PrefixShort, MissingFrame, SharedFrame, ReservedBit, StrayFrame}
+use Rattle.nr_trace.specs.declared.fault.Fault.TheVariants.{Differs}
 use Rattle.nr_core.specs.Faultless.{IsRecordingOfSteps}
 use Rattle.nr_core.specs.Run.{after_steps}
 use Rattle.nr_core.specs.State.{start}

@@ -1,7 +1,8 @@
 use Rattle.std.proofs.Common.{◌≡◌, ◌+◌, ◌-◌, ◌*◌, ◌/◌, ◌%◌, ◌≤◌, ℕ, List, [], ◌∷◌, arith, inr}
 use Rattle.nr_script.proofs.Numbers.{number_of_digits, two_digits}
 use Rattle.nr_script.proofs.number.parse_digits.Goals as goal
-use Rattle.nr_script.proofs.number.parse_digits.Goals.{then-tens-lt49-via-then-tens-lt49, then-tens-lt49-via-else-tens-lt49+then-tens-gt54, then-tens-lt49-via-else-tens-lt49+else-tens-gt54+then-not-is_ascii_digit}
+use Rattle.nr_script.proofs.number.parse_digits.Goals.{then-tens-lt49-via-then-tens-lt49, then-tens-lt49-via-else-tens-lt49+then-tens-gt54}
+use Rattle.nr_script.proofs.number.parse_digits.Goals.{then-tens-lt49-via-else-tens-lt49+else-tens-gt54+then-not-is_ascii_digit}
 
 pub returns-then-tens-lt49 : goal.returns-then-tens-lt49
 returns-then-tens-lt49 c = λ n h.

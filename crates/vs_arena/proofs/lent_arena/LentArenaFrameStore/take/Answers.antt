@@ -7,7 +7,8 @@ use Rattle.vs_arena.specs.LentMarks.{uses_of_first, notes_of_first}
 use Rattle.vs_arena.proofs.Marked.{marked-mark, marked-push}
 use Rattle.vs_arena.proofs.MarkedFrames.{IsFree-from_mark, last_given, marked_frames-again, marked_frames-push}
 use Rattle.vs_types.specs.declared.limits.TheConstants.{TABLES}
-use Rattle.vs_arena.proofs.LentArenas.{blank, length-uses, taken_marks, used_count, marked_again, uses-again, notes-again, rest, popped, last_taken, IsLentArena-again, is_past, uses-first, notes-first, words-first, IsLentArena-first}
+use Rattle.vs_arena.proofs.LentArenas.{blank, length-uses, taken_marks, used_count, marked_again, uses-again, notes-again, rest, popped, last_taken}
+use Rattle.vs_arena.proofs.LentArenas.{IsLentArena-again, is_past, uses-first, notes-first, words-first, IsLentArena-first}
 use Rattle.vs_arena.proofs.lent_arena.LentArenaFrameStore.take.Goals as goal
 
 -- ---- a frame that was freed
