@@ -1,3 +1,5 @@
+//! A page table and a plain space answer alike, over both stores.
+
 ghost use Rattle.std.specs.Prelude.{◌≡◌};
 ghost use Rattle.std.specs.FinMap as finite;
 

@@ -1,3 +1,5 @@
+//! The calls of each store of frames, at several sizes and first numbers.
+
 ghost use Rattle.std.specs.Prelude.{◌≡◌, ◌+◌, ◌^◌, ◌≤◌};
 ghost use Rattle.std.specs.FinMap as finite;
 ghost use Rattle.vs_arena.specs.Store.{IsInUse, zeros};

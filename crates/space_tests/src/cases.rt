@@ -1,3 +1,5 @@
+//! Calls one after another, with their answers and how many tables there are then.
+
 use crate::values::{EXEC, USER_AND_EXEC, WRITE};
 use vs_types::{Access, Answer, BadOp, Depth, Mode, Op, Request, Rights, Size};
 

@@ -1,3 +1,5 @@
+//! A page table in lent memory, taken apart and opened between calls.
+
 use crate::cases::{BOTH_HALVES, OVERLAP, Row};
 use crate::space::answer;
 use crate::values::BASE;

@@ -1,3 +1,5 @@
+//! Plain spaces of many pages and tables.
+
 use std::process::Abort;
 use vs_plain::PlainSpace;
 use vs_types::{Access, Answer, Depth, Mode, Op, Page, Rights, Size};

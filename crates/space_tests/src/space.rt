@@ -1,3 +1,5 @@
+//! The words that a page table has after each call, and the ends of its stores.
+
 use crate::cases::{Call, Row};
 use crate::values::{BASE, WRITE};
 use std::alloc::Global;

@@ -1,3 +1,5 @@
+//! Operations, requests, entries and configurations: which are well formed, and what is said of them.
+
 use crate::cases::Call;
 use crate::values::{EXEC, WRITE};
 use std::alloc::{AllocError, AllocFailed};
@@ -163,28 +165,6 @@ static ACCESSES: [(Answer, Mode, Access, Answer); 10] = [
 fn accesses(rt: HostRuntime) {
     for (resolved, mode, access, answer) in &ACCESSES {
         assert!(rt; resolved.accessed(*mode, *access) == *answer);
-    }
-}
-
-/// Answers that are none to a resolve.
-static OTHERS: [Answer; 8] = [
-    Answer::Done,
-    Answer::Overlap(0x1000),
-    Answer::Full(4),
-    Answer::Removed(0x1000, Size::K4, Rights::ALL),
-    Answer::Inside(0x1000),
-    Answer::Changed(Rights::ALL),
-    Answer::Allowed(0x1123),
-    Answer::Fault(7),
-];
-
-/// No clause speaks of an answer that is none to a resolve: nothing is mapped then.
-#[test]
-fn accesses_of_other_answers(rt: HostRuntime) {
-    for answer in &OTHERS {
-        let write = answer.accessed(Mode::User, Access::Write);
-        let fetch = answer.accessed(Mode::Supervisor, Access::Fetch);
-        assert!(rt; (write, fetch) == (Answer::Fault(6), Answer::Fault(16)));
     }
 }
 

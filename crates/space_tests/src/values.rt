@@ -1,3 +1,5 @@
+//! Values that several tests name.
+
 use vs_types::Rights;
 
 /// The number of frame 0 of an arena: all pages lie below the tables.

@@ -1,3 +1,5 @@
+//! Dumps: the walk of an address, what the traversal of the tables finds, and frames that come word by word.
+
 ghost use Rattle.std.specs.Prelude.{◌<◌};
 ghost use Rattle.vs_walk.specs.Dump.{IsDump};
 

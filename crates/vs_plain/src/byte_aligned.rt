@@ -1,3 +1,4 @@
+//! Numbers that lie at any byte.
 ghost use Rattle.std.specs.Prelude.{◌≡◌};
 
 use std::fmt;

@@ -1,3 +1,4 @@
+//! Pages without their base, in few bytes.
 ghost use Rattle.std.specs.Prelude.{◌≡◌};
 ghost use Rattle.vs_plain.specs.inside.Listed.{page_from};
 

@@ -1,3 +1,4 @@
+//! Pages, each under its base, and the pages next to an address.
 ghost use Rattle.std.specs.Prelude.{◌≡◌, ◌+◌, ◌<◌, ◌≤◌, ◌||◌, map, None, option_map, IfOk, IfSome, IfNone, OnOk, OnErr};
 ghost use Rattle.vs_types.specs.declared.limits.TheConstants.{MOST_LEVELS};
 ghost use Rattle.std.specs.FinMap as finite;

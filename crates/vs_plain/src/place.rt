@@ -1,3 +1,4 @@
+//! What is at an address, and the page before it.
 ghost use Rattle.std.specs.Prelude.{◌≡◌, ◌≤◌};
 ghost use Rattle.vs_types.specs.Page.{covers};
 

@@ -31,7 +31,11 @@ pub fn parse_address(word: &[u8]) -> Option<u64>
     parse_hexadecimal(digits)
 }
 
-/// Adds an address: `0x` and lower case digits. Where memory runs out a part of it may have been added.
+/// Adds an address: `0x` and lower case digits. It allocates memory where the text has no room.
+///
+/// # Errors
+///
+/// Out of memory: a part of it may have been added.
 pub fn push_address(text: &mut String, address: u64) -> Result<(), AllocError>
     ensures { OnOk result
         (string_bytes text.new ≡ string_bytes text.old ++ hexadecimal address) }

@@ -64,7 +64,11 @@ pub fn parse_rights(word: &[u8]) -> Option<Rights>
     Some(Rights { write, user, exec })
 }
 
-/// Adds `wux`, with a dash for each right that is not given. Where memory runs out a part of it may have been added.
+/// Adds `wux`, with a dash for each right that is not given. It allocates memory where the text has no room.
+///
+/// # Errors
+///
+/// Out of memory: a part of it may have been added.
 pub fn push_rights(text: &mut String, rights: Rights) -> Result<(), AllocError>
     ensures { OnOk result
         (string_bytes text.new ≡ string_bytes text.old ++ rights_text rights) }
@@ -74,7 +78,11 @@ pub fn push_rights(text: &mut String, rights: Rights) -> Result<(), AllocError>
     text.push_str(mark(rights.exec, "x"))
 }
 
-/// Adds a page's physical address, its size and its rights. Where memory runs out a part of it may have been added.
+/// Adds a page's physical address, its size and its rights. It allocates memory where the text has no room.
+///
+/// # Errors
+///
+/// Out of memory: a part of it may have been added.
 pub fn push_page(text: &mut String, phys: u64, size: Size, rights: Rights) -> Result<(), AllocError>
     ensures { OnOk result
         (string_bytes text.new ≡ string_bytes text.old ++ page_text phys size rights) }

@@ -1,3 +1,4 @@
+//! Requests as text.
 ghost use Rattle.std.specs.Prelude.{◌≡◌, IfOk, string_bytes};
 ghost use Rattle.vs_text.specs.Requests.{request_text};
 
@@ -7,6 +8,10 @@ use std::alloc::{AllocError, Global};
 use vs_types::{Action, Query, Request};
 
 /// A request as `parse_request` reads it, with one space between its words. Allocates memory for the text.
+///
+/// # Errors
+///
+/// Out of memory.
 #[tactic(auto, unfolding(crate::specs::Requests::request_text))]
 pub fn request_text(alloc: Global, request: Request) -> Result<String, AllocError>
     ensures { IfOk result (λ text. string_bytes text ≡ request_text request) }

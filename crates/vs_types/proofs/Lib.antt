@@ -5,6 +5,7 @@ pub mod LogWords
 pub mod OneEntry
 pub mod Telling
 pub mod Lists
+pub mod Maps
 pub mod Counts
 pub mod Accesses
 pub mod Depths

@@ -1,6 +1,6 @@
--- What a list contains, and what a look-up in it finds.
+-- What a list contains, what a look-up in it finds, and its elements by their index.
 use Rattle.std.proofs.Common.{◌≡◌, ℕ, zero, suc, Bool, true, false, cond, List, [], ◌∷◌, map, Some, None, Contains, ◌⊎◌, inl, inr, ⊎_elim, refl, sym, ap, subst}
-use Rattle.std.proofs.Common.{arith, find, ◌≤◌, ◌||◌, nat_eq, filter, ◌∙◌, eqb-true}
+use Rattle.std.proofs.Common.{arith, find, ◌≤◌, ◌<◌, ◌+◌, ◌||◌, ◌++◌, length, slice_get, nat_eq, filter, ◌∙◌, eqb-true}
 use Rattle.std.proofs.lemmas.Bool.{or_parts}
 use Rattle.std.proofs.lemmas.Bool.Decides.{Decides-eqb}
 use Rattle.std.proofs.lemmas.Cmp.{nat_eq_equiv}
@@ -104,3 +104,24 @@ unique_distinct (x ∷ xs) =
 pub distinct_count_within : (xs ys : List ℕ) → ((q : ℕ) → Contains xs q → Contains ys q) → distinct_count nat_eq xs ≤ distinct_count nat_eq ys
 distinct_count_within xs ys within = length-le_from_is_member nat_eq_equiv (unique_keys nat_eq xs) (unique_keys nat_eq ys) (unique_distinct xs) (λ q m.
     unique_has ys q ∙ (is_member-Decides Decides-eqb ys q).1 (within q ((is_member-Decides Decides-eqb xs q).0 (sym (unique_has xs q) ∙ m))))
+
+-- ---- elements by their index
+
+-- below its length a list has an element
+pub item_of : {X : Type 0} (xs : List X) (k : ℕ) → k < length xs → (x : X) × (slice_get xs k ≡ Some x)
+item_of [] k lt = absurd (omega arith)
+item_of (x ∷ xs) zero lt = (x, refl)
+item_of (x ∷ xs) (suc k) lt = item_of xs k (omega arith)
+
+pub get_left : {X : Type 0} (xs ys : List X) (k : ℕ) → k < length xs → slice_get (xs ++ ys) k ≡ slice_get xs k
+get_left [] ys k lt = absurd (omega arith)
+get_left (x ∷ xs) ys zero lt = refl
+get_left (x ∷ xs) ys (suc k) lt = get_left xs ys k (omega arith)
+
+pub get_right : {X : Type 0} (xs ys : List X) (k : ℕ) → slice_get (xs ++ ys) (length xs + k) ≡ slice_get ys k
+get_right [] ys k =
+    let same : 0 + k ≡ k = omega arith in
+    ap (slice_get ys) same
+get_right (x ∷ xs) ys k =
+    let next : suc (length xs) + k ≡ suc (length xs + k) = omega arith in
+    ap (slice_get ((x ∷ xs) ++ ys)) next ∙ get_right xs ys k

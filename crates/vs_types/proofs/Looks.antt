@@ -12,8 +12,9 @@ use Rattle.vs_types.specs.Laws.{as_in, LooksChanged, HasNewRights, changes}
 use Rattle.vs_types.specs.Page.{covers, IsPage}
 use Rattle.vs_types.specs.Space.{Space, Holds, IsSpace, page_at, least_overlapped}
 use Rattle.vs_types.specs.Step.{step, look}
+use Rattle.vs_types.proofs.Maps.{get-insert_same, get-insert_other}
 use Rattle.vs_types.proofs.Pages.{same_page, covers_base}
-use Rattle.vs_types.proofs.Spaces.{page_at_means, page_at_after_insert, page_at_after_remove, get_inserted, get_insert_other, look_of_none}
+use Rattle.vs_types.proofs.Spaces.{page_at_means, page_at_after_insert, page_at_after_remove, look_of_none}
 use Rattle.vs_types.proofs.Steps.{map_cases, unmap_cases, protect_cases, alone, protect_space, step_space}
 
 -- what the new space has at an address determines how it looks
@@ -91,9 +92,9 @@ pub new_rights : {depth : Depth} {space : Space} → IsSpace depth space → (pa
     → HasNewRights page rights space (finite.insert space page.base (record page { rights = rights }))
 new_rights {space = space} is page holds rights = record {
   held = holds;
-  changed = get_inserted space page.base (record page { rights = rights });
+  changed = get-insert_same space page.base (record page { rights = rights });
   others = λ other differs.
-      let same = get_insert_other space page.base (record page { rights = rights }) other.base differs in
+      let same = get-insert_other space page.base (record page { rights = rights }) other.base differs in
       (λ h. sym same ∙ h, λ h. same ∙ h);
 }
 

@@ -16,13 +16,14 @@ use Rattle.vs_types.specs.Laws.{as_in}
 use Rattle.vs_types.specs.declared.answer.Answer.TheVariants.{NotMapped}
 use Rattle.vs_types.specs.declared.depth.Depth.TheVariants.{Four}
 use Rattle.vs_types.proofs.Lists.{Contains-head, Contains-tail, Contains-cases, not_in_nil, find_found, find_nothing}
+use Rattle.vs_types.proofs.Maps.{get-insert, get-insert_same, get-insert_other, get-remove_same, get-remove_other}
 
 -- two keys tie where they are equal
 pub same_key : (q k : ℕ) → eq_by_cmp nat_cmp q k ≡ eqb q k
 same_key q k = grind (arith, nat_tests)
 
 -- the value that is found at a key is among the values
-found_value : (q : ℕ) (es : List (ℕ × Page)) (v : Page) → entries.find nat_cmp q es ≡ Some v → Contains (map (λ e. e.1) es) v
+pub found_value : {X : Type 0} (q : ℕ) (es : List (ℕ × X)) (v : X) → entries.find nat_cmp q es ≡ Some v → Contains (map (λ e. e.1) es) v
 found_value q [] v e = cc
 found_value q (x ∷ es) v e =
     elim (eq_by_cmp nat_cmp q x.0) as (λ b. cond b (Some x.1) (entries.find nat_cmp q es) ≡ Some v → Contains (x.1 ∷ map (λ e. e.1) es) v) [
@@ -151,51 +152,32 @@ look_same s t address e = rw e
 
 -- ---- a page more, or another in its place
 
-pub get_after_insert : (space : Space) (k : ℕ) (page : Page) (q : ℕ)
-    → finite.get (finite.insert space k page) q ≡ cond (eqb q k) (Some page) (finite.get space q)
-get_after_insert space k page q = finite.get-insert nat_cmp_total space k page q ∙ ap (λ b. cond b (Some page) (finite.get space q)) (same_key q k)
-
-pub get_after_remove : (space : Space) (k q : ℕ) → finite.get (finite.remove space k) q ≡ cond (eqb q k) None (finite.get space q)
-get_after_remove space k q = finite.get-remove nat_cmp_total space k q ∙ ap (λ b. cond b None (finite.get space q)) (same_key q k)
-
 -- what is found after an insert is the page, under its key, or was there under another
 pub insert_cases : (space : Space) (k : ℕ) (page : Page) (q : ℕ) (found : Page) → finite.get (finite.insert space k page) q ≡ Some found
     → ((q ≡ k) × (found ≡ page)) ⊎ ((q ≢ k) × (finite.get space q ≡ Some found))
 insert_cases space k page q found e =
     ⊎_elim
-    (λ same. let t = eq-eqb q k same in let got = get_after_insert space k page q in
+    (λ same. let t = eq-eqb q k same in let got = get-insert space k page q in
     let is : cond true (Some page) (finite.get space q) ≡ Some found = rw t at (sym got ∙ e) in inl (same, cc))
-    (λ differs. let t = ne_eqb q k differs in let got = get_after_insert space k page q in
+    (λ differs. let t = ne_eqb q k differs in let got = get-insert space k page q in
     let is : cond false (Some page) (finite.get space q) ≡ Some found = rw t at (sym got ∙ e) in inr (differs, is))
     (cases_eq q k)
-
-pub get_inserted : (space : Space) (k : ℕ) (page : Page) → finite.get (finite.insert space k page) k ≡ Some page
-get_inserted space k page = get_after_insert space k page k ∙ ap (λ b. cond b (Some page) (finite.get space k)) (eq-eqb k k refl)
-
-pub get_insert_other : (space : Space) (k : ℕ) (page : Page) (q : ℕ) → q ≢ k → finite.get (finite.insert space k page) q ≡ finite.get space q
-get_insert_other space k page q differs = get_after_insert space k page q ∙ ap (λ b. cond b (Some page) (finite.get space q)) (ne_eqb q k differs)
-
-pub get_removed : (space : Space) (k : ℕ) → finite.get (finite.remove space k) k ≡ None
-get_removed space k = get_after_remove space k k ∙ ap (λ b. cond b None (finite.get space k)) (eq-eqb k k refl)
-
-pub get_remove_other : (space : Space) (k q : ℕ) → q ≢ k → finite.get (finite.remove space k) q ≡ finite.get space q
-get_remove_other space k q differs = get_after_remove space k q ∙ ap (λ b. cond b None (finite.get space q)) (ne_eqb q k differs)
 
 -- what is found after a remove was there, under another key
 pub remove_cases : (space : Space) (k q : ℕ) (found : Page) → finite.get (finite.remove space k) q ≡ Some found → (q ≢ k) × (finite.get space q ≡ Some found)
 remove_cases space k q found e =
     ⊎_elim
-    (λ same. let gone = get_removed space k in
+    (λ same. let gone = get-remove_same space k in
     let at : finite.get (finite.remove space k) k ≡ Some found = subst (λ z. finite.get (finite.remove space k) z ≡ Some found) same e in cc)
-    (λ differs. (differs, sym (get_remove_other space k q differs) ∙ e))
+    (λ differs. (differs, sym (get-remove_other space k q differs) ∙ e))
     (cases_eq q k)
 
 -- a page that is put back where it was taken out
 pub put_back : (space : Space) (page : Page) → Holds space page → finite.insert (finite.remove space page.base) page.base page ≡ space
 put_back space page holds = finite.same_map nat_cmp_total finite.nat_cmp-IsAntisymmetric _ _ (λ q. ⊎_elim
     (λ (same : q ≡ page.base). subst (λ k. finite.get (finite.insert (finite.remove space page.base) page.base page) k ≡ finite.get space k)
-    (sym same) (get_inserted (finite.remove space page.base) page.base page ∙ sym holds))
-    (λ (differs : q ≢ page.base). get_insert_other (finite.remove space page.base) page.base page q differs ∙ get_remove_other space page.base q differs)
+    (sym same) (get-insert_same (finite.remove space page.base) page.base page ∙ sym holds))
+    (λ (differs : q ≢ page.base). get-insert_other (finite.remove space page.base) page.base page q differs ∙ get-remove_other space page.base q differs)
     (cases_eq q page.base))
 
 -- a well-formed page that has no address of the pages under other bases
@@ -235,7 +217,7 @@ pub page_at_after_insert : {depth : Depth} {space : Space} → IsSpace depth spa
     → page_at (finite.insert space page.base page) a ≡ cond (covers page a) (Some page) (page_at space a)
 page_at_after_insert {depth} {space} is page new sized a =
     elim (covers page a) as (λ b. covers page a ≡ b → page_at (finite.insert space page.base page) a ≡ cond b (Some page) (page_at space a)) [
-      | true ↦ λ t. (page_at_means new a page).1 (get_inserted space page.base page, t)
+      | true ↦ λ t. (page_at_means new a page).1 (get-insert_same space page.base page, t)
       | false ↦ λ t. page_at_same new is a (λ p c. (forth t p c, back t p c))
     ] refl
   where
@@ -246,7 +228,7 @@ page_at_after_insert {depth} {space} is page new sized a =
     back : covers page a ≡ false → (p : Page) → IsTrue (covers p a) → Holds space p → Holds (finite.insert space page.base page) p
     back t p c h = ⊎_elim
         (λ same. let size = sized p h same in let again : covers page a ≡ true = same_covers p page a same size ∙ c in cc)
-        (λ differs. get_insert_other space page.base page p.base differs ∙ h)
+        (λ differs. get-insert_other space page.base page p.base differs ∙ h)
         (cases_eq p.base page.base)
 
 pub page_at_after_remove : {depth : Depth} {space : Space} → IsSpace depth space → (page : Page) → Holds space page → (a : ℕ)
@@ -270,5 +252,5 @@ page_at_after_remove {depth} {space} is page holds a =
     back t p c h = ⊎_elim
         (λ same. let at : finite.get space page.base ≡ Some p = subst (λ z. finite.get space z ≡ Some p) same h in let one : page ≡ p = cc in
         let again = subst (λ (z : Page). covers z a ≡ false) one t in cc)
-        (λ differs. get_remove_other space page.base p.base differs ∙ h)
+        (λ differs. get-remove_other space page.base p.base differs ∙ h)
         (cases_eq p.base page.base)

@@ -12,7 +12,8 @@ use Rattle.vs_types.specs.Depth.{levels, table_bytes}
 use Rattle.vs_types.specs.Page.{level_of, bytes_of}
 use Rattle.vs_types.specs.Space.{Space, no_pages, pages, Holds, IsSpace, tables_of_level, tables_of_levels, table_count}
 use Rattle.vs_types.proofs.Lists.{Contains-head}
-use Rattle.vs_types.proofs.Spaces.{holds_listed, no_pages_space, none_held, insert_cases, get_inserted, get_insert_other}
+use Rattle.vs_types.proofs.Maps.{get-insert_same, get-insert_other}
+use Rattle.vs_types.proofs.Spaces.{holds_listed, no_pages_space, none_held, insert_cases}
 use Rattle.vs_types.proofs.Counts.{same_count, count_more, member_comes, member_goes}
 
 empty_list : (ps : List Page) → ((p : Page) → Contains ps p → ⊥) → ps ≡ []
@@ -44,7 +45,7 @@ stretches level space = map (λ p. p.base / table_bytes level) (filter (λ p. na
 module _ {depth : Depth} {space : Space} (is : IsSpace depth space) (page : Page) (is_new : IsSpace depth (finite.insert space page.base page))
     (absent : (q : Page) → Holds space q → q.base ≢ page.base) (level : ℕ) where
   still : (q : Page) → Holds space q → Holds (finite.insert space page.base page) q
-  still q h = get_insert_other space page.base page q.base (absent q h) ∙ h
+  still q h = get-insert_other space page.base page q.base (absent q h) ∙ h
 
   goes : (q : Page) → Holds (finite.insert space page.base page) q → nat_lt (bytes_of q.size) (table_bytes level) ≡ true
       → is_member nat_eq (stretches level (finite.insert space page.base page)) (q.base / table_bytes level) ≡ true
@@ -81,7 +82,7 @@ module _ {depth : Depth} {space : Space} (is : IsSpace depth space) (page : Page
       (λ k m. ⊎_elim (λ new. or_left _ _ (eq-eqb k _ (sym new.0))) (λ old. or_right _ _ old) (down k m))
       (λ k m. ⊎_elim
       (λ same. subst (λ n. is_member nat_eq (stretches level (finite.insert space page.base page)) n ≡ true) (sym (eqb-true k _ same))
-      (goes page (get_inserted space page.base page) t))
+      (goes page (get-insert_same space page.base page) t))
       (up k)
       (or_cases (nat_eq k (page.base / table_bytes level)) _ m))
       ∙ count_more (page.base / table_bytes level) (stretches level space)

@@ -13,7 +13,8 @@ use Rattle.vs_types.specs.Page.{bytes_of}
 use Rattle.vs_types.specs.Space.{Space, pages, Holds, IsSpace, tables_of_level, tables_of_levels, table_count}
 use Rattle.vs_types.specs.Step.{step}
 use Rattle.vs_types.proofs.Lists.{kept_from, kept_to, distinct_count_within}
-use Rattle.vs_types.proofs.Spaces.{holds_listed, page_at_means, insert_cases, remove_cases, remove_space, get_inserted, get_insert_other}
+use Rattle.vs_types.proofs.Maps.{get-insert_same, get-insert_other}
+use Rattle.vs_types.proofs.Spaces.{holds_listed, page_at_means, insert_cases, remove_cases, remove_space}
 use Rattle.vs_types.proofs.Steps.{map_cases, unmap_cases, protect_cases, protect_space}
 
 -- each page of ps has a page in qs with its base and its size
@@ -74,8 +75,8 @@ rights_tables {depth} {space} is page rights holds = le_antisymm (fewer_tables n
         (λ same.
         let at : finite.get space page.base ≡ Some p = subst (λ z. finite.get space z ≡ Some p) same h in
         let one : page ≡ p = cc in
-        (record page { rights = rights }, get_inserted space page.base (record page { rights = rights }), sym same, ap (λ (z : Page). z.size) one))
-        (λ differs. (p, get_insert_other space page.base (record page { rights = rights }) p.base differs ∙ h, refl, refl))
+        (record page { rights = rights }, get-insert_same space page.base (record page { rights = rights }), sym same, ap (λ (z : Page). z.size) one))
+        (λ differs. (p, get-insert_other space page.base (record page { rights = rights }) p.base differs ∙ h, refl, refl))
         (cases_eq p.base page.base)
 
 pub protect_tables : {depth : Depth} (limit : ℕ) {space : Space} → IsSpace depth space → (base : ℕ) (rights : Rights)

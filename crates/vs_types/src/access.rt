@@ -1,9 +1,12 @@
 //! Accesses of an address, and which of them the rights of a page allow.
 
-ghost use Rattle.std.specs.Prelude.{◌≡◌, ℕ};
+ghost use Rattle.std.specs.Prelude.{◌≡◌, ◌≢◌, ℕ, false};
 ghost use Rattle.vs_types.specs.Access.{allows, fault_code};
 ghost use Rattle.vs_types.specs.Space.{Space};
 ghost use Rattle.vs_types.specs.Step.{allow, look};
+ghost use Rattle.vs_types.specs.declared.answer.Answer.TheVariants.{Fault, Mapped};
+ghost use Rattle.vs_types.specs.declared.page.Rights.{Rights};
+ghost use Rattle.vs_types.specs.declared.page.Size.{Size};
 
 use crate::answer::Answer;
 use crate::page::Rights;
@@ -64,10 +67,14 @@ pub fn fault_code(present: bool, mode: Mode, access: Access) -> u64
 }
 
 impl Answer {
-    /// What an access is answered, where this is the answer to a resolve of its address: `Allowed` or `Fault`.
+    /// What an access is answered, where this is the answer to a resolve of its address: `Allowed` or `Fault`. Any other answer
+    /// counts as one where no page is.
     pub fn accessed(self, mode: Mode, access: Access) -> Answer
-        ensures { (space : Space) (address : ℕ) → self ≡ look space address
+        ensures looked { (space : Space) (address : ℕ) → self ≡ look space address
             → result ≡ allow space address mode access }
+        ensures other { ((phys : ℕ) (size : Size) (rights : Rights)
+            → self ≢ Mapped phys size rights)
+            → result ≡ Fault (fault_code false mode access) }
     {
         match self {
             Answer::Mapped(phys, _, rights) if rights.allow(mode, access) => Answer::Allowed(phys),

@@ -1,3 +1,5 @@
+//! What operations, resolves and accesses are answered.
+
 use crate::page::{Rights, Size};
 
 /// What an operation, a resolve or an access is answered. All numbers are bytes, but for `Full` and `Fault`.

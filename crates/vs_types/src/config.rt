@@ -1,3 +1,4 @@
+//! Configurations: the depth, and how many replicas, threads and tables there are.
 ghost use Rattle.std.specs.Prelude.{◌≡◌};
 
 use crate::depth::Depth;
@@ -90,6 +91,7 @@ impl Config {
         })
     }
 
+    /// How many levels each page table has: four or five.
     pub fn depth(self) -> Depth
         ensures { result ≡ self.depth }
     {

@@ -1,3 +1,4 @@
+//! Page-table entries: the word of each kind, and what a word means at a level.
 ghost use Rattle.std.specs.Prelude.{◌≡◌, ◌<◌, ◌≤◌, ◌==◌, ◌%◌, ◌^◌, ℕ};
 ghost use Rattle.vs_types.specs.declared.limits.TheConstants.{MOST_LEVELS};
 

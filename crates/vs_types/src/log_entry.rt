@@ -12,6 +12,9 @@ use crate::op::{Action, Op};
 use crate::page::{Page, Rights, Size};
 use crate::request::{Query, Request};
 
+/// What one call counts in the second word of an entry: the number of a page's first frame is below it.
+const CALL_UNIT: u64 = 1 << 39;
+
 /// An operation in the log, with the number of the call that asked for it.
 #[derive(Clone, Copy, Debug, PartialEq, Eq)]
 pub struct LogEntry {
@@ -39,7 +42,7 @@ pub fn pack(entry: LogEntry) -> [u64; 2]
     let codes = u64::from(fields.kind) + 4 * u64::from(fields.size) + 16 * u64::from(fields.rights);
     [
         fields.address + codes,
-        fields.physical / 4096 + u64::from(entry.call) * (1 << 39),
+        fields.physical / 4096 + u64::from(entry.call) * CALL_UNIT,
     ]
 }
 
@@ -50,7 +53,7 @@ pub fn unpack(depth: Depth, words: [u64; 2]) -> Option<LogEntry>
 {
     let [operation, rest] = words;
     let codes = operation % 4096;
-    let call = rest / (1 << 39);
+    let call = rest / CALL_UNIT;
     if codes >= 128 || call >= u64::from(CALLS) {
         return None;
     }
@@ -61,7 +64,7 @@ pub fn unpack(depth: Depth, words: [u64; 2]) -> Option<LogEntry>
             size: (codes / 4 % 4) as u8,
             rights: (codes / 16) as u8,
             address: operation - codes,
-            physical: rest % (1 << 39) * 4096,
+            physical: rest % CALL_UNIT * 4096,
         },
     )?;
     match request.query() {
@@ -116,9 +119,9 @@ pub fn entry_of(words: [u64; 2]) -> LogEntry
 {
     let [operation, rest] = words;
     let codes = operation % 4096;
-    let action = action_in(codes, operation - codes, rest % (1 << 39) * 4096);
+    let action = action_in(codes, operation - codes, rest % CALL_UNIT * 4096);
     LogEntry {
-        call: (rest / (1 << 39)) as u32,
+        call: (rest / CALL_UNIT) as u32,
         op: Op::of(action),
     }
 }

@@ -1,3 +1,4 @@
+//! Operations that change a space, each well formed at a depth.
 ghost use Rattle.std.specs.Prelude.{◌≡◌, ◌↔◌, IsTrue};
 
 use crate::depth::Depth;

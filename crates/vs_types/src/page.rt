@@ -1,3 +1,4 @@
+//! Pages, their sizes and their rights.
 ghost use Rattle.std.specs.Prelude.{◌≡◌, ◌==◌, ◌%◌};
 
 /// How many bytes a page has.

@@ -1,3 +1,4 @@
+//! Requests: an operation, a resolve or an access that is well formed at a depth.
 ghost use Rattle.std.specs.Prelude.{◌≡◌, ◌↔◌, IsTrue};
 
 use crate::access::{Access, Mode};

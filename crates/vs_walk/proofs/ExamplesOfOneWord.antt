@@ -81,14 +81,6 @@ visits_of_nothing depth memory level table is =
     ap (λ words. OfFrame table.number ∷ words_visits words (λ words. flat_map f (enumerate_from 0 words))) is
     ∙ ap (λ ms. OfFrame table.number ∷ ms) (still f 512 0 (λ k. refl))
 
-pub visits_of_missing : (depth : Depth) (memory : Memory) (level : ℕ) (table : ReachedTable) → finite.get memory table.number ≡ None
-    → table_visits depth memory (suc level) table ≡ OfFrame table.number ∷ []
-unfolding table_visits
-visits_of_missing depth memory level table is =
-    let f : ℕ × ℕ → List Visit = λ place. entry_visits depth (suc level) table place.0 (λ next. table_visits depth memory level next)
-    (meaning (suc level) place.1) in
-    ap (λ words. OfFrame table.number ∷ words_visits words (λ words. flat_map f (enumerate_from 0 words))) is
-
 -- ---- the first fault
 
 pub fine : (memory : Memory) (earlier later : List Visit) (number : ℕ) (words : List ℕ) → finite.get memory number ≡ Some words

@@ -15,7 +15,8 @@ use Rattle.vs_walk.specs.Examples.{one_word, no_words, page_tables, high_tables,
 use Rattle.vs_walk.specs.declared.walk.Walk.TheVariants.{NotMapped, Reserved, Missing, Mapped}
 use Rattle.vs_walk.specs.declared.walk.WalkFault.TheVariants as faults
 use Rattle.vs_walk.proofs.Walks.{walk_missing}
-use Rattle.vs_walk.proofs.ExamplesOfOneWord.{at_word, beside_word, visits_of_word, visits_of_nothing, visits_of_missing, fine, shared, missing}
+use Rattle.vs_walk.proofs.LawsOfVisits.{missing_met}
+use Rattle.vs_walk.proofs.ExamplesOfOneWord.{at_word, beside_word, visits_of_word, visits_of_nothing, fine, shared, missing}
 
 -- ---- a page of 4 KiB
 
@@ -174,7 +175,7 @@ missing_visits : traversal Four (one_table 0x2007) 1 ≡ OfFrame 1 ∷ OfFrame 2
 missing_visits =
     let m = one_table 0x2007 in
     visits_of_word Four m 3 0 0x2007 (record { number = 1; start = 0; rights = all_rights }) (entry.Table 2 all_rights) (only_frame 0x2007) (omega arith) refl
-    ∙ ap (λ ms. OfFrame 1 ∷ ms) (visits_of_missing Four m 2 (record { number = 2; start = 0; rights = all_rights }) (no_frame_2 0x2007))
+    ∙ ap (λ ms. OfFrame 1 ∷ ms) (missing_met Four m 2 (record { number = 2; start = 0; rights = all_rights }) (no_frame_2 0x2007))
 
 pub missing_frame : walk_fault Four (one_table 0x2007) 1 ≡ Some (faults.Missing 2)
 missing_frame =
@@ -205,7 +206,7 @@ no_root = finite.get-from_entries nat_cmp_total ((1, no_words) ∷ []) 5
 
 pub missing_root : walk_fault Four one_empty_frame 5 ≡ Some (faults.Missing 5)
 missing_root =
-    ap (first_fault_after one_empty_frame []) (visits_of_missing Four one_empty_frame 3 (record { number = 5; start = 0; rights = all_rights }) no_root)
+    ap (first_fault_after one_empty_frame []) (missing_met Four one_empty_frame 3 (record { number = 5; start = 0; rights = all_rights }) no_root)
     ∙ missing one_empty_frame [] [] 5 no_root
 
 -- ---- five levels

@@ -21,7 +21,7 @@ use Rattle.vs_walk.specs.Traversal.{traversal, found, walk_fault}
 use Rattle.vs_walk.proofs.LawsOfSpaces.{ArePages, rises_first, rises_rest, found_are_pages, found_translates}
 
 -- the pages, each under its base
-abbrev under_bases : List Page → List (ℕ × Page)
+abbrev pub under_bases : List Page → List (ℕ × Page)
 under_bases ps = map (λ (p : Page). (p.base, p)) ps
 
 -- the space of some pages
@@ -52,7 +52,7 @@ unfolding space_of
 pages_of ps rise = ap (map (λ e. e.1)) (finite.entries-from_sorted nat_cmp (under_bases ps) (bases_sorted ps rise)) ∙ pages_under ps
 
 -- what is found at a base is a page with that base
-found_under : (base : ℕ) (ps : List Page) (page : Page) → entries.find nat_cmp base (under_bases ps) ≡ Some page → (page.base ≡ base) × Contains ps page
+pub found_under : (base : ℕ) (ps : List Page) (page : Page) → entries.find nat_cmp base (under_bases ps) ≡ Some page → (page.base ≡ base) × Contains ps page
 found_under base [] page e = cc
 found_under base (p ∷ ps) page e =
     elim (eq_by_cmp nat_cmp base p.base) as (λ b. eq_by_cmp nat_cmp base p.base ≡ b → cond b (Some p) (entries.find nat_cmp base (under_bases ps)) ≡ Some page

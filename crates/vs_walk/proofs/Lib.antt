@@ -10,6 +10,7 @@ pub mod TraversalVisits
 pub mod TraversalWords
 pub mod TranslatedBits
 pub mod LawsOfDumps
+pub mod Leasts
 pub mod LawsOfFirstFaults
 pub mod LawsOfFoundPages
 pub mod LawsOfFoundSpaces

@@ -12,6 +12,7 @@ use Rattle.vs_types.specs.declared.page.Page.{Page}
 use Rattle.vs_types.specs.declared.page.Rights.{Rights}
 use Rattle.vs_types.specs.declared.entry.Meaning.{Meaning}
 use Rattle.vs_types.specs.declared.entry.Meaning.TheVariants as entry
+use Rattle.vs_walk.specs.Dump.{Image}
 use Rattle.vs_walk.specs.Memory.{Memory}
 use Rattle.vs_walk.specs.Walk.{all_rights}
 use Rattle.vs_walk.specs.declared.walk.WalkFault.{WalkFault}
@@ -81,6 +82,10 @@ reached = filter_map reached_by
 -- the pages that are found, in the order of the visits
 abbrev pub found : List Visit → List Page
 found = filter_map found_by
+
+-- the pages that the tables of a dump lead to, in the order in which they are found
+abbrev pub found_in : Depth → Image → List Page
+found_in depth dump = found (traversal depth dump.frames dump.root)
 
 -- what is wrong with a visit after these
 abbrev pub visit_fault : Memory → List Visit → Visit → Option WalkFault

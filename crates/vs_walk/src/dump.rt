@@ -1,3 +1,4 @@
+//! Dumps: the page table of a replica, frame by frame, and one to which a frame is coming.
 ghost use Rattle.std.specs.Prelude.{◌≡◌, ◌+◌, ◌<◌, ◌≤◌, ◌^◌, [], ◌∷◌, ◌++◌, length, replicate, All, IfOk, OnOk, OnErr, slice_index};
 ghost use Rattle.std.specs.FinMap as finite;
 ghost use Rattle.std.specs.Vec.{vec_len, vec_capacity};

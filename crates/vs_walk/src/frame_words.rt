@@ -56,12 +56,19 @@ impl<'a> FrameWords<'a> {
         (self.before, self.some)
     }
 
+    /// That there are 512. It does nothing: a call that reads a field shows it.
+    fn has_512(&self)
+        ensures { length self.now ≡ FRAME_WORDS }
+    {
+        let _before = self.before;
+    }
+
     /// How many there are: 512.
     pub fn len(&self) -> usize
         ensures reads { result ≡ length self.now }
         ensures whole { result ≡ FRAME_WORDS }
     {
-        let _ = &self.before;
+        self.has_512();
         FRAME_WORDS
     }
 

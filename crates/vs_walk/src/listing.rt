@@ -1,3 +1,4 @@
+//! The list of the pages that a page table maps.
 ghost use Rattle.std.specs.Prelude.{◌≡◌, ◌<◌, ℕ, Some, None, IfOk, IfErr, OnOk};
 ghost use Rattle.std.specs.List.{AllPairs};
 ghost use Rattle.vs_types.specs.Depth.{IsCanonical};

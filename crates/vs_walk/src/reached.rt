@@ -1,3 +1,4 @@
+//! The frames that a traversal reaches, while it runs and at its end.
 ghost use Rattle.std.specs.Prelude.{◌≡◌, ◌↔◌, ◌<◌, ◌∷◌, [], length, Contains, IsTrue, not, IfOk};
 ghost use Rattle.std.specs.List.{AllPairs};
 ghost use Rattle.vs_walk.specs.Reached.{AreJust};

@@ -1,3 +1,4 @@
+//! The traversal of a page table.
 ghost use Rattle.std.specs.Prelude.{◌≡◌, ◌+◌, ◌-◌, ◌*◌, ◌<◌, ◌≤◌, List, Some, None, IfOk, IfErr, OnOk, length, ◌++◌, ◌∷◌, []};
 ghost use Rattle.vs_types.specs.declared.page.Page.{Page};
 ghost use Rattle.vs_types.specs.declared.frame.TheConstants.{FRAME_WORDS};

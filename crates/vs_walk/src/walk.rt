@@ -1,3 +1,4 @@
+//! The walk of one address through the tables.
 ghost use Rattle.std.specs.Prelude.{◌≡◌, ◌≤◌, ◌%◌, ◌^◌};
 ghost use Rattle.vs_types.specs.Depth.{entry_bytes, IsCanonical};
 ghost use Rattle.vs_walk.specs.Walk.{walk};

@@ -1,3 +1,4 @@
+//! The next word that is not 0, eight words at a time.
 ghost use Rattle.std.specs.Prelude.{◌≡◌, ◌≢◌, ◌+◌, ◌≤◌, ◌<◌, ℕ, IsTrue, IsFalse, length, slice_index};
 ghost use Rattle.vs_walk.specs.inside.Traversed.{AreZeros};
 

@@ -1,7 +1,7 @@
 use Rattle.std.proofs.Common.{[], ap}
 use Rattle.std.specs.Prelude.{unwrap_or}
 use Rattle.vs_arena.specs.Store.{zeros}
-use Rattle.vs_arena.proofs.Stores.{get-insert_same}
+use Rattle.vs_types.proofs.Maps.{get-insert_same}
 use Rattle.space_tests.proofs.arena.take_and_give_zeroed.Goals as goal
 
 pub give_zeroed-requires-clause-zeroed : goal.give_zeroed-requires-clause-zeroed
