@@ -32,6 +32,9 @@ use crate::view::View;
 use vs_arena::{FRAME_WORDS, FrameMark};
 use vs_types::{Depth, Op, TABLES};
 
+/// Frame numbers are below this.
+const FRAME_NUMBERS: u64 = 1 << 40;
+
 /// Makes a page table with no pages in the memory lent, which may have any content. Frame number `base` is the first frame.
 #[unsafe(no_mangle)]
 pub extern "C" fn nrvs_table_new(
@@ -47,9 +50,8 @@ pub extern "C" fn nrvs_table_new(
     ensures empty { result ≡ 0 → IsTableOf (lent_table [] table.new words.new marks.new) no_pages }
     ensures same_base { result ≡ 0 → table.new.base ≡ base }
     ensures levels { result ≡ 0 → table.new.levels ≡ levels }
-    ensures refused_table { result ≢ 0 → table.new ≡ table.old }
-    ensures refused_words { result ≢ 0 → words.new ≡ words.old }
-    ensures refused_marks { result ≢ 0 → marks.new ≡ marks.old }
+    ensures refused { result ≢ 0
+        → (table.new ≡ table.old) × (words.new ≡ words.old) × (marks.new ≡ marks.old) }
     ensures surplus_marks { drop (length words.old) marks.new
         ≡ drop (length words.old) marks.old }
 {
@@ -64,7 +66,7 @@ pub extern "C" fn nrvs_table_new(
     if marks.len() < words.len() {
         return BAD_MARKS;
     }
-    if base > (1 << 40) - words.len() as u64 {
+    if base > FRAME_NUMBERS - words.len() as u64 {
         return BAD_BASE;
     }
     make(table, words, marks, depth, base);
@@ -101,12 +103,11 @@ pub extern "C" fn nrvs_table_map(
         × (rights ≡ rights_code page.rights)
         × Steps table.old words.old marks.old (Action.Map page) table.new words.new marks.new
         reply.new }
-    ensures refused_table { result ≢ 0 → table.new ≡ table.old }
-    ensures refused_words { result ≢ 0 → words.new ≡ words.old }
-    ensures refused_marks { result ≢ 0 → marks.new ≡ marks.old }
+    ensures refused { result ≢ 0
+        → (table.new ≡ table.old) × (words.new ≡ words.old) × (marks.new ≡ marks.old)
+        × (reply.new ≡ reply.old) }
     ensures surplus_marks { drop (length words.old) marks.new
         ≡ drop (length words.old) marks.old }
-    ensures refused_reply { result ≢ 0 → reply.new ≡ reply.old }
 {
     let status = table.status(words, marks);
     if status != OK {
@@ -145,12 +146,11 @@ pub extern "C" fn nrvs_table_unmap(
     ensures done { result ≡ 0
         → Steps table.old words.old marks.old (Action.Unmap base) table.new words.new marks.new
         reply.new }
-    ensures refused_table { result ≢ 0 → table.new ≡ table.old }
-    ensures refused_words { result ≢ 0 → words.new ≡ words.old }
-    ensures refused_marks { result ≢ 0 → marks.new ≡ marks.old }
+    ensures refused { result ≢ 0
+        → (table.new ≡ table.old) × (words.new ≡ words.old) × (marks.new ≡ marks.old)
+        × (reply.new ≡ reply.old) }
     ensures surplus_marks { drop (length words.old) marks.new
         ≡ drop (length words.old) marks.old }
-    ensures refused_reply { result ≢ 0 → reply.new ≡ reply.old }
 {
     let status = table.status(words, marks);
     if status != OK {
@@ -187,12 +187,11 @@ pub extern "C" fn nrvs_table_protect(
     ensures done { result ≡ 0 → (given : Rights) × (rights ≡ rights_code given)
         × Steps table.old words.old marks.old (Action.Protect base given) table.new words.new
         marks.new reply.new }
-    ensures refused_table { result ≢ 0 → table.new ≡ table.old }
-    ensures refused_words { result ≢ 0 → words.new ≡ words.old }
-    ensures refused_marks { result ≢ 0 → marks.new ≡ marks.old }
+    ensures refused { result ≢ 0
+        → (table.new ≡ table.old) × (words.new ≡ words.old) × (marks.new ≡ marks.old)
+        × (reply.new ≡ reply.old) }
     ensures surplus_marks { drop (length words.old) marks.new
         ≡ drop (length words.old) marks.old }
-    ensures refused_reply { result ≢ 0 → reply.new ≡ reply.old }
 {
     let status = table.status(words, marks);
     if status != OK {
@@ -227,7 +226,7 @@ pub extern "C" fn nrvs_table_resolve(
     ensures done { result ≡ 0 → IsCanonical (depth_in table.now) address }
     ensures told { result ≡ 0
         → Tells table.now words.now marks.now (λ space. look space address) reply.new }
-    ensures refused_reply { result ≢ 0 → reply.new ≡ reply.old }
+    ensures refused { result ≢ 0 → reply.new ≡ reply.old }
 {
     let status = table.status(words, marks);
     if status != OK {
@@ -271,7 +270,7 @@ pub extern "C" fn nrvs_table_access(
     ensures told { result ≡ 0 → (by : Mode) × (does : Access) × (mode ≡ mode_code by)
         × (access ≡ access_code does)
         × Tells table.now words.now marks.now (λ space. allow space address by does) reply.new }
-    ensures refused_reply { result ≢ 0 → reply.new ≡ reply.old }
+    ensures refused { result ≢ 0 → reply.new ≡ reply.old }
 {
     let status = table.status(words, marks);
     if status != OK {
@@ -312,7 +311,7 @@ pub extern "C" fn nrvs_table_tables(
         → IsTableOf (lent_table [] table.now words.now marks.now) space
         → count.new ≡ table_count (depth_in table.now) space }
     ensures at_most { result ≡ 0 → count.new ≤ length words.now }
-    ensures refused_count { result ≢ 0 → count.new ≡ count.old }
+    ensures refused { result ≢ 0 → count.new ≡ count.old }
 {
     let status = table.status(words, marks);
     if status != OK {

@@ -10,7 +10,7 @@ use Rattle.vs_plan.specs.Request.{address_of}
 use Rattle.vs_plan.specs.Right.{IsRight}
 use Rattle.vs_plan.specs.Shown.{IsShown}
 use Rattle.nrvs_plan_c.specs.declared.kept.Plan.{Plan}
-use Rattle.nrvs_plan_c.specs.Kept.{planner_in, request_in, target_in}
+use Rattle.nrvs_plan_c.specs.Kept.{IsSound, phase_in, planner_in, request_in, target_in}
 use Rattle.nrvs_plan_c.specs.Told.{IsTold}
 
 -- the plan in these numbers is right for each space that the memory translates as
@@ -26,6 +26,12 @@ status_in Search = 32
 status_in Growth = 33
 status_in Division = 33
 status_in Ended = 0
+
+-- a plan has begun: it waits for the words of a frame, and what is kept is so in any memory, of which nothing was shown yet
+pub record HasBegun (plan : Plan) : Type 0 where
+  pub sound : IsSound plan
+  pub waits : status_in (phase_in plan.way.phase) ≡ 32
+  pub shown : (memory : Memory) → IsShown memory (planner_in plan)
 
 -- of 32 and 33 what is kept is so in the memory; of 0 the plan is there
 pub record IsNextOf (memory : Memory) (plan : Plan) (offered : List (Option ℕ)) (status : ℕ) : Type 0 where

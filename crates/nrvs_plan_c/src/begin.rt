@@ -1,10 +1,8 @@
 //! How a plan begins.
 ghost use Rattle.std.specs.Prelude.{◌≡◌, ◌≢◌, MatchResult};
-ghost use Rattle.vs_walk.specs.Memory.{Memory};
 ghost use Rattle.vs_plan.specs.Request.{request_fault};
-ghost use Rattle.vs_plan.specs.Shown.{IsShown};
-ghost use Rattle.nrvs_plan_c.specs.Kept.{IsSound, phase_in, planner_in, request_in, target_in, target_of};
-ghost use Rattle.nrvs_plan_c.specs.Next.{status_in};
+ghost use Rattle.nrvs_plan_c.specs.Kept.{request_in, target_in, target_of};
+ghost use Rattle.nrvs_plan_c.specs.Next.{HasBegun};
 ghost use Rattle.nrvs_plan_c.specs.Status.{begun_status, target_status};
 
 use crate::kept::{Call, Plan, Target, keep};
@@ -22,7 +20,8 @@ pub(crate) fn call_of(target: &Target, kind: u8, address: u64) -> Result<Call, u
         × (target_in call ≡ target_of target.now)
         × (call.kind ≡ kind)
         × (call.address ≡ address))
-        (λ status. (target_status target.now.levels target.now.phys_bits 0 ≡ status) × (status ≢ 0)) }
+        (λ status. (target_status target.now.levels target.now.phys_bits 0 ≡ status)
+        × (status ≢ 0)) }
 {
     if target.levels != 4 && target.levels != 5 {
         return Err(BAD_LEVELS);
@@ -48,9 +47,7 @@ pub(crate) fn call_of(target: &Target, kind: u8, address: u64) -> Result<Call, u
 pub(crate) fn begin(plan: &mut Plan, call: Call) -> u32
     ensures status { result ≡ begun_status (request_fault (target_in call) (request_in call)) }
     ensures call { result ≡ 32 → plan.new.call ≡ call }
-    ensures sound { result ≡ 32 → IsSound plan.new }
-    ensures begun { result ≡ 32 → status_in (phase_in plan.new.way.phase) ≡ 32 }
-    ensures shown { result ≡ 32 → (memory : Memory) → IsShown memory (planner_in plan.new) }
+    ensures begun { result ≡ 32 → HasBegun plan.new }
     ensures refused { result ≢ 32 → plan.new ≡ plan.old }
 {
     match Planner::new(call.target(), call.request()) {

@@ -10,7 +10,7 @@ ghost use Rattle.vs_plan.specs.Request.{request_fault};
 ghost use Rattle.vs_plan.specs.Shown.{IsShown};
 ghost use Rattle.nrvs_plan_c.specs.declared.codes.TheConstants.{ENDED, SEARCH};
 ghost use Rattle.nrvs_plan_c.specs.Kept.{IsSound, page_in, phase_in, planner_in, request_in, rights_in, takes_frame, target_in, target_of};
-ghost use Rattle.nrvs_plan_c.specs.Next.{IsNextOf, status_in};
+ghost use Rattle.nrvs_plan_c.specs.Next.{HasBegun, IsNextOf, status_in};
 ghost use Rattle.nrvs_plan_c.specs.Told.{plan_again, store_at};
 ghost use Rattle.nrvs_plan_c.specs.Status.{begun_status, target_status};
 
@@ -40,9 +40,7 @@ pub extern "C" fn nrvs_plan_map(
     ensures target { result ≡ 32 → target_in plan.new.call ≡ target_of target.now }
     ensures request { result ≡ 32 → request_in plan.new.call
         ≡ Request.Map (page_in base size physical rights) bits }
-    ensures sound { result ≡ 32 → IsSound plan.new }
-    ensures begun { result ≡ 32 → status_in (phase_in plan.new.way.phase) ≡ 32 }
-    ensures shown { result ≡ 32 → (memory : Memory) → IsShown memory (planner_in plan.new) }
+    ensures begun { result ≡ 32 → HasBegun plan.new }
     ensures refused { result ≢ 32 → plan.new ≡ plan.old }
 {
     let call = match call_of(target, 0, base) {
@@ -72,9 +70,7 @@ pub extern "C" fn nrvs_plan_unmap(plan: &mut Plan, target: &Target, base: u64) -
         (begun_status (request_fault (target_of target.now) (Request.Unmap base))) }
     ensures target { result ≡ 32 → target_in plan.new.call ≡ target_of target.now }
     ensures request { result ≡ 32 → request_in plan.new.call ≡ Request.Unmap base }
-    ensures sound { result ≡ 32 → IsSound plan.new }
-    ensures begun { result ≡ 32 → status_in (phase_in plan.new.way.phase) ≡ 32 }
-    ensures shown { result ≡ 32 → (memory : Memory) → IsShown memory (planner_in plan.new) }
+    ensures begun { result ≡ 32 → HasBegun plan.new }
     ensures refused { result ≢ 32 → plan.new ≡ plan.old }
 {
     match call_of(target, 1, base) {
@@ -92,9 +88,7 @@ pub extern "C" fn nrvs_plan_protect(plan: &mut Plan, target: &Target, base: u64,
     ensures target { result ≡ 32 → target_in plan.new.call ≡ target_of target.now }
     ensures request { result ≡ 32 → request_in plan.new.call
         ≡ Request.Protect base (rights_in rights) }
-    ensures sound { result ≡ 32 → IsSound plan.new }
-    ensures begun { result ≡ 32 → status_in (phase_in plan.new.way.phase) ≡ 32 }
-    ensures shown { result ≡ 32 → (memory : Memory) → IsShown memory (planner_in plan.new) }
+    ensures begun { result ≡ 32 → HasBegun plan.new }
     ensures refused { result ≢ 32 → plan.new ≡ plan.old }
 {
     let call = match call_of(target, 2, base) {
@@ -126,9 +120,7 @@ pub extern "C" fn nrvs_plan_remap(
     ensures target { result ≡ 32 → target_in plan.new.call ≡ target_of target.now }
     ensures request { result ≡ 32 → request_in plan.new.call
         ≡ Request.Remap base physical (rights_in rights) }
-    ensures sound { result ≡ 32 → IsSound plan.new }
-    ensures begun { result ≡ 32 → status_in (phase_in plan.new.way.phase) ≡ 32 }
-    ensures shown { result ≡ 32 → (memory : Memory) → IsShown memory (planner_in plan.new) }
+    ensures begun { result ≡ 32 → HasBegun plan.new }
     ensures refused { result ≢ 32 → plan.new ≡ plan.old }
 {
     let call = match call_of(target, 4, base) {
@@ -153,9 +145,7 @@ pub extern "C" fn nrvs_plan_split(plan: &mut Plan, target: &Target, base: u64) -
         (begun_status (request_fault (target_of target.now) (Request.Split base))) }
     ensures target { result ≡ 32 → target_in plan.new.call ≡ target_of target.now }
     ensures request { result ≡ 32 → request_in plan.new.call ≡ Request.Split base }
-    ensures sound { result ≡ 32 → IsSound plan.new }
-    ensures begun { result ≡ 32 → status_in (phase_in plan.new.way.phase) ≡ 32 }
-    ensures shown { result ≡ 32 → (memory : Memory) → IsShown memory (planner_in plan.new) }
+    ensures begun { result ≡ 32 → HasBegun plan.new }
     ensures refused { result ≢ 32 → plan.new ≡ plan.old }
 {
     match call_of(target, 5, base) {
@@ -171,9 +161,7 @@ pub extern "C" fn nrvs_plan_join(plan: &mut Plan, target: &Target, base: u64) ->
         (begun_status (request_fault (target_of target.now) (Request.Join base))) }
     ensures target { result ≡ 32 → target_in plan.new.call ≡ target_of target.now }
     ensures request { result ≡ 32 → request_in plan.new.call ≡ Request.Join base }
-    ensures sound { result ≡ 32 → IsSound plan.new }
-    ensures begun { result ≡ 32 → status_in (phase_in plan.new.way.phase) ≡ 32 }
-    ensures shown { result ≡ 32 → (memory : Memory) → IsShown memory (planner_in plan.new) }
+    ensures begun { result ≡ 32 → HasBegun plan.new }
     ensures refused { result ≢ 32 → plan.new ≡ plan.old }
 {
     match call_of(target, 6, base) {
@@ -189,9 +177,7 @@ pub extern "C" fn nrvs_plan_ask(plan: &mut Plan, target: &Target, address: u64) 
         (begun_status (request_fault (target_of target.now) (Request.Ask address))) }
     ensures target { result ≡ 32 → target_in plan.new.call ≡ target_of target.now }
     ensures request { result ≡ 32 → request_in plan.new.call ≡ Request.Ask address }
-    ensures sound { result ≡ 32 → IsSound plan.new }
-    ensures begun { result ≡ 32 → status_in (phase_in plan.new.way.phase) ≡ 32 }
-    ensures shown { result ≡ 32 → (memory : Memory) → IsShown memory (planner_in plan.new) }
+    ensures begun { result ≡ 32 → HasBegun plan.new }
     ensures refused { result ≢ 32 → plan.new ≡ plan.old }
 {
     match call_of(target, 3, address) {

@@ -32,8 +32,8 @@ pub(crate) fn go_on(plan: &mut Plan, planner: &Planner, step: &Step) -> u32
         ≡ gives_left planner.now step.now }
     ensures given { (frames : List ℕ) → result ≡ 33 → HasGiven planner.now frames step.now
         → frames_given (planner_in plan.new) ≡ frames }
-    ensures next { (memory : Memory) (offered : List (Option ℕ)) → IsNext memory planner.now offered step.now
-        → IsNextOf memory plan.new offered result }
+    ensures next { (memory : Memory) (offered : List (Option ℕ))
+        → IsNext memory planner.now offered step.now → IsNextOf memory plan.new offered result }
 {
     match step {
         Step::See(_) => {

@@ -1,3 +1,4 @@
+//! What a call returns, by number.
 ghost use Rattle.std.specs.Prelude.{◌≡◌};
 ghost use Rattle.nrvs_plan_c.specs.Status.{status_of};
 

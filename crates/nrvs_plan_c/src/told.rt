@@ -4,7 +4,7 @@ ghost use Rattle.vs_plan.specs.declared.plan.TheConstants.{MOST_STORES, MOST_UNL
 ghost use Rattle.nrvs_plan_c.specs.Told.{IsTold, answer_numbers, bits_again, bits_told, fill_numbers, flush_numbers, is_linking, reply_numbers};
 
 use crate::kept::Plan;
-use vs_plan::{Fill, Flush, Reply as Outcome, Store};
+use vs_plan::{ABOVE_FLAGS, BELOW_FLAGS, Fill, Flush, Reply as Outcome, Store};
 use vs_types::Answer;
 
 /// What came out in numbers: its code, and what it has; what it doesn't have is 0.
@@ -142,5 +142,7 @@ pub(crate) fn bits_again(plan: &Plan, index: usize, store: Store, found: u64) ->
     if index != 0 || (plan.unlinked_count != 0 && store.new != 0) {
         return plan.bits;
     }
-    plan.bits % (1 << 5) + found % (1 << 7) / (1 << 5) * (1 << 5) + plan.bits / (1 << 7) * (1 << 7)
+    plan.bits % BELOW_FLAGS
+        + found % ABOVE_FLAGS / BELOW_FLAGS * BELOW_FLAGS
+        + plan.bits / ABOVE_FLAGS * ABOVE_FLAGS
 }

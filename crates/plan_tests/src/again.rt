@@ -1,3 +1,5 @@
+//! Entries whose flags a processor sets beside a plan: stores that are still right, and calls that are planned again.
+
 use crate::carried::{TARGET, carried, plan_for};
 use crate::memory::Memory;
 use crate::worked::{A, C, Row, Said, WRITE, is_so, page};

@@ -1,3 +1,5 @@
+//! A plan is asked for step by step, and carried out in a memory.
+
 ghost use Rattle.vs_plan.specs.Planner.{AwaitsWords};
 
 use crate::memory::{FIRST, Memory};

@@ -1,3 +1,5 @@
+//! Drawn calls: what plans do to a memory, beside the page table that keeps its own frames.
+
 use crate::carried::{TARGET, carried};
 use crate::memory::Memory;
 use crate::worked::page;

@@ -1,3 +1,5 @@
+//! A memory of frames, in which plans are carried out.
+
 use std::alloc::Global;
 use std::process::Abort;
 use vs_plan::{Fill, Plan, Store};

@@ -1,3 +1,5 @@
+//! Requests of which there is no plan, and why.
+
 ghost use Rattle.vs_plan.specs.Planner.{AwaitsWords};
 
 use crate::carried::{TARGET, carried, plan_for};

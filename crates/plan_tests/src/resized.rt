@@ -1,3 +1,5 @@
+//! Pages that are split and joined, and what the page itself refuses.
+
 use crate::carried::{TARGET, carried};
 use crate::memory::Memory;
 use crate::worked::{A, B, C, Row, Said, WRITE, is_so, page};

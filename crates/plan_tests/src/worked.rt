@@ -1,3 +1,5 @@
+//! Pages that are mapped, protected and unmapped: what each plan says, and the words that it leaves.
+
 use crate::carried::{TARGET, carried};
 use crate::memory::{FIRST, Memory};
 use std::process::Abort;

@@ -1,3 +1,4 @@
+//! The words of the command line, and what is run and printed.
 use crate::load::Load;
 use crate::measure::{BASE, FRAMES, Measured, measure};
 use crate::workload::Workload;

@@ -1,3 +1,4 @@
+//! The calls of a workload, made before they are measured.
 ghost use Rattle.std.specs.Prelude.{◌↔◌, All, IsTrue};
 ghost use Rattle.vs_types.specs.Depth.{IsCanonical};
 ghost use Rattle.vs_types.specs.Operation.{IsAction};

@@ -1,3 +1,4 @@
+//! A workload's rounds on a space, with the time of each kind of call.
 ghost use Rattle.std.specs.Prelude.{◌≡◌, ◌⊎◌, All, IfErr, IfOk, OnOk};
 ghost use Rattle.std.specs.FinMap as finite;
 ghost use Rattle.vs_types.specs.Depth.{IsCanonical};
@@ -76,7 +77,8 @@ impl Measured {
     ) -> Result<(), ProgFault>
         requires depth { space.old.depth ≡ load.now.depth }
         requires fits { IsWellFormed load.now }
-        ensures ok { OnOk result (IsRound space.old load.now self.old.sum.value space.new self.new.sum.value) }
+        ensures ok { OnOk result
+            (IsRound space.old load.now self.old.sum.value space.new self.new.sum.value) }
         ensures err { IfErr result (λ fault. fault ≡ ProgFault.NoClock) }
     {
         let start = now(clock)?;
@@ -113,9 +115,11 @@ pub fn measure<S: FrameStore + Drop>(
     rounds: u16,
 ) -> Result<Measured, ProgFault>
     requires empty { S.frames store ≡ finite.empty }
-    requires size { S.size store ≡ FRAMES }
-    ensures ok { IfOk result (λ measured. measured.sum.value ≡ (after_rounds load.now.depth FRAMES load.now rounds no_progress).sum) }
-    ensures err { IfErr result (λ fault. (fault ≡ ProgFault.NoClock) ⊎ ((fault ≡ ProgFault.BadPage) × (IsWellFormed load.now → ⊥))) }
+    requires size { (S.place store).size ≡ FRAMES }
+    ensures ok { IfOk result (λ measured. measured.sum.value
+        ≡ (after_rounds load.now.depth FRAMES load.now rounds no_progress).sum) }
+    ensures err { IfErr result (λ fault. (fault ≡ ProgFault.NoClock)
+        ⊎ ((fault ≡ ProgFault.BadPage) × (IsWellFormed load.now → ⊥))) }
 {
     let depth = load.depth;
     if !all_fit(depth, &load.maps)
@@ -152,7 +156,8 @@ fn apply_all<S: FrameStore>(space: &mut Space<S>, ops: &[Op], mut sum: Sum) -> S
 #[inline(never)]
 fn resolve_all<S: FrameStore>(space: &Space<S>, addresses: &[u64], mut sum: Sum) -> Sum
     requires { All (IsCanonical space.now.depth) addresses.now }
-    ensures { (s : spaces.Space) → IsTableOf space.now s → result.value ≡ sum_of_looks s sum.value addresses.now }
+    ensures { (s : spaces.Space) → IsTableOf space.now s
+        → result.value ≡ sum_of_looks s sum.value addresses.now }
 {
     for address in addresses {
         sum.add_answer(space.resolve(*address));

@@ -1,3 +1,4 @@
+//! The sum of all answers.
 ghost use Rattle.std.specs.Prelude.{◌≡◌, ◌<◌, ◌^◌};
 ghost use Rattle.space_benchmark.specs.Sum as sums;
 

@@ -1,3 +1,4 @@
+//! The workloads: which pages each has.
 ghost use Rattle.std.specs.Prelude.{◌<◌, ◌≤◌, ◌^◌};
 
 use vs_types::{Page, Rights, Size};

@@ -1,3 +1,4 @@
+//! A page table and a plain space beside each other: `Both`.
 ghost use Rattle.std.specs.Prelude.{◌≡◌, IfOk, OnErr};
 ghost use Rattle.std.specs.FinMap as finite;
 ghost use Rattle.vs_types.specs.Depth.{IsCanonical};
@@ -40,7 +41,11 @@ impl<S: FrameStore> Model for Both<S> {
 
     ghost Value = { Pair };
 
-    ghost coded = { Prim.hlevel (codes, finite.code {R = nat_cmp} coded_ℕ (coded_list coded_ℕ), plain_contract.the_row.coded) };
+    ghost coded = { Prim.hlevel (
+      codes,
+      finite.code {R = nat_cmp} coded_ℕ (coded_list coded_ℕ),
+      plain_contract.the_row.coded,
+    ) };
 
     ghost view = { λ b. record { table = b.table; plain = b.plain } };
 
@@ -48,7 +53,8 @@ impl<S: FrameStore> Model for Both<S> {
 }
 
 impl<S: FrameStore + Drop> Both<S> {
-    /// The two with no pages, over a store of which no frame is in use. Its capacity is the limit of both.
+    /// The two with no pages, over a store of which no frame is in use. Its capacity is the limit of both. Nothing is allocated yet: the
+    /// plain space keeps `alloc`, for the pages that are mapped.
     ///
     /// # Errors
     ///
@@ -58,12 +64,12 @@ impl<S: FrameStore + Drop> Both<S> {
         ensures empty { IfOk result (λ both.
             let empty : BoundedSpace = record {
               depth = depth;
-              limit = S.size store;
+              limit = (S.place store).size;
               space = no_pages;
             } in both.plain ≡ empty) }
         ensures alike { IfOk result (λ both. AreAlike both.table both.plain) }
-        ensures base { IfOk result (λ both. both.table.base ≡ S.base store) }
-        ensures no_root { OnErr result (S.size store ≡ 0) }
+        ensures base { IfOk result (λ both. both.table.base ≡ (S.place store).base) }
+        ensures no_root { OnErr result ((S.place store).size ≡ 0) }
     {
         let limit = store.capacity() as u16;
         let table = Space::new(store, depth)?;

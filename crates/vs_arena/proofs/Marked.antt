@@ -12,7 +12,7 @@ use Rattle.std.proofs.lemmas.Bool.{cases_lt, eqb-true, eqb-false, lt-ltb, le-ltb
 use Rattle.std.proofs.lemmas.Bool.Decides.{nat_tests}
 use Rattle.vs_arena.specs.Store.{note_of}
 use Rattle.vs_arena.specs.Marked.{with_some, all_below, marked, marked_notes}
-use Rattle.vs_arena.proofs.Stores.{get-insert, get-remove}
+use Rattle.vs_types.proofs.Maps.{get-insert, get-remove}
 
 -- but for the last place of a list that was pushed to, all is as before
 pub get_or-push_other : {X : Type 0} (xs : List X) (x d : X) (q : ℕ) → q ≢ length xs → get_or (xs ++ x ∷ []) q d ≡ get_or xs q d

@@ -17,7 +17,8 @@ use Rattle.vs_arena.specs.Arena.{Arena}
 use Rattle.vs_arena.specs.Store.{IsStore, zeros}
 use Rattle.std.proofs.lemmas.Option.{cond_some}
 use Rattle.vs_arena.proofs.Marked.{get_or-push_other, get-marked, marked-mark, marked-write, marked-unmark, marked-push, marked-none}
-use Rattle.vs_arena.proofs.Stores.{len-insert_free, len-insert_used, len-remove_used, get_in_use}
+use Rattle.vs_types.proofs.Maps.{len-insert_free, len-insert_used, len-remove_used}
+use Rattle.vs_arena.proofs.Stores.{get_in_use}
 
 pub get-marked_frames : (marks : List Bool) (words : List (List ℕ)) (q : ℕ) → finite.get (marked_frames marks words) q ≡ marked [] marks words q
 get-marked_frames = get-marked []

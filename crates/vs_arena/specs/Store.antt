@@ -33,6 +33,12 @@ note_of notes index = unwrap_or (finite.get notes index) 0
 abbrev pub Lenders : Type 0
 Lenders = List ℕ
 
+-- where a store is: the number of frame 0, how many frames there are, in use or not, and who lent it its memory
+pub record StorePlace : Type 0 where
+  pub base : ℕ
+  pub size : ℕ
+  pub lenders : Lenders
+
 -- a frame of zeros
 abbrev pub zeros : List ℕ
 zeros = replicate FRAME_WORDS 0

@@ -1,3 +1,4 @@
+//! Frames by index, and what all stores need of one.
 ghost use Rattle.std.specs.Prelude.{◌≡◌, ℕ, ◌+◌, ◌<◌, ◌≤◌, true, false, IfSome, IfNone, length, slice_index_or};
 ghost use Rattle.vs_types.specs.declared.limits.TheConstants.{TABLES};
 ghost use Rattle.vs_arena.specs.Store.{zeros};

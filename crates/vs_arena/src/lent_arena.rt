@@ -1,3 +1,4 @@
+//! A store over memory that is lent: frames and their marks.
 ghost use Rattle.std.specs.Prelude.{◌≡◌, ◌+◌, ◌^◌, ◌≤◌, length, [], ◌∷◌};
 ghost use Rattle.std.specs.FinMap as finite;
 ghost use Rattle.vs_types.specs.declared.limits.TheConstants.{TABLES};
@@ -155,11 +156,7 @@ impl<'a, 'b> FrameStore for LentArena<'a, 'b> {
 
     ghost notes = { λ a. a.notes };
 
-    ghost base = { λ a. a.base };
-
-    ghost size = { λ a. a.size };
-
-    ghost lenders = { λ a. a.lenders };
+    ghost place = { λ a. record { base = a.base; size = a.size; lenders = a.lenders } };
 
     fn capacity(&self) -> usize {
         self.words.len()

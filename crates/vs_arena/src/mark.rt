@@ -1,3 +1,5 @@
+//! The mark of a frame that is lent.
+
 /// What a `LentArena` keeps of a frame, 4 bytes of the caller's memory. It may have any content at first.
 #[repr(C)]
 #[derive(Clone, Copy, Debug, Default)]

@@ -1,3 +1,4 @@
+//! A store whose frames are one block of memory of their own.
 ghost use Rattle.std.specs.Prelude.{◌≡◌, ◌+◌, ◌^◌, ◌≤◌, IfOk, []};
 ghost use Rattle.std.specs.FinMap as finite;
 ghost use Rattle.vs_types.specs.declared.limits.TheConstants.{TABLES};
@@ -104,11 +105,7 @@ impl FrameStore for RawArena {
 
     ghost notes = { λ a. a.notes };
 
-    ghost base = { λ a. a.base };
-
-    ghost size = { λ a. a.size };
-
-    ghost lenders = { λ _. [] };
+    ghost place = { λ a. record { base = a.base; size = a.size; lenders = [] } };
 
     fn capacity(&self) -> usize {
         self.size

@@ -17,7 +17,8 @@ use Rattle.vs_walk.specs.Memory.{Memory}
 use Rattle.vs_walk.proofs.Walks.{leaf_level}
 use Rattle.vs_space.specs.Held.{word_at}
 use Rattle.vs_space.specs.Path.{table_in, table_at}
-use Rattle.vs_space.proofs.Numbered.{get-insert_same}
+use Rattle.vs_types.proofs.Maps.{get-insert_same}
+use Rattle.vs_space.proofs.Numbered.{whole-insert}
 use Rattle.vs_space.proofs.Regions.{IsLeafPage, level_back}
 use Rattle.vs_plan.specs.declared.plan.Fill.{Fill}
 use Rattle.vs_plan.specs.declared.plan.Flush.TheVariants as flushes
@@ -33,7 +34,7 @@ use Rattle.vs_plan.specs.Stores.{stepping, filled, stored}
 use Rattle.vs_plan.specs.Target.{frames_end}
 use Rattle.vs_plan.proofs.Asking.{entry_of}
 use Rattle.vs_plan.proofs.EntryStores.{IsOwnTable, walk_off, whole_store}
-use Rattle.vs_plan.proofs.Filled.{own_as, table_as, translates_as, walk_as, way_as, whole_as, word_as, insert_same}
+use Rattle.vs_plan.proofs.Filled.{own_as, table_as, translates_as, walk_as, way_as, word_as, insert_same}
 use Rattle.vs_plan.proofs.PartSpaces.{refused_there}
 use Rattle.vs_plan.proofs.Pages.{page_here, premise_table}
 use Rattle.vs_plan.proofs.Parts.{none_named, Parts, safe_one, store_at, words_apart, EndAt}
@@ -120,7 +121,7 @@ module _ (target : Target) {memory : Memory} {space : Space} {base low number wo
     here : IsOwnTable target.depth m target.root (suc low) base number
     here = record {
       own = own_as target.depth target.root memory m same base end.premise.own;
-      whole = whole_as memory frame words end.premise.whole (stepping_long fill.first fill.step 512);
+      whole = whole-insert memory frame words (stepping_long fill.first fill.step 512) end.premise.whole;
       used = used_word m number (index_at (suc low) base) word word_is;
       at = table_as target.depth target.root memory m same (suc low) base ∙ reached;
     }

@@ -15,7 +15,7 @@ use Rattle.vs_space.proofs.Paths.{reached_within, same_table, table_below, none_
 use Rattle.vs_space.proofs.Writes.{found_here, found_elsewhere, same_or_not, same_longer}
 use Rattle.vs_plan.specs.Premise.{HasOwnWay}
 use Rattle.vs_plan.specs.Way.{IsWay}
-use Rattle.vs_plan.proofs.Stored.{whole_stored}
+use Rattle.vs_space.proofs.Reached.{whole_written}
 use Rattle.vs_plan.proofs.Ways.{walk_at, way_kept}
 
 -- ---- off the way
@@ -54,7 +54,7 @@ module _ {depth : Depth} {m : Memory} {root level a n : ℕ} (here : IsOwnTable 
     after_store = with_word m n (index_at level a) w
 
     pub whole_store : AreWhole after_store
-    whole_store = whole_stored m n (index_at level a) w here.whole here.used
+    whole_store = whole_written m n (index_at level a) w here.used here.whole
 
     -- in tables of other levels, all is found as before
     pub above : (b j q : ℕ) → j ≢ level → table_at (levels depth) m root j b ≡ Some q → found_at j after_store q b ≡ found_at j m q b

@@ -1,33 +1,24 @@
 -- A spare frame is given other words: nothing that is reached changes.
-use Rattle.std.proofs.Common.{◌≡◌, ◌≢◌, ℕ, List, length, Some, ⊎_elim, sym, ap, ◌∙◌}
+use Rattle.std.proofs.Common.{◌≡◌, ◌≢◌, ℕ, List, Some, sym, ap, ◌∙◌}
 use Rattle.std.specs.Prelude.{option_map}
-use Rattle.std.proofs.lemmas.Bool.{cases_eq}
 use Rattle.std.specs.FinMap as finite
-use Rattle.std.proofs.lemmas.Option.{same_Some}
 use Rattle.vs_types.specs.Depth.{levels}
 use Rattle.vs_types.specs.Entry.{meaning}
 use Rattle.vs_types.specs.Space.{Space}
 use Rattle.vs_types.specs.declared.depth.Depth.{Depth}
 use Rattle.vs_types.specs.declared.page.Rights.{Rights}
-use Rattle.vs_walk.specs.Memory.{Memory, AreWhole}
+use Rattle.vs_walk.specs.Memory.{Memory}
 use Rattle.vs_walk.specs.Walk.{walk, TranslatesAs}
 use Rattle.vs_space.specs.Held.{word_at}
 use Rattle.vs_space.specs.Path.{entry_in, table_at}
 use Rattle.vs_space.proofs.Written.{word_alike}
-use Rattle.vs_space.proofs.Numbered.{get-insert_same, get-insert_other}
+use Rattle.vs_types.proofs.Maps.{get-insert_other}
 use Rattle.vs_space.proofs.Trees.{unreached_table, unreached_walk}
 use Rattle.vs_space.proofs.Writes.{found_alike}
 use Rattle.vs_plan.specs.Premise.{HasOwnWay}
 use Rattle.vs_plan.specs.Way.{IsWay}
 use Rattle.vs_plan.proofs.Ways.{way_kept}
 use Rattle.vs_plan.specs.Other.{HasSameTables}
-
-pub whole_as : (m : Memory) (number : ℕ) (words : List ℕ) → AreWhole m → length words ≡ 512 → AreWhole (finite.insert m number words)
-whole_as m number words whole long q other got = ⊎_elim
-    (λ (same : q ≡ number).
-    ap length (same_Some other words (sym got ∙ ap (finite.get (finite.insert m number words)) same ∙ get-insert_same m number words)) ∙ long)
-    (λ (apart : q ≢ number). whole q other (sym (get-insert_other m number words q apart) ∙ got))
-    (cases_eq q number)
 
 pub entry_alike : (level : ℕ) (m m' : Memory) (n i : ℕ) → finite.get m' n ≡ finite.get m n → entry_in level m' n i ≡ entry_in level m n i
 unfolding entry_in

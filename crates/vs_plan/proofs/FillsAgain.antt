@@ -13,7 +13,7 @@ use Rattle.vs_types.specs.declared.page.Size.{Size}
 use Rattle.vs_types.specs.declared.page.Size.TheVariants.{K4}
 use Rattle.vs_walk.specs.Memory.{Memory}
 use Rattle.vs_space.specs.Flags.{IsSameButFlags, AreSameButFlags}
-use Rattle.vs_space.proofs.Numbered.{get-insert_same, get-insert_other}
+use Rattle.vs_types.proofs.Maps.{get-insert_same, get-insert_other}
 use Rattle.vs_plan.specs.declared.plan.Fill.{Fill}
 use Rattle.vs_plan.specs.Again.{HasFlagsSet, fill_again, flags_into}
 use Rattle.vs_plan.specs.Bits.{bits_in, flagged, page_word, placed}

@@ -23,6 +23,7 @@ use Rattle.vs_space.proofs.Links.{zeros_are}
 use Rattle.vs_space.proofs.Prunes.{word_in}
 use Rattle.vs_space.proofs.Writes.{get_written, get_written_other}
 use Rattle.vs_space.proofs.Written.{size_same}
+use Rattle.vs_space.proofs.Reached.{whole_written}
 use Rattle.vs_plan.specs.declared.plan.Store.{Store}
 use Rattle.vs_plan.specs.declared.request.Request.TheVariants.{Map}
 use Rattle.vs_plan.specs.Bits.{page_word}
@@ -32,7 +33,7 @@ use Rattle.vs_plan.specs.Shown.{last_frame, EndsAt, frames_of, AreSameIn, IsLone
 use Rattle.vs_plan.specs.Stores.{stored, stored_all, FindTheirWords}
 use Rattle.vs_plan.proofs.Linking.{lone_lowest, lone_higher, found_one, found_none}
 use Rattle.vs_plan.proofs.Parts.{words_apart, store_at}
-use Rattle.vs_plan.proofs.Stored.{stored_push, found_push, stored_elsewhere, whole_stored, used_word, even_absent}
+use Rattle.vs_plan.proofs.Stored.{stored_push, found_push, stored_elsewhere, used_word, even_absent}
 use Rattle.vs_plan.specs.Other.{HasSameTables}
 use Rattle.vs_plan.proofs.Ways.{walk_level}
 use Rattle.std.proofs.lemmas.List.{map-append}
@@ -67,7 +68,7 @@ module _ {depth : Depth} {memory : Memory} {root : ℕ} (stores : List Store) (s
 pub whole_filled : (m : Memory) (stores : List Store) → AreWhole m → FindTheirWords m stores → AreWhole (stored_all m stores)
 whole_filled m [] whole found = whole
 whole_filled m (s ∷ stores) whole found =
-    whole_filled (stored m s) stores (whole_stored m s.frame s.index s.new whole (used_word m s.frame s.index s.old found.0)) found.1
+    whole_filled (stored m s) stores (whole_written m s.frame s.index s.new (used_word m s.frame s.index s.old found.0) whole) found.1
 
 -- ---- links
 

@@ -14,7 +14,8 @@ use Rattle.vs_types.specs.declared.page.Page.{Page}
 use Rattle.vs_types.specs.declared.page.Rights.{Rights}
 use Rattle.vs_types.specs.declared.answer.Answer.TheVariants as answers
 use Rattle.vs_types.proofs.Pages.{same_page, covers_base, covers_means, covered_canonical}
-use Rattle.vs_types.proofs.Spaces.{page_at_means, page_at_same, look_of_page, look_same, insert_cases, insert_space, get_inserted, get_insert_other}
+use Rattle.vs_types.proofs.Maps.{get-insert_same, get-insert_other}
+use Rattle.vs_types.proofs.Spaces.{page_at_means, page_at_same, look_of_page, look_same, insert_cases, insert_space}
 use Rattle.vs_walk.specs.Memory.{Memory}
 use Rattle.vs_walk.specs.Walk.{walk, as_walk, TranslatesAs}
 use Rattle.vs_walk.specs.declared.walk.Walk.TheVariants.{NotMapped, Mapped}
@@ -227,7 +228,7 @@ module _ {depth : Depth} {space : Space} (is : IsSpace depth space) (base level 
 
   pub joined_looks : LooksChanged page (as_in page) space (in_place space page)
   joined_looks = record {
-    there = λ a covered. look_of_page is_joined_space a page (get_inserted (without_parts space page) base page) covered;
+    there = λ a covered. look_of_page is_joined_space a page (get-insert_same (without_parts space page) base page) covered;
     elsewhere = λ a uncovered. look_same (in_place space page) space a
         (page_at_same is_joined_space is a (λ q at. (forth a uncovered q at, back a uncovered q at)));
   } where
@@ -241,7 +242,7 @@ module _ {depth : Depth} {space : Space} (is : IsSpace depth space) (base level 
     back a uncovered q at held = by (covers page q.base) refl where
       by : (c : Bool) → covers page q.base ≡ c → Holds (in_place space page) q
       by true covered = let again = begins_in q held covered a at in absurd (cc)
-      by false off = get_insert_other (without_parts space page) base page q.base (λ same. let first = covers_base page in
+      by false off = get-insert_other (without_parts space page) base page q.base (λ same. let first = covers_base page in
           let here = subst (λ k. covers page k ≡ false) same off in absurd (cc)) ∙ off_kept space page q.base off ∙ held
 
 -- ---- a memory in which all addresses of the page are walked to smaller ones

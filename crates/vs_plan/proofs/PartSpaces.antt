@@ -13,8 +13,8 @@ use Rattle.vs_types.specs.declared.page.Page.{Page}
 use Rattle.vs_types.specs.declared.page.Size.{Size}
 use Rattle.vs_types.specs.declared.page.Size.TheVariants.{K4, M2, G1}
 use Rattle.vs_types.proofs.Pages.{covers_base, covers_means, covered_canonical}
-use Rattle.vs_types.proofs.Spaces.{page_at_means, page_at_same, look_of_page, look_same, insert_cases, remove_cases, get_inserted, get_insert_other}
-use Rattle.vs_types.proofs.Spaces.{get_remove_other}
+use Rattle.vs_types.proofs.Maps.{get-insert_same, get-insert_other, get-remove_other}
+use Rattle.vs_types.proofs.Spaces.{page_at_means, page_at_same, look_of_page, look_same, insert_cases, remove_cases}
 use Rattle.vs_plan.proofs.Changing.{change_here, why_here, change_cases}
 use Rattle.vs_plan.specs.Changes.{smaller, smallest, part, with_parts, split, split_refusal, leads_to}
 
@@ -57,9 +57,9 @@ has_part page s zero i low = absurd (omega arith)
 has_part page s (suc n) i low = ⊎_elim
     (λ (same : i ≡ n). subst (λ k. finite.get (finite.insert (with_parts s page n) (page.base + n * bytes_of (smaller page.size)) (part page n))
     (page.base + k * bytes_of (smaller page.size)) ≡ Some (part page k)) (sym same)
-    (get_inserted (with_parts s page n) (page.base + n * bytes_of (smaller page.size)) (part page n)))
+    (get-insert_same (with_parts s page n) (page.base + n * bytes_of (smaller page.size)) (part page n)))
     (λ (other : i ≢ n).
-    get_insert_other (with_parts s page n) (page.base + n * bytes_of (smaller page.size)) (part page n) (page.base + i * bytes_of (smaller page.size))
+    get-insert_other (with_parts s page n) (page.base + n * bytes_of (smaller page.size)) (part page n) (page.base + i * bytes_of (smaller page.size))
     (λ e. other (apart page.size page.base e))
     ∙ has_part page s n i (omega (arith, low, other)))
     (cases_eq i n)
@@ -87,7 +87,7 @@ held_still : (page : Page) (s : Space) (n q : ℕ) → ((i : ℕ) → i < n → 
 unfolding with_parts
 held_still page s zero q apart = refl
 held_still page s (suc n) q apart =
-    get_insert_other (with_parts s page n) (page.base + n * bytes_of (smaller page.size)) (part page n) q (apart n (omega arith))
+    get-insert_other (with_parts s page n) (page.base + n * bytes_of (smaller page.size)) (part page n) q (apart n (omega arith))
     ∙ held_still page s n q (λ i low. apart i (omega arith))
 
 -- ---- the space
@@ -177,7 +177,7 @@ module _ {depth : Depth} {space : Space} (is : IsSpace depth space) {page : Page
           held_still page (finite.remove space page.base) 512 p.base
           (λ i low e. other p.base (page_covers p.base i low (subst (λ b. IsTrue (covers (part page i) b)) (sym e) (covers_base (part page i))))
           (covers_base p))
-          ∙ get_remove_other space page.base p.base
+          ∙ get-remove_other space page.base p.base
           (λ e. other p.base (subst (λ b. IsTrue (covers page b)) (sym e) (covers_base page)) (covers_base p))
           ∙ got,
     )));

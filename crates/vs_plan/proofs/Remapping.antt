@@ -18,7 +18,8 @@ use Rattle.vs_types.specs.declared.page.Rights.{Rights}
 use Rattle.vs_types.specs.declared.page.Size.{Size}
 use Rattle.vs_types.specs.declared.entry.Meaning.TheVariants as entry
 use Rattle.vs_types.specs.declared.answer.Answer.TheVariants as answers
-use Rattle.vs_types.proofs.Spaces.{get_inserted, insert_space, look_of_page, look_same, page_at_after_insert, page_at_means}
+use Rattle.vs_types.proofs.Maps.{get-insert_same}
+use Rattle.vs_types.proofs.Spaces.{insert_space, look_of_page, look_same, page_at_after_insert, page_at_means}
 use Rattle.vs_walk.specs.Memory.{Memory}
 use Rattle.vs_walk.specs.Walk.{walk, TranslatesAs}
 use Rattle.vs_walk.specs.declared.walk.Walk.TheVariants.{Mapped}
@@ -70,7 +71,7 @@ module _ {depth : Depth} {space : Space} (is : IsSpace depth space) (q : Page) (
 
   pub moved_looks : LooksChanged q (as_in moved) space (finite.insert space q.base moved)
   moved_looks = record {
-    there = λ a covered. look_of_page moved_space a moved (get_inserted space q.base moved) covered;
+    there = λ a covered. look_of_page moved_space a moved (get-insert_same space q.base moved) covered;
     elsewhere = λ a uncovered. look_same (finite.insert space q.base moved) space a
         (page_at_after_insert is moved moved_space sized a ∙ ap (λ b. cond b (Some moved) (page_at space a)) uncovered);
   } where

@@ -1,14 +1,11 @@
 -- Stores, one after another: what the last of them does, and what none of them changes.
-use Rattle.std.proofs.Common.{◌≡◌, ◌≢◌, ℕ, List, [], ◌∷◌, ◌++◌, length, Option, None, Some, Contains, ⊎_elim, refl, sym, ap, subst, ◌∙◌, ◌%◌, arith}
-use Rattle.std.specs.Prelude.{option_map, IsSome, unwrap_or, slice_index, slice_set}
-use Rattle.std.proofs.lemmas.Bool.{cases_eq}
-use Rattle.std.proofs.lemmas.List.{length-set}
+use Rattle.std.proofs.Common.{◌≡◌, ℕ, List, [], ◌∷◌, ◌++◌, Option, None, Some, Contains, refl, sym, ap, subst, ◌∙◌, ◌%◌, arith}
+use Rattle.std.specs.Prelude.{option_map, IsSome, slice_index}
 use Rattle.std.specs.FinMap as finite
-use Rattle.std.proofs.lemmas.Option.{same_Some}
 use Rattle.vs_types.proofs.Lists.{Contains-head, Contains-tail}
-use Rattle.vs_walk.specs.Memory.{Memory, AreWhole}
-use Rattle.vs_space.specs.Held.{word_at, with_word}
-use Rattle.vs_space.proofs.Writes.{words_in, get_written, get_written_other}
+use Rattle.vs_walk.specs.Memory.{Memory}
+use Rattle.vs_space.specs.Held.{word_at}
+use Rattle.vs_space.proofs.Writes.{get_written_other}
 use Rattle.vs_plan.specs.declared.plan.Store.{Store}
 use Rattle.vs_plan.specs.Shown.{frames_of}
 use Rattle.vs_plan.specs.Stores.{stored, stored_all, FindTheirWords}
@@ -34,16 +31,6 @@ stored_elsewhere m (s ∷ stores) q apart =
     stored_elsewhere (stored m s) stores q (λ in_rest. apart (Contains-tail s.frame (frames_of stores) q in_rest))
     ∙ get_written_other m s.frame s.index s.new q
     (λ same. apart (subst (Contains (s.frame ∷ frames_of stores)) (sym same) (Contains-head s.frame (frames_of stores))))
-
--- each frame has 512 words still
-pub whole_stored : (m : Memory) (n i w : ℕ) → AreWhole m → IsSome (finite.get m n) → AreWhole (with_word m n i w)
-whole_stored m n i w whole used q words got = ⊎_elim
-    (λ (same : q ≡ n).
-    let is : Some words ≡ Some (slice_set (unwrap_or (finite.get m n) []) i w) =
-    sym got ∙ ap (finite.get (with_word m n i w)) same ∙ get_written m n i w in
-    ap length (same_Some words _ is) ∙ length-set _ i w ∙ whole n _ (words_in m n used))
-    (λ (other : q ≢ n). whole q words (sym (get_written_other m n i w q other) ∙ got))
-    (cases_eq q n)
 
 -- a frame of which a word is found is there
 pub used_word : (m : Memory) (n i w : ℕ) → word_at m n i ≡ Some w → IsSome (finite.get m n)

@@ -1,6 +1,5 @@
 -- A join that changes something stores something: else its space would have a page of another size at the base than the memory.
-use Rattle.std.proofs.Common.{◌≡◌, ℕ, ◌+◌, ◌-◌, true, false, cond, nat_cmp, List, [], ◌∷◌, map, Some, None, Contains, ⊎_elim, refl, sym, ap, ◌∙◌, subst}
-use Rattle.std.specs.Ordering.{eq_by_cmp}
+use Rattle.std.proofs.Common.{◌≡◌, ℕ, ◌+◌, ◌-◌, true, false, Some, None, ⊎_elim, refl, sym, ap, ◌∙◌}
 use Rattle.std.specs.FinMap as finite
 use Rattle.std.specs.FinMap.Entries as entries
 use Rattle.vs_types.specs.Depth.{IsCanonical}
@@ -12,9 +11,10 @@ use Rattle.vs_types.specs.declared.page.Page.{Page}
 use Rattle.vs_types.specs.declared.page.Rights.{Rights}
 use Rattle.vs_types.specs.declared.page.Size.{Size}
 use Rattle.vs_types.specs.declared.page.Size.TheVariants.{G1}
-use Rattle.vs_types.proofs.Lists.{Contains-head, Contains-tail, find_found, find_nothing}
+use Rattle.vs_types.proofs.Lists.{find_found, find_nothing}
 use Rattle.vs_types.proofs.Pages.{covers_base}
-use Rattle.vs_types.proofs.Spaces.{insert_cases, get_inserted, page_at_means, value_found}
+use Rattle.vs_types.proofs.Maps.{get-insert_same}
+use Rattle.vs_types.proofs.Spaces.{found_value, insert_cases, page_at_means, value_found}
 use Rattle.vs_walk.specs.Walk.{as_walk}
 use Rattle.vs_walk.specs.declared.walk.Walk.TheVariants.{Mapped}
 use Rattle.vs_plan.specs.declared.plan.Reply.TheVariants as replies
@@ -24,15 +24,6 @@ use Rattle.vs_plan.proofs.Given.{BeginsThere, begins_canonical}
 use Rattle.vs_plan.proofs.JoinedSpace.{off_held}
 
 -- ---- what a map of pages has at an address, whether its pages lie apart or not
-
--- the value that is found at a key is among the values
-found_value : (q : ℕ) (es : List (ℕ × Page)) (v : Page) → entries.find nat_cmp q es ≡ Some v → Contains (map (λ e. e.1) es) v
-found_value q [] v e = cc
-found_value q (x ∷ es) v e =
-    elim (eq_by_cmp nat_cmp q x.0) as (λ b. cond b (Some x.1) (entries.find nat_cmp q es) ≡ Some v → Contains (x.1 ∷ map (λ e. e.1) es) v) [
-      | true ↦ λ is. let same : x.1 ≡ v = cc in subst (Contains (x.1 ∷ map (λ e. e.1) es)) same (Contains-head x.1 (map (λ e. e.1) es))
-      | false ↦ λ is. Contains-tail x.1 (map (λ e. e.1) es) v (found_value q es v is)
-    ] e
 
 -- the one page that covers an address
 one_at : (space : Space) (a k : ℕ) (w : Page) → finite.get space k ≡ Some w → covers w a ≡ true
@@ -68,7 +59,7 @@ module _ {depth : Depth} {space : Space} (is : IsSpace depth space) (base : ℕ)
 
   whole_there : page_at after base ≡ Some (whole_of first)
   unfolding first after begins
-  whole_there = one_at after base first.base (whole_of first) (get_inserted (without_parts space (whole_of first)) first.base (whole_of first))
+  whole_there = one_at after base first.base (whole_of first) (get-insert_same (without_parts space (whole_of first)) first.base (whole_of first))
       (ap (covers (whole_of first)) (sym there.2) ∙ begins) (λ k p got covered. ⊎_elim
       (λ new. new.1)
       (λ old.

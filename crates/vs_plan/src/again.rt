@@ -1,13 +1,10 @@
+//! Plans made again with a word in which a processor has set flags since it was shown.
 ghost use Rattle.std.specs.Prelude.{◌≡◌, ◌<◌, ◌/◌, ◌%◌, IfNone, IfSome, IsTrue, IsFalse, length, slice_index_or, if◌then◌else◌};
 ghost use Rattle.vs_plan.specs.declared.plan.Store.{Store};
 ghost use Rattle.vs_plan.specs.Again.{HasFlagsSet, IsPlanAgain, bits_again, fill_again, flags_into, new_again, with_flags_of};
 
 use crate::plan::{Fill, Plan, Store};
-
-/// The words that differ in bits 5 and 6 alone have the same rest and the same quotient.
-const BELOW_FLAGS: u64 = 1 << 5;
-
-const ABOVE_FLAGS: u64 = 1 << 7;
+use crate::word::{ABOVE_FLAGS, BELOW_FLAGS};
 
 impl Store {
     /// The store, where a processor has set its flags in the word since it was shown: with the word that is there now as `old`, and

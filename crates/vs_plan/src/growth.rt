@@ -1,3 +1,4 @@
+//! The end of a map, and the tables that it links: frames taken, filled and linked.
 ghost use Rattle.std.specs.Prelude.{◌≡◌, ◌<◌, ◌+◌, ◌-◌, ◌^◌, ℕ, List, length, [], ◌∷◌, Option, Some, IfSome, ◌++◌};
 ghost use Rattle.vs_types.specs.declared.entry.Meaning.{Meaning};
 ghost use Rattle.vs_types.specs.Entry.{meaning};

@@ -1,3 +1,4 @@
+//! The plan of a join.
 ghost use Rattle.std.specs.Prelude.{◌≡◌, ◌≢◌, ◌+◌, ◌%◌, ◌≤◌, ◌<◌, ℕ, None, IfNone, IfSome, slice_index};
 ghost use Rattle.vs_types.specs.Entry.{meaning, size_at};
 ghost use Rattle.vs_types.specs.Page.{bytes_of};

@@ -24,8 +24,9 @@ ghost use Rattle.vs_plan.specs.Right.{IsRight, space_after, begun, ended};
 
 /// An access of a processor that is up to date finds what a walk of the memory finds. It stays up to date while the memory stays.
 pub fn up_to_date_processors_find_walks()
-    ensures find { (depth : Depth) (root : ℕ) (memory : Memory) (moments : List Moment) (address : ℕ)
-        (end : Walk) → IsUpToDate depth root memory moments → IsCanonical depth address
+    ensures find { (depth : Depth) (root : ℕ) (memory : Memory) (moments : List Moment)
+        (address : ℕ) (end : Walk) → IsUpToDate depth root memory moments
+        → IsCanonical depth address
         → MayFind depth root memory moments address end → end ≡ walk depth memory root address }
     ensures stay { (depth : Depth) (root : ℕ) (memory : Memory) (moments : List Moment)
         → IsUpToDate depth root memory moments
@@ -75,8 +76,9 @@ pub fn plans_are_right_beside_their_root()
 /// Two roots have no tables in common but those of addresses that have the same way from both below the roots. Then a plan for any base
 /// is one beside the other root, where the tables that the root leads to stay if the base is such an address, and the other root leads
 /// to no spare frame that is written. After it that is so again, as is what a plan through the other root asks of the memory: no other
-/// way leads to the tables on an address's way, and from the other root the memory translates as each space that has what the root's has now
-/// at addresses in common, and elsewhere what the other's had. And it is so the other way round, where each table of the root has one way.
+/// way leads to the tables on an address's way, and from the other root the memory translates as each space that has what the root's
+/// has now at addresses in common, and elsewhere what the other's had. And it is so the other way round, where each table of the root
+/// has one way.
 pub fn roots_stay_beside()
     ensures beside { (target : Target) (memory : Memory) (base : ℕ) (plan : Plan) (other : ℕ)
         → AreBeside target.depth memory target.root other

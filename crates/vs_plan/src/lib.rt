@@ -27,3 +27,4 @@ pub use plan::{Fill, Flush, MOST_STORES, MOST_UNLINKED, Plan, Reply, Step, Store
 pub use planner::{Asks, Phase, Planner};
 pub use request::{BadRequest, Request};
 pub use target::Target;
+pub use word::{ABOVE_FLAGS, BELOW_FLAGS};

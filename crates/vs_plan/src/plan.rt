@@ -1,3 +1,4 @@
+//! Plans: stores, fill, flush, and what is answered.
 ghost use Rattle.vs_plan.specs.inside.Ended.{ChangesNothing};
 
 use arrayvec::ArrayVec;
@@ -80,7 +81,8 @@ pub enum Reply {
     Apart(usize),
 }
 
-/// What a caller has to do: the fill, then the stores in their order, then the flush; then the frames that are no longer linked are its own.
+/// What a caller has to do: the fill, then the stores in their order, then the flush; then the frames that are no longer linked are
+/// its own.
 #[derive(Drop)]
 pub struct Plan {
     /// What came out.

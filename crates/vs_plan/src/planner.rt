@@ -1,3 +1,4 @@
+//! The planner: the way of an address, frame by frame, and what comes at its end.
 ghost use Rattle.std.specs.Prelude.{◌≡◌, ◌≢◌, ◌+◌, ◌<◌, ◌≤◌, ◌⊎◌, ℕ, [], Some, None, MatchOption, MatchResult, slice_index};
 ghost use Rattle.std.specs.FinMap as finite;
 ghost use Rattle.vs_types.specs.declared.frame.TheConstants.{FRAME_WORDS};
@@ -253,7 +254,8 @@ impl Planner {
         requires end { IsAtEnd self.now }
         requires no_map { IsNoMap self.now.request }
         requires request { address_of self.now.request ≡ address }
-        requires none { (phys : ℕ) (own : Rights) → meaning self.now.level word ≢ Meaning.Leaf phys own }
+        requires none { (phys : ℕ) (own : Rights)
+            → meaning self.now.level word ≢ Meaning.Leaf phys own }
         ensures { IsRightAt self.now word result }
     {
         match Entry::new(word).read(self.level) {

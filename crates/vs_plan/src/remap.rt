@@ -1,3 +1,4 @@
+//! The plan of a remap.
 ghost use Rattle.std.specs.Prelude.{◌≡◌, ◌≤◌};
 ghost use Rattle.vs_plan.specs.Changes.{phys_refusal};
 ghost use Rattle.vs_plan.specs.declared.request.Request.{Request};
@@ -5,6 +6,7 @@ ghost use Rattle.vs_plan.specs.inside.Ended.{IsAtEnd, IsRightAt};
 
 use crate::plan::{Flush, Plan, Reply, Store};
 use crate::planner::Planner;
+use crate::request::ends_beyond;
 use crate::word::{bits_in, permits, with_address, with_rights};
 use vs_types::{Answer, Entry, Meaning, Rights, Size, index_at};
 
@@ -51,11 +53,10 @@ fn phys_refusal(phys: u64, phys_bits: u8, size: Size) -> Option<Reply>
     ensures { result ≡ phys_refusal phys phys_bits size }
 {
     let bytes = size.bytes();
-    let end = 1u64 << phys_bits.min(51);
     if phys % bytes != 0 {
         return Some(Reply::PhysUnaligned);
     }
-    if phys >= end || end - phys < bytes {
+    if ends_beyond(phys, bytes, phys_bits) {
         return Some(Reply::PhysRange);
     }
     None

@@ -1,4 +1,5 @@
-ghost use Rattle.std.specs.Prelude.{◌≡◌, ◌≤◌, ℕ, IsTrue, MatchResult, None, Some};
+//! What may be asked of a planner, and when it is refused.
+ghost use Rattle.std.specs.Prelude.{◌≡◌, ◌+◌, ◌^◌, ◌≤◌, ℕ, min, nat_lt, IsTrue, MatchResult, None, Some};
 ghost use Rattle.vs_plan.specs.Request.{address_of, lowest_of, request_fault, page_fault, base_fault};
 
 use crate::target::Target;
@@ -142,20 +143,28 @@ fn test_page(page: Page, bits: u64, phys_bits: u8) -> Result<(), BadRequest>
         (λ e. page_fault page bits phys_bits ≡ Some e) }
 {
     let bytes = page.size.bytes();
-    let end = 1u64 << phys_bits.min(51);
     if page.base % bytes != 0 {
         return Err(BadRequest::Unaligned);
     }
     if page.phys % bytes != 0 {
         return Err(BadRequest::PhysUnaligned);
     }
-    if page.phys >= end || end - page.phys < bytes {
+    if ends_beyond(page.phys, bytes, phys_bits) {
         return Err(BadRequest::PhysRange);
     }
     if !are_bits(bits) {
         return Err(BadRequest::Bits);
     }
     Ok(())
+}
+
+/// Whether so many bytes at this physical address end beyond 2^51 or 2^phys_bits.
+pub(crate) fn ends_beyond(phys: u64, bytes: u64, phys_bits: u8) -> bool
+    requires { phys_bits ≤ 52 }
+    ensures { result ≡ nat_lt (2 ^ min phys_bits 51) (phys + bytes) }
+{
+    let end = 1u64 << phys_bits.min(51);
+    phys > end || end - phys < bytes
 }
 
 /// Tests the canonical base of a page that is there.

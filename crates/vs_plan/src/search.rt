@@ -1,3 +1,4 @@
+//! The search for the first page below a table.
 ghost use Rattle.std.specs.Prelude.{◌≡◌, ◌<◌, ◌%◌, ℕ, [], Some, IfNone, IfSome, slice_index};
 ghost use Rattle.std.specs.FinMap as finite;
 ghost use Rattle.vs_types.specs.declared.frame.TheConstants.{FRAME_WORDS};

@@ -1,3 +1,4 @@
+//! The page table that is planned for.
 use vs_types::Depth;
 
 /// The page table that a plan is for.

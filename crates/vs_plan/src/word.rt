@@ -1,3 +1,4 @@
+//! Entries as numbers: the bits beside address and rights, sizes, and what a table has.
 ghost use Rattle.std.specs.Prelude.{◌≡◌, ◌≢◌, ◌↔◌, ◌+◌, ◌<◌, ◌≤◌, ◌%◌, ◌^◌, ℕ, IsTrue, IsFalse, slice_index};
 ghost use Rattle.vs_types.specs.declared.frame.TheConstants.{FRAME_WORDS};
 ghost use Rattle.vs_types.specs.declared.entry.Meaning.{Meaning};
@@ -8,11 +9,38 @@ ghost use Rattle.vs_plan.specs.Changes.{larger, smaller};
 
 use vs_types::{Entry, FRAME_WORDS, Page, Rights, Size};
 
+/// Below bit 3 are an entry's bits for present, write and user.
+const ABOVE_RIGHTS: u64 = 1 << 3;
+
+const WRITE: u64 = 1 << 1;
+
+const USER: u64 = 1 << 2;
+
+/// The top bit: no instructions are fetched.
+const NO_FETCH: u64 = 1 << 63;
+
+/// The accessed and the dirty flag are bits 5 and 6: two words that differ in these alone have the same rest below bit 5 and the same
+/// quotient from bit 7 on.
+pub const BELOW_FLAGS: u64 = 1 << 5;
+
+/// The bit above the two flags.
+pub const ABOVE_FLAGS: u64 = 1 << 7;
+
+/// Bit 7 of the entry of a page of 4 KiB, and bit 12 of a larger page's, where bit 7 says that it is one.
+const PAT: u64 = 1 << 7;
+
+const LARGE_PAT: u64 = 1 << 12;
+
+/// An entry's address has bits 51:12.
+const ADDRESS: u64 = 1 << 12;
+
+const ABOVE_ADDRESS: u64 = 1 << 52;
+
 /// Whether no bit is set but those that an entry can have beside its address and its rights.
 pub(crate) fn are_bits(bits: u64) -> bool
     ensures { IsTrue result ↔ AreBits bits }
 {
-    bits % (1 << 3) == 0 && bits % (1 << 52) < 1 << 12 && bits < 1 << 63
+    bits % ABOVE_RIGHTS == 0 && bits % ABOVE_ADDRESS < ADDRESS && bits < NO_FETCH
 }
 
 /// These bits in the entry of a page of this size.
@@ -22,7 +50,7 @@ fn placed(size: Size, bits: u64) -> u64
 {
     match size {
         Size::K4 => bits,
-        Size::M2 | Size::G1 => bits + (bits >> 7) % 2 * ((1 << 12) - (1 << 7)),
+        Size::M2 | Size::G1 => bits + (bits >> 7) % 2 * (LARGE_PAT - PAT),
     }
 }
 
@@ -44,11 +72,11 @@ pub(crate) fn bits_in(size: Size, word: u64) -> u64
 {
     let high = (word >> 52) % (1 << 11) << 52;
     match size {
-        Size::K4 => word % (1 << 12) / (1 << 3) * (1 << 3) + high,
+        Size::K4 => word % ADDRESS / ABOVE_RIGHTS * ABOVE_RIGHTS + high,
         Size::M2 | Size::G1 => {
-            let low = word % (1 << 7) / (1 << 3) * (1 << 3);
-            let pat = (word >> 12) % 2 * (1 << 7);
-            low + pat + word % (1 << 12) / (1 << 8) * (1 << 8) + high
+            let low = word % PAT / ABOVE_RIGHTS * ABOVE_RIGHTS;
+            let pat = (word >> 12) % 2 * PAT;
+            low + pat + word % ADDRESS / (2 * PAT) * (2 * PAT) + high
         }
     }
 }
@@ -57,10 +85,10 @@ pub(crate) fn bits_in(size: Size, word: u64) -> u64
 pub(crate) fn with_rights(word: u64, rights: Rights) -> u64
     ensures { result ≡ with_rights word rights }
 {
-    let write = if rights.write { 1 << 1 } else { 0 };
-    let user = if rights.user { 1 << 2 } else { 0 };
-    let no_fetch = if rights.exec { 0 } else { 1 << 63 };
-    word % 2 + write + user + word % (1 << 63) / (1 << 3) * (1 << 3) + no_fetch
+    let write = if rights.write { WRITE } else { 0 };
+    let user = if rights.user { USER } else { 0 };
+    let no_fetch = if rights.exec { 0 } else { NO_FETCH };
+    word % 2 + write + user + word % NO_FETCH / ABOVE_RIGHTS * ABOVE_RIGHTS + no_fetch
 }
 
 /// The entry of a page of this size with this physical address, and its other bits as they were.
@@ -75,7 +103,7 @@ pub(crate) fn with_address(size: Size, word: u64, phys: u64) -> u64
 pub(crate) fn unflagged(word: u64) -> u64
     ensures { result ≡ unflagged word }
 {
-    word % (1 << 5) + (word >> 7 << 7)
+    word % BELOW_FLAGS + (word >> 7 << 7)
 }
 
 /// Bits of an entry with both flags.

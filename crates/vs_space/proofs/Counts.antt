@@ -7,7 +7,8 @@ use Rattle.std.proofs.lemmas.Option.{none-some}
 use Rattle.std.specs.FinMap as finite
 use Rattle.std.specs.Ordering.{nat_cmp}
 use Rattle.vs_arena.specs.Store.{Store, Notes, IsInUse, words_of, note_of, zeros}
-use Rattle.vs_arena.proofs.Stores.{get-insert_same, get-insert_other, get-remove, get_in_use}
+use Rattle.vs_types.proofs.Maps.{get-insert_same, get-insert_other, get-remove}
+use Rattle.vs_arena.proofs.Stores.{get_in_use}
 use Rattle.vs_walk.specs.Memory.{AreWhole}
 use Rattle.vs_space.specs.Counted.{one_for, nonzero_count, IsCounted}
 

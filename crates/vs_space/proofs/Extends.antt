@@ -13,7 +13,7 @@ use Rattle.vs_space.specs.Footprint.{HasMoreOnPath}
 use Rattle.vs_space.specs.Held.{word_at, with_word}
 use Rattle.vs_space.specs.Path.{table_at, SamePath}
 use Rattle.vs_space.specs.inside.Grow.{IsOpen, IsExtended}
-use Rattle.vs_space.proofs.Numbered.{get-insert_same, len-insert_free}
+use Rattle.vs_types.proofs.Maps.{get-insert_same, len-insert_free}
 use Rattle.vs_space.proofs.Writes.{used_some, written_in_use, len_written}
 use Rattle.vs_space.proofs.Trees.{but_alike}
 use Rattle.vs_space.proofs.Links.{IsLink, found_in_zeros, still_clear, linked, old_or_new, tree_link, walk_link, table_take, walk_take, tree_take}

@@ -28,7 +28,8 @@ use Rattle.vs_space.specs.Counted.{IsCounted, nonzero_count}
 use Rattle.vs_space.specs.Kept.{table_of, KeepsTable}
 use Rattle.vs_space.specs.Written.{IsWritten}
 use Rattle.vs_space.specs.Flags.{IsSameButFlags, AreSameButFlags}
-use Rattle.vs_space.proofs.Numbered.{get_numbered, get_below_base, get-remove_same, get-remove_other, len-remove_used}
+use Rattle.vs_types.proofs.Maps.{get-remove_same, get-remove_other, len-remove_used}
+use Rattle.vs_space.proofs.Numbered.{get_numbered, get_below_base}
 use Rattle.vs_space.proofs.Paths.{words_found, table_before, agree_table, agree_walk}
 use Rattle.vs_space.proofs.Prunes.{word_in}
 use Rattle.vs_space.proofs.Writes.{words_in}

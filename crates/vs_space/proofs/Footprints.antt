@@ -19,9 +19,9 @@ use Rattle.vs_walk.specs.Memory.{Memory, AreWhole}
 use Rattle.vs_space.specs.Footprint.{IsTableOnPath, IsEntryOnPath, HasEntry, HasMoreOnPath, ChangesPageOnPath, KeepsRest}
 use Rattle.vs_space.specs.Held.{word_at, with_word}
 use Rattle.vs_space.specs.Path.{found_at, table_in, table_at}
-use Rattle.vs_space.proofs.Numbered.{get-insert_same, get-insert_other, get-remove_same, get-remove_other}
+use Rattle.vs_types.proofs.Maps.{get-insert_same, get-insert_other, get-remove_same, get-remove_other}
 use Rattle.vs_space.proofs.Paths.{words_found, table_first, table_next, table_before, reached_within}
-use Rattle.vs_space.proofs.Writes.{IsTreeAt, used_at, after_write, words_in, get_written, get_written_other, written_in_use}
+use Rattle.vs_space.proofs.Writes.{IsTreeAt, used_at, after_write, words_in, get_written, get_written_other, written_in_use, used_before}
 use Rattle.vs_space.proofs.Links.{IsLink, linked, zeros_are}
 use Rattle.vs_space.proofs.Written.{word_of, word_alike}
 use Rattle.vs_space.proofs.Descents.{entry_read}
@@ -49,12 +49,6 @@ word_elsewhere m n i w q j used apart = ⊎_elim
 
 word_moved : (m : Memory) {q j n i : ℕ} → (q ≡ n) × (j ≡ i) → word_at m q j ≡ word_at m n i
 word_moved m {q} {j} {n} {i} place = ap (λ k. word_at m k j) place.0 ∙ ap (word_at m n) place.1
-
-used_before : (m : Memory) (n i w q : ℕ) → IsSome (finite.get m n) → IsSome (finite.get (with_word m n i w) q) → IsSome (finite.get m q)
-used_before m n i w q used after = ⊎_elim
-    (λ (same : q ≡ n). subst (λ k. IsSome (finite.get m k)) (sym same) used)
-    (λ (other : q ≢ n). subst IsSome (get_written_other m n i w q other) after)
-    (cases_eq q n)
 
 not_free : (m : Memory) (q : ℕ) → IsSome (finite.get m q) → finite.get m q ≡ None → ⊥
 not_free m q used free = let none : IsSome {T = List ℕ} None = subst IsSome free used in cc

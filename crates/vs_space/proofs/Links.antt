@@ -16,7 +16,7 @@ use Rattle.vs_walk.specs.declared.walk.Walk.TheVariants.{NotMapped}
 use Rattle.vs_space.specs.Held.{word_at, with_word}
 use Rattle.vs_space.specs.Path.{found_at, table_in, table_at, SamePath}
 use Rattle.vs_space.specs.Tree.{IsTree}
-use Rattle.vs_space.proofs.Numbered.{get-insert_other, get-remove_other}
+use Rattle.vs_types.proofs.Maps.{get-insert_other, get-remove_other}
 use Rattle.vs_space.proofs.Paths.{table_below, none_past, walk_absent, found_same}
 use Rattle.vs_space.proofs.Writes.{IsTreeAt, within, at_same, off_path, above, table_off_path, table_above, walk_off_path, table_here, found_on_path}
 use Rattle.vs_space.proofs.Writes.{same_or_not, found_alike, written_in_use, used_some, get_written_other}

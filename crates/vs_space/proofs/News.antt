@@ -17,7 +17,8 @@ use Rattle.vs_space.specs.Path.{found_at, table_at, table_in}
 use Rattle.vs_space.specs.Tree.{IsTree, IsReached, AreWritten}
 use Rattle.vs_space.specs.Table.{PageTable, IsTableOf}
 use Rattle.vs_space.specs.Invariant.{IsPageTable}
-use Rattle.vs_space.proofs.Numbered.{get-insert_same, get-insert_other, len-insert_free, whole-empty, whole-zeros}
+use Rattle.vs_types.proofs.Maps.{get-insert_same, get-insert_other, len-insert_free}
+use Rattle.vs_space.proofs.Numbered.{whole-empty, whole-zeros}
 use Rattle.vs_space.proofs.Paths.{reached_within, table_first, table_below, none_past, walk_absent}
 use Rattle.vs_space.proofs.Writes.{used_some}
 use Rattle.vs_space.proofs.Links.{found_in_zeros}

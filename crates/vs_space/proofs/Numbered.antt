@@ -1,19 +1,20 @@
 -- The frames of a store by their numbers.
-use Rattle.std.proofs.Common.{◌≡◌, ◌≢◌, ℕ, suc, ◌+◌, ◌-◌, ◌<◌, ◌≤◌, cond, T, eqb, List, [], ◌∷◌, map, length, Option, Some, None, is_some, ⊎_elim, refl, sym}
+use Rattle.std.proofs.Common.{◌≡◌, ◌≢◌, ℕ, suc, ◌+◌, ◌-◌, ◌<◌, ◌≤◌, cond, T, List, [], ◌∷◌, map, length, Option, Some, None, ⊎_elim, refl, sym}
 use Rattle.std.proofs.Common.{ap, subst, ◌∙◌, arith}
-use Rattle.std.proofs.lemmas.Bool.{cases_lt, cases_eq, eq-eqb, ne_eqb}
+use Rattle.std.proofs.lemmas.Bool.{cases_lt, cases_eq}
 use Rattle.std.proofs.lemmas.Option.{none-some}
 use Rattle.std.specs.Ordering.{nat_cmp, is_eq}
-use Rattle.std.specs.Cmp.{nat_cmp_total, nat_cmp_is, ranked, unsigned_tied}
+use Rattle.std.specs.Cmp.{nat_cmp_total, nat_cmp_is, ranked}
 use Rattle.std.specs.declared.cmp.Ordering.TheVariants.{Less, Equal, Greater}
 use Rattle.std.specs.FinMap as finite
 use Rattle.std.specs.FinMap.Entries as entries
 use Rattle.std.specs.Prelude.{IsSome, option_map, unwrap_or, slice_index, slice_set}
 use Rattle.std.proofs.lemmas.List.{length-set, length-replicate}
-use Rattle.vs_arena.specs.Store.{Store, Lenders, IsInUse, IsFree, words_of, zeros}
+use Rattle.vs_arena.specs.Store.{Store, StorePlace, Lenders, IsInUse, IsFree, words_of, zeros}
+use Rattle.vs_types.proofs.Maps.{get-insert_same, get-insert_other, get-remove_same, get-remove_other}
 use Rattle.vs_arena.proofs.Stores.{get_in_use}
 use Rattle.vs_walk.specs.Memory.{Memory, AreWhole}
-use Rattle.vs_space.specs.Held.{numbered, Held, word_at, with_word, AreNumbered}
+use Rattle.vs_space.specs.Held.{numbered, Held, held_in, word_at, with_word, AreNumbered}
 
 cmp_shift : (b x y : ℕ) → nat_cmp (b + x) (b + y) ≡ nat_cmp x y
 cmp_shift b x y = elim (nat_cmp x y) as (λ r. r ≡ nat_cmp x y → nat_cmp (b + x) (b + y) ≡ r) [
@@ -65,37 +66,6 @@ unfolding numbered
 len_numbered base store =
     finite.len-entries _ ∙ ap length (finite.entries-from_sorted nat_cmp _ (sorted base store)) ∙ length_shift base (finite.entries store)
     ∙ sym (finite.len-entries store)
-
-pub get-insert : (m : Memory) (k : ℕ) (v : List ℕ) (q : ℕ) → finite.get (finite.insert m k v) q ≡ cond (eqb q k) (Some v) (finite.get m q)
-get-insert m k v q = finite.get-insert nat_cmp_total m k v q ∙ ap (λ b. cond b (Some v) (finite.get m q)) (unsigned_tied q k)
-
-pub get-remove : (m : Memory) (k q : ℕ) → finite.get (finite.remove m k) q ≡ cond (eqb q k) None (finite.get m q)
-get-remove m k q = finite.get-remove nat_cmp_total m k q ∙ ap (λ b. cond b None (finite.get m q)) (unsigned_tied q k)
-
-pub get-insert_same : (m : Memory) (k : ℕ) (v : List ℕ) → finite.get (finite.insert m k v) k ≡ Some v
-get-insert_same m k v = get-insert m k v k ∙ ap (λ b. cond b (Some v) (finite.get m k)) (eq-eqb k k refl)
-
-pub get-insert_other : (m : Memory) (k : ℕ) (v : List ℕ) (q : ℕ) → q ≢ k → finite.get (finite.insert m k v) q ≡ finite.get m q
-get-insert_other m k v q h = get-insert m k v q ∙ ap (λ b. cond b (Some v) (finite.get m q)) (ne_eqb q k h)
-
-pub get-remove_same : (m : Memory) (k : ℕ) → finite.get (finite.remove m k) k ≡ None
-get-remove_same m k = get-remove m k k ∙ ap (λ b. cond b None (finite.get m k)) (eq-eqb k k refl)
-
-pub get-remove_other : (m : Memory) (k q : ℕ) → q ≢ k → finite.get (finite.remove m k) q ≡ finite.get m q
-get-remove_other m k q h = get-remove m k q ∙ ap (λ b. cond b None (finite.get m q)) (ne_eqb q k h)
-
-pub len-insert_free : (m : Memory) (k : ℕ) (v : List ℕ) → finite.get m k ≡ None → finite.len (finite.insert m k v) ≡ finite.len m + 1
-len-insert_free m k v h = finite.len-insert nat_cmp_total m k v ∙ ap (λ o. cond (is_some o) (finite.len m) (finite.len m + 1)) h
-
-pub len-insert_used : (m : Memory) (k : ℕ) (v own : List ℕ) → finite.get m k ≡ Some own → finite.len (finite.insert m k v) ≡ finite.len m
-len-insert_used m k v own h = finite.len-insert nat_cmp_total m k v ∙ ap (λ o. cond (is_some o) (finite.len m) (finite.len m + 1)) h
-
-pub len-remove_used : (m : Memory) (k : ℕ) (own : List ℕ) → finite.get m k ≡ Some own → finite.len (finite.remove m k) + 1 ≡ finite.len m
-len-remove_used m k own h =
-    let fewer = finite.len-remove nat_cmp_total m k ∙ ap (λ o. cond (is_some o) (finite.len m - 1) (finite.len m)) h in
-    let some : finite.len m ≡ 0 → ⊥ = λ none. none-some own
-    (sym (ap (λ (n : Memory). finite.get n k) (finite.empty_of_len m none) ∙ finite.get-empty nat_cmp k) ∙ h) in
-    omega arith
 
 -- two memories with the same frames at each number from the base on, and none below
 same_numbered : (base : ℕ) (m n : Memory) → ((q : ℕ) → q < base → finite.get m q ≡ finite.get n q)
@@ -210,9 +180,9 @@ whole-remove store f is = λ i words got. ⊎_elim
     (λ (other : i ≢ f). is i words (sym (get-remove_other store f i other) ∙ got))
     (cases_eq i f)
 
-pub stored : (store : Store) {base base' limit limit' : ℕ} {lenders lenders' : Lenders} {m : Memory} → limit' ≡ limit → base' ≡ base → lenders' ≡ lenders
-    → numbered base store ≡ m → held lenders' base' limit' (numbered base' store) ≡ held lenders base limit m
-stored store same_limit same_base same_lenders e = rw (same_limit, same_base, same_lenders, e) refl
+pub stored : (store : Store) {place place' : StorePlace} {m : Memory} → place' ≡ place → numbered place.base store ≡ m
+    → held_in place' store ≡ held place.lenders place.base place.size m
+stored store same_place e = rw (same_place, e) refl
 
 -- but for their memory, they are as they were
 pub same_but_memory : (old now new : Held) (m : Memory) → new ≡ record now { memory = m } → now ≡ record old { memory = now.memory }
@@ -222,10 +192,9 @@ same_but_memory old now new m is same =
 
 -- ---- the numbers of the frames in use
 
-pub numbers_stored : (store : Store) {base base' limit limit' : ℕ} {lenders lenders' : Lenders} {m : Memory} → limit' ≡ limit → base' ≡ base
-    → lenders' ≡ lenders
-    → numbered base store ≡ m → AreNumbered (held lenders base limit m) → AreNumbered (held lenders' base' limit' (numbered base' store))
-numbers_stored store same_limit same_base same_lenders e is = subst AreNumbered (sym (stored store same_limit same_base same_lenders e)) is
+pub numbers_stored : (store : Store) {place place' : StorePlace} {m : Memory} → place' ≡ place → numbered place.base store ≡ m
+    → AreNumbered (held place.lenders place.base place.size m) → AreNumbered (held_in place' store)
+numbers_stored store same_place e is = subst AreNumbered (sym (stored store same_place e)) is
 
 pub numbers_none : (base limit : ℕ) {lenders : Lenders} {m : Memory} → m ≡ finite.empty → AreNumbered (held lenders base limit m)
 numbers_none base limit {m = m} e = record { from_base = λ n used. absurd (nothing n used); below = λ n used. absurd (nothing n used) } where

@@ -12,7 +12,7 @@ use Rattle.vs_arena.specs.Store.{zeros}
 use Rattle.vs_walk.specs.Memory.{Memory, AreWhole}
 use Rattle.vs_space.specs.Flags.{flags_in, AddsNoFlags}
 use Rattle.vs_space.specs.Held.{word_at, with_word}
-use Rattle.vs_space.proofs.Numbered.{get-insert_same, get-insert_other, get-remove_same, get-remove_other}
+use Rattle.vs_types.proofs.Maps.{get-insert_same, get-insert_other, get-remove_same, get-remove_other}
 use Rattle.vs_space.proofs.Links.{zeros_are}
 use Rattle.vs_space.proofs.Writes.{words_in, get_written, get_written_other}
 use Rattle.vs_space.proofs.Written.{no_flags_leaf, leaf_aligned, word_of, word_alike}

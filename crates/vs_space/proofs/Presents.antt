@@ -12,7 +12,7 @@ use Rattle.vs_walk.specs.Memory.{Memory}
 use Rattle.vs_space.specs.Held.{word_at, with_word}
 use Rattle.vs_space.specs.Path.{found_at}
 use Rattle.vs_space.specs.Tree.{AreWritten}
-use Rattle.vs_space.proofs.Numbered.{get-insert_same, get-insert_other}
+use Rattle.vs_types.proofs.Maps.{get-insert_same, get-insert_other}
 use Rattle.vs_space.proofs.Paths.{words_found}
 use Rattle.vs_space.proofs.Writes.{get_written_other}
 use Rattle.vs_space.proofs.Links.{zeros_are}

@@ -22,7 +22,8 @@ use Rattle.vs_space.specs.Path.{found_at, entry_in, IsFirstPresent, HasPresent, 
 use Rattle.vs_space.specs.Tree.{IsTree, NothingUnder, AreWritten}
 use Rattle.vs_space.specs.inside.Prune.{IsCut, IsPruned}
 use Rattle.vs_space.proofs.Canonical.{half_same}
-use Rattle.vs_space.proofs.Numbered.{len-remove_used, whole-remove}
+use Rattle.vs_types.proofs.Maps.{len-remove_used}
+use Rattle.vs_space.proofs.Numbered.{whole-remove}
 use Rattle.vs_space.proofs.Paths.{reached_within, table_below, none_past, same_table, found_same, walk_absent, walk_reserved, walk_leaf}
 use Rattle.vs_space.proofs.Writes.{IsTreeAt, used_at, len_write, written_in_use, same_or_not, words_in}
 use Rattle.vs_space.proofs.Trees.{but_alike, filled_up}

@@ -12,9 +12,10 @@ use Rattle.vs_space.specs.Held.{with_word}
 use Rattle.vs_space.specs.Path.{found_at, table_in, table_at, SamePath}
 use Rattle.vs_space.specs.Tree.{IsTree, IsReached, AreWritten}
 use Rattle.vs_space.specs.Written.{IsWritten}
-use Rattle.vs_space.proofs.Numbered.{get-insert_other, get-remove_same, get-remove_other, whole-insert}
+use Rattle.vs_types.proofs.Maps.{get-insert_other, get-remove_same, get-remove_other}
+use Rattle.vs_space.proofs.Numbered.{whole-insert}
 use Rattle.vs_space.proofs.Paths.{table_below, none_past, same_table, found_same}
-use Rattle.vs_space.proofs.Writes.{IsTreeAt, used_at, within, at_same, after_write, words_in, get_written_other, table_off_path, table_above, same_or_not}
+use Rattle.vs_space.proofs.Writes.{IsTreeAt, used_at, within, at_same, after_write, words_in, table_off_path, table_above, same_or_not, used_before}
 use Rattle.vs_space.proofs.Trees.{unreached_table}
 use Rattle.vs_space.proofs.Links.{IsLink, linked, still_clear, table_take, cut_alike}
 use Rattle.vs_space.proofs.Written.{written_zero, written_alike, written_clear, written_on}
@@ -22,16 +23,9 @@ use Rattle.vs_space.proofs.Written.{written_zero, written_alike, written_clear, 
 -- ---- frames in use
 
 -- a write keeps each frame whole
-whole_written : (m : Memory) (n i w : ℕ) → IsSome (finite.get m n) → AreWhole m → AreWhole (with_word m n i w)
+pub whole_written : (m : Memory) (n i w : ℕ) → IsSome (finite.get m n) → AreWhole m → AreWhole (with_word m n i w)
 unfolding with_word
 whole_written m n i w used is = whole-insert m n _ (length-set _ i w ∙ is n _ (words_in m n used)) is
-
--- a write takes no frame in use
-used_before : (m : Memory) (n i w q : ℕ) → IsSome (finite.get m n) → IsSome (finite.get (with_word m n i w) q) → IsSome (finite.get m q)
-used_before m n i w q used now = ⊎_elim
-    (λ (same : q ≡ n). subst (λ k. IsSome (finite.get m k)) (sym same) used)
-    (λ (other : q ≢ n). subst IsSome (get_written_other m n i w q other) now)
-    (cases_eq q n)
 
 -- what is in use once a frame is freed isn't that frame
 not_given : (m : Memory) (f q : ℕ) → IsSome (finite.get (finite.remove m f) q) → q ≢ f

@@ -11,7 +11,7 @@ use Rattle.vs_walk.specs.Walk.{all_rights, walk_from}
 use Rattle.vs_space.specs.Held.{word_at, with_word}
 use Rattle.vs_space.specs.Path.{found_at, table_at, SamePath}
 use Rattle.vs_space.specs.Tree.{IsTree}
-use Rattle.vs_space.proofs.Numbered.{get-insert_same, get-insert_other, len-insert_used}
+use Rattle.vs_types.proofs.Maps.{get-insert_same, get-insert_other, len-insert_used}
 use Rattle.vs_space.proofs.Paths.{reached_within, same_table, agree_table, agree_walk}
 
 -- the frame's own words
@@ -39,6 +39,13 @@ get_written m n i w = get-insert_same m n _
 pub get_written_other : (m : Memory) (n i w q : ℕ) → q ≢ n → finite.get (with_word m n i w) q ≡ finite.get m q
 unfolding with_word
 get_written_other m n i w q other = get-insert_other m n _ q other
+
+-- a write takes no frame in use
+pub used_before : (m : Memory) (n i w q : ℕ) → IsSome (finite.get m n) → IsSome (finite.get (with_word m n i w) q) → IsSome (finite.get m q)
+used_before m n i w q used now = ⊎_elim
+    (λ (same : q ≡ n). subst (λ k. IsSome (finite.get m k)) (sym same) used)
+    (λ (other : q ≢ n). subst IsSome (get_written_other m n i w q other) now)
+    (cases_eq q n)
 
 pub written_in_use : (m : Memory) (n i w q : ℕ) → IsSome (finite.get m q) → IsSome (finite.get (with_word m n i w) q)
 written_in_use m n i w q used = ⊎_elim

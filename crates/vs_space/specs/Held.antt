@@ -3,7 +3,7 @@ use Rattle.std.specs.Prelude.{ℕ, ◌+◌, ◌<◌, ◌≤◌, [], map, Option,
 use Rattle.std.specs.Coded.{Coded, code_by, coded×, coded_ℕ, coded_list}
 use Rattle.std.specs.FinMap as finite
 use Rattle.std.specs.Ordering.{nat_cmp}
-use Rattle.vs_arena.specs.Store.{Store, Lenders}
+use Rattle.vs_arena.specs.Store.{Store, StorePlace, Lenders}
 use Rattle.vs_walk.specs.Memory.{Memory}
 
 -- the frames in use by number: the number of the one at an index is the base plus the index
@@ -17,9 +17,9 @@ pub record Held : Type 0 where
   pub memory : Memory
   pub lenders : Lenders
 
--- the frames in use of a store with this base and size, whose memory these lent
-abbrev pub held_in : ℕ → ℕ → Store → Lenders → Held
-held_in base size store lenders = record { base = base; limit = size; memory = numbered base store; lenders = lenders }
+-- the frames in use of a store in this place
+abbrev pub held_in : StorePlace → Store → Held
+held_in place store = record { base = place.base; limit = place.size; memory = numbered place.base store; lenders = place.lenders }
 
 abbrev pub held_code : Coded Held
 held_code = code_by (ℕ × (ℕ × (Memory × Lenders)))

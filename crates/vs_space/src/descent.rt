@@ -1,3 +1,5 @@
+//! A descent through the tables, down to the entry where it ends.
+
 /// The length of a path: an index for each level that there can be, of which 0 is of none.
 pub(crate) const PATH_LENGTH: usize = 6;
 

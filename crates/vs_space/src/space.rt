@@ -1,3 +1,4 @@
+//! An address space as a page table: `Space`, its operations, and its parts.
 ghost use Rattle.std.specs.Prelude.{◌<◌, ◌≤◌, ◌≡◌, ◌≢◌, ◌^◌, ◌+◌, ℕ, Contains, IsTrue, None, slice_index, IfOk, OnErr};
 ghost use Rattle.vs_types.specs.declared.limits.TheConstants.{MOST_LEVELS};
 ghost use Rattle.std.specs.FinMap as finite;
@@ -96,10 +97,10 @@ impl<S: FrameStore + Drop> Space<S> {
         ensures empty { IfOk result (λ s. IsTableOf s no_pages) }
         ensures plain { IfOk result (λ s. AddsNoFlags finite.empty s.memory) }
         ensures same_depth { IfOk result (λ s. s.depth ≡ depth) }
-        ensures base { IfOk result (λ s. s.base ≡ S.base store) }
-        ensures limit { IfOk result (λ s. s.limit ≡ S.size store) }
-        ensures lenders { IfOk result (λ s. s.lenders ≡ S.lenders store) }
-        ensures no_root { OnErr result (S.size store ≡ 0) }
+        ensures base { IfOk result (λ s. s.base ≡ (S.place store).base) }
+        ensures limit { IfOk result (λ s. s.limit ≡ (S.place store).size) }
+        ensures lenders { IfOk result (λ s. s.lenders ≡ (S.place store).lenders) }
+        ensures no_root { OnErr result ((S.place store).size ≡ 0) }
     {
         let mut tables = Tables::new(store);
         let Some(root) = tables.take() else {
@@ -127,12 +128,11 @@ pub struct SpaceParts<S: FrameStore> {
 impl<S: FrameStore> Space<S> {
     /// Takes the page table apart. It stays in the frames of its store, as `from_parts` finds it there.
     pub fn into_parts(self) -> SpaceParts<S>
-        ensures keeps { KeepsTable result.depth result.root (S.base result.store)
-            (S.size result.store)
-            (S.frames result.store) (S.notes result.store) }
-        ensures same { table_of (S.lenders result.store) result.depth result.root
-            (S.base result.store)
-            (S.size result.store) (S.frames result.store) ≡ self }
+        ensures keeps { KeepsTable result.depth result.root (S.place result.store).base
+            (S.place result.store).size (S.frames result.store) (S.notes result.store) }
+        ensures same { table_of (S.place result.store).lenders result.depth result.root
+            (S.place result.store).base (S.place result.store).size (S.frames result.store)
+            ≡ self }
     {
         let Space {
             tables,
@@ -148,10 +148,10 @@ impl<S: FrameStore> Space<S> {
 
     /// The page table that was taken apart into these.
     pub fn from_parts(parts: SpaceParts<S>) -> Space<S>
-        requires { KeepsTable parts.depth parts.root (S.base parts.store) (S.size parts.store)
-            (S.frames parts.store) (S.notes parts.store) }
-        ensures { result ≡ table_of (S.lenders parts.store) parts.depth parts.root
-            (S.base parts.store) (S.size parts.store) (S.frames parts.store) }
+        requires { KeepsTable parts.depth parts.root (S.place parts.store).base
+            (S.place parts.store).size (S.frames parts.store) (S.notes parts.store) }
+        ensures { result ≡ table_of (S.place parts.store).lenders parts.depth parts.root
+            (S.place parts.store).base (S.place parts.store).size (S.frames parts.store) }
     {
         let SpaceParts { store, depth, root } = parts;
         Space {

@@ -1,4 +1,5 @@
-ghost use Rattle.std.specs.Prelude.{ℕ, ◌≢◌, Some, slice_index, ◌≡◌, ◌<◌, ◌≤◌, ◌^◌, ◌+◌, ◌-◌, IfSome, IfNone, IsSome, IsTrue, IsFalse, option_copied, []};
+//! The tables by frame number: words read and written, tables linked, and those freed that are emptied.
+ghost use Rattle.std.specs.Prelude.{ℕ, ◌≢◌, Some, slice_index, ◌≡◌, ◌<◌, ◌≤◌, ◌^◌, ◌+◌, ◌-◌, IfSome, IfNone, IsSome, IsTrue, IsFalse, option_copied};
 ghost use Rattle.std.specs.FinMap as finite;
 ghost use Rattle.vs_arena.specs.Store.{zeros, IsInUse};
 ghost use Rattle.vs_types.specs.declared.depth.Depth.{Depth};
@@ -41,12 +42,10 @@ impl<S: FrameStore> Model for Tables<S> {
 
     ghost coded = { held_code };
 
-    ghost view = { λ t.
-        held_in (S.base t.store) (S.size t.store) (S.frames t.store) (S.lenders t.store) };
+    ghost view = { λ t. held_in (S.place t.store) (S.frames t.store) };
 
     ghost invariant = { λ t. AreWhole (S.frames t.store)
-        × AreNumbered
-        (held_in (S.base t.store) (S.size t.store) (S.frames t.store) (S.lenders t.store))
+        × AreNumbered (held_in (S.place t.store) (S.frames t.store))
         × IsCounted (S.frames t.store) (S.notes t.store) };
 }
 
@@ -55,10 +54,10 @@ impl<S: FrameStore> Tables<S> {
         requires { S.frames store ≡ finite.empty }
         ensures { result
             ≡ record {
-              base = S.base store;
-              limit = S.size store;
+              base = (S.place store).base;
+              limit = (S.place store).size;
               memory = finite.empty;
-              lenders = S.lenders store;
+              lenders = (S.place store).lenders;
             } }
     {
         Tables { store }
@@ -66,10 +65,8 @@ impl<S: FrameStore> Tables<S> {
 
     /// The store, with the frames in it.
     pub(crate) fn into_store(self) -> S
-        ensures same { held_in (S.base result) (S.size result) (S.frames result) (S.lenders result)
-            ≡ self }
-        ensures numbers { AreNumbered
-            (held_in (S.base result) (S.size result) (S.frames result) []) }
+        ensures same { held_in (S.place result) (S.frames result) ≡ self }
+        ensures numbers { AreNumbered (held_in (S.place result) (S.frames result)) }
         ensures whole { AreWhole (S.frames result) }
         ensures counted { IsCounted (S.frames result) (S.notes result) }
     {
@@ -79,11 +76,10 @@ impl<S: FrameStore> Tables<S> {
 
     /// The frames of a store whose notes say how many of their words aren't 0.
     pub(crate) fn from_store(store: S) -> Tables<S>
-        requires numbers { AreNumbered (held_in (S.base store) (S.size store) (S.frames store) []) }
+        requires numbers { AreNumbered (held_in (S.place store) (S.frames store)) }
         requires whole { AreWhole (S.frames store) }
         requires counted { IsCounted (S.frames store) (S.notes store) }
-        ensures same { result
-            ≡ held_in (S.base store) (S.size store) (S.frames store) (S.lenders store) }
+        ensures same { result ≡ held_in (S.place store) (S.frames store) }
         ensures numbers { AreNumbered result }
     {
         Tables { store }
@@ -378,8 +374,8 @@ impl<S: FrameStore> Tables<S> {
 /// The frame in use with this number.
 #[inline]
 fn frame_of<S: FrameStore>(store: &S, number: u64) -> Frame
-    requires { IsSome (finite.get (numbered (S.base store.now) (S.frames store.now)) number) }
-    ensures numbered { S.base store.now + result ≡ number }
+    requires { IsSome (finite.get (numbered (S.place store.now).base (S.frames store.now)) number) }
+    ensures numbered { (S.place store.now).base + result ≡ number }
     ensures in_use { IsInUse (S.frames store.now) result }
 {
     store.in_use(number)

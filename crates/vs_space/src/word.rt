@@ -1,3 +1,4 @@
+//! Entries as numbers: the bits of a word that was written, and those of rights.
 ghost use Rattle.std.specs.Prelude.{◌≡◌, ◌<◌, ◌≤◌, ◌==◌, ◌%◌, ◌^◌};
 ghost use Rattle.vs_types.specs.declared.limits.TheConstants.{MOST_LEVELS};
 ghost use Rattle.std.specs.Int.{bit_at};

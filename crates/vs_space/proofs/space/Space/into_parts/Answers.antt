@@ -9,7 +9,7 @@ returns-clause-keeps g c = record {
   table =
       relent [] (subst (λ (h : Held). IsPageTable (table_in_store c.self.inside.depth h c.self.inside.root)) (sym c.into_store.ensures.same)
       c.self.invariant.0);
-  in_range = c.into_store.ensures.numbers;
+  in_range = record { from_base = c.into_store.ensures.numbers.from_base; below = c.into_store.ensures.numbers.below };
   whole = c.into_store.ensures.whole;
   counted = c.into_store.ensures.counted;
 }

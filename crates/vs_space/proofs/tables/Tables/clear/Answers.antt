@@ -30,9 +30,8 @@ invariant_of-self g c =
     λ none. c.requires.present (ap (λ (h : Held). word_at h.memory c.args.number c.args.index) (sym c.self.view_is)
     ∙ word_numbered _ _ c.args.number _ c.args.index c.frame_of-frame.ensures.numbered c.frame_of-frame.ensures.in_use ∙ ap Some none) in (
       rw written (whole-set _ _ c.args.index 0 c.frame_of-frame.ensures.in_use c.self.invariant.0),
-      numbers_stored _ (c.set.ensures.same_size ∙ c.set_note.ensures.same_size) (c.set.ensures.same_base ∙ c.set_note.ensures.same_base)
-          (c.set.ensures.same_lenders ∙ c.set_note.ensures.same_lenders)
-          (ap (numbered (g.S.FrameStore.base c.self.inside.store)) written
+      numbers_stored _ (c.set.ensures.same_place ∙ c.set_note.ensures.same_place)
+          (ap (numbered (g.S.FrameStore.place c.self.inside.store).base) written
           ∙ with_word_numbered _ _ c.args.number _ c.args.index 0 c.frame_of-frame.ensures.numbered c.frame_of-frame.ensures.in_use)
           (numbers_written c.self.invariant.1 c.args.number c.args.index 0
           (subst (λ (h : Held). IsSome (finite.get h.memory c.args.number)) (sym c.self.view_is) c.requires.in_use)),
@@ -50,9 +49,8 @@ returns-clause-written g c =
     let written = c.set.ensures.written
     ∙ ap (λ (s : Store). finite.insert s c.frame_of-frame.result (slice_set (words_of s c.frame_of-frame.result) c.args.index 0))
     c.set_note.ensures.same_frames in
-    stored _ (c.set.ensures.same_size ∙ c.set_note.ensures.same_size) (c.set.ensures.same_base ∙ c.set_note.ensures.same_base)
-    (c.set.ensures.same_lenders ∙ c.set_note.ensures.same_lenders)
-    (ap (numbered (g.S.FrameStore.base c.self.inside.store)) written
+    stored _ (c.set.ensures.same_place ∙ c.set_note.ensures.same_place)
+    (ap (numbered (g.S.FrameStore.place c.self.inside.store).base) written
     ∙ with_word_numbered _ _ c.args.number _ c.args.index 0 c.frame_of-frame.ensures.numbered c.frame_of-frame.ensures.in_use)
     ∙ ap (λ (h : Held). held h.lenders h.base h.limit (with_word h.memory c.args.number c.args.index 0)) c.self.view_is
 
@@ -61,9 +59,8 @@ returns-clause-numbers g c =
     let written = c.set.ensures.written
     ∙ ap (λ (s : Store). finite.insert s c.frame_of-frame.result (slice_set (words_of s c.frame_of-frame.result) c.args.index 0))
     c.set_note.ensures.same_frames in
-    numbers_stored _ (c.set.ensures.same_size ∙ c.set_note.ensures.same_size) (c.set.ensures.same_base ∙ c.set_note.ensures.same_base)
-    (c.set.ensures.same_lenders ∙ c.set_note.ensures.same_lenders)
-    (ap (numbered (g.S.FrameStore.base c.self.inside.store)) written
+    numbers_stored _ (c.set.ensures.same_place ∙ c.set_note.ensures.same_place)
+    (ap (numbered (g.S.FrameStore.place c.self.inside.store).base) written
     ∙ with_word_numbered _ _ c.args.number _ c.args.index 0 c.frame_of-frame.ensures.numbered c.frame_of-frame.ensures.in_use)
     (numbers_written c.self.invariant.1 c.args.number c.args.index 0
     (subst (λ (h : Held). IsSome (finite.get h.memory c.args.number)) (sym c.self.view_is) c.requires.in_use))

@@ -24,9 +24,8 @@ invariant_of-self g c =
     ∙ ap (λ (s : Store). finite.insert s c.frame_of-frame.result (slice_set (words_of s c.frame_of-frame.result) c.args.index c.args.word))
     c.set_note.ensures.same_frames in (
       rw written (whole-set _ _ c.args.index c.args.word c.frame_of-frame.ensures.in_use c.self.invariant.0),
-      numbers_stored _ (c.set.ensures.same_size ∙ c.set_note.ensures.same_size) (c.set.ensures.same_base ∙ c.set_note.ensures.same_base)
-          (c.set.ensures.same_lenders ∙ c.set_note.ensures.same_lenders)
-          (ap (numbered (g.S.FrameStore.base c.self.inside.store)) written
+      numbers_stored _ (c.set.ensures.same_place ∙ c.set_note.ensures.same_place)
+          (ap (numbered (g.S.FrameStore.place c.self.inside.store).base) written
           ∙ with_word_numbered _ _ c.args.number _ c.args.index c.args.word c.frame_of-frame.ensures.numbered c.frame_of-frame.ensures.in_use)
           (numbers_written c.self.invariant.1 c.args.number c.args.index c.args.word
           (subst (λ (h : Held). IsSome (finite.get h.memory c.args.number)) (sym c.self.view_is) c.requires.in_use)),
@@ -43,9 +42,8 @@ returns-clause-written g c =
     let written = c.set.ensures.written
     ∙ ap (λ (s : Store). finite.insert s c.frame_of-frame.result (slice_set (words_of s c.frame_of-frame.result) c.args.index c.args.word))
     c.set_note.ensures.same_frames in
-    stored _ (c.set.ensures.same_size ∙ c.set_note.ensures.same_size) (c.set.ensures.same_base ∙ c.set_note.ensures.same_base)
-    (c.set.ensures.same_lenders ∙ c.set_note.ensures.same_lenders)
-    (ap (numbered (g.S.FrameStore.base c.self.inside.store)) written
+    stored _ (c.set.ensures.same_place ∙ c.set_note.ensures.same_place)
+    (ap (numbered (g.S.FrameStore.place c.self.inside.store).base) written
     ∙ with_word_numbered _ _ c.args.number _ c.args.index c.args.word c.frame_of-frame.ensures.numbered c.frame_of-frame.ensures.in_use)
     ∙ ap (λ (h : Held). held h.lenders h.base h.limit (with_word h.memory c.args.number c.args.index c.args.word)) c.self.view_is
 
@@ -57,9 +55,8 @@ returns-clause-numbers g c =
     let written = c.set.ensures.written
     ∙ ap (λ (s : Store). finite.insert s c.frame_of-frame.result (slice_set (words_of s c.frame_of-frame.result) c.args.index c.args.word))
     c.set_note.ensures.same_frames in
-    numbers_stored _ (c.set.ensures.same_size ∙ c.set_note.ensures.same_size) (c.set.ensures.same_base ∙ c.set_note.ensures.same_base)
-    (c.set.ensures.same_lenders ∙ c.set_note.ensures.same_lenders)
-    (ap (numbered (g.S.FrameStore.base c.self.inside.store)) written
+    numbers_stored _ (c.set.ensures.same_place ∙ c.set_note.ensures.same_place)
+    (ap (numbered (g.S.FrameStore.place c.self.inside.store).base) written
     ∙ with_word_numbered _ _ c.args.number _ c.args.index c.args.word c.frame_of-frame.ensures.numbered c.frame_of-frame.ensures.in_use)
     (numbers_written c.self.invariant.1 c.args.number c.args.index c.args.word
     (subst (λ (h : Held). IsSome (finite.get h.memory c.args.number)) (sym c.self.view_is) c.requires.in_use))

@@ -10,22 +10,22 @@ use Rattle.vs_space.proofs.tables.Tables.give.Goals as goal
 pub invariant_of-self : goal.invariant_of-self
 invariant_of-self g c = (
   rw c.give_zeroed.ensures.removed (whole-remove _ _ c.self.invariant.0),
-  numbers_stored _ c.give_zeroed.ensures.same_size c.give_zeroed.ensures.same_base c.give_zeroed.ensures.same_lenders
-      (ap (numbered (g.S.FrameStore.base c.self.inside.store)) c.give_zeroed.ensures.removed ∙ numbered-remove _ _ _)
+  numbers_stored _ c.give_zeroed.ensures.same_place
+      (ap (numbered (g.S.FrameStore.place c.self.inside.store).base) c.give_zeroed.ensures.removed ∙ numbered-remove _ _ _)
       (numbers_removed c.self.invariant.1 _),
   rw (c.give_zeroed.ensures.removed, c.give_zeroed.ensures.removed_note) (counted_remove c.self.invariant.2 c.frame_of-frame.result),
 )
 
 pub returns-clause-numbers : goal.returns-clause-numbers
 returns-clause-numbers g c =
-    numbers_stored _ c.give_zeroed.ensures.same_size c.give_zeroed.ensures.same_base c.give_zeroed.ensures.same_lenders
-    (ap (numbered (g.S.FrameStore.base c.self.inside.store)) c.give_zeroed.ensures.removed ∙ numbered-remove _ _ _)
+    numbers_stored _ c.give_zeroed.ensures.same_place
+    (ap (numbered (g.S.FrameStore.place c.self.inside.store).base) c.give_zeroed.ensures.removed ∙ numbered-remove _ _ _)
     (numbers_removed c.self.invariant.1 _)
 
 pub returns-clause-removed : goal.returns-clause-removed
 returns-clause-removed g c =
-    stored _ c.give_zeroed.ensures.same_size c.give_zeroed.ensures.same_base c.give_zeroed.ensures.same_lenders
-    (ap (numbered (g.S.FrameStore.base c.self.inside.store)) c.give_zeroed.ensures.removed ∙ numbered-remove _ _ _
+    stored _ c.give_zeroed.ensures.same_place
+    (ap (numbered (g.S.FrameStore.place c.self.inside.store).base) c.give_zeroed.ensures.removed ∙ numbered-remove _ _ _
     ∙ ap (finite.remove _) c.frame_of-frame.ensures.numbered)
     ∙ ap (λ (h : Held). held h.lenders h.base h.limit (finite.remove h.memory c.args.number)) c.self.view_is
 

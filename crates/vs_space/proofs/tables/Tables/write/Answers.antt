@@ -9,8 +9,8 @@ use Rattle.vs_space.proofs.tables.Tables.write.Goals as goal
 pub invariant_of-self : goal.invariant_of-self
 invariant_of-self g c = (
   rw c.set.ensures.written (whole-set _ _ c.args.index c.args.word c.frame_of-frame.ensures.in_use c.self.invariant.0),
-  numbers_stored _ c.set.ensures.same_size c.set.ensures.same_base c.set.ensures.same_lenders
-      (ap (numbered (g.S.FrameStore.base c.self.inside.store)) c.set.ensures.written
+  numbers_stored _ c.set.ensures.same_place
+      (ap (numbered (g.S.FrameStore.place c.self.inside.store).base) c.set.ensures.written
       ∙ with_word_numbered _ _ c.args.number _ c.args.index c.args.word c.frame_of-frame.ensures.numbered c.frame_of-frame.ensures.in_use)
       (numbers_written c.self.invariant.1 c.args.number c.args.index c.args.word
       (subst (λ (h : Held). IsSome (finite.get h.memory c.args.number)) (sym c.self.view_is) c.requires.in_use)),
@@ -23,15 +23,15 @@ invariant_of-self g c = (
 
 pub returns-clause-written : goal.returns-clause-written
 returns-clause-written g c =
-    stored _ c.set.ensures.same_size c.set.ensures.same_base c.set.ensures.same_lenders
-    (ap (numbered (g.S.FrameStore.base c.self.inside.store)) c.set.ensures.written
+    stored _ c.set.ensures.same_place
+    (ap (numbered (g.S.FrameStore.place c.self.inside.store).base) c.set.ensures.written
     ∙ with_word_numbered _ _ c.args.number _ c.args.index c.args.word c.frame_of-frame.ensures.numbered c.frame_of-frame.ensures.in_use)
     ∙ ap (λ (h : Held). held h.lenders h.base h.limit (with_word h.memory c.args.number c.args.index c.args.word)) c.self.view_is
 
 pub returns-clause-numbers : goal.returns-clause-numbers
 returns-clause-numbers g c =
-    numbers_stored _ c.set.ensures.same_size c.set.ensures.same_base c.set.ensures.same_lenders
-    (ap (numbered (g.S.FrameStore.base c.self.inside.store)) c.set.ensures.written
+    numbers_stored _ c.set.ensures.same_place
+    (ap (numbered (g.S.FrameStore.place c.self.inside.store).base) c.set.ensures.written
     ∙ with_word_numbered _ _ c.args.number _ c.args.index c.args.word c.frame_of-frame.ensures.numbered c.frame_of-frame.ensures.in_use)
     (numbers_written c.self.invariant.1 c.args.number c.args.index c.args.word
     (subst (λ (h : Held). IsSome (finite.get h.memory c.args.number)) (sym c.self.view_is) c.requires.in_use))
