@@ -123,6 +123,38 @@ fn get<N: LogName, K: OfLog>(rt: &impl Abort, party: &mut Party<N, K>, tails: &T
     );
 }
 
+/// The other looks, the first appends an entry, and the other is refused an advance if it owns a replica.
+fn advance_late<'a, N: LogName, K: OfLog>(
+    rt: &impl Abort,
+    first: &mut Party<'a, N, K>,
+    other: &mut Party<'a, N, K>,
+    tails: &mut Tails,
+) {
+    let place = tails.tail;
+    let late = other.advance_late(rt, first, place);
+    tails.tail = place.saturating_add(1);
+    let owns = other.replica().is_some();
+    assert!(rt; late == if owns { Err(Moved) } else { Ok(()) });
+}
+
+/// The other appends an entry and looks, the replica of the first takes all entries, and the other is refused an advance if both own a
+/// replica; if only the other does, its replica takes all entries too.
+fn advance_after_another<'a, N: LogName, K: OfLog>(
+    rt: &impl Abort,
+    first: &mut Party<'a, N, K>,
+    other: &mut Party<'a, N, K>,
+    tails: &mut Tails,
+) {
+    append(rt, other, tails);
+    let late = other.advance_after_another(rt, first);
+    has_taken(rt, first, tails);
+    let moved = first.replica().is_some() && other.replica().is_some();
+    assert!(rt; late == if moved { Err(Moved) } else { Ok(()) });
+    if !moved {
+        has_taken(rt, other, tails);
+    }
+}
+
 /// The other makes its call, after the first has made an event.
 fn make_call<'a, N: LogName, K: OfLog>(
     rt: &impl Abort,
@@ -139,23 +171,8 @@ fn make_call<'a, N: LogName, K: OfLog>(
             let full = AppendFault::Full(*tails);
             assert!(rt; other.append_all(rt, tails.tail) == Err(full));
         }
-        Call::AdvanceLate => {
-            let place = tails.tail;
-            let late = other.advance_late(rt, first, place);
-            tails.tail = place.saturating_add(1);
-            let owns = other.replica().is_some();
-            assert!(rt; late == if owns { Err(Moved) } else { Ok(()) });
-        }
-        Call::AdvanceAfterAnother => {
-            append(rt, other, tails);
-            let late = other.advance_after_another(rt, first);
-            has_taken(rt, first, tails);
-            let moved = first.replica().is_some() && other.replica().is_some();
-            assert!(rt; late == if moved { Err(Moved) } else { Ok(()) });
-            if !moved {
-                has_taken(rt, other, tails);
-            }
-        }
+        Call::AdvanceLate => advance_late(rt, first, other, tails),
+        Call::AdvanceAfterAnother => advance_after_another(rt, first, other, tails),
         Call::Tell => {
             other.tell(first);
             append(rt, other, tails);

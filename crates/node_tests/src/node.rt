@@ -1,3 +1,5 @@
+//! A node's calls, alone on its log and beside others, with and without room for its batch.
+
 ghost use Rattle.std.specs.Prelude.{◌≡◌, [], ◌∷◌};
 ghost use Rattle.std.specs.FinMap as finite;
 

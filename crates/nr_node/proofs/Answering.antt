@@ -3,18 +3,19 @@ use Rattle.std.proofs.Common.{◌≡◌, ◌≢◌, ℕ, ◌+◌, ◌<◌, List,
 use Rattle.std.proofs.Common.{sym, subst, ◌∙◌, arith, append_assoc}
 use Rattle.std.specs.Prelude.{slice_get}
 use Rattle.std.proofs.lemmas.List.{length-map, length-take-le, take-append-le}
-use Rattle.std.proofs.lemmas.List.Elements.{All-append}
+use Rattle.std.proofs.lemmas.List.Elements.{All-push}
 use Rattle.std.proofs.lemmas.Option.{slice_get_read, slice_get_within}
 use Rattle.vs_types.specs.Step.{step}
 use Rattle.vs_types.specs.declared.answer.Answer.{Answer}
 use Rattle.vs_types.specs.declared.depth.Depth.{Depth}
 use Rattle.vs_types.specs.declared.log_entry.LogEntry.{LogEntry}
+use Rattle.vs_types.proofs.Lists.{get_right}
 use Rattle.nr_slots.specs.Updates.{Waiting}
 use Rattle.nr_node.specs.Calls.{IsAnsweredIn, IsOwnPlace, LacksUpdate, entries_of, entry_of}
 use Rattle.nr_node.specs.Spaces.{answer_at, space_of}
 use Rattle.nr_node.specs.inside.Replica.{ReplicaState}
-use Rattle.nr_node.proofs.Lists.{all_one, map_one_more, take_to_one_more}
-use Rattle.nr_node.proofs.Nodes.{slice_after, slice_more}
+use Rattle.nr_node.proofs.Lists.{map_one_more, take_to_one_more}
+use Rattle.nr_node.proofs.Nodes.{slice_more}
 
 pub if_some_on : {T : Type 0} (o : Option T) (P Q : T → Type 0) → ((x : T) → P x → Q x) → IfSome o P → IfSome o Q
 if_some_on (Some x) P Q on is = on x is
@@ -36,7 +37,7 @@ answered_last : (depth : Depth) (tables : ℕ) (entries : List LogEntry) (entry 
 answered_last depth tables entries entry place answer at made =
     let here : place ≡ length entries + 0 = omega arith in
     record {
-      stands = ap (slice_get (entries ++ entry ∷ [])) here ∙ slice_after entries (entry ∷ []) 0;
+      stands = ap (slice_get (entries ++ entry ∷ [])) here ∙ get_right entries (entry ∷ []) 0;
       answered = made
           ∙ ap (λ (n : ℕ). answer_at depth tables entries n entry.op) (sym at)
           ∙ ap (λ (l : List LogEntry). (step depth tables (space_of depth tables l) entry.op).answer)
@@ -53,7 +54,7 @@ pub lacks_more : (thread : ℕ) (entry : LogEntry) (batch : List Waiting) (i : �
 lacks_more thread entry batch i x lt here other before =
     let Other : Waiting → Type 0 = λ w. w.thread ≡ thread → entry_of w ≢ entry in
     subst (LacksUpdate thread entry) (sym (take_to_one_more batch i x lt here))
-    (All-append Other (take i batch) (x ∷ []) before (all_one Other x other))
+    (All-push Other (take i batch) x before other)
 
 -- the next update of a batch is the one that a thread asks for, and its place is the next
 pub own_placed : (start now : ReplicaState) (batch : List Waiting) (i : ℕ) (x : Waiting) (thread : ℕ) (entry wanted : LogEntry) (place : ℕ)

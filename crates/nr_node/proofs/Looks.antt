@@ -1,34 +1,22 @@
 -- What looks, and taking entries, leave as it was.
 use Rattle.std.proofs.Common.{◌≡◌, ℕ, ◌+◌, ◌≤◌, List, [], ◌∷◌, ◌++◌, All, length, drop, ⊎_elim, refl, ap, sym, subst, ◌∙◌, arith}
-use Rattle.std.proofs.lemmas.List.{length-drop, get_or-set_same}
+use Rattle.std.proofs.lemmas.List.{length-drop}
 use Rattle.std.proofs.lemmas.List.Elements.{All-drop}
 use Rattle.std.proofs.lemmas.Bool.{cases_eq}
 use Rattle.vs_types.specs.LogEntry.{IsLogEntry}
 use Rattle.vs_types.specs.declared.depth.Depth.{Depth}
 use Rattle.vs_types.specs.declared.limits.TheConstants.{LOG_PLACES}
 use Rattle.vs_types.specs.declared.log_entry.LogEntry.{LogEntry}
-use Rattle.nr_ring.specs.Calls.{HasLooked, HasTaken, with_event}
+use Rattle.nr_ring.specs.Calls.{HasLooked, HasTaken}
 use Rattle.nr_ring.specs.Entries.{HasTakenAll, to_take}
-use Rattle.nr_ring.specs.LogHistory.{Log, IsLogHistory, local_of, log_after, log_after_events, new_log, tail}
+use Rattle.nr_ring.specs.LogHistory.{IsLogHistory, local_of, log_after, tail}
 use Rattle.nr_ring.specs.Laws.{HasGoneOn, FitsTheRing}
-use Rattle.nr_ring.specs.View.{HasSeenAdvances, StartsWith}
-use Rattle.nr_ring.specs.declared.log_event.LogEvent.{LogEvent}
-use Rattle.nr_ring.specs.declared.log_event.LogEvent.TheVariants.{Advance}
+use Rattle.nr_ring.specs.View.{HasSeenAdvances}
 use Rattle.nr_ring.specs.declared.view.View.{View}
 use Rattle.nr_ring.proofs.Fetches.{history_entries}
-use Rattle.nr_ring.proofs.Histories.{after_both, events_go_on, goes_on_after, history_fits, local_since}
-use Rattle.nr_ring.proofs.Views.{after_one_more}
+use Rattle.nr_ring.proofs.Histories.{beginning_goes_on, history_fits, local_since}
+use Rattle.nr_ring.proofs.OwnTails.{advance_entries, advance_sets}
 use Rattle.nr_node.specs.Node.{replica_of, taken_by}
-
--- a later log has gone on from the earlier one
-pub later_goes_on : (depth : Depth) (replicas : ℕ) (earlier later : List LogEvent) → IsLogHistory depth replicas later → StartsWith later earlier
-    → HasGoneOn (log_after replicas earlier) (log_after replicas later)
-later_goes_on depth replicas earlier later is begins =
-    let all : IsLogHistory depth replicas (earlier ++ begins.0) = subst (IsLogHistory depth replicas) begins.1 is in
-    let on = events_go_on depth (log_after replicas earlier) begins.0 (goes_on_after depth (new_log replicas) earlier begins.0 all) in
-    let same : log_after_events (log_after replicas earlier) begins.0 ≡ log_after replicas later =
-    sym (ap (log_after replicas) begins.1 ∙ after_both (new_log replicas) earlier begins.0) in
-    subst (HasGoneOn (log_after replicas earlier)) same on
 
 -- ---- looks
 
@@ -48,7 +36,7 @@ looked_taken depth replicas a b p owner =
     ∙ local_since replicas (replica_of a) b.seen a.seen (subst Q owner p.advances 0 0 (omega arith))
 
 pub looked_on : (depth : Depth) (replicas : ℕ) (a b : View) → HasLooked depth replicas a b → HasGoneOn (log_after replicas a.seen) (log_after replicas b.seen)
-looked_on depth replicas a b p = later_goes_on depth replicas a.seen b.seen p.is_history p.seen
+looked_on depth replicas a b p = beginning_goes_on depth replicas b.seen a.seen p.is_history p.seen
 
 pub looked_fits : (depth : Depth) (replicas : ℕ) (a b : View) → HasLooked depth replicas a b → FitsTheRing (log_after replicas b.seen)
 looked_fits depth replicas a b p = history_fits depth replicas b.seen p.is_history
@@ -66,36 +54,16 @@ fetched_all depth replicas a b entries applied p owner taken fetched =
     let low = (looked_fits depth replicas a b p).written (replica_of a) in
     omega (arith, ap (λ (l : List LogEntry). length l) fetched, length-drop (local_of log (replica_of a)) log.entries, here, low)
 
--- what holds where nothing was taken, since nothing was there, and where an event took it, holds after entries were taken
-after_taking : (replicas : ℕ) (b c : View) (to : ℕ) (P : View → Type 0) → HasTaken replicas b to c
-    → ((replica : ℕ) → b.owns ≡ replica ∷ [] → local_of (log_after replicas b.seen) replica ≡ to → P b)
-    → ((replica : ℕ) → b.owns ≡ replica ∷ [] → P (with_event b (Advance replica to))) → P c
-after_taking replicas b c to P taken stays made =
-    ⊎_elim
-    (λ at. subst P (sym (taken.there at)) (stays taken.replica taken.owns at))
-    (λ other. subst P (sym (taken.below other)) (made taken.replica taken.owns))
+taken_owns : (replicas : ℕ) (b c : View) (to : ℕ) → HasTaken replicas b to c → c.owns ≡ b.owns
+taken_owns replicas b c to taken =
+    ⊎_elim (λ at. ap (λ (v : View). v.owns) (taken.there at)) (λ other. ap (λ (v : View). v.owns) (taken.below other))
     (cases_eq (local_of (log_after replicas b.seen) taken.replica) to)
 
-taken_owns : (replicas : ℕ) (b c : View) (to : ℕ) → HasTaken replicas b to c → c.owns ≡ b.owns
-taken_owns replicas b c to taken = after_taking replicas b c to (λ v. v.owns ≡ b.owns) taken (λ r owns at. refl) (λ r owns. refl)
-
-taken_entries : (replicas : ℕ) (b c : View) (to : ℕ) → HasTaken replicas b to c → (log_after replicas c.seen).entries ≡ (log_after replicas b.seen).entries
-taken_entries replicas b c to taken =
-    after_taking replicas b c to (λ v. (log_after replicas v.seen).entries ≡ (log_after replicas b.seen).entries) taken (λ r owns at. refl)
-    (λ r owns. ap (λ (log : Log). log.entries) (after_one_more (new_log replicas) b.seen (Advance r to)))
-
 taken_local : (depth : Depth) (replicas : ℕ) (b c : View) (to : ℕ) → HasTaken replicas b to c → IsLogHistory depth replicas c.seen → taken_by replicas c ≡ to
-taken_local depth replicas b c to taken =
-    after_taking replicas b c to (λ v. IsLogHistory depth replicas v.seen → taken_by replicas v ≡ to) taken
-    (λ r owns at is. ap (λ p. local_of (log_after replicas b.seen) p) (first_of owns) ∙ at)
-    (λ r owns is.
-    let log = log_after replicas b.seen in
-    let may = (goes_on_after depth (new_log replicas) b.seen (Advance r to ∷ []) is).0 in
-    ap (λ p. local_of (log_after replicas (b.seen ++ Advance r to ∷ [])) p) (first_of owns)
-    ∙ ap (λ (l : Log). local_of l r) (after_one_more (new_log replicas) b.seen (Advance r to))
-    ∙ get_or-set_same log.locals r to 0 may.there) where
-      first_of : {r : ℕ} → b.owns ≡ r ∷ [] → replica_of b ≡ r
-      first_of owns = ap (λ (l : List ℕ). Rattle.std.specs.Prelude.slice_index l 0) owns
+taken_local depth replicas b c to taken is =
+    let own : replica_of c ≡ taken.replica =
+    ap (λ (l : List ℕ). Rattle.std.specs.Prelude.slice_index l 0) (taken_owns replicas b c to taken ∙ taken.owns) in
+    ap (λ r. local_of (log_after replicas c.seen) r) own ∙ advance_sets depth replicas taken.replica to b c is taken taken.owns
 
 -- what a pass has that took all entries
 pub record TookAll (depth : Depth) (replicas : ℕ) (before : View) (entries : List LogEntry) (after : View) : Type 0 where
@@ -112,7 +80,7 @@ pub took_all : (depth : Depth) (replicas : ℕ) (a c : View) (entries : List Log
 took_all depth replicas a c entries took owner =
     let b = took.between in
     let to = tail (log_after replicas b.seen) in
-    let same : (log_after replicas c.seen).entries ≡ (log_after replicas b.seen).entries = taken_entries replicas b c to took.taken in
+    let same : (log_after replicas c.seen).entries ≡ (log_after replicas b.seen).entries = advance_entries replicas to b c took.taken in
     let on = looked_on depth replicas a b took.looked in
     let tails : tail (log_after replicas c.seen) ≡ to = ap (λ (l : List LogEntry). length l) same in
     let log = log_after replicas b.seen in

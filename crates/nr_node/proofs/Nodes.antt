@@ -5,12 +5,13 @@ use Rattle.std.specs.Prelude.{slice_get}
 use Rattle.std.proofs.Math.ListN.{length-append, get_or-append}
 use Rattle.std.proofs.Math.Seq.{take-length}
 use Rattle.std.proofs.lemmas.List.{length-take-le, take-append-drop, take-append-le}
-use Rattle.std.proofs.lemmas.Option.{slice_get_within, slice_get-map, get_or_from_slice_get, slice_get-get_or}
+use Rattle.std.proofs.lemmas.Option.{slice_get_within, slice_get-map, slice_get-get_or}
 use Rattle.vs_types.specs.LogEntry.{IsLogEntry}
 use Rattle.vs_types.specs.Operation.{IsAction}
 use Rattle.vs_types.specs.declared.depth.Depth.{Depth}
 use Rattle.vs_types.specs.declared.limits.TheConstants.{CALLS, LOG_PLACES}
 use Rattle.vs_types.specs.declared.log_entry.LogEntry.{LogEntry}
+use Rattle.vs_types.proofs.Lists.{get_left, get_right}
 use Rattle.nr_ring.specs.Calls.{HasLooked, with_event}
 use Rattle.nr_ring.specs.Entries.{HasAppended, HasAppendedAndTaken, HasTakenAll}
 use Rattle.nr_ring.specs.LogHistory.{Log, local_of, log_after, log_after_event, new_log, tail}
@@ -30,16 +31,7 @@ use Rattle.nr_node.proofs.Looks.{TookAll, looked_fits, looked_on, looked_owner, 
 -- ---- lists that go on
 
 pub slice_more : {X : Type 0} (xs ys : List X) (i : ℕ) (x : X) → slice_get xs i ≡ Some x → slice_get (xs ++ ys) i ≡ Some x
-slice_more xs ys i x e =
-    let lt = slice_get_within xs i x e in
-    let within : i < length (xs ++ ys) = omega (arith, length-append xs ys) in
-    slice_get-get_or (xs ++ ys) i x within ∙ ap Some (get_or-append xs ys x i lt ∙ get_or_from_slice_get xs i x x e)
-
-pub slice_after : {X : Type 0} (xs ys : List X) (i : ℕ) → slice_get (xs ++ ys) (length xs + i) ≡ slice_get ys i
-slice_after [] ys i = let n : 0 + i ≡ i = omega arith in ap (slice_get ys) n
-slice_after {X} (x ∷ xs) ys i =
-    let n : length (x ∷ xs) + i ≡ suc (length xs + i) = omega arith in
-    ap (slice_get ((x ∷ xs) ++ ys)) n ∙ slice_after xs ys i
+slice_more xs ys i x e = get_left xs ys i (slice_get_within xs i x e) ∙ e
 
 stand_still : (entries more : List LogEntry) (place : ℕ) (batch : List Waiting) → StandFrom entries place batch → StandFrom (entries ++ more) place batch
 stand_still entries more place batch stand i waiting e = slice_more entries more (place + i) (entry_of waiting) (stand i waiting e)
@@ -271,7 +263,7 @@ appended_node depth replicas known after replica batch first place h some is fol
                   let sum : p + i ≡ length log.entries + i = omega (arith, h.place_is, here) in
                   ap (λ l. slice_get l (p + i)) entries
                   ∙ ap (slice_get (log.entries ++ entries_of batch)) sum
-                  ∙ slice_after log.entries (entries_of batch) i
+                  ∙ get_right log.entries (entries_of batch) i
                   ∙ slice_get-map entry_of batch i
                   ∙ ap (option_map entry_of) e;
             };

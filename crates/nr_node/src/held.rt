@@ -1,3 +1,4 @@
+//! What a node holds.
 /// What a node holds: updates that are on their way to the log, or have a place there and are not yet answered.
 #[derive(Clone, Copy, Debug, PartialEq, Eq)]
 pub enum Held {

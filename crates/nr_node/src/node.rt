@@ -1,5 +1,6 @@
-ghost use Rattle.std.specs.Prelude.{◌≡◌, ◌≢◌, ◌<◌, ◌≤◌, ◌+◌, ◌-◌, ℕ, All, IfErr, IfNone, IfOk, IfSome, MatchOption, None, OnErr, OnOk, Some, [], ◌∷◌, length};
-ghost use Rattle.std.specs.Prelude.{slice_get};
+//! A replica with its pass to the log, and the batch that it holds.
+ghost use Rattle.std.specs.Prelude.{◌≡◌, ◌≢◌, ◌<◌, ◌≤◌, ◌+◌, ◌-◌, ℕ, All, IfErr, IfNone, IfOk, IfSome, MatchOption, None, OnErr, OnOk};
+ghost use Rattle.std.specs.Prelude.{Some, [], ◌∷◌, length, slice_get};
 ghost use Rattle.std.specs.FinMap as finite;
 ghost use Rattle.vs_types.specs.Depth.{IsCanonical};
 ghost use Rattle.vs_types.specs.LogEntry.{IsLogEntry};
@@ -15,12 +16,14 @@ ghost use Rattle.nr_ring.specs.LogHistory.{log_after, tail};
 ghost use Rattle.nr_ring.specs.View.{HasSeenAdvances, StartsWith};
 ghost use Rattle.nr_slots.specs.Batch.{Rises};
 ghost use Rattle.nr_slots.specs.Updates.{Answered, Waiting};
-ghost use Rattle.nr_node.specs.Calls.{HasCaughtUp, HasPutAndCaughtUp, HasStayed, IsAnsweredIn, IsOwnPlace, LacksUpdate, answers_of, entries_of};
+ghost use Rattle.nr_node.specs.Calls.{HasCaughtUp, HasPutAndCaughtUp, HasStayed, IsAnsweredIn, IsOwnPlace, LacksUpdate, answers_of};
+ghost use Rattle.nr_node.specs.Calls.{entries_of};
 ghost use Rattle.nr_node.specs.Node.{IsNode, applied_of, held_of, log_of, new_node, node_space, replica_of, taken_by};
 ghost use Rattle.nr_node.specs.Spaces.{answer_at};
 
 use crate::batch::{ask_for, entries_of, keep_unplaced};
 use crate::held::Held;
+use crate::laws::is_short;
 use crate::replica::Replica;
 use arrayvec::ArrayVec;
 use nr_ring::{AppendFault, LogName, LogPass, Moved, PackedEntry, RingLog};
@@ -80,8 +83,8 @@ impl<S: FrameStore + Drop, J: LogName> Node<S, J> {
         requires owner { (replica : ℕ) × (pass.view.owns ≡ replica ∷ []) }
         requires nothing_taken { taken_by J.replicas pass.view ≡ 0 }
         requires depth { depth ≡ J.depth }
-        ensures made { IfOk result (λ node. node ≡ new_node pass (S.size store)) }
-        ensures no_root { IfErr result (IfRefused (λ _. S.size store ≡ 0)) }
+        ensures made { IfOk result (λ node. node ≡ new_node pass (S.place store).size) }
+        ensures no_root { IfErr result (IfRefused (λ _. (S.place store).size ≡ 0)) }
     {
         let replica = Replica::new(alloc, store, depth)?;
         Ok(Node {
@@ -169,7 +172,7 @@ impl<S: FrameStore, J: LogName> Node<S, J> {
             self.new.batch }
     {
         slots.collect(&mut self.batch);
-        let _few = self.batch.as_slice();
+        is_short(&self.batch);
     }
 
     /// Appends the batch, which has no place yet, to the log: the place of its first update.

@@ -1,4 +1,6 @@
-ghost use Rattle.std.specs.Prelude.{◌≡◌, ◌≢◌, ℕ, ◌+◌, ◌<◌, ◌≤◌, All, [], ◌∷◌, ◌++◌, IfErr, IfNone, IfOk, IfSome, MatchOption, None, Some, length, slice_get};
+//! A page table that follows a log.
+ghost use Rattle.std.specs.Prelude.{◌≡◌, ◌≢◌, ℕ, ◌+◌, ◌<◌, ◌≤◌, All, [], ◌∷◌, ◌++◌, IfErr, IfNone, IfOk, IfSome, MatchOption, None, Some};
+ghost use Rattle.std.specs.Prelude.{length, slice_get};
 ghost use Rattle.std.specs.FinMap as finite;
 ghost use Rattle.vs_types.specs.Depth.{IsCanonical};
 ghost use Rattle.vs_types.specs.LogEntry.{IsLogEntry};
@@ -13,6 +15,7 @@ ghost use Rattle.nr_node.specs.Calls.{IsAnsweredIn, IsOwnPlace, LacksUpdate, ans
 ghost use Rattle.nr_node.specs.Node.{StandFrom};
 ghost use Rattle.nr_node.specs.Spaces.{answer_at, space_of};
 
+use crate::laws::{counts_tables, is_small};
 use crate::told::Told;
 use arrayvec::ArrayVec;
 use nr_ring::PackedEntry;
@@ -53,11 +56,11 @@ impl<S: FrameStore + Drop> Replica<S> {
     pub(crate) fn new(alloc: Global, store: S, depth: Depth) -> Result<Replica<S>, Fail<NoRoot>>
         requires { S.frames store ≡ finite.empty }
         ensures made { IfOk result (λ r.
-            r ≡ record { depth = depth; tables = S.size store; entries = [] }) }
-        ensures no_root { IfErr result (IfRefused (λ _. S.size store ≡ 0)) }
+            r ≡ record { depth = depth; tables = (S.place store).size; entries = [] }) }
+        ensures no_root { IfErr result (IfRefused (λ _. (S.place store).size ≡ 0)) }
     {
         let told = Vec::with_capacity(alloc, LOG_PLACES as usize)?;
-        let _capacity = store.capacity();
+        is_small(&store);
         match Space::new(store, depth) {
             Ok(space) => Ok(Replica { space, told, alloc }),
             Err(no_root) => Err(Fail::Refused(no_root)),
@@ -207,8 +210,8 @@ impl<S: FrameStore> Replica<S> {
     /// What the entry at a place was answered; `None` where the place is not below the number of entries.
     #[inline(always)]
     fn answered(&self, place: u32) -> Option<Answer>
-        ensures so { MatchOption result (length self.now.entries ≤ place) (λ answer. (entry : LogEntry)
-            → slice_get self.now.entries place ≡ Some entry
+        ensures so { MatchOption result (length self.now.entries ≤ place) (λ answer.
+            (entry : LogEntry) → slice_get self.now.entries place ≡ Some entry
             → answer ≡ answer_at self.now.depth self.now.tables self.now.entries place entry.op) }
         ensures within { IfSome result (λ _. place < LOG_PLACES) }
     {
@@ -242,7 +245,7 @@ impl<S: FrameStore> Replica<S> {
             (space_of self.now.depth self.now.tables self.now.entries)) }
         ensures few { IfOk result (λ dump. finite.len dump.frames ≤ TABLES) }
     {
-        let _frames = self.space.tables();
+        counts_tables(&self.space);
         let root = self.space.root();
         let depth = self.space.depth();
         match Dump::gather(self.alloc, &self.space, root, depth, self.applied()) {

@@ -1,6 +1,5 @@
 -- What was answered in a log is so in each later one; and what a pass hears of another.
-use Rattle.std.proofs.Common.{◌≡◌, ℕ, ◌≤◌, List, length, ap, sym, subst, ◌∙◌, arith}
-use Rattle.std.proofs.Math.ListN.{length-append}
+use Rattle.std.proofs.Common.{◌≡◌, ℕ, ap, sym, subst, ◌∙◌, arith}
 use Rattle.std.proofs.lemmas.Option.{slice_get_within}
 use Rattle.vs_types.specs.Space.{Space}
 use Rattle.vs_types.specs.declared.answer.Answer.{Answer}
@@ -14,13 +13,10 @@ use Rattle.nr_ring.specs.Pass.{tails_of}
 use Rattle.nr_ring.specs.View.{StartsWith}
 use Rattle.nr_ring.specs.declared.tails.Tails.{Tails}
 use Rattle.nr_ring.specs.declared.view.View.{View}
+use Rattle.nr_ring.proofs.Histories.{beginning_goes_on, tail_rises}
 use Rattle.nr_node.proofs.LaterLogs.{same_answer, same_entry, same_space}
-use Rattle.nr_node.proofs.Looks.{later_goes_on}
 use Rattle.nr_replicas.specs.Replicas.{HasHeard, IsAnsweredAt, IsReadAt}
 use Rattle.nr_replicas.proofs.Hearing.{heard_on, looked_heard}
-
-pub tail_rises : (p q : Log) → HasGoneOn p q → tail p ≤ tail q
-tail_rises p q on = omega (arith, ap (λ (l : List LogEntry). length l) on.entries.1, length-append p.entries on.entries.0)
 
 pub answer_stays : (depth : Depth) (tables from : ℕ) (p q : Log) (entry : LogEntry) (place : ℕ) (answer : Answer) → HasGoneOn p q
     → IsAnsweredAt depth tables from p entry place answer → IsAnsweredAt depth tables from q entry place answer
@@ -68,4 +64,4 @@ told_heard depth replicas before other after is = record {
 -- its log has gone on from that of the other
 pub told_goes_on : (depth : Depth) (replicas : ℕ) (before other after : View) → HasLooked depth replicas (joint_view before (copy_of other)) after
     → StartsWith after.seen other.seen → HasGoneOn (log_after replicas other.seen) (log_after replicas after.seen)
-told_goes_on depth replicas before other after is begins = later_goes_on depth replicas other.seen after.seen is.is_history begins
+told_goes_on depth replicas before other after is begins = beginning_goes_on depth replicas after.seen other.seen is.is_history begins

@@ -1,5 +1,5 @@
 -- The passes of a new log: those of its replicas, and then those of its threads.
-use Rattle.std.proofs.Common.{◌≡◌, ℕ, ◌≤◌, List, [], ◌∷◌, ◌++◌, All, length, map, take, drop, replicate, get_or, refl, ap, sym, subst, ◌∙◌, arith}
+use Rattle.std.proofs.Common.{◌≡◌, ℕ, ◌≤◌, [], ◌∷◌, ◌++◌, All, length, map, take, drop, replicate, get_or, refl, sym, subst, arith}
 use Rattle.std.specs.List.{range_with_len}
 use Rattle.std.proofs.Math.ListN.{length-append}
 use Rattle.std.proofs.Math.Seq.{take-append_seam, drop-append_seam}
@@ -34,9 +34,6 @@ first_are log replicas others =
 
 pub first_are_new : (log : TableId) (replicas others : ℕ) → All (IsNewPass log) (take replicas (new_passes log replicas others))
 first_are_new log replicas others = subst (All (IsNewPass log)) (sym (first_are log replicas others)) (owners_are_new log replicas)
-
-pub first_count : (log : TableId) (replicas others : ℕ) → length (take replicas (new_passes log replicas others)) ≡ replicas
-first_count log replicas others = ap (λ (l : List Known). length l) (first_are log replicas others) ∙ owners_count log replicas
 
 pub rest_are : (log : TableId) (replicas others : ℕ) → drop replicas (new_passes log replicas others) ≡ replicate others (new_pass log [])
 rest_are log replicas others =

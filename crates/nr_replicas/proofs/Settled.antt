@@ -4,7 +4,7 @@ use Rattle.std.specs.Prelude.{slice_get, slice_index}
 use Rattle.std.specs.List.{remove}
 use Rattle.std.proofs.Math.ListN.{length-append}
 use Rattle.std.proofs.lemmas.List.{append_assoc, append_cancel_left, get_or_append_left, length-map, map-append, take-append-drop}
-use Rattle.std.proofs.lemmas.List.Elements.{All-append, All-map}
+use Rattle.std.proofs.lemmas.List.Elements.{All-cons, All-map}
 use Rattle.std.proofs.lemmas.Option.{slice_get_within}
 use Rattle.vs_types.specs.Config.{Layout}
 use Rattle.vs_types.specs.Space.{table_count}
@@ -18,11 +18,10 @@ use Rattle.nr_ring.specs.Pass.{Known, TableId}
 use Rattle.nr_ring.specs.View.{HasSeenAdvances, IsElse, StartsWith}
 use Rattle.nr_ring.specs.declared.log_event.LogEvent.{LogEvent}
 use Rattle.nr_ring.specs.declared.view.View.{View}
-use Rattle.nr_ring.proofs.Histories.{local_since}
+use Rattle.nr_ring.proofs.Histories.{beginning_goes_on, local_since, tail_rises}
 use Rattle.nr_node.specs.Node.{IsNode, NodeState, applied_of, log_of, replica_of, taken_by}
 use Rattle.nr_node.proofs.LaterLogs.{same_space}
-use Rattle.nr_node.proofs.Lists.{all_one, same_some}
-use Rattle.nr_node.proofs.Looks.{later_goes_on}
+use Rattle.nr_node.proofs.Lists.{same_some}
 use Rattle.nr_ring.proofs.Appends.{begins}
 use Rattle.nr_node.proofs.Nodes.{take_still}
 use Rattle.nr_replicas.specs.Replicas.{HasHeard}
@@ -30,7 +29,6 @@ use Rattle.nr_replicas.specs.Settled.{IsDumpOf, IsSettled}
 use Rattle.nr_replicas.specs.inside.Replicas.{AreShared, IsNodeOf}
 use Rattle.nr_replicas.specs.inside.Settling.{AreDumpsOf, HasAppliedOwn, HasSeenOwnAdvances, OwnInTurn}
 use Rattle.nr_replicas.proofs.Hearing.{heard_on, heard_twice}
-use Rattle.nr_replicas.proofs.Logs.{tail_rises}
 use Rattle.nr_replicas.proofs.Rests.{first_and_rest}
 
 -- ---- what passes have seen
@@ -108,7 +106,7 @@ pub all_dumps_stay : (depth : Depth) (replicas tables : ℕ) (history : List Log
 all_dumps_stay depth replicas tables history [] [] is begins are k d lt = absurd (omega (arith, lt))
 all_dumps_stay depth replicas tables history (p ∷ ps) (dump ∷ dumps) is begins are zero d lt =
     dump_stays depth tables (log_after replicas p.view.seen) (log_after replicas history) dump
-    (later_goes_on depth replicas p.view.seen history is (begins 0 p (omega arith))) are.0
+    (beginning_goes_on depth replicas history p.view.seen is (begins 0 p (omega arith))) are.0
 all_dumps_stay depth replicas tables history (p ∷ ps) (dump ∷ dumps) is begins are (suc k) d lt =
     all_dumps_stay depth replicas tables history ps dumps is (λ j e l. begins (suc j) e (omega (arith, l))) are.2 k d (omega (arith, lt))
 all_dumps_stay depth replicas tables history [] (dump ∷ dumps) is begins are k d lt = absurd are
@@ -149,15 +147,6 @@ all_calls p q n on le =
 
 abbrev known_of : NodeState → Known
 known_of node = node.known
-
--- one node more, which owns the next replica
-pub one_more_in_turn : (replica : ℕ) (nodes : List NodeState) (node : NodeState) → OwnInTurn replica (map known_of nodes)
-    → node.known.view.owns ≡ (replica + length nodes) ∷ [] → OwnInTurn replica (map known_of (nodes ++ node ∷ []))
-one_more_in_turn replica [] node own is =
-    let at : replica + 0 ≡ replica = omega arith in (is ∙ ap (λ (k : ℕ). k ∷ []) at, tt)
-one_more_in_turn replica (n ∷ ns) node own is =
-    let at : replica + length (n ∷ ns) ≡ (replica + 1) + length ns = omega arith in
-    (own.0, one_more_in_turn (replica + 1) ns node own.1 (is ∙ ap (λ (k : ℕ). k ∷ []) at))
 
 -- the first node's pass, and the others
 first_known : (nodes : List NodeState) (passes others : List Known) (node : NodeState) (first : Known) → 0 < length nodes
@@ -226,9 +215,8 @@ settled depth replicas tables handed passes others first dumps calls all a b c i
     let Begins : Known → Type 0 = λ pass. StartsWith c.seen pass.view.seen in
     let others_begin : All Begins others = all_begin_later a.seen c.seen others ab.seen begin_a in
     let Own : Known → Type 0 = HasSeenOwnAdvances c.seen in
-    let all_own : All Own passes = subst (All Own) (sym split) (All-append Own (first.known ∷ []) others (all_one Own first.known whole.advances) known) in
-    let every : All Begins passes = subst (All Begins) (sym split)
-    (All-append Begins (first.known ∷ []) others (all_one Begins first.known whole.seen) others_begin) in
+    let all_own : All Own passes = subst (All Own) (sym split) (All-cons Own first.known others whole.advances known) in
+    let every : All Begins passes = subst (All Begins) (sym split) (All-cons Begins first.known others whole.seen others_begin) in
     record {
       history = c.seen;
       is_history = whole.is_history;

@@ -1,3 +1,4 @@
+//! The rule of a replica's slots.
 use nr_ring::LogName;
 use nr_slots::SlotRule;
 use std::marker::PhantomData;

@@ -1,6 +1,7 @@
 //! Replicas whose log has no name yet.
 ghost use Rattle.std.specs.Arc.{arc_value};
 ghost use Rattle.std.specs.Prelude.{◌≡◌, ◌+◌, ◌<◌, ◌≤◌, All, IfOk, [], length, map, replicate};
+ghost use Rattle.vs_types.specs.declared.limits.TheConstants.{REPLICAS};
 ghost use Rattle.nr_ring.specs.Pass.{new_pass};
 ghost use Rattle.nr_replicas.specs.inside.Replicas.{IsNewPass, IsNodeOf, slots_each};
 
@@ -17,6 +18,10 @@ use std::marker::Model;
 use std::sync::{Arc, Mutex};
 use vs_arena::RawArena;
 use vs_types::{Config, Fail, Memory, TABLES};
+
+/// The frame number of the first table that a replica may have: the frames of tables begin at physical 2^51, and each replica has
+/// 4,096 of them.
+const FIRST_FRAME: u64 = 1 << 39;
 
 /// New replicas and their log, which has no name yet. Contracts see which log it is, and the configuration.
 #[derive(Drop)]
@@ -98,7 +103,7 @@ impl<J: LogName> OpenReplicas<J> {
     }
 }
 
-/// The node of a replica, whose frames are numbered from `2^39 + 4096 * replica` on.
+/// The node of a replica, whose frames are numbered from `FIRST_FRAME + 4096 * replica` on.
 fn new_node<J: LogName>(
     alloc: Global,
     config: Config,
@@ -106,13 +111,13 @@ fn new_node<J: LogName>(
     pass: LogPass<J>,
 ) -> Result<Node<RawArena, J>, Memory>
     requires depth { config.depth ≡ J.depth }
-    requires few { replica < 4 }
+    requires few { replica < REPLICAS }
     requires pass { IsNewPass pass.log pass }
     ensures log { IfOk result (λ node. node.known.log ≡ pass.log) }
     ensures tables { IfOk result (λ node. node.tables ≡ config.tables) }
 {
     let tables = usize::from(config.tables());
-    let store = RawArena::new(alloc, (1 << 39) + u64::from(TABLES) * replica, tables)?;
+    let store = RawArena::new(alloc, FIRST_FRAME + u64::from(TABLES) * replica, tables)?;
     match Node::new(alloc, store, pass, config.depth()) {
         Ok(node) => Ok(node),
         Err(Fail::Memory) => Err(Memory),

@@ -1,3 +1,4 @@
+//! What a read asks of an address.
 use vs_types::{Access, Mode};
 
 /// What a read asks of an address.

@@ -79,6 +79,21 @@ enum Combined {
     Ended,
 }
 
+impl Combined {
+    /// What comes of it once the gate was asked, which it is where a batch was appended.
+    #[inline(always)]
+    fn ask<G: Gate>(self, gate: &G, thread: u16) -> Combined
+        ensures { result ≡ Ended → self ≡ Ended }
+    {
+        match self {
+            Combined::Appended if gate.at(thread, Point::Appended) == Signal::Stop => {
+                Combined::Stopped
+            }
+            _ => self,
+        }
+    }
+}
+
 impl<J: LogName, K: ReplicasName> Replicas<J, K> {
     /// The replica to which a thread belongs.
     fn home(&self, thread: u16) -> &Shared<J, K>
@@ -195,8 +210,8 @@ impl<J: LogName, K: ReplicasName> Replicas<J, K> {
                     None => Turn::Combine,
                 },
                 Turn::Combine => {
-                    let combined = self.take_turn(rt, pass, home, wanted, gate, &mut patience, own);
-                    match (*own, combined) {
+                    let combined = self.combine(rt, pass, home, wanted, &mut patience, own);
+                    match (*own, combined.ask(gate, wanted.thread)) {
                         (_, Combined::Stopped) => return Err(UpdateFault::Stopped(call)),
                         (Some((place, _)), _) if taken + 1 < turns => {
                             let _closed = home.slots.close(wanted.slot, call);
@@ -217,36 +232,6 @@ impl<J: LogName, K: ReplicasName> Replicas<J, K> {
             };
         }
         Err(UpdateFault::Stopped(call))
-    }
-
-    /// A combiner's turn, after which the gate is asked where it appended a batch.
-    #[inline(always)]
-    fn take_turn<G: Gate, R: Wait>(
-        &self,
-        rt: &R,
-        pass: &mut LogPass<J>,
-        home: &Shared<J, K>,
-        wanted: &Wanted,
-        gate: &G,
-        patience: &mut Patience,
-        own: &mut Option<(u32, Answer)>,
-    ) -> Combined
-        requires log { pass.old.log ≡ K.log }
-        requires none { own.old ≡ None }
-        ensures log { pass.new.log ≡ pass.old.log }
-        ensures heard { HasHeard J.depth J.replicas pass.old.view pass.new.view }
-        ensures own { IsOwnAnswer J.depth K.tables wanted.now.from
-            (log_after J.replicas pass.new.view.seen) wanted.now.entry own.new }
-        ensures ended { result ≡ Ended
-            → LOG_PLACES - RING < tail (log_after J.replicas pass.new.view.seen) }
-    {
-        let combined = self.combine(rt, pass, home, wanted, patience, own);
-        match combined {
-            Combined::Appended if gate.at(wanted.thread, Point::Appended) == Signal::Stop => {
-                Combined::Stopped
-            }
-            _ => combined,
-        }
     }
 
     /// One attempt at a replica's lock, with at most one append and one catch-up; and the thread's own update, where that answered it.

@@ -1,3 +1,4 @@
+//! A replica as its threads share it.
 use crate::fitting::Fitting;
 use crate::local::Local;
 use crate::name::ReplicasName;

@@ -1,3 +1,4 @@
+//! Why an update, or a read, was not answered.
 /// Why an update was not answered.
 #[derive(Clone, Copy, Debug, PartialEq, Eq)]
 pub enum UpdateFault {

@@ -1,7 +1,6 @@
 -- The room for a batch, and what an append answers.
-use Rattle.std.proofs.Common.{ℕ, List, [], All, refl, sym, subst, ◌∙◌, arith}
+use Rattle.std.proofs.Common.{ℕ, List, All, subst, ◌∙◌, arith}
 use Rattle.std.specs.Prelude.{slice_index_or}
-use Rattle.std.proofs.lemmas.List.{append-nil}
 use Rattle.std.proofs.lemmas.List.Elements.{All-append}
 use Rattle.vs_types.specs.declared.depth.Depth.{Depth}
 use Rattle.nr_ring.specs.LogHistory.{Log}
@@ -14,9 +13,9 @@ use Rattle.nr_ring.specs.declared.tails.AppendFault.{AppendFault}
 use Rattle.nr_ring.specs.declared.tails.AppendFault.TheVariants.{LogEnded, Full, Moved}
 use Rattle.nr_ring.specs.inside.Batch.{Bars, Explains}
 pub use Rattle.nr_ring.proofs.Histories.{begins}
-use Rattle.nr_ring.proofs.Passes.{longer, told_before}
+use Rattle.nr_ring.proofs.Passes.{longer}
 
-no_advances : (replica : ℕ) (a b c : List LogEvent) → HasSeenAdvances replica b a → HasSeenAdvances replica c b → HasSeenAdvances replica c a
+pub no_advances : (replica : ℕ) (a b c : List LogEvent) → HasSeenAdvances replica b a → HasSeenAdvances replica c b → HasSeenAdvances replica c a
 unfolding begins
 no_advances replica a b c first second =
     let all = begins a b c (first.0, first.1) (second.0, second.1) in
@@ -38,19 +37,6 @@ looked_twice depth replicas u v w a b =
       owns = b.owns ∙ a.owns;
       rights = b.rights ∙ a.rights;
     }
-
--- and after one another would see the same
-pub looked_still : (depth : Depth) (replicas : ℕ) (u v : View) → HasLooked depth replicas u v → HasLooked depth replicas v v
-looked_still depth replicas u v a = record {
-  is_history = a.is_history;
-  seen = ([], sym (append-nil v.seen));
-  told = told_before v u a.told_stays a.told;
-  advances = λ k d lt. ([], sym (append-nil v.seen), λ j e none. absurd (omega arith));
-  told_stays = refl;
-  mine = refl;
-  owns = refl;
-  rights = refl;
-}
 
 pub moved_later : (depth : Depth) (replicas : ℕ) (u v w : View) → HasLooked depth replicas u v → HasMoved v w → HasMoved u w
 moved_later depth replicas u v w looked moved = (moved.0, omega (arith, longer v.seen u.seen looked.seen, moved.1), moved.2, moved.3)

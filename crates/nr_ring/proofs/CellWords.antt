@@ -1,5 +1,5 @@
 -- The words of a log after an advance and after an append, and of a new one.
-use Rattle.std.proofs.Common.{◌≡◌, ◌≢◌, ℕ, zero, suc, ◌+◌, ◌-◌, ◌*◌, ◌%◌, ◌<◌, ◌≤◌, max, List, [], ◌∷◌, ◌++◌, Some, length, get_or, replicate, set, ◌⊎◌, inl}
+use Rattle.std.proofs.Common.{◌≡◌, ◌≢◌, ℕ, zero, suc, ◌+◌, ◌-◌, ◌*◌, ◌%◌, ◌<◌, ◌≤◌, max, List, ◌++◌, Some, length, get_or, replicate, set, ◌⊎◌, inl}
 use Rattle.std.proofs.Common.{inr, ⊎_elim}
 use Rattle.std.proofs.Common.{refl, ap, sym, ◌∙◌, arith}
 use Rattle.std.specs.Prelude.{slice_get, slice_index}
@@ -12,7 +12,7 @@ use Rattle.nr_ring.specs.LogHistory.{Log, greatest, tail, MayAdvance, MayAppend,
 use Rattle.nr_ring.specs.Words.{word_of, IsWordsOf, advanced_words, IsAppended, new_words}
 use Rattle.nr_ring.specs.declared.log_event.LogEvent.TheVariants.{Append, Advance}
 use Rattle.nr_ring.proofs.LocalTails.{greatest_raised, le_or_lt}
-use Rattle.nr_ring.proofs.Needed.{get_left, get_right}
+use Rattle.vs_types.proofs.Lists.{get_left, get_right}
 
 -- a word that an advance leaves
 left_alone : (words : List ℕ) (replica to word : ℕ) → word ≢ 1 → word ≢ 2 + replica

@@ -11,16 +11,12 @@ use Rattle.nr_ring.specs.Rule.{IsKept}
 use Rattle.nr_ring.specs.View.{made_from, made_by_pass}
 use Rattle.nr_ring.specs.declared.stored.Stored.{Stored}
 use Rattle.nr_ring.specs.declared.view.View.{View}
+use Rattle.nr_ring.proofs.Views.{same_item}
 
 view_below : (views : List View) (pass : ℕ) → pass < length views → (v : View) × (get_elem? views pass ≡ some v)
 view_below [] pass lt = absurd (omega arith)
 view_below (u ∷ us) zero lt = (u, refl)
 view_below (u ∷ us) (suc pass) lt = view_below us pass (omega arith)
-
-same_item : (xs : List ℕ) (k a b : ℕ) → k < length xs → get_or xs k a ≡ get_or xs k b
-same_item [] k a b lt = absurd (omega arith)
-same_item (x ∷ xs) zero a b lt = refl
-same_item (x ∷ xs) (suc k) a b lt = same_item xs k a b (omega arith)
 
 contains_more : (xs : List ℕ) (x y : ℕ) → Contains xs y → Contains (x ∷ xs) y
 contains_more xs x y has = (suc has.0, omega (arith, has.1), has.2)

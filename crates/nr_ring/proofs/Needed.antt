@@ -1,14 +1,15 @@
 -- The words that a value needs: after an event those that were needed, and the entries of the batch that was appended.
-use Rattle.std.proofs.Common.{◌≡◌, ◌≢◌, ℕ, zero, suc, ◌+◌, ◌-◌, ◌*◌, ◌%◌, ◌<◌, ◌≤◌, List, [], ◌∷◌, ◌++◌, Contains, Some, length, get_or, replicate, ◌⊎◌, inl}
+use Rattle.std.proofs.Common.{◌≡◌, ℕ, zero, suc, ◌+◌, ◌-◌, ◌%◌, ◌<◌, ◌≤◌, List, [], ◌∷◌, ◌++◌, Contains, Some, length, replicate, ◌⊎◌, inl}
 use Rattle.std.proofs.Common.{inr, ⊎_elim}
-use Rattle.std.proofs.Common.{refl, ap, sym, subst, ◌∙◌, arith}
+use Rattle.std.proofs.Common.{ap, sym, subst, ◌∙◌, arith}
 use Rattle.std.specs.Option.{unwrap_or}
 use Rattle.std.specs.Prelude.{slice_get, slice_index}
-use Rattle.std.proofs.Math.ListN.{get_or-append, length-append, length-replicate, length-set}
+use Rattle.std.proofs.Math.ListN.{get_or-append, length-append, length-set}
 use Rattle.std.proofs.lemmas.List.{get_or-append-add, get_or-replicate, get_or-set_other}
 use Rattle.std.proofs.lemmas.Option.{slice_get_within}
 use Rattle.vs_types.specs.declared.depth.Depth.{Depth}
 use Rattle.vs_types.specs.declared.log_entry.LogEntry.{LogEntry}
+use Rattle.vs_types.proofs.Lists.{get_left, get_right}
 use Rattle.nr_ring.specs.Calls.{with_event}
 use Rattle.nr_ring.specs.Laws.{FitsTheRing}
 use Rattle.nr_ring.specs.LogHistory.{AllKeepUp, IsLogHistory, Log, MayAdvance, log_after, log_after_event, new_log, tail}
@@ -23,21 +24,6 @@ use Rattle.nr_ring.proofs.Histories.{history_fits}
 use Rattle.nr_ring.proofs.LocalTails.{le_or_lt, raised}
 use Rattle.nr_ring.proofs.Turns.{else_of, rings_long}
 use Rattle.nr_ring.proofs.Views.{after_one_more}
-
--- below its length a list has an item
-pub item_of : {X : Type 0} (xs : List X) (i : ℕ) → i < length xs → (x : X) × (slice_get xs i ≡ Some x)
-item_of [] i lt = absurd (omega arith)
-item_of (x ∷ xs) zero lt = (x, refl)
-item_of (x ∷ xs) (suc i) lt = item_of xs i (omega arith)
-
-pub get_left : (xs ys : List LogEntry) (i : ℕ) → i < length xs → slice_get (xs ++ ys) i ≡ slice_get xs i
-get_left [] ys i lt = absurd (omega arith)
-get_left (x ∷ xs) ys zero lt = refl
-get_left (x ∷ xs) ys (suc i) lt = get_left xs ys i (omega arith)
-
-pub get_right : (xs ys : List LogEntry) (i : ℕ) → slice_get (xs ++ ys) (length xs + i) ≡ slice_get ys i
-get_right [] ys i = ap (slice_get ys) (Rattle.std.proofs.Common.zero-add i)
-get_right (x ∷ xs) ys i = ap (slice_get (x ∷ (xs ++ ys))) (Rattle.std.proofs.Math.Nat.suc-add (length xs) i) ∙ get_right xs ys i
 
 -- ---- places
 

@@ -13,7 +13,7 @@ use Rattle.nr_ring.specs.inside.Codes.{code_in, code_of_log, tails_word, word_in
 use Rattle.nr_ring.proofs.Codes.{completed_told, local_told, tells_count, tells_tail, word_early}
 use Rattle.nr_ring.proofs.Histories.{as_many_locals, history_fits}
 use Rattle.nr_ring.proofs.LocalTails.{le_or_lt}
-use Rattle.nr_ring.proofs.Needed.{item_of}
+use Rattle.vs_types.proofs.Lists.{item_of}
 
 -- a word of the ring is 0, or one of those of the last place that is there
 pub record StandsAt (end word : ℕ) : Type 0 where

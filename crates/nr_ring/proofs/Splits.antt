@@ -1,14 +1,15 @@
 -- A pass is split: the new pass has seen as much, and takes some of what the other owned.
-use Rattle.std.proofs.Common.{◌≡◌, ◌≢◌, ℕ, zero, suc, ◌+◌, ◌<◌, ◌≤◌, List, [], ◌∷◌, ◌++◌, All, Contains, length, get_or, set, eqb, ◌⊎◌, inl, inr, ⊎_elim, refl}
+use Rattle.std.proofs.Common.{◌≡◌, ◌≢◌, ℕ, suc, ◌+◌, ◌<◌, List, [], ◌∷◌, ◌++◌, All, Contains, length, set, eqb, ◌⊎◌, inl, inr, ⊎_elim, refl}
 use Rattle.std.proofs.Common.{ap, sym, subst, ◌∙◌, arith}
 use Rattle.std.specs.Prelude.{slice_index_or}
 use Rattle.std.proofs.Math.ListN.{length-append, length-set}
 use Rattle.std.proofs.lemmas.Bool.{ne_eqb}
 use Rattle.std.proofs.lemmas.List.Sums.{sum_by_push}
-use mathlib.Core.Option.{some, some-injective, some-ne-none}
+use mathlib.Core.Option.{some}
 use lib.ListN.{get_elem?}
 use Rattle.atomic_table.proofs.Lists.{at_set}
 use Rattle.crossbeam_utils.specs.Register.{Forks}
+use Rattle.version_cell.proofs.Parts.{at_end}
 use Rattle.vs_types.specs.declared.depth.Depth.{Depth}
 use Rattle.nr_ring.specs.View.{HasSeenAdvances, made_from, made_by_pass, IsTrueOf}
 use Rattle.nr_ring.specs.Rule.{IsKept}
@@ -17,12 +18,6 @@ use Rattle.nr_ring.specs.declared.stored.Stored.{Stored}
 use Rattle.nr_ring.specs.declared.view.View.{View}
 use Rattle.nr_ring.proofs.Views.{contains_item}
 use Rattle.nr_ring.proofs.Rights.{idle_still, rights_changed}
-
-at_end : (views : List View) (a u : View) (j : ℕ) → get_elem? (views ++ a ∷ []) j ≡ some u → (get_elem? views j ≡ some u) ⊎ ((j ≡ length views) × (a ≡ u))
-at_end [] a u zero e = inr (refl, some-injective a u e)
-at_end [] a u (suc j) e = absurd (some-ne-none u (sym e))
-at_end (x ∷ xs) a u zero e = inl e
-at_end (x ∷ xs) a u (suc j) e = ⊎_elim (λ t. inl t) (λ t. inr (ap suc t.0, t.1)) (at_end xs a u j e)
 
 none_made : (number pass : ℕ) (makers : List ℕ) → All (λ m. m < pass) makers → made_from number pass makers ≡ []
 none_made number pass [] below = refl

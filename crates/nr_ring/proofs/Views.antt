@@ -93,7 +93,7 @@ below_end [] pass v at = absurd (some-ne-none v (sym at))
 below_end (u ∷ us) zero v at = omega arith
 below_end (u ∷ us) (suc pass) v at = let rest = below_end us pass v at in omega arith
 
-same_item : (xs : List ℕ) (k a b : ℕ) → k < length xs → get_or xs k a ≡ get_or xs k b
+pub same_item : (xs : List ℕ) (k a b : ℕ) → k < length xs → get_or xs k a ≡ get_or xs k b
 same_item [] k a b lt = absurd (omega arith)
 same_item (x ∷ xs) zero a b lt = refl
 same_item (x ∷ xs) (suc k) a b lt = same_item xs k a b (omega arith)

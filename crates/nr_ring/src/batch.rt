@@ -18,6 +18,9 @@ use crate::words::{COUNT_WORD, HEAD_WORDS, LAST_WORD, LOCAL_WORDS, TAIL_WORD};
 use arrayvec::ArrayVec;
 use vs_types::{CALLS, LOG_PLACES, LogEntry, RING};
 
+/// The second word of an entry in a ring has from this bit on the ring of the entry before it.
+const RING_BEFORE: u64 = 1 << 56;
+
 /// Has the first places of an array be a batch in the words that it has in the log.
 pub(crate) fn pack_all(batch: &[LogEntry], packed: &mut [PackedEntry; RING])
     requires count { length batch.now ≤ RING }
@@ -122,7 +125,7 @@ impl<J: LogName> RingLog<J> {
             let [operation, rest] = entry.words();
             let at = spot(own, place);
             self.cell.store(pass, at, operation);
-            self.cell.store(pass, at + 1, rest + before * (1 << 56));
+            self.cell.store(pass, at + 1, rest + before * RING_BEFORE);
             before = own;
             place += 1;
         }
@@ -152,8 +155,8 @@ impl<J: LogName> RingLog<J> {
             let at = spot(ring, place);
             let operation = self.cell.load(pass, at);
             let rest = self.cell.load(pass, at + 1);
-            entries.push(PackedEntry::of([operation, rest % (1 << 56)]));
-            ring = rest / (1 << 56);
+            entries.push(PackedEntry::of([operation, rest % RING_BEFORE]));
+            ring = rest / RING_BEFORE;
         }
         entries.as_mut_slice().reverse();
     }

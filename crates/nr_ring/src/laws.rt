@@ -3,7 +3,8 @@ ghost use Rattle.std.specs.Prelude.{◌≡◌, ℕ, ◌<◌, ◌≤◌, ◌⊎�
 ghost use Rattle.vs_types.specs.LogEntry.{IsLogEntry};
 ghost use Rattle.vs_types.specs.declared.depth.Depth.{Depth};
 ghost use Rattle.vs_types.specs.declared.log_entry.LogEntry.{LogEntry};
-ghost use Rattle.nr_ring.specs.LogHistory.{Log, MayGoOn, MayAppend, IsLogHistory, IsEnded, IsFull, log_after_events, log_after, local_of, completed};
+ghost use Rattle.nr_ring.specs.LogHistory.{Log, MayGoOn, MayAppend, IsLogHistory, IsEnded, IsFull, log_after_events, log_after, local_of};
+ghost use Rattle.nr_ring.specs.LogHistory.{completed};
 ghost use Rattle.nr_ring.specs.Laws.{HasGoneOn, HasSameTails, FitsTheRing};
 ghost use Rattle.nr_ring.specs.Calls.{HasLooked, HasTaken};
 ghost use Rattle.nr_ring.specs.Entries.{HasAppended};

@@ -1,3 +1,4 @@
+//! The events of a log.
 use std::collections::LinkedList;
 use vs_types::LogEntry;
 

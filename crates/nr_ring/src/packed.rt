@@ -9,6 +9,9 @@ ghost use Rattle.vs_types.specs.declared.log_entry.LogEntry.{LogEntry};
 use std::marker::Model;
 use vs_types::{CALLS, LogEntry, Op, entry_of, pack};
 
+/// The second word of an entry has from this bit on the number of its call.
+const CALL_BIT: u64 = 1 << 39;
+
 /// An entry of the log, in the two words that spell it. It is well formed at five levels, as one at four is. Contracts see the entry.
 #[derive(Clone, Copy, Debug, PartialEq, Eq)]
 pub struct PackedEntry {
@@ -85,7 +88,7 @@ impl PackedEntry {
     pub fn call(self) -> u32
         ensures { result ≡ self.call }
     {
-        (self.words[1] / (1 << 39)) as u32
+        (self.words[1] / CALL_BIT) as u32
     }
 
     /// Whether it is this entry: whether the words are the same.

@@ -1,6 +1,6 @@
 //! The log: one cell that its threads share.
-ghost use Rattle.std.specs.Prelude.{◌≡◌, ◌≤◌, ◌+◌, ◌-◌, ◌*◌, ◌<◌, ◌⊎◌, ℕ, true, All, Contains, IfErr, IfOk, MatchResult, OnErr, OnOk, Option, Some, [], ◌∷◌};
-ghost use Rattle.std.specs.Prelude.{◌++◌, length, map};
+ghost use Rattle.std.specs.Prelude.{◌≡◌, ◌≤◌, ◌+◌, ◌-◌, ◌*◌, ◌<◌, ◌⊎◌, ℕ, true, All, Contains, IfErr, IfOk, MatchResult, OnErr, OnOk};
+ghost use Rattle.std.specs.Prelude.{Option, Some, [], ◌∷◌, ◌++◌, length, map};
 ghost use Rattle.std.specs.List.{range_with_len};
 ghost use Rattle.version_cell.specs.Passes.{beside};
 ghost use Rattle.vs_types.specs.LogEntry.{IsLogEntry};

@@ -1,3 +1,4 @@
+//! The value of a log's cell.
 use crate::log_event::LogEvent;
 use std::collections::LinkedList;
 

@@ -1,3 +1,4 @@
+//! The tails of a log, and why a batch was not appended.
 ghost use Rattle.std.specs.Prelude.{◌≡◌, ◌<◌, ◌^◌, ℕ, slice_index};
 ghost use Rattle.nr_ring.specs.inside.Held.{tails_of_head};
 

@@ -1,5 +1,6 @@
 //! The log: its entries are taken, by a call of its own or with a batch that is appended.
-ghost use Rattle.std.specs.Prelude.{◌≡◌, ◌≤◌, ◌<◌, ◌+◌, ℕ, true, All, Contains, IfErr, IfOk, IsFalse, IsTrue, OnErr, OnOk, Some, [], ◌∷◌, length};
+ghost use Rattle.std.specs.Prelude.{◌≡◌, ◌≤◌, ◌<◌, ◌+◌, ℕ, true, All, Contains, IfErr, IfOk, IsFalse, IsTrue, OnErr, OnOk, Some, [], ◌∷◌};
+ghost use Rattle.std.specs.Prelude.{length};
 ghost use Rattle.vs_types.specs.LogEntry.{IsLogEntry};
 ghost use Rattle.nr_ring.specs.Calls.{HasLooked, HasMoved, LiesAhead};
 ghost use Rattle.nr_ring.specs.LogHistory.{IsLogHistory, MayAdvance, MayAppend, local_of, log_after, tail as tail_of};
@@ -42,7 +43,8 @@ impl<J: LogName> RingLog<J> {
             pass.old.view entries.new.items pass.new.view) }
         ensures moved { OnErr result (HasLooked J.depth J.replicas pass.old.view pass.new.view
             × HasMoved pass.old.view pass.new.view
-            × LiesAhead J.replicas pass.new.view (tail_of (log_after J.replicas pass.new.view.seen))) }
+            × LiesAhead J.replicas pass.new.view
+            (tail_of (log_after J.replicas pass.new.view.seen))) }
         ensures none { OnErr result (entries.new.items ≡ []) }
         ensures history { IsLogHistory J.depth J.replicas pass.new.view.seen }
     {

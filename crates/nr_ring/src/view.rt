@@ -1,3 +1,4 @@
+//! What a pass knows of a log.
 use crate::log_event::LogEvent;
 use std::collections::LinkedList;
 

@@ -1,3 +1,4 @@
+//! What lies in one slot, and why it takes no update or gives no answer.
 ghost use Rattle.std.specs.Prelude.{◌≡◌, ◌≢◌, OnOk, OnErr, IfSome, IfNone, MatchOption, MatchResult};
 
 use crate::answered::Answered;

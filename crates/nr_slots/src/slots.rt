@@ -1,3 +1,4 @@
+//! The slots of a replica's threads.
 ghost use Rattle.std.specs.Prelude.{◌≡◌, ◌<◌, ◌≤◌, ◌^◌, ℕ, [], All, IfOk, IfSome, IsErr};
 ghost use Rattle.vs_types.specs.declared.limits.TheConstants.{CALLS};
 

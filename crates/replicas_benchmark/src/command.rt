@@ -1,3 +1,5 @@
+//! The program's words, and what it prints.
+
 use crate::measure::{Done, Measured, Work, measure};
 use benchmark_program::{ProgFault, per_second, read_words, status_of};
 use std::marker::Brand;
@@ -8,7 +10,8 @@ use vs_types::{Config, Depth, TABLES};
 
 /// How the program is used.
 const USAGE: &str =
-    "usage: replicas_benchmark THREADS REPLICAS CALLS READS [maps], up to 64 threads and 4 replicas, and up to 100 READS of a hundred calls";
+    "usage: replicas_benchmark THREADS REPLICAS CALLS READS [maps], up to 64 threads and 4 replicas, \
+    and up to 100 READS of a hundred calls";
 
 /// Runs the program on its words, and gives the exit status.
 pub fn run<R: Env + AllocGlobal + Print + Eprint + Clock + Threads + Wait + Sync>(rt: &R) -> u8 {

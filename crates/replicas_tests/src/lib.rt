@@ -21,6 +21,8 @@ mod examples;
 #[cfg(test)]
 mod gate;
 #[cfg(test)]
+mod growths;
+#[cfg(test)]
 mod held;
 #[cfg(test)]
 mod judge;

@@ -1,3 +1,5 @@
+//! The program's words, and what it prints.
+
 ghost use Rattle.std.specs.Prelude.{◌≤◌};
 
 use crate::appends::{Appends, Taken, append};

@@ -1,3 +1,5 @@
+//! The entries that are appended.
+
 ghost use Rattle.std.specs.Prelude.{◌<◌};
 ghost use Rattle.vs_types.specs.LogEntry.{IsLogEntry};
 ghost use Rattle.vs_types.specs.declared.depth.Depth.TheVariants.{Four};

@@ -1,10 +1,10 @@
-use Rattle.std.proofs.Common.{◌≡◌, ◌<◌, ◌≤◌, List, [], ◌∷◌, All, length, take, get_or, slice_set, ap, sym, subst, ◌∙◌, arith}
+use Rattle.std.proofs.Common.{◌≡◌, ◌<◌, ◌≤◌, List, All, length, take, get_or, slice_set, ap, sym, subst, ◌∙◌, arith}
 use Rattle.std.proofs.lemmas.List.{set-get_or, take_all}
-use Rattle.std.proofs.lemmas.List.Elements.{All-append}
+use Rattle.std.proofs.lemmas.List.Elements.{All-push}
 use Rattle.nr_ring.specs.Calls.{HasLooked, copy_of, joint_view}
 use Rattle.nr_ring.specs.Pass.{Known}
 use Rattle.nr_ring.specs.View.{StartsWith}
-use Rattle.nr_node.proofs.Lists.{all_one, take_to_one_more}
+use Rattle.nr_node.proofs.Lists.{take_to_one_more}
 use Rattle.nr_replicas.proofs.Hearing.{heard_twice}
 use Rattle.nr_replicas.proofs.Logs.{told_heard}
 use Rattle.nr_replicas.proofs.Settled.{all_begin_later}
@@ -33,8 +33,7 @@ loop-i-preserved g c =
       c.meet.ensures.log ∙ is.1,
       heard_twice is.2 (told_heard depth replicas before pass.view after looked),
       subst (All Begins) (sym (take_to_one_more was i pass within here))
-          (All-append Begins (take i was) (pass ∷ []) (all_begin_later before.seen after.seen (take i was) goes_on is.3)
-          (all_one Begins pass knows)),
+          (All-push Begins (take i was) pass (all_begin_later before.seen after.seen (take i was) goes_on is.3) knows),
     )
 
 pub returns-clause-begins : goal.returns-clause-begins

@@ -1,10 +1,10 @@
-use Rattle.std.proofs.Common.{◌≡◌, ◌<◌, ◌≤◌, [], ◌∷◌, All, length, take, get_or, sym, subst, ◌∙◌, arith}
+use Rattle.std.proofs.Common.{◌≡◌, ◌<◌, ◌≤◌, All, length, take, get_or, sym, subst, ◌∙◌, arith}
 use Rattle.std.proofs.Math.Seq.{map-set_same}
 use Rattle.std.proofs.lemmas.List.{get_or-set_other, length-set, take_all}
-use Rattle.std.proofs.lemmas.List.Elements.{All-append, All-set}
+use Rattle.std.proofs.lemmas.List.Elements.{All-push, All-set}
 use Rattle.nr_ring.specs.Pass.{Known}
 use Rattle.nr_ring.specs.View.{StartsWith}
-use Rattle.nr_node.proofs.Lists.{all_one, take_to_one_more}
+use Rattle.nr_node.proofs.Lists.{take_to_one_more}
 use Rattle.nr_replicas.specs.inside.Settling.{HasSeenOwnAdvances}
 use Rattle.nr_replicas.proofs.Settled.{own_between}
 use Rattle.nr_replicas.proofs.settling.tell_all.Goals as goal
@@ -34,7 +34,7 @@ loop-i-preserved g c =
       All-set Of now i told (c.meet.ensures.log ∙ is.2 i found (omega (arith, within, is.1))) is.2,
       map-set_same (λ (p : Known). p.view.owns) now i told found owned ∙ is.3,
       λ k d le. get_or-set_other now i k told d (λ e. absurd (omega (arith, le, e))) ∙ is.4 k d (omega (arith, le)),
-      subst (All Own) (sym (take_to_one_more was i other within same)) (All-append Own (take i was) (other ∷ []) is.5 (all_one Own other own)),
+      subst (All Own) (sym (take_to_one_more was i other within same)) (All-push Own (take i was) other is.5 own),
     )
 
 pub returns-clause-taken : goal.returns-clause-taken

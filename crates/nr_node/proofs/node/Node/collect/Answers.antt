@@ -1,6 +1,4 @@
-use Rattle.std.proofs.Common.{◌≡◌, ◌≤◌, [], List, get_or, length, sym, subst}
-use Rattle.vs_types.specs.declared.limits.TheConstants.{RING}
-use Rattle.nr_slots.specs.Updates.{Waiting}
+use Rattle.std.proofs.Common.{◌≡◌, [], get_or, sym, subst}
 use Rattle.nr_node.specs.Node.{NodeState}
 use Rattle.nr_node.proofs.Nodes.{holding_follows, holding_node}
 use Rattle.nr_node.proofs.node.Node.collect.Goals as goal
@@ -15,10 +13,8 @@ invariant_of-self g c =
     let self = c.self.inside in
     let batch = c.collect.new.batch.items in
     let Empty : NodeState → Type 0 = λ n. n.batch ≡ [] in
-    let Few : List Waiting → Type 0 = λ l. length l ≤ RING in
-    let few = subst Few c.as_slice-few.ensures.value c.as_slice-few.ensures.fits in
     let none = subst Empty (sym c.self.view_is) c.requires.nothing in (
-      holding_node _ _ self.pass self.replica self.batch.items batch self.first none few
+      holding_node _ _ self.pass self.replica self.batch.items batch self.first none c.is_short.ensures
           (λ k d lt. c.requires.fit (get_or batch k d) (c.collect.ensures.rule k d lt)) c.self.invariant.0,
       holding_follows _ _ self.pass self.replica self.batch.items batch self.first c.self.invariant.1,
     )

@@ -14,7 +14,7 @@ use Rattle.nr_node.proofs.replica.Replica.dump.Goals as goal
 pub gather-requires-clause-few : goal.gather-requires-clause-few
 gather-requires-clause-few g c none =
     let few = reached_few c.depth-depth.result c.self.inside.space.memory c.root-root.result none in
-    omega (arith, few, c.tables-frames.ensures.reads, c.tables-frames.ensures.at_most, c.self.invariant.tables)
+    omega (arith, few, c.counts_tables.ensures.at_most, c.self.invariant.tables)
 
 pub gather-requires-clause-in_range : goal.gather-requires-clause-in_range
 gather-requires-clause-in_range g c none k d within =
@@ -48,7 +48,7 @@ returns-in-Ok-clause-few g c =
     let gathered = c.in-Ok.ensures in
     let frames = same_frames space.memory dump.frames space.depth c.depth-depth.result space.root c.root-root.result c.depth-depth.ensures all.reads
     all.in_use all.each gathered.held gathered.only in
-    omega (arith, ap (λ (m : Memory). finite.len m) frames, c.tables-frames.ensures.reads, c.tables-frames.ensures.at_most, c.self.invariant.tables)
+    omega (arith, ap (λ (m : Memory). finite.len m) frames, c.counts_tables.ensures.at_most, c.self.invariant.tables)
 
 pub returns-in-Ok-clause-frames : goal.returns-in-Ok-clause-frames
 returns-in-Ok-clause-frames g c =
@@ -60,5 +60,5 @@ returns-in-Ok-clause-frames g c =
     all.in_use all.each gathered.held gathered.only in
     let of = space_of space.depth space.limit (entries_told c.self.inside.told.items) in
     let ByState : ReplicaState → Type 0 = λ r. finite.len dump.frames ≡ table_count r.depth (space_of r.depth r.tables r.entries) in
-    subst ByState c.self.view_is (ap (λ (m : Memory). finite.len m) frames ∙ sym c.tables-frames.ensures.reads
-    ∙ c.tables-frames.ensures.counts of c.self.invariant.table_of)
+    subst ByState c.self.view_is
+    (ap (λ (m : Memory). finite.len m) frames ∙ c.counts_tables.ensures.counts of c.self.invariant.table_of)

@@ -1,7 +1,8 @@
 use Rattle.std.proofs.Common.{◌≤◌, subst}
 use Rattle.nr_ring.specs.LogHistory.{log_after, tail}
+use Rattle.nr_ring.proofs.Histories.{tail_rises}
 use Rattle.nr_node.specs.Node.{NodeState, log_of}
-use Rattle.nr_replicas.proofs.Logs.{tail_rises, told_goes_on}
+use Rattle.nr_replicas.proofs.Logs.{told_goes_on}
 use Rattle.nr_replicas.proofs.local.Local.tell.Goals as goal
 
 pub returns-clause-more : goal.returns-clause-more

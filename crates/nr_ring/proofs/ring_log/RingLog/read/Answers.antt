@@ -14,7 +14,7 @@ use Rattle.nr_ring.specs.inside.Held.{Remembers}
 use Rattle.nr_ring.proofs.Fetches.{CanCountOn, counted_on, history_entries, item_holds, one_more_read, refilled, tells}
 use Rattle.nr_ring.proofs.FirstWords.{Tells, before_low, head_is, ring_low}
 use Rattle.nr_ring.proofs.Histories.{as_many_locals, history_fits}
-use Rattle.nr_ring.proofs.Needed.{item_of}
+use Rattle.vs_types.proofs.Lists.{item_of}
 use Rattle.nr_ring.proofs.ring_log.RingLog.read.Goals as goal
 
 pub loop-place-init : goal.loop-place-init
