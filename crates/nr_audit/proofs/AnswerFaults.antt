@@ -27,13 +27,12 @@ use Rattle.nr_trace.specs.declared.event.Event.TheVariants.{Call}
 use Rattle.nr_trace.specs.declared.fault.Fault.{Fault}
 use Rattle.nr_trace.specs.declared.fault.Fault.TheVariants.{WrongAnswer}
 use Rattle.nr_trace.proofs.LawsOfOrder.{order_distinct, updates_of_order}
-use Rattle.nr_trace.proofs.LawsOfFaults.{wrong_is_member}
+use Rattle.nr_trace.proofs.LawsOfFaults.{below_from_less, wrong_is_member}
 use Rattle.nr_audit.specs.inside.Search.{HasNoneFrom, IsFirstAmongFrom}
 use Rattle.nr_audit.specs.inside.Passes.{IsAnswerFault}
 use Rattle.nr_audit.specs.Served.{asked_by, Serves}
 use Rattle.nr_audit.specs.Verdict.{space_of}
 use Rattle.nr_audit.specs.inside.Replies.{answer_to}
-use Rattle.nr_audit.proofs.Ranks.{earlier_cases}
 
 -- ---- where a call is among distinct ones
 
@@ -239,13 +238,14 @@ module _ (start : Space) (trace : Recording) (order : List ℕ) (listed : order 
     no_earlier (WrongAnswer call) among holds earlier =
         let counted = ap length (before_here k within) in
         let taken = length-take-le k order (omega arith) in
-        elim (earlier_cases 6 (length (before call (recorded_order trace))) 10 6 (length (before (get_or order k 0) (recorded_order trace))) 10 earlier) [
+        elim (below_from_less 6 (length (before call (recorded_order trace))) 10 6 (length (before (get_or order k 0) (recorded_order trace))) 10 earlier) [
           | inl low ↦ omega arith
-          | inr rest ↦ elim rest.1 [
-            | inl low ↦
+          | inr rest ↦ elim rest [
+            | inl less ↦
+                let low = less.1 in
                 let there = stands_there order call k 0 (subst (λ xs. length (before call xs) < k) (sym listed) (omega arith)) (omega arith) in
                 none there.0 there.1 (subst (λ c. IsWrongFrom start trace c) (sym there.2) holds)
-            | inr also ↦ (let low = also.1 in omega arith)
+            | inr also ↦ (let low = also.2 in omega arith)
           ]
         ]
     no_earlier other among holds earlier = among

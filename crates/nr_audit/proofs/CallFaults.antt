@@ -16,7 +16,8 @@ use Rattle.nr_audit.specs.inside.Search.{HasNone, IsFirstAmong}
 use Rattle.nr_audit.specs.inside.Passes.{IsCallFaultAt, IsCallFault}
 use Rattle.nr_audit.specs.inside.Tables.{IsReplyBelow, AreReplies}
 use Rattle.nr_audit.proofs.Ranks.{IsRanked, none_of_all, first_of_all, lower_number}
-use Rattle.nr_audit.proofs.CallsAndReplies.{reply_here, no_call_at_reply, no_call_past, no_reply_past, reply_by}
+use Rattle.nr_trace.proofs.LawsOfCalls.{reply_here, reply_that_answers}
+use Rattle.nr_audit.proofs.CallsAndReplies.{no_call_at_reply, no_call_past, no_reply_past}
 use Rattle.nr_audit.proofs.CallsAndReplies.{no_reply_with, no_answer, answers_only}
 use Rattle.nr_trace.proofs.LawsOfCalls.{answers_from}
 
@@ -136,7 +137,7 @@ table_at_end trace last table clean known = record {
   one_each = known.one_each;
   each = known.replies;
   no_other = λ call past index answers.
-      let named = reply_by trace index call answers in
+      let named = reply_that_answers trace index call answers in
       clean (NoSuchCall index) (index, refl) (
         named.0,
         named.1,

@@ -1,13 +1,14 @@
 -- What an event is: a call or a reply.
-use Rattle.std.proofs.Common.{◌≡◌, ◌≢◌, Bool, true, false, List, ℕ, ◌<◌, ◌≤◌, Some, None, Option, length, refl, sym, ap, subst, ◌∙◌, inl, inr, arith, get_or}
-use Rattle.std.specs.Prelude.{slice_get, IsSome, is_some, option_and_then, option_map, IfSome, IsSomeAnd, ◌==◌, if◌then◌else◌}
-use Rattle.std.proofs.lemmas.Bool.{false≢true, eqb-true, cond-false, cases_Bool}
+use Rattle.std.proofs.Common.{◌≡◌, ◌≢◌, Bool, true, false, List, ℕ, ◌<◌, ◌≤◌, Some, None, Option, length, refl, sym, ap, subst, ◌∙◌, arith, get_or}
+use Rattle.std.specs.Prelude.{slice_get, is_some, option_and_then, option_map, IfSome, IsSomeAnd}
+use Rattle.std.proofs.lemmas.Bool.{false≢true}
 use Rattle.std.proofs.lemmas.Option.{slice_get_past, slice_get-get_or}
 use Rattle.std.proofs.lemmas.List.Elements.{All-get_or}
 use Rattle.nr_trace.specs.Recording.{Recording, IsRecording, IsEvent}
-use Rattle.nr_trace.specs.Calls.{Invocation, made_by, call_of, Response, reply_in, reply_of, Answers, IsCall}
+use Rattle.nr_trace.specs.Calls.{Invocation, made_by, call_of, Response, reply_in, reply_of, Answers}
 use Rattle.nr_trace.specs.Faults.{IsReplyWith}
 use Rattle.nr_trace.specs.declared.event.Event.{Event}
+use Rattle.nr_trace.proofs.LawsOfCalls.{read_event, reply_that_answers}
 use Rattle.nr_trace.specs.declared.event.Event.TheVariants.{Call, Reply, Touch}
 use Rattle.vs_types.specs.Config.{Layout}
 use Rattle.vs_types.specs.declared.request.Query.TheVariants.{Access}
@@ -22,10 +23,6 @@ no_reply_unless _ none = refl
 pub no_reply_there : (trace : Recording) (i : ℕ) (event : Event) → slice_get trace.events i ≡ Some event → reply_in event ≡ None → reply_of trace i ≡ None
 no_reply_there trace i event is none = ap (λ o. option_and_then reply_in o) is ∙ none
 
-pub reply_here : (trace : Recording) (i call at : ℕ) (answer : Answer) → slice_get trace.events i ≡ Some (Reply call at answer)
-    → reply_of trace i ≡ Some (record { call = call; at = at; answer = answer })
-reply_here trace i call at answer e = ap (λ o. option_and_then reply_in o) e
-
 pub no_call_at_reply : (trace : Recording) (i call at : ℕ) (answer : Answer) → slice_get trace.events i ≡ Some (Reply call at answer) → call_of trace i ≡ None
 no_call_at_reply trace i call at answer e = ap (λ o. option_and_then made_by o) e
 
@@ -39,46 +36,22 @@ no_reply_past trace i past = ap (λ o. option_and_then reply_in o) (slice_get_pa
 pub read_call : (trace : Recording) (i : ℕ) (event : Event) → i < length trace.events → event ≡ get_or trace.events i event → call_of trace i ≡ made_by event
 read_call trace i event lt e = ap (λ o. option_and_then made_by o) (slice_get-get_or trace.events i event lt ∙ ap (λ x. Some x) (sym e))
 
-pub reply_by : (trace : Recording) (i call : ℕ) → Answers trace i call → (reply : Response) × (reply_of trace i ≡ Some reply) × (reply.call ≡ call)
-reply_by trace i call h =
-    elim (reply_of trace i) as (λ o. IsSome (option_and_then (λ (r : Response). if r.call == call then Some r else None) o)
-    → (reply : Response) × (o ≡ Some reply) × (reply.call ≡ call)) [
-      | None ↦ λ h. absurd (false≢true h)
-      | Some reply ↦ λ h. elim (cases_Bool (reply.call == call)) [
-        | inl t ↦ (reply, refl, eqb-true reply.call call t)
-        | inr f ↦ absurd (false≢true (sym (ap is_some (cond-false (reply.call == call) (Some reply) None f)) ∙ h))
-      ]
-    ] h
-
 -- where no reply is there is none of any kind
 pub no_reply_with : (trace : Recording) (i : ℕ) (P : Response → Type 0) → reply_of trace i ≡ None → IsReplyWith trace i P → ⊥
 no_reply_with trace i P none h = let there = h.1 in cc
 
 pub no_answer : (trace : Recording) (i call : ℕ) → reply_of trace i ≡ None → Answers trace i call → ⊥
-no_answer trace i call none h = let there = (reply_by trace i call h).1 in cc
+no_answer trace i call none h = let there = (reply_that_answers trace i call h).1 in cc
 
 -- a reply is to no other call than the one that it names
 pub answers_only : (trace : Recording) (i call : ℕ) (reply : Response) → reply_of trace i ≡ Some reply → Answers trace i call → reply.call ≡ call
 answers_only trace i call reply is h =
-    let other = reply_by trace i call h in
+    let other = reply_that_answers trace i call h in
     let one = is in
     let two = other.1 in
     let named = other.2 in
     let same : reply ≡ other.0 = cc in
     ap (λ (r : Response). r.call) same ∙ named
-
-pub made_from : (trace : Recording) (i : ℕ) → IsCall trace i → (made : Invocation) × (call_of trace i ≡ Some made)
-made_from trace i h =
-    elim (call_of trace i) as (λ o. IsSome o → (made : Invocation) × (o ≡ Some made)) [
-      | None ↦ λ h. absurd (false≢true h)
-      | Some made ↦ λ h. (made, refl)
-    ] h
-
--- the event at an index, as a pattern takes it apart
-pub read_event : (trace : Recording) (events : List Event) (i : ℕ) (event shape : Event) → events ≡ trace.events → i < length events
-    → event ≡ get_or events i event → event ≡ shape → slice_get trace.events i ≡ Some shape
-read_event trace events i event shape same lt read is =
-    subst (λ (xs : List Event). slice_get xs i ≡ Some shape) same (slice_get-get_or events i event lt ∙ ap (λ x. Some x) (sym read ∙ is))
 
 -- what is read of a table
 pub read_gone : (o p : Option ℕ) (told : Bool) → p ≡ o → is_some p ≡ told → told ≡ false → o ≡ None

@@ -4,16 +4,15 @@ use Rattle.std.specs.Ordering.{nat_cmp}
 use Rattle.std.specs.Cmp.Lexicographic.{slice_cmp}
 use Rattle.std.specs.declared.cmp.Ordering.TheVariants.{Less}
 use Rattle.std.proofs.lemmas.Bool.{cases_lt}
-use Rattle.std.proofs.lemmas.Option.{slice_get_within, slice_get_past, slice_get-get_or, same_Some}
+use Rattle.std.proofs.lemmas.Option.{slice_get_past, slice_get-get_or, same_Some}
 use Rattle.vs_types.specs.Space.{Space}
 use Rattle.vs_walk.specs.Dump.{Image}
 use Rattle.nr_trace.specs.Recording.{Recording, IsThere}
-use Rattle.nr_trace.specs.Calls.{Response, reply_of}
 use Rattle.nr_trace.specs.Orders.{space_from}
 use Rattle.nr_trace.specs.Faults.{HasFaultFrom, Earlier, rank, RestsOnMore, HasDump}
 use Rattle.nr_trace.specs.declared.fault.Fault.{Fault}
 use Rattle.nr_trace.specs.declared.fault.Fault.TheVariants.{PrefixPastLog, PrefixShort, MissingFrame, SharedFrame, ReservedBit, StrayFrame, Differs}
-use Rattle.nr_trace.proofs.LawsOfCalls.{reply_in_event}
+use Rattle.nr_trace.proofs.LawsOfCalls.{reply_below}
 use Rattle.nr_dump.specs.Faults as dumps
 use Rattle.nr_dump.specs.declared.fault.DumpFault.{DumpFault}
 use Rattle.nr_dump.specs.declared.fault.DumpFault.TheVariants as of_dump
@@ -153,9 +152,6 @@ rank_in trace replica _ = refl
 is_of_replica : (replica : ℕ) (fault : DumpFault) → IsDumpFaultAt replica (at_replica replica fault)
 is_of_replica replica (of_dump.MissingFrame frame) = refl
 is_of_replica replica _ = refl
-
-reply_below : (trace : Recording) (index : ℕ) (reply : Response) → reply_of trace index ≡ Some reply → index < length trace.events
-reply_below trace index reply is = let (event, at, own) = reply_in_event (slice_get trace.events index) reply is in slice_get_within trace.events index event at
 
 module _ (start : Space) (trace : Recording) (replica : ℕ) (dump : Image) (is : slice_get trace.dumps replica ≡ Some dump) (there : IsThere dump) where
   -- what holds of the dump holds of the trace

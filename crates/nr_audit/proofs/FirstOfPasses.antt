@@ -1,64 +1,21 @@
 -- The passes one after another: the first fault of a pass, where none of an earlier pass holds, is the first of all.
-use Rattle.std.proofs.Common.{◌≡◌, ℕ, ◌+◌, ◌<◌, ◌≤◌, [], ◌∷◌, inl, inr, ◌==◌, refl, subst, ◌∙◌, arith, lit<, length}
+use Rattle.std.proofs.Common.{◌≡◌, ℕ, ◌+◌, ◌<◌, ◌≤◌, inl, inr, ◌==◌, refl, subst, arith, lit<}
 use Rattle.std.specs.Prelude.{⊤, MatchBool}
-use Rattle.std.specs.Ordering.{nat_cmp}
-use Rattle.std.specs.Cmp.Lexicographic.{slice_cmp}
-use Rattle.std.specs.declared.cmp.Ordering.TheVariants.{Less}
 use Rattle.std.proofs.lemmas.Bool.{cases_lt}
 use Rattle.vs_types.specs.Space.{Space, no_pages}
 use Rattle.nr_trace.specs.Recording.{Recording}
-use Rattle.nr_trace.specs.Orders.{before, recorded_order}
-use Rattle.nr_trace.specs.Faults.{HasFaultFrom, Earlier, rank, IsFirst, IsFirstFrom}
+use Rattle.nr_trace.specs.Faults.{HasFaultFrom, Earlier, IsFirst, IsFirstFrom}
 use Rattle.nr_trace.specs.Laws.{HasCleanLog, IsFaultlessFrom}
 use Rattle.nr_trace.specs.declared.fault.Fault.{Fault}
 use Rattle.nr_trace.specs.declared.fault.Fault.TheVariants.{Format, ThreadOpen, NoSuchCall, AnsweredTwice, NotAnUpdate, PlacedTwice, NotPlaced, PastLog, Early}
 use Rattle.nr_trace.specs.declared.fault.Fault.TheVariants.{WrongAnswer, PrefixPastLog, PrefixShort, MissingFrame, SharedFrame, ReservedBit, StrayFrame}
 use Rattle.nr_trace.specs.declared.fault.Fault.TheVariants.{Differs}
+use Rattle.nr_trace.proofs.LawsOfFaults.{pass as pass_of, earlier_parts}
 use Rattle.vs_types.specs.Refusal.{IfRefused}
 use Rattle.vs_types.specs.declared.refusal.Fail.{Fail}
 use Rattle.vs_types.specs.declared.refusal.Fail.TheVariants.{Memory, Refused}
 use Rattle.nr_audit.specs.inside.Search.{HasNone, HasNoneFrom, IsFirstAmong, IsFirstAmongFrom, IsFirstFromAny}
 use Rattle.nr_audit.specs.inside.Passes.{IsCallFault, IsLogFault, IsPositionFault, IsFloorFault, IsAnswerFault, IsDumpFault}
-use Rattle.nr_audit.proofs.Ranks.{earlier_cases}
-
--- the pass that looks for a fault
-abbrev pub pass_of : Fault → ℕ
-pass_of (Format fault) = 1
-pass_of (ThreadOpen index) = 2
-pass_of (NoSuchCall index) = 2
-pass_of (AnsweredTwice index) = 2
-pass_of (NotAnUpdate place) = 3
-pass_of (PlacedTwice place) = 3
-pass_of (NotPlaced index) = 4
-pass_of (PastLog index) = 4
-pass_of (Early call) = 5
-pass_of (WrongAnswer call) = 6
-pass_of _ = 7
-
--- a fault is by its pass first
-record Ranked (trace : Recording) (fault : Fault) : Type 0 where
-  at : ℕ
-  number : ℕ
-  is : rank trace fault ≡ pass_of fault ∷ at ∷ number ∷ []
-
-ranked : (trace : Recording) (fault : Fault) → Ranked trace fault
-ranked trace (Format fault) = record { at = 0; number = 1; is = refl }
-ranked trace (ThreadOpen index) = record { at = index; number = 2; is = refl }
-ranked trace (NoSuchCall index) = record { at = index; number = 3; is = refl }
-ranked trace (AnsweredTwice index) = record { at = index; number = 4; is = refl }
-ranked trace (NotAnUpdate place) = record { at = place; number = 5; is = refl }
-ranked trace (PlacedTwice place) = record { at = place; number = 6; is = refl }
-ranked trace (NotPlaced index) = record { at = index; number = 7; is = refl }
-ranked trace (PastLog index) = record { at = index; number = 8; is = refl }
-ranked trace (Early call) = record { at = call; number = 9; is = refl }
-ranked trace (WrongAnswer call) = record { at = length (before call (recorded_order trace)); number = 10; is = refl }
-ranked trace (PrefixPastLog replica) = record { at = replica; number = 11; is = refl }
-ranked trace (PrefixShort replica) = record { at = replica; number = 12; is = refl }
-ranked trace (MissingFrame replica number) = record { at = replica; number = 13; is = refl }
-ranked trace (SharedFrame replica number) = record { at = replica; number = 14; is = refl }
-ranked trace (ReservedBit replica number index) = record { at = replica; number = 15; is = refl }
-ranked trace (StrayFrame replica number) = record { at = replica; number = 16; is = refl }
-ranked trace (Differs replica address) = record { at = replica; number = 17; is = refl }
 
 -- the faults among these are those of the pass
 pub record AreOfPass (pass : ℕ) (Among : Fault → Type 0) : Type 0 where
@@ -81,21 +38,27 @@ none_before_next start pass Among trace are none here fault lt holds = elim (cas
   | inr same ↦ here fault (are.all fault (omega arith)) holds
 ]
 
+-- what comes earlier is of no later pass
+not_later : (trace : Recording) (other fault : Fault) → Earlier trace other fault → pass_of other ≤ pass_of fault
+not_later trace other fault earlier = elim (earlier_parts trace other fault earlier) [
+  | inl low ↦ omega arith
+  | inr rest ↦ elim rest [
+    | inl same ↦ (let pass = same.0 in omega arith)
+    | inr same ↦ (let pass = same.0 in omega arith)
+  ]
+]
+
 -- the first fault of a pass is the first of all
 pub first_of_pass : (start : Space) (pass : ℕ) (Among : Fault → Type 0) (trace : Recording) (fault : Fault) → AreOfPass pass Among
     → HasNoneBefore start pass trace → IsFirstAmongFrom start Among trace fault → IsFirstFrom start trace fault
 first_of_pass start pass Among trace fault are none first = record {
   holds = first.holds;
   none_earlier = λ other holds earlier.
-      let r = ranked trace other in
-      let s = ranked trace fault in
+      let before = not_later trace other fault earlier in
       let own = are.only fault first.is_among in
-      let ordered : slice_cmp nat_cmp (pass_of other ∷ r.at ∷ r.number ∷ []) (pass_of fault ∷ s.at ∷ s.number ∷ []) ≡ Less =
-      subst (λ b. slice_cmp nat_cmp (pass_of other ∷ r.at ∷ r.number ∷ []) b ≡ Less) s.is
-      (subst (λ a. slice_cmp nat_cmp a (rank trace fault) ≡ Less) r.is earlier) in
-      elim (earlier_cases (pass_of other) r.at r.number (pass_of fault) s.at s.number ordered) [
-        | inl low ↦ none other (omega arith) holds
-        | inr same ↦ first.none_earlier other (are.all other (same.0 ∙ own)) holds earlier
+      elim (cases_lt (pass_of other) pass) [
+        | inl low ↦ none other low holds
+        | inr same ↦ first.none_earlier other (are.all other (omega arith)) holds earlier
       ];
 }
 
@@ -123,19 +86,6 @@ of_any one other trace _ low holds = holds
 
 pub none_before_from : (start : Space) (trace : Recording) → HasNoneBefore no_pages 6 trace → HasNoneBefore start 6 trace
 none_before_from start trace none fault low holds = none fault low (of_any start no_pages trace fault low holds)
-
--- what comes earlier is of no later pass
-not_later : (trace : Recording) (other fault : Fault) → Earlier trace other fault → pass_of other ≤ pass_of fault
-not_later trace other fault earlier =
-    let r = ranked trace other in
-    let s = ranked trace fault in
-    let ordered : slice_cmp nat_cmp (pass_of other ∷ r.at ∷ r.number ∷ []) (pass_of fault ∷ s.at ∷ s.number ∷ []) ≡ Less =
-    subst (λ b. slice_cmp nat_cmp (pass_of other ∷ r.at ∷ r.number ∷ []) b ≡ Less) s.is
-    (subst (λ a. slice_cmp nat_cmp a (rank trace fault) ≡ Less) r.is earlier) in
-    elim (earlier_cases (pass_of other) r.at r.number (pass_of fault) s.at s.number ordered) [
-      | inl low ↦ omega arith
-      | inr same ↦ let e = same.0 in omega arith
-    ]
 
 pub first_from_any : (trace : Recording) (fault : Fault) → pass_of fault < 6 → IsFirst trace fault → IsFirstFromAny trace fault
 first_from_any trace fault low first = λ start. record {

@@ -11,12 +11,11 @@ use Rattle.nr_trace.specs.Laws.{HasCleanLog}
 use Rattle.nr_trace.specs.Orders.{recorded_order}
 use Rattle.nr_trace.specs.declared.event.Event.{Event}
 use Rattle.nr_trace.specs.declared.event.Event.TheVariants.{Reply}
-use Rattle.nr_trace.proofs.LawsOfCalls.{update_is_call, read_is_call}
+use Rattle.nr_trace.proofs.LawsOfCalls.{update_is_call, read_is_call, reply_that_answers}
 use Rattle.nr_trace.proofs.LawsOfLists.{in_from_Contains}
 use Rattle.nr_trace.proofs.LawsOfOrder.{member_stands}
 use Rattle.nr_audit.specs.inside.LastEvents.{IsLastEvent}
 use Rattle.nr_audit.specs.inside.Tables.{AreReplies, IsReplyBelow}
-use Rattle.nr_audit.proofs.CallsAndReplies.{reply_by}
 use Rattle.nr_audit.proofs.RepliesByTable.{replied}
 
 -- the members of the recorded order are calls
@@ -39,7 +38,7 @@ pub last_by_reply : (trace : Recording) (table : List (Option ℕ)) (call index 
     → get_or table call None ≡ Some index → IsLastEvent trace call index
 last_by_reply trace table call index are within e =
     let own = subst (λ o. IsReplyBelow trace (length trace.events) call o) e (are.each call within) in
-    let named = reply_by trace index call own.1 in
+    let named = reply_that_answers trace index call own.1 in
     record {
       within = own.0;
       names = ap (λ o. option_map_or (λ (r : Response). r.call) o index) named.1 ∙ named.2;

@@ -1,5 +1,5 @@
 -- A right verdict is the only one, and where it is yes the bytes are right with its order.
-use Rattle.std.proofs.Common.{◌≡◌, ℕ, ◌⊎◌, inl, inr, IfOk, IfErr, List, Result, Ok, Err, refl, sym, ap, ap₂, subst, ◌∙◌}
+use Rattle.std.proofs.Common.{◌≡◌, ℕ, IfOk, IfErr, List, Result, Ok, Err, refl, sym, ap, ap₂, subst, ◌∙◌}
 use Rattle.vs_types.specs.Space.{Space, no_pages}
 use Rattle.vs_plain.specs.Plain.{BoundedSpace}
 use Rattle.vs_types.specs.Refusal.{IfRefused}
@@ -10,14 +10,13 @@ use Rattle.nr_trace.specs.Spelling.{Spells}
 use Rattle.nr_trace.specs.Calls.{IsWellFormedHistory}
 use Rattle.nr_trace.specs.FirstFault.{HasFormatFault}
 use Rattle.nr_trace.specs.Orders.{recorded_order, space_from, HasItsCalls, KeepsPrecedence, HasAnswersFrom, HasTheAnswers, IsLegalFrom}
-use Rattle.nr_trace.specs.Faults.{HasFault, IsFirst, IsFirstFrom, IsFirstOf}
+use Rattle.nr_trace.specs.Faults.{IsFirst, IsFirstFrom, IsFirstOf}
 use Rattle.nr_trace.specs.Laws.{IsFaultless, IsFaultlessFrom}
 use Rattle.nr_trace.specs.declared.fault.Fault.{Fault}
 use Rattle.nr_trace.specs.declared.fault.Fault.TheVariants.{Format}
 use Rattle.nr_trace.specs.declared.fault.Format.{Format as FormatFault}
 use Rattle.nr_trace.proofs.LawsOfSpelling.{one_trace}
-use Rattle.nr_trace.proofs.LawsOfFormat.{no_fault}
-use Rattle.nr_trace.proofs.LawsOfFaults.{one_first, one_first_of}
+use Rattle.nr_trace.proofs.LawsOfFaults.{none_of_faultless, one_first, one_first_of}
 use Rattle.nr_trace.proofs.LawsOfHistories.{history_if_faultless}
 use Rattle.nr_trace.proofs.LawsOfDumps.{dump_is_there, legal_if_faultless, fits_if_faultless}
 use Rattle.nr_audit.specs.Verdict.{IsJudgedFrom, IsVerdictOn, IsVerdictOf, IfRight, IfYes, space_of}
@@ -26,7 +25,6 @@ use Rattle.nr_audit.specs.declared.verdict.Judged.{Judged}
 use Rattle.nr_audit.specs.declared.verdict.Judged.TheVariants.{Right, Wrong}
 use Rattle.nr_audit.specs.declared.verdict.Verdict.{Verdict}
 use Rattle.nr_audit.specs.declared.verdict.Verdict.TheVariants.{Yes, No}
-use Rattle.nr_trace.specs.declared.version.Form.TheVariants as forms
 
 -- ---- what holds of a trace without faults from a start on, with its recorded order
 
@@ -131,18 +129,6 @@ first_of_spelled bytes trace _ spelled first = (trace, spelled, first)
 pub of_spelled : (bytes : List ℕ) (trace : Recording) (verdict : Verdict) → Spells bytes trace → IsVerdictOn trace verdict → IsVerdictOf bytes verdict
 of_spelled bytes trace (Yes order) spelled is = (trace, spelled, is.0, is.1)
 of_spelled bytes trace (No fault) spelled is = first_of_spelled bytes trace fault spelled is
-
--- the first fault of bytes is one of the format, or of the trace that they spell
-sides : (bytes : List ℕ) (fault : Fault) → IsFirstOf bytes fault
-    → ((format : FormatFault) × HasFormatFault bytes format) ⊎ ((trace : Recording) × Spells bytes trace × IsFirst trace fault)
-sides bytes (Format format) h = inl (format, h)
-sides bytes fault h = inr h
-
-none_of_faultless : (bytes : List ℕ) (trace : Recording) (fault : Fault) → Spells bytes trace → IsFaultless trace → IsFirstOf bytes fault → ⊥
-none_of_faultless bytes trace fault spelled faultless first = elim (sides bytes fault first) [
-  | inl format ↦ no_fault forms.Trace bytes trace format.0 spelled format.1
-  | inr other ↦ faultless fault (subst (λ t. HasFault t fault) (one_trace bytes other.0 trace other.1 spelled) other.2.holds)
-]
 
 pub same_of : (bytes : List ℕ) (a b : Verdict) → IsVerdictOf bytes a → IsVerdictOf bytes b → a ≡ b
 same_of bytes (Yes order) (Yes other) (t, spelled, none, is) (u, also, nothing, same) =

@@ -12,7 +12,8 @@ use Rattle.vs_types.specs.declared.answer.Answer.{Answer}
 use Rattle.nr_audit.specs.inside.Search.{HasNone, IsFirstAmong}
 use Rattle.nr_audit.specs.inside.Passes.{IsPositionFaultAt, IsPositionFault}
 use Rattle.nr_audit.proofs.Ranks.{IsRanked, none_of_all, first_of_all, lower_number}
-use Rattle.nr_audit.proofs.CallsAndReplies.{reply_here, no_reply_past, no_reply_with}
+use Rattle.nr_trace.proofs.LawsOfCalls.{reply_here}
+use Rattle.nr_audit.proofs.CallsAndReplies.{no_reply_past, no_reply_with}
 
 none_at : (trace : Recording) (index : ℕ) → (HasFault trace (NotPlaced index) → ⊥) → (HasFault trace (PastLog index) → ⊥)
     → HasNone (IsPositionFaultAt index) trace

@@ -1,15 +1,15 @@
 -- Which of some faults is the first: by the pass, then by where the fault is in the pass, then by its number.
-use Rattle.std.proofs.Common.{◌≡◌, ℕ, ◌+◌, ◌<◌, [], ◌∷◌, ◌⊎◌, inl, inr, refl, sym, subst, arith}
+use Rattle.std.proofs.Common.{◌≡◌, ℕ, ◌+◌, ◌<◌, [], ◌∷◌, ◌⊎◌, inl, inr, refl, subst, arith}
 use Rattle.std.specs.Ordering.{nat_cmp, ordering_then}
 use Rattle.std.specs.Cmp.Lexicographic.{slice_cmp}
 use Rattle.std.specs.declared.cmp.Ordering.{Ordering}
 use Rattle.std.specs.declared.cmp.Ordering.TheVariants.{Less, Equal, Greater}
-use Rattle.std.proofs.lemmas.Cmp.{ranked}
 use Rattle.std.proofs.lemmas.Bool.{cases_lt}
 use Rattle.vs_types.specs.Space.{Space, no_pages}
 use Rattle.nr_trace.specs.Recording.{Recording}
 use Rattle.nr_trace.specs.Faults.{rank}
 use Rattle.nr_trace.specs.declared.fault.Fault.{Fault}
+use Rattle.nr_trace.proofs.LawsOfFaults.{below_from_less}
 use Rattle.vs_types.specs.Refusal.{IfRefused}
 use Rattle.vs_types.specs.declared.refusal.Fail.{Fail}
 use Rattle.vs_types.specs.declared.refusal.Fail.TheVariants.{Memory, Refused}
@@ -19,26 +19,6 @@ pub then_less : (r s : Ordering) → ordering_then r s ≡ Less → (r ≡ Less)
 then_less Less s e = inl refl
 then_less Equal s e = inr (refl, e)
 then_less Greater s e = cc
-
-is_less : (x y : ℕ) → nat_cmp x y ≡ Less → x < y
-is_less x y e = ranked x y Less (sym e)
-
-is_equal : (x y : ℕ) → nat_cmp x y ≡ Equal → x ≡ y
-is_equal x y e = ranked x y Equal (sym e)
-
--- what comes earlier
-pub earlier_cases : (p i m q j n : ℕ) → slice_cmp nat_cmp (p ∷ i ∷ m ∷ []) (q ∷ j ∷ n ∷ []) ≡ Less → (p < q) ⊎ ((p ≡ q) × ((i < j) ⊎ ((i ≡ j) × (m < n))))
-earlier_cases p i m q j n e =
-    elim (then_less (nat_cmp p q) _ e) [
-      | inl low ↦ inl (is_less p q low)
-      | inr same ↦ elim (then_less (nat_cmp i j) _ same.1) [
-        | inl low ↦ inr (is_equal p q same.0, inl (is_less i j low))
-        | inr also ↦ elim (then_less (nat_cmp m n) _ also.1) [
-          | inl low ↦ inr (is_equal p q same.0, inr (is_equal i j also.0, is_less m n low))
-          | inr none ↦ absurd (let h = none.1 in cc)
-        ]
-      ]
-    ]
 
 -- the faults of each index are by it in one pass
 abbrev pub IsRanked : (ℕ → Fault → Type 0) → ℕ → Recording → Type 0
@@ -69,11 +49,11 @@ module _ (start : Space) (At : ℕ → Fault → Type 0) where
         let s = ranks index fault first.is_among in
         let ordered : slice_cmp nat_cmp (pass ∷ among.0 ∷ r.0 ∷ []) (pass ∷ index ∷ s.0 ∷ []) ≡ Less =
         subst (λ b. slice_cmp nat_cmp (pass ∷ among.0 ∷ r.0 ∷ []) b ≡ Less) s.1 (subst (λ a. slice_cmp nat_cmp a (rank trace fault) ≡ Less) r.1 earlier) in
-        elim (earlier_cases pass among.0 r.0 pass index s.0 ordered) [
+        elim (below_from_less pass among.0 r.0 pass index s.0 ordered) [
           | inl low ↦ absurd (omega arith)
-          | inr same ↦ elim same.1 [
-            | inl low ↦ none among.0 low other among.1 holds
-            | inr also ↦ first.none_earlier other (subst (λ k. At k other) also.0 among.1) holds earlier
+          | inr same ↦ elim same [
+            | inl low ↦ none among.0 low.1 other among.1 holds
+            | inr also ↦ first.none_earlier other (subst (λ k. At k other) also.1 among.1) holds earlier
           ]
         ];
   }
@@ -95,11 +75,11 @@ first_of_all = first_from no_pages
 -- of two faults of one index the earlier one has the lower number
 pub lower_number : (p i m j n : ℕ) → slice_cmp nat_cmp (p ∷ i ∷ m ∷ []) (p ∷ j ∷ n ∷ []) ≡ Less → i ≡ j → m < n
 lower_number p i m j n e same =
-    elim (earlier_cases p i m p j n e) [
+    elim (below_from_less p i m p j n e) [
       | inl low ↦ absurd (omega arith)
-      | inr rest ↦ elim rest.1 [
-        | inl low ↦ absurd (omega arith)
-        | inr also ↦ also.1
+      | inr rest ↦ elim rest [
+        | inl low ↦ (let less = low.1 in absurd (omega arith))
+        | inr also ↦ also.2
       ]
     ]
 

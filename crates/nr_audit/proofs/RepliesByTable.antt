@@ -11,10 +11,9 @@ use Rattle.std.proofs.lemmas.Bool.{cases_lt, eq-eqb, cond-true, false≢true}
 use Rattle.std.proofs.lemmas.List.{get_or_past}
 use Rattle.std.specs.Prelude.{option_map}
 use Rattle.nr_trace.specs.Calls.{Invocation, read_address, address_of, call_of, IsRead, IsUpdate}
-use Rattle.nr_trace.proofs.LawsOfCalls.{not_both, reply_in_event}
+use Rattle.nr_trace.proofs.LawsOfCalls.{not_both, reply_in_event, reply_that_answers}
 use Rattle.nr_audit.specs.inside.Tables.{IsReplyBelow, AreReplies}
 use Rattle.nr_audit.specs.inside.Replies.{position_of, entries_seen}
-use Rattle.nr_audit.proofs.CallsAndReplies.{reply_by}
 
 -- the first thing that is given, where just one is
 pub only_given : {X Y : Type 0} (h : X → Option Y) (xs : List X) (i : ℕ) (x : X) (y : Y) → slice_get xs i ≡ Some x → h x ≡ Some y
@@ -49,7 +48,7 @@ replied trace call None h = none_given (says call) trace.events (λ k event repl
     (ap (λ (p : Option Event). is_some (option_and_then (λ (reply : Response). if reply.call == call then Some reply else None) (option_and_then reply_in p)))
     is ∙ ap is_some given))
 replied trace call (Some index) h =
-    let named = reply_by trace index call h.1 in
+    let named = reply_that_answers trace index call h.1 in
     let event = reply_in_event (slice_get trace.events index) named.0 named.1 in
     let gives : says call event.0 ≡ Some named.0 =
     ap (λ o. option_and_then (λ (reply : Response). if reply.call == call then Some reply else None) o) event.2

@@ -1,7 +1,8 @@
 -- What an update or a read of a trace asks, what that does to a plain space, and how it is answered.
 use Rattle.std.specs.Prelude.{◌≡◌, ℕ, Option, Some, None, option_and_then, if◌then◌else◌}
-use Rattle.vs_types.specs.Step.{look, allow}
+use Rattle.vs_types.specs.Step.{step, look, allow}
 use Rattle.vs_types.specs.declared.answer.Answer.{Answer}
+use Rattle.vs_types.specs.declared.answer.Answer.TheVariants.{Done}
 use Rattle.vs_types.specs.declared.request.Query.{Query}
 use Rattle.vs_types.specs.declared.request.Query.TheVariants.{Update, Resolve, Access}
 use Rattle.vs_plain.specs.Plain.{BoundedSpace, IsPlainStep}
@@ -17,3 +18,9 @@ abbrev pub Serves : BoundedSpace → Query → Answer → BoundedSpace → Type 
 Serves old (Update action) answer new = IsPlainStep old action answer new
 Serves old (Resolve address) answer new = (answer ≡ look old.space address) × (new ≡ old)
 Serves old (Access address mode access) answer new = (answer ≡ allow old.space address mode access) × (new ≡ old)
+
+-- an update adds a page where it is a map that is done; a read adds none
+abbrev pub AddsPage : BoundedSpace → Query → Type 0
+AddsPage old (Update action) = (step old.depth old.limit old.space action).answer ≡ Done
+AddsPage old (Resolve address) = ⊥
+AddsPage old (Access address mode access) = ⊥

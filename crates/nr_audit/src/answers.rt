@@ -1,7 +1,7 @@
 //! The pass of the answers: each call of the recorded order is served on one space, beside which each dump is compared as it
 //! comes to what the dump has applied.
 
-ghost use Rattle.std.specs.Prelude.{◌≡◌, ◌↔◌, IfOk, OnOk, IfErr, IfSome, IsTrue, length, slice_get, Some, ◌<◌};
+ghost use Rattle.std.specs.Prelude.{◌≡◌, ◌↔◌, IfOk, OnOk, IfErr, OnErr, IfSome, IsTrue, length, slice_get, Some, ◌<◌};
 ghost use Rattle.vs_types.specs.declared.limits.TheConstants.{LOG_PLACES};
 ghost use Rattle.nr_trace.specs.Laws.{HasCleanLog};
 ghost use Rattle.nr_trace.specs.Orders.{recorded_order, space_from};
@@ -11,7 +11,7 @@ ghost use Rattle.nr_audit.specs.inside.Dumps.{AreFound, HasPassed};
 ghost use Rattle.nr_audit.specs.inside.LastEvents.{AreLastEvents};
 ghost use Rattle.nr_audit.specs.inside.Search.{HasNoneFrom, IsFirstAmongFrom};
 ghost use Rattle.nr_audit.specs.inside.Passes.{IsAnswerFault};
-ghost use Rattle.nr_audit.specs.Served.{Serves};
+ghost use Rattle.nr_audit.specs.Served.{AddsPage, Serves};
 ghost use Rattle.nr_audit.specs.Verdict.{space_of};
 
 use crate::dumps::compare_dumps;
@@ -28,10 +28,12 @@ use vs_types::{Answer, Fail, Memory, Query, REPLICAS, Request};
 ///
 /// # Errors
 ///
-/// `Memory` where a growth of memory was refused.
+/// `Memory` where a growth of memory was refused, as it can be where an update adds a page: the space is as it was.
 pub fn serve(space: &mut PlainSpace, request: Request) -> Result<Answer, Memory>
     requires { IsQuery space.old.depth request }
-    ensures { IfOk result (λ answer. Serves space.old request answer space.new) }
+    ensures ok { IfOk result (λ answer. Serves space.old request answer space.new) }
+    ensures err { OnErr result (space.new ≡ space.old) }
+    ensures for_a_page { OnErr result (AddsPage space.old request) }
 {
     match request.query() {
         Query::Update(op) => space.apply(op),

@@ -1,6 +1,7 @@
 //! The first pass: calls and replies, each by itself.
 
-ghost use Rattle.std.specs.Prelude.{◌≡◌, ◌<◌, ◌↔◌, OnOk, IfOk, IfErr, IfSome, IsSomeAnd, IsTrue, is_some, length, option_map, slice_index_or};
+ghost use Rattle.std.specs.Prelude.{◌≡◌, ◌<◌, ◌↔◌, OnOk, IfOk, IfErr, IfSome, IsSomeAnd, IsTrue};
+ghost use Rattle.std.specs.Prelude.{is_some, length, option_map, slice_index_or};
 ghost use Rattle.vs_types.specs.Refusal.{IfRefused};
 ghost use Rattle.nr_trace.specs.Calls.{made_by};
 ghost use Rattle.nr_audit.specs.inside.Search.{HasNone, IsFirstAmong};

@@ -67,7 +67,8 @@ pub(crate) fn check_replies(
     requires log { HasNone IsLogFault history.now }
     requires table { ArePlaces history.now places.items }
     ensures reads { IfOk result
-        (λ standing. AreReads history.now standing.chains.lasts.items standing.chains.rows.items) }
+        (λ standing. AreReads history.now standing.chains.lasts.items
+        standing.chains.places_or_reads.items) }
     ensures needs { IfOk result
         (λ standing. AreNeeds history.now (length history.now.events) standing.needed) }
     ensures clean { OnOk result

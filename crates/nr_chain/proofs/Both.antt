@@ -10,11 +10,11 @@ use Rattle.vs_walk.specs.Dump.{Image}
 use Rattle.nr_trace.specs.Recording.{IsThere, Recording}
 use Rattle.nr_trace.specs.Calls.{Invocation, call_of, operation_of, IsOrdered, IsUpdate, IsRead, Response, reply_to, IsAnswered, Precedes}
 use Rattle.nr_trace.specs.Orders.{before, updates, space_from, answer_in, HasItsCalls, KeepsPrecedence, HasAnswersFrom, FitsFrom}
-use Rattle.nr_trace.proofs.LawsOfLists.{In, Contains-from_in, in_from_Contains, in_left, in_right, in_either, in_filter, in_filtered, distinct_append}
+use Rattle.nr_trace.proofs.LawsOfLists.{In, Contains-from_in, in_from_Contains, in_left, in_right, in_either, in_filter, in_filtered, distinct_append, in_mapped}
 use Rattle.nr_trace.proofs.LawsOfCalls.{call_within, is_some_from, ordered_from_made, ordered_is_call}
 use Rattle.nr_chain.specs.Joined.{Segment, dump_behind, calls_behind, joined_traces, both}
 use Rattle.nr_chain.specs.Run.{IsRightFrom, HasFittingDumpsFrom, space_behind}
-use Rattle.nr_chain.proofs.Lists.{in_map, not_in_behind, in_behind, behind_distinct, before_left, before_right, before_behind, before_in, split_at, of_mapped}
+use Rattle.nr_chain.proofs.Lists.{not_in_behind, in_behind, behind_distinct, before_left, before_right, before_behind, before_in, split_at, of_mapped}
 use Rattle.nr_chain.proofs.Parts.{call_left, call_right, reply_behind, reply_to_left, reply_to_right, HasEarlierCalls, answered_left, answered_right}
 use Rattle.nr_chain.proofs.Places.{is_ordered_left, is_ordered_from_left, is_ordered_right, is_ordered_from_right, is_read_left}
 use Rattle.nr_chain.proofs.Parts.{is_call_left, is_call_right, is_update_left, is_update_from_left, is_update_right}
@@ -62,7 +62,7 @@ module _ (start : Space) (first second : Segment) (same_layout : second.trace.la
   from_right k i =
       Contains-from_in (length first.trace.events + k) order
       (in_right (length first.trace.events + k) first.order (calls_behind (length first.trace.events) second.order)
-      (in_map (λ (call : ℕ). length first.trace.events + call) k second.order i))
+      (in_mapped (λ (call : ℕ). length first.trace.events + call) second.order k i))
 
   before_first_member : (call : ℕ) → In call first.order → before call order ≡ before call first.order
   before_first_member call i = before_left call first.order (calls_behind (length first.trace.events) second.order) i
@@ -167,7 +167,7 @@ module _ (start : Space) (first second : Segment) (same_layout : second.trace.la
         subst (λ (calls : List ℕ). Contains calls (length first.trace.events + i)) (sym (before_second_member j))
         (Contains-from_in (length first.trace.events + i) (first.order ++ calls_behind (length first.trace.events) (before j second.order))
         (in_right (length first.trace.events + i) first.order (calls_behind (length first.trace.events) (before j second.order))
-        (in_map (λ (call : ℕ). length first.trace.events + call) i (before j second.order) (in_from_Contains i (before j second.order) earlier_one))))
+        (in_mapped (λ (call : ℕ). length first.trace.events + call) (before j second.order) i (in_from_Contains i (before j second.order) earlier_one))))
 
     abbrev Side : ℕ → Type 0
     Side call = (call < length first.trace.events) ⊎ ((k : ℕ) × (call ≡ length first.trace.events + k))
@@ -289,7 +289,7 @@ module _ (start : Space) (first second : Segment) (same_layout : second.trace.la
         subst (λ (calls : List ℕ). Contains calls (length first.trace.events + k)) (sym taken)
         (Contains-from_in (length first.trace.events + k) (first.trace.log ++ calls_behind (length first.trace.events) applied)
         (in_right (length first.trace.events + k) first.trace.log (calls_behind (length first.trace.events) applied)
-        (in_map (λ (call : ℕ). length first.trace.events + call) k applied (in_from_Contains k applied h))))
+        (in_mapped (λ (call : ℕ). length first.trace.events + call) applied k (in_from_Contains k applied h))))
 
     own_updates : (call : ℕ) (made : Invocation) → call_of whole call ≡ Some made → made.replica ≡ replica → IsUpdate whole call → IsAnswered whole call
         → Contains all_applied call

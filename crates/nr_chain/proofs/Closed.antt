@@ -2,10 +2,10 @@
 use Rattle.std.proofs.Common.{◌≡◌, ℕ, ◌+◌, ◌<◌, ◌⊎◌, inl, inr, length, Some, sym, ◌∙◌, subst, arith}
 use Rattle.nr_trace.specs.Recording.{Recording}
 use Rattle.nr_trace.specs.Calls.{Invocation, call_of, IsCall, reply_to, IsAnswered, Answers, Precedes, IsWellFormedHistory}
-use Rattle.nr_trace.proofs.LawsOfCalls.{the_some, is_some_from, reply_event, answers_from}
+use Rattle.nr_trace.proofs.LawsOfCalls.{answers_from, is_some_from, reply_below, reply_event, the_some}
 use Rattle.nr_chain.specs.Joined.{joined_traces}
 use Rattle.nr_chain.proofs.Lists.{split_at}
-use Rattle.nr_chain.proofs.Parts.{call_left, call_right, answers_to_left, answers_to_right, within_events}
+use Rattle.nr_chain.proofs.Parts.{call_left, call_right, answers_to_left, answers_to_right}
 use Rattle.nr_chain.proofs.History.{history_both, history_from}
 
 -- an answered call is answered by some event
@@ -13,7 +13,7 @@ pub answering : (trace : Recording) (call : ℕ) → IsAnswered trace call → (
 answering trace call answered =
     let (reply, is) = the_some (reply_to trace call) answered in
     let (index, here, named) = reply_event trace call reply is in
-    (index, within_events trace index reply here, answers_from trace index call reply here named)
+    (index, reply_below trace index reply here, answers_from trace index call reply here named)
 
 module _ (first second : Recording) (before : IsWellFormedHistory first) (behind : IsWellFormedHistory second)
     (closed : (call : ℕ) → IsCall first call → IsAnswered first call) where

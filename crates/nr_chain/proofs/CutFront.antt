@@ -13,7 +13,7 @@ use Rattle.nr_trace.specs.declared.fault.Fault.TheVariants.{Format, ThreadOpen, 
 use Rattle.nr_trace.specs.declared.fault.Fault.TheVariants.{WrongAnswer, PrefixPastLog, PrefixShort, MissingFrame, SharedFrame, ReservedBit, StrayFrame}
 use Rattle.nr_trace.specs.declared.fault.Fault.TheVariants.{Differs}
 use Rattle.nr_trace.proofs.LawsOfLists.{In}
-use Rattle.nr_trace.proofs.LawsOfCalls.{call_within, is_some_from, update_is_call, read_is_call, update_from_not_not, behind_its_call, answered_stands}
+use Rattle.nr_trace.proofs.LawsOfCalls.{answered_stands, behind_its_call, call_within, is_some_from, read_is_call, reply_below, update_from_not_not, update_is_call}
 use Rattle.nr_trace.proofs.LawsOfCalls.{ordered_from_made}
 use Rattle.nr_trace.proofs.LawsOfOrder.{member_stands, standing_is_member}
 use Rattle.nr_trace.proofs.LawsOfPrecedence.{known_of_read}
@@ -21,7 +21,7 @@ use Rattle.nr_chain.specs.Cut.{IsClosed, without_dumps}
 use Rattle.nr_chain.specs.Joined.{calls_behind, joined_traces}
 use Rattle.nr_chain.proofs.Lists.{before_left, before_in}
 use Rattle.nr_chain.proofs.Orders.{space_left}
-use Rattle.nr_chain.proofs.Parts.{call_left, reply_left, HasEarlierCalls, within_events, answers_left, answers_to_left, reply_to_left, is_call_left}
+use Rattle.nr_chain.proofs.Parts.{call_left, reply_left, HasEarlierCalls, answers_left, answers_to_left, reply_to_left, is_call_left}
 use Rattle.nr_chain.proofs.Parts.{is_update_left, is_update_from_left}
 use Rattle.nr_chain.proofs.Places.{is_read_from_left, placed_left, placed_in, placed_before, PlacedRight, stands_left, known_left, floor_above, knows_more}
 use Rattle.nr_chain.proofs.Recorded.{recorded_both}
@@ -42,7 +42,7 @@ module _ (start : Space) (first second : Recording) (closed : IsClosed first) (f
   whole = joined_traces first second
 
   there : (index : ℕ) (reply : Response) → reply_of first index ≡ Some reply → reply_of whole index ≡ Some reply
-  there index reply is = reply_left first second index (within_events first index reply is) ∙ is
+  there index reply is = reply_left first second index (reply_below first index reply is) ∙ is
 
   opens_once : (index : ℕ) → OpensTwice first index → ⊥
   opens_once index h =
@@ -61,7 +61,7 @@ module _ (start : Space) (first second : Recording) (closed : IsClosed first) (f
 
   replies : (index : ℕ) (reply : Response) → reply_of first index ≡ Some reply → (reply.call < index) × IsCall first reply.call
   replies index reply is =
-      let within : index < length first.events = within_events first index reply is in
+      let within : index < length first.events = reply_below first index reply is in
       let (lower, is_call) = behind_its_call whole index reply (λ h. faultless (NoSuchCall index) h) (there index reply is) in
       (lower, is_call_left first second reply.call (omega arith) is_call)
 
@@ -98,7 +98,7 @@ module _ (start : Space) (first second : Recording) (closed : IsClosed first) (f
             → (slice_get first.log (length first.log) ≡ Some next) ⊎ PlacedRight first second (length first.log) next → ⊥
         by_side next here u known (inl own) = let m = slice_get_within first.log (length first.log) next own in omega arith
         by_side next here u known (inr (at, e, own, own_is, same)) =
-            let lower : index < length first.events = within_events first index reply is in
+            let lower : index < length first.events = reply_below first index reply is in
             let behind : index < next = omega arith in
             let more : length first.log < known_by whole reply = omega arith in
             faultless (Early next) (

@@ -18,7 +18,7 @@ use Rattle.nr_trace.specs.declared.fault.Fault.{Fault}
 use Rattle.nr_trace.specs.declared.fault.Fault.TheVariants.{Format, ThreadOpen, NoSuchCall, AnsweredTwice, NotAnUpdate, PlacedTwice, NotPlaced, PastLog, Early}
 use Rattle.nr_trace.specs.declared.fault.Fault.TheVariants.{WrongAnswer, PrefixPastLog, PrefixShort, MissingFrame, SharedFrame, ReservedBit, StrayFrame}
 use Rattle.nr_trace.specs.declared.fault.Fault.TheVariants.{Differs}
-use Rattle.nr_trace.proofs.LawsOfCalls.{call_within, is_some_from, reply_behind_call, reply_is_first, ordered_from_made, ordered_or_touch, the_some}
+use Rattle.nr_trace.proofs.LawsOfCalls.{answers_within, call_within, is_some_from, ordered_from_made, ordered_or_touch, reply_behind_call, reply_is_first, the_some}
 use Rattle.nr_trace.proofs.LawsOfCalls.{answered_stands, not_both}
 use Rattle.nr_trace.proofs.LawsOfDumps.{clean_if_faultless}
 use Rattle.nr_trace.proofs.LawsOfOrder.{standing_is_member}
@@ -27,7 +27,7 @@ use Rattle.nr_chain.specs.Cut.{IsClosed, without_dumps}
 use Rattle.nr_chain.specs.Joined.{calls_behind, dump_behind, joined_traces}
 use Rattle.nr_chain.proofs.Lists.{split_at, of_mapped, before_left}
 use Rattle.nr_chain.proofs.Orders.{space_left}
-use Rattle.nr_chain.proofs.Parts.{call_left, call_right, reply_left, reply_from_right, reply_behind, HasEarlierCalls, answers_within, answered_left}
+use Rattle.nr_chain.proofs.Parts.{call_left, call_right, reply_left, reply_from_right, reply_behind, HasEarlierCalls, answered_left}
 use Rattle.nr_chain.proofs.Parts.{answered_right}
 use Rattle.nr_chain.proofs.Parts.{answers_to_left, answers_to_right, reply_to_left, reply_to_right, is_call_from_left, is_call_from_right}
 use Rattle.nr_chain.proofs.Parts.{is_update_left, is_update_from_left, is_update_right, is_update_from_right, is_read_right}

@@ -9,42 +9,17 @@ use Rattle.std.proofs.lemmas.Bool.{cases_eq, cases_lt}
 use Rattle.std.proofs.lemmas.List.{append_assoc, append-nil, map-append}
 use Rattle.std.proofs.lemmas.Option.{none-some, same_Some}
 use Rattle.nr_trace.specs.Orders.{before, below}
-use Rattle.nr_trace.proofs.LawsOfLists.{In, absent_from, absent_not_in, before_here, before_there}
+use Rattle.nr_trace.proofs.LawsOfLists.{In, absent_from, absent_not_in, before_here, before_there, in_map}
 use Rattle.nr_chain.specs.Joined.{calls_behind}
-
--- ---- elements by their index
-
-pub get_left : {X : Type 0} (xs ys : List X) (k : ℕ) → k < length xs → slice_get (xs ++ ys) k ≡ slice_get xs k
-get_left [] ys k l = absurd (omega arith)
-get_left (x ∷ xs) ys zero l = refl
-get_left (x ∷ xs) ys (suc k) l = get_left xs ys k (omega arith)
-
-pub get_right : {X : Type 0} (xs ys : List X) (k : ℕ) → slice_get (xs ++ ys) (length xs + k) ≡ slice_get ys k
-get_right [] ys k =
-    let same : 0 + k ≡ k = omega arith in
-    ap (slice_get ys) same
-get_right (x ∷ xs) ys k =
-    let next : suc (length xs) + k ≡ suc (length xs + k) = omega arith in
-    ap (slice_get ((x ∷ xs) ++ ys)) next ∙ get_right xs ys k
 
 -- ---- what is in a list
 
-pub in_map : {X Y : Type 0} (f : X → Y) (x : X) (xs : List X) → In x xs → In (f x) (map f xs)
-in_map f x [] i = i
-in_map f x (y ∷ ys) (inl e) = inl (ap f e)
-in_map f x (y ∷ ys) (inr i) = inr (in_map f x ys i)
-
-pub in_mapped : {X Y : Type 0} (f : X → Y) (y : Y) (xs : List X) → In y (map f xs) → (x : X) × In x xs × (f x ≡ y)
-in_mapped f y [] i = absurd i
-in_mapped f y (x ∷ xs) (inl e) = (x, inl refl, e)
-in_mapped f y (x ∷ xs) (inr i) = let (z, j, e) = in_mapped f y xs i in (z, inr j, e)
-
 pub not_in_behind : (n x : ℕ) (xs : List ℕ) → x < n → In x (calls_behind n xs) → ⊥
-not_in_behind n x xs l i = let (y, j, e) = in_mapped (λ (y : ℕ). n + y) x xs i in omega arith
+not_in_behind n x xs l i = let (y, j, e) = in_map (λ (y : ℕ). n + y) xs x i in omega arith
 
 pub in_behind : (n x : ℕ) (xs : List ℕ) → In (n + x) (calls_behind n xs) → In x xs
 in_behind n x xs i =
-    let (y, j, e) = in_mapped (λ (y : ℕ). n + y) (n + x) xs i in
+    let (y, j, e) = in_map (λ (y : ℕ). n + y) xs (n + x) i in
     let same : y ≡ x = omega arith in
     subst (λ (z : ℕ). In z xs) same j
 

@@ -5,16 +5,17 @@ use Rattle.std.specs.Prelude.{filter_map}
 use Rattle.std.proofs.lemmas.Bool.{cases_eq}
 use Rattle.std.proofs.lemmas.List.{append-nil}
 use Rattle.std.proofs.lemmas.List.Elements.{filter_map-append}
-use Rattle.std.proofs.lemmas.Option.{slice_get-map, slice_get_within}
+use Rattle.std.proofs.lemmas.Option.{slice_get-map}
+use Rattle.vs_types.proofs.Lists.{get_left, get_right}
 use Rattle.nr_trace.specs.Recording.{Recording}
 use Rattle.nr_trace.specs.Calls.{Invocation, made_by, call_of, operation_in, read_address, operation_of, address_of, touch_of, IsCall, IsUpdate, IsRead}
 use Rattle.nr_trace.specs.Calls.{Response}
 use Rattle.nr_trace.specs.Calls.{reply_in, reply_of, reply_to, IsAnswered, Answers}
 use Rattle.nr_trace.specs.declared.event.Event.{Event}
 use Rattle.nr_trace.specs.declared.event.Event.TheVariants.{Reply}
-use Rattle.nr_trace.proofs.LawsOfCalls.{answers_from, reply_that_answers, reply_in_event}
+use Rattle.nr_trace.proofs.LawsOfCalls.{answers_from, reply_below, reply_that_answers}
 use Rattle.nr_chain.specs.Joined.{event_behind, joined_traces}
-use Rattle.nr_chain.proofs.Lists.{get_left, get_right, split_at, of_mapped, some_of_mapped, mapped_some, filter_map-map, none_given, none_of_mapped}
+use Rattle.nr_chain.proofs.Lists.{split_at, of_mapped, some_of_mapped, mapped_some, filter_map-map, none_given, none_of_mapped}
 
 -- ---- calls
 
@@ -94,17 +95,7 @@ reply_from_right first second index reply is =
 abbrev pub HasEarlierCalls : Recording → Type 0
 HasEarlierCalls trace = (index : ℕ) (reply : Response) → reply_of trace index ≡ Some reply → reply.call < index
 
-pub within_events : (trace : Recording) (index : ℕ) (reply : Response) → reply_of trace index ≡ Some reply → index < length trace.events
-within_events trace index reply is =
-    let (event, at, gives) = reply_in_event (slice_get trace.events index) reply is in
-    slice_get_within trace.events index event at
-
 -- ---- which event answers a call
-
-pub answers_within : (trace : Recording) (index call : ℕ) → Answers trace index call → index < length trace.events
-answers_within trace index call h =
-    let (reply, is, named) = reply_that_answers trace index call h in
-    within_events trace index reply is
 
 pub answers_left : (first second : Recording) (index call : ℕ) → index < length first.events → Answers (joined_traces first second) index call
     → Answers first index call
@@ -115,7 +106,7 @@ answers_left first second index call l h =
 pub answers_to_left : (first second : Recording) (index call : ℕ) → Answers first index call → Answers (joined_traces first second) index call
 answers_to_left first second index call h =
     let (reply, is, named) = reply_that_answers first index call h in
-    answers_from (joined_traces first second) index call reply (reply_left first second index (within_events first index reply is) ∙ is) named
+    answers_from (joined_traces first second) index call reply (reply_left first second index (reply_below first index reply is) ∙ is) named
 
 pub answers_right : (first second : Recording) (index call : ℕ)
     → Answers (joined_traces first second) (length first.events + index) (length first.events + call)
@@ -236,7 +227,7 @@ none_before trace call earlier =
       apart : (index : ℕ) (reply : Response) → reply_of trace index ≡ Some reply → reply.call ≡ length trace.events + call → ⊥
       apart index reply is named =
           let lower : reply.call < index = earlier index reply is in
-          let within : index < length trace.events = within_events trace index reply is in
+          let within : index < length trace.events = reply_below trace index reply is in
           omega arith
 
 pub reply_to_right : (first second : Recording) (call : ℕ) → HasEarlierCalls first

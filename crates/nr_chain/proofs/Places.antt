@@ -8,14 +8,15 @@ use Rattle.std.proofs.lemmas.Bool.{cases_lt}
 use Rattle.std.proofs.lemmas.Option.{none-some, slice_get-map, slice_get_within}
 use Rattle.vs_types.specs.declared.op.Action.{Action}
 use Rattle.vs_types.specs.declared.request.Query.{Query}
+use Rattle.vs_types.proofs.Lists.{get_left, get_right}
 use Rattle.nr_trace.specs.Recording.{Recording}
 use Rattle.nr_trace.specs.Calls.{operation_of, touch_of, IsOrdered, IsRead, Response, reply_in, reply_of, reply_to}
 use Rattle.nr_trace.specs.Orders.{known_by, floor}
 use Rattle.nr_trace.specs.Faults.{StandsAfter}
-use Rattle.nr_trace.proofs.LawsOfLists.{In}
+use Rattle.nr_trace.proofs.LawsOfLists.{In, in_map}
 use Rattle.nr_trace.proofs.LawsOfPrecedence.{known_below_floor}
 use Rattle.nr_chain.specs.Joined.{calls_behind, joined_traces}
-use Rattle.nr_chain.proofs.Lists.{get_left, get_right, split_at, of_mapped, in_mapped}
+use Rattle.nr_chain.proofs.Lists.{split_at, of_mapped}
 use Rattle.nr_chain.proofs.Parts.{operation_left, operation_right, address_left, address_right, touch_left, touch_right, reply_behind, HasEarlierCalls}
 use Rattle.nr_chain.proofs.Parts.{reply_to_left, reply_to_right}
 use Rattle.nr_chain.proofs.Parts.{is_update_left, is_update_from_left, is_update_right, is_update_from_right, is_read_right}
@@ -205,7 +206,7 @@ knows_more trace call entries l = by_side (max_of 0 entries (map (known_by trace
       → KnowsMore trace call entries
   by_side (inl m) = absurd (omega arith)
   by_side (inr (k, i, m)) =
-      let (reply, j, same) = in_mapped (known_by trace) k (filter_map reply_in (take call trace.events)) i in
+      let (reply, j, same) = in_map (known_by trace) (filter_map reply_in (take call trace.events)) k i in
       let (index, event, at, gives) = given_at reply_in (take call trace.events) reply j in
       let (lower, here) = get_taken trace.events call index event at in
       let is : reply_of trace index ≡ Some reply = ap (option_and_then reply_in) here ∙ gives in

@@ -8,6 +8,7 @@ use Rattle.std.proofs.lemmas.List.{append_assoc, append-nil, length-append, leng
 use Rattle.std.proofs.lemmas.List.Concat.{flat_map-append}
 use Rattle.std.proofs.lemmas.List.Elements.{filter-append}
 use Rattle.std.proofs.lemmas.Option.{slice_get-map, slice_get_past}
+use Rattle.vs_types.proofs.Lists.{get_left, get_right}
 use Rattle.nr_trace.specs.Recording.{Recording}
 use Rattle.nr_trace.specs.Calls.{address_of, Response, reply_to}
 use Rattle.nr_trace.specs.Orders.{below, reads_at, recorded_order}
@@ -16,7 +17,7 @@ use Rattle.nr_trace.proofs.LawsOfLists.{In, in_below, flat_map_next}
 use Rattle.nr_trace.proofs.LawsOfCalls.{answered_stands, reply_behind_call}
 use Rattle.nr_trace.proofs.LawsOfOrder.{saw, block, in_reads_at}
 use Rattle.nr_chain.specs.Joined.{event_behind, calls_behind, joined_traces}
-use Rattle.nr_chain.proofs.Lists.{get_left, get_right, filter_same, filter-map, none_kept, below_behind, flat_map_same, flat_map-map, nil_if_none}
+use Rattle.nr_chain.proofs.Lists.{filter_same, filter-map, none_kept, below_behind, flat_map_same, flat_map-map, nil_if_none}
 use Rattle.nr_chain.proofs.Lists.{to_list_of_mapped}
 use Rattle.nr_chain.proofs.Parts.{address_left, address_right, reply_behind, HasEarlierCalls, reply_to_left, reply_to_right}
 

@@ -20,12 +20,14 @@ use Rattle.vs_walk.specs.Dump.{Image}
 use Rattle.vs_walk.specs.Memory.{AreWhole}
 use Rattle.vs_walk.specs.Walk.{TranslatesAs}
 use Rattle.vs_walk.proofs.LawsOfFoundSpaces.{found_space}
+use Rattle.vs_walk.specs.Traversal.{found_in}
+use Rattle.vs_walk.proofs.Leasts.{none_from_no_least}
 use Rattle.nr_dump.specs.Faults.{HoldsOfDump, rank_in_dump}
 use Rattle.nr_dump.specs.declared.fault.DumpFault.{DumpFault}
 use Rattle.nr_dump.specs.declared.fault.DumpFault.TheVariants as dumps
 use Rattle.nr_trace.specs.Recording.{IsRecording, IsStart, Recording}
 use Rattle.nr_trace.specs.Faults.{HasFaultFrom}
-use Rattle.nr_segment.specs.Start.{found_in, space_of_pages, start_space, HasPageBeyond, HoldsOfStart}
+use Rattle.nr_segment.specs.Start.{space_of_pages, start_space, HasPageBeyond, HoldsOfStart}
 use Rattle.nr_segment.specs.Touches.{HasRightTouches, IsStale}
 use Rattle.nr_segment.specs.Faults.{HasNoFaultAfter, IsSoundAfter}
 use Rattle.nr_segment.specs.declared.fault.StartFault.{StartFault}
@@ -35,7 +37,6 @@ use Rattle.nr_segment.specs.inside.Begun.{HasNoneBeyond, HasRightTables}
 use Rattle.nr_segment.proofs.FilledSpaces.{of_own_pages}
 use Rattle.nr_chain.specs.Headline.{BeginsIn}
 use Rattle.nr_segment.proofs.Starts.{found_apart, none_differs, right_tables}
-use Rattle.nr_trace.proofs.LawsOfDumps.{none_from_no_least}
 
 -- what is found at a number is one of the values
 valued : (q : ℕ) (es : List (ℕ × List ℕ)) (words : List ℕ) → entries.find nat_cmp q es ≡ Some words → Contains (map (λ (e : ℕ × List ℕ). e.1) es) words

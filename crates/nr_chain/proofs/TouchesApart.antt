@@ -1,14 +1,15 @@
 -- Where a run that is cut in two has right touches, so have the two, if no call is open at the cut.
-use Rattle.std.proofs.Common.{◌≡◌, ℕ, zero, suc, ◌+◌, ◌-◌, ◌<◌, ◌≤◌, ◌⊎◌, inl, inr, List, length, get_or, slice_get, Some, option_map, ap, sym, ◌∙◌, subst}
+use Rattle.std.proofs.Common.{◌≡◌, ℕ, zero, suc, ◌+◌, ◌-◌, ◌<◌, ◌≤◌, ◌⊎◌, inl, inr, length, option_map, ap, sym, ◌∙◌, subst}
 use Rattle.std.proofs.Common.{arith}
 use Rattle.std.proofs.lemmas.Bool.{cases_lt}
-use Rattle.std.proofs.lemmas.Option.{slice_get_within, slice_get-get_or}
+use Rattle.std.proofs.lemmas.Option.{slice_get_within}
 use Rattle.vs_types.specs.Space.{Space}
 use Rattle.vs_types.specs.Step.{allow, allow_in_page}
+use Rattle.vs_types.proofs.Lists.{item_of}
 use Rattle.nr_trace.specs.Recording.{Recording}
 use Rattle.nr_trace.specs.Laws.{HasCleanLog}
 use Rattle.nr_trace.specs.Orders.{space_from}
-use Rattle.nr_trace.proofs.LawsOfCalls.{placed_is_update, reply_behind_call, update_is_call}
+use Rattle.nr_trace.proofs.LawsOfCalls.{answers_within, placed_is_update, reply_behind_call, reply_below, update_is_call}
 use Rattle.nr_touch.specs.Touches.{page_after, ChangesLook, IsAnsweredBefore, IsMadeAfter, IsRightTouch}
 use Rattle.nr_touch.specs.declared.touch.Touch.{Touch}
 use Rattle.nr_touch.proofs.QuietPages.{same_look}
@@ -18,7 +19,7 @@ use Rattle.nr_chain.specs.Joined.{joined_traces}
 use Rattle.nr_chain.proofs.CutRest.{log_within}
 use Rattle.nr_chain.proofs.Lists.{split_at}
 use Rattle.nr_chain.proofs.Orders.{AreOf}
-use Rattle.nr_chain.proofs.Parts.{touch_left, touch_right, reply_behind, reply_left, reply_right, within_events, answers_within, answers_to_left}
+use Rattle.nr_chain.proofs.Parts.{touch_left, touch_right, reply_behind, reply_left, reply_right, answers_to_left}
 use Rattle.nr_chain.proofs.Parts.{answers_to_right}
 use Rattle.nr_chain.proofs.Places.{placed_left, placed_right}
 use Rattle.nr_chain.proofs.Touched.{touch_behind, whole_log, space_front, look_front, look_rest, changes_to_front, changes_to_rest, touches_both}
@@ -40,9 +41,6 @@ same_between : (start : Space) (trace : Recording) (address n m : ℕ) → n ≤
 same_between start trace address n m le none =
     let it : n + (m - n) ≡ m = omega arith in
     same_after start trace address n (m - n) (λ place low high. none place low (omega arith)) ∙ ap (page_after start trace address) it
-
-some_at : {X : Type 0} (xs : List X) (k : ℕ) → k < length xs → (d : X) → (x : X) × (slice_get xs k ≡ Some x)
-some_at xs k l d = (get_or xs k d, slice_get-get_or xs k d l)
 
 module _ (start : Space) (first second : Recording) (same_layout : second.layout ≡ first.layout) (closed : IsClosed first) (clean : HasCleanLog first) where
   abbrev whole : Recording
@@ -82,7 +80,7 @@ module _ (start : Space) (first second : Recording) (same_layout : second.layout
         let long = whole_log start first second same_layout own in
         let k = place - length first.log in
         let at : place ≡ length first.log + k = omega arith in
-        let (call, is) = some_at second.log k (omega (arith, long, allowed.within)) 0 in
+        let (call, is) = item_of second.log k (omega (arith, long, allowed.within)) in
         let late : n ≤ length first.log + k = allowed.not_foreseen (length first.log + k) (subst (ChangesLook start whole touch.address) at changes)
         (length first.events + call, placed_right first second k call is, omega arith) in
         omega arith
@@ -145,7 +143,7 @@ module _ (start : Space) (first second : Recording) (same_layout : second.layout
     -- what comes before the cut was answered before the touch was made
     unchanged : (place : ℕ) → n ≤ place → place < length first.log → ChangesLook start whole touch.address place → ⊥
     unchanged place low high changes =
-        let (call, is) = some_at first.log place high 0 in
+        let (call, is) = item_of first.log place high in
         let (reply, answers) = closed.answered call (update_is_call first call (placed_is_update first place call clean is)) in
         let inside : reply < length first.events = answers_within first reply call answers in
         let early : place < n = allowed.flushed place changes
@@ -176,7 +174,7 @@ module _ (start : Space) (first second : Recording) (same_layout : second.layout
   asked_first : (touch : Touch) → HasTouch first touch → (touch.made < length first.events) × (touch.answered < length first.events)
   asked_first touch has =
       let behind = reply_behind_call first touch.answered has.reply clean has.is_reply in
-      let inside = within_events first touch.answered has.reply has.is_reply in
+      let inside = reply_below first touch.answered has.reply has.is_reply in
       (omega (arith, behind.0, has.of_it), inside)
 
   has_front : (touch : Touch) → HasTouch first touch → HasTouch whole touch

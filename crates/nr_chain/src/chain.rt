@@ -45,7 +45,8 @@ impl Model for Chain {
 
     ghost Value = { ChainFed };
 
-    ghost coded = { Prim.hlevel (codes, finite.code {R = nat_cmp} coded_ℕ page_contract.the_row.coded) };
+    ghost coded = { Prim.hlevel
+        (codes, finite.code {R = nat_cmp} coded_ℕ page_contract.the_row.coded) };
 
     ghost view = { λ c.
         record { kept = option_map kept_by c.last; bytes = bytes_in c.feed.pieces } };

@@ -73,8 +73,8 @@ pub fn histories_follow()
 /// none, the second from the space after the first. Dumps are of the second alone, and each has applied the whole log of the
 /// first: of a run with a dump of fewer entries nothing is said.
 pub fn a_cut_makes_no_difference()
-    ensures { (start : Space) (first second : Recording) → second.layout ≡ first.layout → IsClosed first
-        → IsFaultlessFrom start (joined_traces first second)
+    ensures { (start : Space) (first second : Recording) → second.layout ≡ first.layout
+        → IsClosed first → IsFaultlessFrom start (joined_traces first second)
         ↔ (IsFaultlessFrom start (without_dumps first)
         × IsFaultlessFrom (space_from start first first.log) second) }
 {}

@@ -1,3 +1,5 @@
+//! What an audit of a chain finds.
+
 use nr_audit::Order;
 use nr_segment::SegmentFault;
 

@@ -1,5 +1,5 @@
 -- A dump without a fault fits the space, and at most one fault is the first.
-use Rattle.std.proofs.Common.{◌≡◌, ◌≢◌, ℕ, zero, suc, ◌<◌, Bool, true, false, List, [], ◌∷◌, Option, Some, None, ◌⊎◌, inl, inr, ⊎_elim, refl, ap, ◌∙◌, arith}
+use Rattle.std.proofs.Common.{◌≡◌, ◌≢◌, ℕ, Bool, true, false, List, [], ◌∷◌, Option, Some, None, ◌⊎◌, inl, inr, ⊎_elim, refl, ap, ◌∙◌, arith}
 use Rattle.std.proofs.Common.{min}
 use Rattle.std.proofs.lemmas.Bool.{cases_eq, cases_lt}
 use Rattle.vs_types.specs.Space.{Space, IsSpace, pages}
@@ -10,9 +10,10 @@ use Rattle.vs_types.specs.declared.page.Size.{Size}
 use Rattle.vs_types.specs.declared.page.Size.TheVariants.{K4, M2, G1}
 use Rattle.vs_types.proofs.Pages.{same_page}
 use Rattle.vs_walk.specs.Traversal.{traversal, found, walk_fault}
-use Rattle.vs_walk.specs.Differences.{IsStray, IsLeast}
+use Rattle.vs_walk.specs.Differences.{IsStray}
 use Rattle.vs_walk.specs.Dump.{Image}
 use Rattle.vs_walk.specs.Memory.{AreWhole}
+use Rattle.vs_walk.proofs.Leasts.{none_from_no_least, one_least}
 use Rattle.vs_walk.specs.declared.walk.WalkFault.{WalkFault}
 use Rattle.vs_walk.specs.declared.walk.WalkFault.TheVariants as walks
 use Rattle.nr_dump.specs.declared.fault.DumpFault.{DumpFault}
@@ -83,15 +84,6 @@ compare_pages (p ∷ ps) (q ∷ qs) =
     behind p q same ps qs (Some base, (common, left, right, is, are, h)) =
         (Some base, (q ∷ common, left, right, ap (λ x. x ∷ ps) same ∙ ap (λ xs. q ∷ xs) is, ap (λ xs. q ∷ xs) are, h))
 
--- ---- where no number is the least with a property, none has it
-
-none_below : (P : ℕ → Type 0) → ((n : ℕ) → IsLeast P n → ⊥) → (bound n : ℕ) → n < bound → P n → ⊥
-none_below P never zero n less holds = omega arith
-none_below P never (suc bound) n less holds = never n (holds, λ other below. none_below P never bound other (omega arith))
-
-none_at_all : (P : ℕ → Type 0) → ((n : ℕ) → IsLeast P n → ⊥) → (n : ℕ) → P n → ⊥
-none_at_all P never n = none_below P never (suc n) n (omega arith)
-
 -- ---- without a fault
 
 way_without : (depth : Depth) (dump : Image) (space : Space) → HasNoFault depth dump space → walk_fault depth dump.frames dump.root ≡ None
@@ -109,20 +101,13 @@ faultless_fits depth dump space whole is clean = by_answer (compare_pages (found
   way = way_without depth dump space clean
 
   stray : NoneStray depth dump
-  stray = none_at_all (IsStray depth dump.frames dump.root) (λ number least. clean (StrayFrame number) least)
+  stray = none_from_no_least (IsStray depth dump.frames dump.root) (λ number least. clean (StrayFrame number) least)
 
   by_answer : (answer : Option ℕ) × IsCompared (found (traversal depth dump.frames dump.root)) (pages space) answer → FitsSpace depth dump space
   by_answer (None, compared) = fits_by_pages depth dump space whole way stray compared
   by_answer (Some base, compared) = absurd (clean (Differs base) (first_difference depth dump.frames dump.root space base whole is way compared))
 
 -- ---- the first fault
-
-same_least : (P : ℕ → Type 0) (m n : ℕ) → IsLeast P m → IsLeast P n → m ≡ n
-same_least P m n left right =
-    ⊎_elim
-    (λ less. absurd (right.1 m less left.0))
-    (λ le. ⊎_elim (λ more. absurd (left.1 n more right.0)) (λ ge. omega arith) (cases_lt n m))
-    (cases_lt m n)
 
 same_rank : (depth : Depth) (dump : Image) (space : Space) (fault other : DumpFault) → HoldsOfDump depth dump space fault → HoldsOfDump depth dump space other
     → rank_in_dump fault ≡ rank_in_dump other → fault ≡ other
@@ -135,8 +120,8 @@ same_rank depth dump space (SharedFrame a) (ReservedBit b i) h k same = cc
 same_rank depth dump space (ReservedBit a i) (MissingFrame b) h k same = cc
 same_rank depth dump space (ReservedBit a i) (SharedFrame b) h k same = cc
 same_rank depth dump space (ReservedBit a i) (ReservedBit b j) h k same = cc
-same_rank depth dump space (StrayFrame a) (StrayFrame b) h k same = ap StrayFrame (same_least _ a b h k)
-same_rank depth dump space (Differs a) (Differs b) h k same = ap Differs (same_least _ a b h k)
+same_rank depth dump space (StrayFrame a) (StrayFrame b) h k same = ap StrayFrame (one_least _ a b h k)
+same_rank depth dump space (Differs a) (Differs b) h k same = ap Differs (one_least _ a b h k)
 same_rank depth dump space _ _ h k same = absurd (omega arith)
 
 pub one_first : (depth : Depth) (dump : Image) (space : Space) (fault other : DumpFault) → IsFirstOfDump depth dump space fault

@@ -92,10 +92,6 @@ fits_faultless depth dump space whole fits = none where
   none (Differs address) holds = holds.0.1 (fits.translates address holds.0.0)
   none _ holds = cc (holds, way)
 
-pub fault_unfits : (depth : Depth) (dump : Image) (space : Space) (fault : DumpFault) → AreWhole dump.frames → HoldsOfDump depth dump space fault
-    → FitsSpace depth dump space → ⊥
-fault_unfits depth dump space fault whole holds fits = fits_faultless depth dump space whole fits fault holds
-
 -- ---- what check finds
 
 abbrev pub NoneStray : Depth → Image → Type 0
@@ -108,18 +104,6 @@ fits_by_pages depth dump space whole way stray same = record {
   once = reached_distinct depth dump.frames dump.root way;
   none_stray = stray;
 }
-
--- nothing comes before a fault of the traversal
-pub way_fault_first : (depth : Depth) (dump : Image) (space : Space) (fault : DumpFault) → rank_in_dump fault ≡ 1 → HoldsOfDump depth dump space fault
-    → IsFirstOfDump depth dump space fault
-way_fault_first depth dump space fault lowest holds = record {
-  holds = holds;
-  none_earlier = λ other _ earlier. not_below other (subst (λ n. rank_in_dump other < n) lowest earlier);
-}
-  where
-    not_below : (other : DumpFault) → rank_in_dump other < 1 → ⊥
-    not_below (MissingFrame number) less = omega arith
-    not_below _ less = omega arith
 
 -- before a stray frame come the faults of the traversal
 pub stray_first : (depth : Depth) (dump : Image) (space : Space) (number : ℕ) → walk_fault depth dump.frames dump.root ≡ None

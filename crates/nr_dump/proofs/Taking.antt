@@ -55,9 +55,6 @@ meets_beyond after (Some base) told page none has = cc
 
 -- ---- what a comparison says in the end
 
-pub ends_known : (pages left : List Page) (base : ℕ) (taken : List Page) → AreTaken pages left (Some base) taken → IsCompared taken pages (Some base)
-ends_known pages left base taken (common, rest, right, first, is, parts, h) = (common, first ∷ rest, right, is, parts, h)
-
 -- where no page is left
 pub ends_equal : (pages taken : List Page) → AreTaken pages [] None taken → IsCompared taken pages None
 ends_equal pages taken are = sym (are ∙ append-nil taken)

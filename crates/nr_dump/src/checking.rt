@@ -1,3 +1,5 @@
+//! The check of a dump: its tables, its frames, and what it translates.
+
 ghost use Rattle.std.specs.Prelude.{ℕ, Contains, IfErr, OnOk, IfSome, IfNone, IsSome};
 ghost use Rattle.std.specs.FinMap as finite;
 ghost use Rattle.vs_types.specs.Refusal.{IfRefused};

@@ -1,3 +1,5 @@
+//! The pages of a dump beside those of a space, by rising base.
+
 ghost use Rattle.std.specs.Prelude.{◌≡◌, ◌↔◌, ◌++◌, ◌∷◌, [], List, Option, IsTrue, IsOk, IfOk};
 ghost use Rattle.nr_dump.specs.inside.Comparing.{AreTaken, HasCompared, IsCompared};
 ghost use Rattle.vs_types.specs.declared.page.Page.{Page};

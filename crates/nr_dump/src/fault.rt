@@ -1,3 +1,5 @@
+//! What can be wrong with a dump.
+
 ghost use Rattle.std.specs.Prelude.{◌≡◌};
 ghost use Rattle.nr_dump.specs.inside.Checking.{of_walk};
 

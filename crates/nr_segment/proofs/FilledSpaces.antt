@@ -1,5 +1,5 @@
 -- The space of some pages, by rising base.
-use Rattle.std.proofs.Common.{◌≡◌, ℕ, zero, suc, ◌+◌, ◌<◌, true, false, cond, List, [], ◌∷◌, ◌++◌, length, map, take, get_or, Some, None, inl, inr, refl, sym}
+use Rattle.std.proofs.Common.{◌≡◌, ℕ, zero, suc, ◌+◌, ◌<◌, true, false, cond, List, [], ◌∷◌, ◌++◌, length, take, get_or, Some, None, inl, inr, refl, sym}
 use Rattle.std.proofs.Common.{ap, subst, ◌∙◌, arith, Contains}
 use Rattle.std.specs.Prelude.{IsTrue}
 use Rattle.std.specs.FinMap as finite
@@ -7,36 +7,21 @@ use Rattle.std.specs.FinMap.{nat_cmp-IsAntisymmetric}
 use Rattle.std.specs.FinMap.Entries as entries
 use Rattle.std.specs.Ordering.{nat_cmp, eq_by_cmp}
 use Rattle.std.specs.Cmp.{nat_cmp_total}
-use Rattle.std.proofs.lemmas.Bool.{eq-eqb, eqb-true}
+use Rattle.std.proofs.lemmas.Bool.{eq-eqb}
 use Rattle.std.proofs.lemmas.List.{get_or_default, take_more}
 use Rattle.std.proofs.lemmas.List.Elements.{All-contains, All-contains_itself, All-weaker}
 use Rattle.vs_types.specs.Page.{covers, IsPage}
 use Rattle.vs_types.specs.Space.{Space, Holds, IsSpace, pages, least_overlapped}
 use Rattle.vs_types.specs.declared.depth.Depth.{Depth}
 use Rattle.vs_types.specs.declared.page.Page.{Page}
-use Rattle.vs_types.proofs.Lists.{Contains-head, Contains-tail, Contains-cases, not_in_nil}
+use Rattle.vs_types.proofs.Lists.{Contains-cases, not_in_nil}
 use Rattle.vs_types.proofs.Overlaps.{none_overlapped}
 use Rattle.vs_types.proofs.Pages.{overlaps_shares}
 use Rattle.vs_types.proofs.Spaces.{same_key, holds_listed}
 use Rattle.vs_walk.proofs.LawsOfSpaces.{space_rises}
+use Rattle.vs_walk.proofs.LawsOfFoundSpaces.{found_under, under_bases}
 use Rattle.nr_segment.specs.Start.{space_of_pages}
 use Rattle.nr_segment.specs.inside.Begun.{AreApart}
-
-abbrev under_bases : List Page → List (ℕ × Page)
-under_bases ps = map (λ (p : Page). (p.base, p)) ps
-
--- what is found at a base is a page with that base
-found_under : (base : ℕ) (ps : List Page) (page : Page) → entries.find nat_cmp base (under_bases ps) ≡ Some page → (page.base ≡ base) × Contains ps page
-found_under base [] page e = cc
-found_under base (p ∷ ps) page e =
-    elim (eq_by_cmp nat_cmp base p.base) as (λ b. eq_by_cmp nat_cmp base p.base ≡ b → cond b (Some p) (entries.find nat_cmp base (under_bases ps)) ≡ Some page
-    → (page.base ≡ base) × Contains (p ∷ ps) page) [
-      | true ↦ λ t is.
-          let same : p ≡ page = cc in
-          let key : base ≡ p.base = eqb-true base p.base (sym (same_key base p.base) ∙ t) in
-          (ap (λ (z : Page). z.base) (sym same) ∙ sym key, subst (Contains (p ∷ ps)) same (Contains-head p ps))
-      | false ↦ λ t is. let later = found_under base ps page is in (later.0, Contains-tail p ps page later.1)
-    ] refl e
 
 -- a page of the space is one of them
 pub held_in : (ps : List Page) (page : Page) → Holds (space_of_pages ps) page → Contains ps page

@@ -9,10 +9,11 @@ use Rattle.vs_types.specs.Space.{Space}
 use Rattle.vs_types.specs.declared.depth.Depth.{Depth}
 use Rattle.vs_walk.specs.Differences.{IsLeast, IsStray, TranslatesOtherwise}
 use Rattle.vs_walk.specs.Dump.{Image}
+use Rattle.vs_walk.proofs.Leasts.{one_least}
 use Rattle.nr_trace.specs.Recording.{Recording}
 use Rattle.nr_trace.specs.Faults.{Earlier, IsFirstFrom, rank}
 use Rattle.nr_trace.specs.declared.fault.Fault.{Fault}
-use Rattle.nr_trace.proofs.LawsOfFaults.{one_first, one_least}
+use Rattle.nr_trace.proofs.LawsOfFaults.{one_first}
 use Rattle.nr_segment.specs.Start.{first_space, HasPageBeyond, HasStartFault, HoldsOfStart, rank_in_start}
 use Rattle.nr_segment.specs.Faults.{part_of, ComesBefore, IsFirstAfter}
 use Rattle.nr_segment.specs.declared.fault.StartFault.{StartFault}

@@ -1,10 +1,9 @@
 -- A start in which nothing is wrong translates as the space of its pages; so a segment with a start goes on from that space as from the start.
-use Rattle.std.proofs.Common.{◌≡◌, ℕ, ◌+◌, ◌≤◌, true, false, cond, List, [], ◌∷◌, map, Option, Some, None, inl, inr, refl, sym, ap, ◌∙◌, subst, Contains}
+use Rattle.std.proofs.Common.{◌≡◌, ℕ, ◌+◌, ◌≤◌, Option, Some, None, inl, inr, refl, sym, ap, ◌∙◌, subst}
 use Rattle.std.proofs.Common.{get_or}
 use Rattle.std.specs.Prelude.{All, IfSome}
 use Rattle.std.specs.FinMap as finite
 use Rattle.std.specs.FinMap.Entries as entries
-use Rattle.std.specs.Ordering.{nat_cmp, eq_by_cmp}
 use Rattle.std.proofs.lemmas.List.Elements.{All-contains}
 use Rattle.std.proofs.lemmas.Bool.{cases_lt}
 use Rattle.std.proofs.lemmas.List.{get_or_default}
@@ -13,20 +12,21 @@ use Rattle.vs_types.specs.Page.{bytes_of, IsPage}
 use Rattle.vs_types.specs.Space.{Space, IsSpace}
 use Rattle.vs_types.specs.declared.depth.Depth.{Depth}
 use Rattle.vs_types.specs.declared.page.TheConstants.Page.{PHYS_END}
-use Rattle.vs_types.proofs.Lists.{Contains-head, Contains-tail}
+use Rattle.vs_types.proofs.Spaces.{found_value}
 use Rattle.vs_walk.specs.Dump.{Image}
 use Rattle.vs_walk.specs.Memory.{AreWhole}
-use Rattle.vs_walk.specs.Traversal.{walk_fault}
+use Rattle.vs_walk.specs.Traversal.{walk_fault, found_in}
 use Rattle.vs_walk.specs.Walk.{TranslatesAs}
 use Rattle.vs_walk.proofs.LawsOfFoundSpaces.{found_space}
 use Rattle.vs_walk.proofs.LawsOfRising.{pages_formed}
+use Rattle.vs_walk.proofs.Leasts.{none_from_no_least}
 use Rattle.nr_dump.specs.Faults.{HasNoFault}
 use Rattle.nr_dump.specs.declared.fault.DumpFault.TheVariants.{MissingFrame, SharedFrame, ReservedBit, StrayFrame}
 use Rattle.nr_dump.specs.declared.fault.DumpFault.TheVariants as dumps
 use Rattle.nr_dump.proofs.Faultless.{faultless_fits}
 use Rattle.nr_trace.specs.Recording.{Recording, IsRecording, IsStart}
 use Rattle.nr_trace.specs.Faults.{HasFaultFrom}
-use Rattle.nr_segment.specs.Start.{first_space, found_in, space_of_pages, start_space, BeginsRight, HasPageBeyond, HasStartFault}
+use Rattle.nr_segment.specs.Start.{first_space, space_of_pages, start_space, BeginsRight, HasPageBeyond, HasStartFault}
 use Rattle.nr_segment.specs.Faults.{HasNoFaultAfter, IsSoundAfter}
 use Rattle.nr_segment.specs.Touches.{HasRightTouches, IsStale}
 use Rattle.nr_segment.specs.declared.fault.StartFault.{StartFault}
@@ -35,23 +35,14 @@ use Rattle.nr_segment.specs.declared.fault.SegmentFault.TheVariants.{Start, With
 use Rattle.nr_segment.specs.inside.Begun.{HasNoStartFault}
 use Rattle.nr_segment.proofs.FilledSpaces.{of_own_pages}
 use Rattle.nr_segment.proofs.Starts.{none_walked}
-use Rattle.nr_trace.proofs.LawsOfDumps.{none_from_no_least}
 
 -- ---- the frames of a start are whole
-
-listed_value : (q : ℕ) (es : List (ℕ × List ℕ)) (words : List ℕ) → entries.find nat_cmp q es ≡ Some words → Contains (map (λ e. e.1) es) words
-listed_value q [] words e = cc
-listed_value q (x ∷ es) words e =
-    elim (eq_by_cmp nat_cmp q x.0) as (λ b. cond b (Some x.1) (entries.find nat_cmp q es) ≡ Some words → Contains (map (λ e. e.1) (x ∷ es)) words) [
-      | true ↦ λ is. let same : x.1 ≡ words = cc in subst (Contains (x.1 ∷ map (λ e. e.1) es)) same (Contains-head x.1 (map (λ e. e.1) es))
-      | false ↦ λ is. Contains-tail x.1 (map (λ e. e.1) es) words (listed_value q es words is)
-    ] e
 
 pub start_is_whole : (segment : Recording) (start : Image) → IsRecording segment → segment.start ≡ Some start → AreWhole start.frames
 start_is_whole segment start recording is number words there =
     let own : IsStart start = rw is at recording.start in
     (All-contains IsFrame (finite.values start.frames) words own.image.words
-    (listed_value number (finite.entries start.frames) words (sym (finite.get-entries start.frames number) ∙ there))).whole
+    (found_value number (finite.entries start.frames) words (sym (finite.get-entries start.frames number) ∙ there))).whole
 
 -- ---- what a start translates as
 

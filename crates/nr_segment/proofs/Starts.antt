@@ -18,21 +18,21 @@ use Rattle.vs_types.specs.declared.refusal.Fail.TheVariants.{Refused}
 use Rattle.vs_walk.specs.Differences.{IsLeast, IsStray}
 use Rattle.vs_walk.specs.Dump.{Image}
 use Rattle.vs_walk.specs.Memory.{AreWhole}
-use Rattle.vs_walk.specs.Traversal.{walk_fault}
+use Rattle.vs_walk.specs.Traversal.{walk_fault, found_in}
 use Rattle.vs_walk.specs.Walk.{walk, as_walk, TranslatesAs}
 use Rattle.vs_walk.specs.declared.walk.WalkFault.{WalkFault}
 use Rattle.vs_walk.specs.declared.walk.WalkFault.TheVariants as walks
 use Rattle.vs_walk.proofs.LawsOfRising.{pages_formed}
 use Rattle.vs_walk.proofs.LawsOfSpaces.{found_are_pages}
+use Rattle.vs_walk.proofs.Leasts.{none_from_no_least}
 use Rattle.nr_dump.specs.Faults.{HoldsOfDump, IsFirstOfDump, HasNoFault, rank_in_dump}
 use Rattle.nr_dump.specs.declared.fault.DumpFault.{DumpFault}
 use Rattle.nr_dump.specs.declared.fault.DumpFault.TheVariants as dumps
 use Rattle.nr_trace.specs.Recording.{Recording}
-use Rattle.nr_segment.specs.Start.{found_in, HasPageBeyond, HoldsOfStart, rank_in_start, BeginsRight, BeginsWrong}
+use Rattle.nr_segment.specs.Start.{HasPageBeyond, HoldsOfStart, rank_in_start, BeginsRight, BeginsWrong}
 use Rattle.nr_segment.specs.declared.fault.StartFault.{StartFault}
 use Rattle.nr_segment.specs.declared.fault.StartFault.TheVariants.{Missing, Shared, Reserved, Stray, Beyond, Differs}
 use Rattle.nr_segment.specs.inside.Begun.{AreApart, EndsBeyond, HasNoneBeyond, HasNoStartFault, HasRightTables, IsFirstBeyond, IsFirstOfStart}
-use Rattle.nr_trace.proofs.LawsOfDumps.{none_from_no_least}
 
 -- no first fault of the traversal is none
 no_walk_fault : (depth : Depth) (dump : Image) → ((fault : WalkFault) → walk_fault depth dump.frames dump.root ≡ Some fault → ⊥)

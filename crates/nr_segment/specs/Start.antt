@@ -9,16 +9,12 @@ use Rattle.vs_types.specs.declared.page.Page.{Page}
 use Rattle.vs_types.specs.declared.page.TheConstants.Page.{PHYS_END}
 use Rattle.vs_walk.specs.Differences.{IsLeast, HasMissingFrame, HasSharedFrame, HasReservedBit, HasStrayFrame, HasDifference}
 use Rattle.vs_walk.specs.Dump.{Image}
-use Rattle.vs_walk.specs.Traversal.{traversal, found}
+use Rattle.vs_walk.specs.Traversal.{found_in}
 use Rattle.nr_trace.specs.Recording.{Recording}
 use Rattle.nr_segment.specs.declared.fault.StartFault.{StartFault}
 use Rattle.nr_segment.specs.declared.fault.StartFault.TheVariants.{Missing, Shared, Reserved, Stray, Beyond, Differs}
 
--- the pages that the tables of a start lead to, in the order in which they are found
-abbrev pub found_in : Depth → Image → List Page
-found_in depth start = found (traversal depth start.frames start.root)
-
--- the space of these pages
+-- the space of some pages
 abbrev pub space_of_pages : List Page → Space
 space_of_pages found = finite.from_entries {R = nat_cmp} (map (λ page. (page.base, page)) found)
 

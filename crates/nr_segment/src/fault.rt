@@ -1,3 +1,5 @@
+//! What can be wrong with a segment, and with its start.
+
 use nr_trace::Fault;
 
 /// What is wrong with the start of a segment. Frames are named by their numbers, words by their indexes in their frames.

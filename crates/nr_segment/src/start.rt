@@ -6,10 +6,12 @@ ghost use Rattle.vs_types.specs.Space.{no_pages, IsSpace};
 ghost use Rattle.vs_walk.specs.Differences.{HasDifference};
 ghost use Rattle.vs_walk.specs.Dump.{IsDump};
 ghost use Rattle.vs_walk.specs.Walk.{TranslatesAs};
+ghost use Rattle.vs_walk.specs.Traversal.{found_in};
 ghost use Rattle.nr_audit.specs.Verdict.{space_of};
-ghost use Rattle.nr_segment.specs.Start.{first_space, found_in, space_of_pages, BeginsRight, BeginsWrong};
+ghost use Rattle.nr_segment.specs.Start.{first_space, space_of_pages, BeginsRight, BeginsWrong};
 ghost use Rattle.nr_segment.specs.Verdict.{pages_before, FitsLayout};
-ghost use Rattle.nr_segment.specs.inside.Begun.{AreApart, HasNoneBeyond, HasNoStartFault, HasRightTables, IsFirstBeyond, IsFirstOfAny, IsFirstOfStart};
+ghost use Rattle.nr_segment.specs.inside.Begun.{AreApart, HasNoneBeyond, HasNoStartFault, HasRightTables, IsFirstBeyond};
+ghost use Rattle.nr_segment.specs.inside.Begun.{IsFirstOfAny, IsFirstOfStart};
 
 use crate::fault::StartFault;
 use nr_dump::{DumpFault, check};

@@ -1,7 +1,7 @@
 //! The touches of a segment.
 
-ghost use Rattle.std.specs.Prelude.{◌≡◌, ◌↔◌, ◌+◌, ◌^◌, ◌<◌, ◌≤◌, IfNone, IfOk, IfSome, IsTrue, OnOk, length, option_and_then, option_map, slice_index_or};
-ghost use Rattle.std.specs.Prelude.{slice_set};
+ghost use Rattle.std.specs.Prelude.{◌≡◌, ◌↔◌, ◌+◌, ◌^◌, ◌<◌, ◌≤◌, IfNone, IfOk, IfSome, IsTrue, OnOk};
+ghost use Rattle.std.specs.Prelude.{length, option_and_then, option_map, slice_index_or, slice_set};
 ghost use Rattle.nr_trace.specs.Calls.{reply_in};
 ghost use Rattle.nr_trace.specs.Laws.{HasCleanLog};
 ghost use Rattle.nr_audit.specs.Verdict.{space_of};
@@ -61,7 +61,8 @@ fn put_reply(segment: &Trace, index: usize, replies: &mut Vec<Option<u32>>)
 /// By call number, the event at which it was answered. It allocates eight bytes for each event.
 fn replies(alloc: Global, segment: &Trace) -> Result<Vec<Option<u32>>, Memory>
     requires { HasCleanLog segment.now }
-    ensures { IfOk result (λ replies. AreRepliesBelow segment.now (length segment.now.events) replies.items) }
+    ensures { IfOk result
+        (λ replies. AreRepliesBelow segment.now (length segment.now.events) replies.items) }
 {
     let mut replies = vec![in alloc; None; segment.events().len()]?;
     for index in 0..segment.events().len() {
@@ -101,7 +102,8 @@ fn touch_at(segment: &Trace, made: u32, answered: u32) -> Option<Touch>
 fn answered_touch(segment: &Trace, replies: &[Option<u32>], made: usize) -> Option<Touch>
     requires within { made < length replies.now }
     requires few { made < 2 ^ 32 }
-    ensures { result ≡ option_and_then (touch_between segment.now made) (slice_index_or replies.now made None) }
+    ensures { result ≡ option_and_then (touch_between segment.now made)
+        (slice_index_or replies.now made None) }
 {
     match replies[made] {
         None => None,
@@ -134,7 +136,8 @@ fn push_touch(
 /// The answered touches of a segment, by call number. It allocates memory for them, and eight bytes for each event.
 fn touches_of(alloc: Global, segment: &Trace) -> Result<Vec<Touch>, Memory>
     requires { HasCleanLog segment.now }
-    ensures { IfOk result (λ touches. AreTouchesBelow segment.now (length segment.now.events) touches.items) }
+    ensures { IfOk result
+        (λ touches. AreTouchesBelow segment.now (length segment.now.events) touches.items) }
 {
     let replies = replies(alloc, segment)?;
     let mut touches = Vec::new(alloc);

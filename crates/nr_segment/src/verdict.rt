@@ -1,3 +1,5 @@
+//! What an audit of a segment finds.
+
 use crate::fault::SegmentFault;
 use nr_audit::Order;
 use vs_plain::PlainSpace;

@@ -8,7 +8,7 @@ use Rattle.std.proofs.lemmas.Bool.{cases_lt, cases_Bool}
 use Rattle.std.proofs.lemmas.List.Elements.{Contains-push, Contains-push_cases, Contains-append_left, Contains-get_or}
 use Rattle.std.proofs.lemmas.List.Sorted.{IsNonDecreasingBy-push}
 use Rattle.std.proofs.lemmas.List.{append-nil, get_or-replicate, length-replicate, get_or-set_same, get_or-set_other, length-set}
-use Rattle.std.proofs.lemmas.Option.{same_Some, slice_get_within, slice_get-get_or}
+use Rattle.std.proofs.lemmas.Option.{same_Some, slice_get-get_or}
 use Rattle.vs_types.specs.declared.answer.Answer.{Answer}
 use Rattle.vs_types.specs.declared.depth.Depth.{Depth}
 use Rattle.vs_types.specs.declared.page.Page.{Page}
@@ -20,7 +20,7 @@ use Rattle.nr_trace.specs.Calls.{Response, reply_in, reply_of, Answers}
 use Rattle.nr_trace.specs.declared.event.Event.{Event}
 use Rattle.nr_trace.specs.declared.event.Event.TheVariants.{Reply}
 use Rattle.nr_trace.specs.Orders.{space_from}
-use Rattle.nr_trace.proofs.LawsOfCalls.{some_or_none, answers_from, reply_that_answers, reply_in_event}
+use Rattle.nr_trace.proofs.LawsOfCalls.{some_or_none, answers_from, answers_within, reply_here, reply_that_answers}
 use Rattle.nr_touch.specs.Touches.{ChangesLook}
 use Rattle.nr_touch.specs.inside.Changes.{IsChange, IsPlaced, AreChangesBelow, AreReplies, Lists, listed, number_of}
 use Rattle.nr_touch.specs.declared.change.Change.{Change}
@@ -40,12 +40,6 @@ no_replies trace replies n is e = record {
     λ (reply, before, none, answers). absurd (omega (arith, none)),
   );
 }
-
-pub reply_within : (trace : Recording) (index call : ℕ) → Answers trace index call → index < length trace.events
-reply_within trace index call answers =
-    let (reply, is, names) = reply_that_answers trace index call answers in
-    let event = reply_in_event (slice_get trace.events index) reply is in
-    slice_get_within trace.events index event.0 event.1
 
 pub next_reply : (trace : Recording) (old new : List ℕ) (i : ℕ) → AreReplies trace old i → length new ≡ length old
     → ((call : ℕ) → call < length old → Answers trace i call → get_or new call 0 ≡ min (get_or old call 0) i)
@@ -165,15 +159,11 @@ none_rise changes is = λ i j d low l. absurd (let none = ap length is in omega 
 
 -- ---- the table of replies, event by event
 
-reply_from : (trace : Recording) (i call at : ℕ) (answer : Answer) → slice_get trace.events i ≡ Some (Reply call at answer)
-    → reply_of trace i ≡ Some (record { call = call; at = at; answer = answer })
-reply_from trace i call at answer is = ap (option_and_then reply_in) is
-
 only_call : (trace : Recording) (i call at : ℕ) (answer : Answer) → slice_get trace.events i ≡ Some (Reply call at answer)
     → (k : ℕ) → Answers trace i k → k ≡ call
 only_call trace i call at answer is k answers =
     let (reply, told, names) = reply_that_answers trace i k answers in
-    let one : Some reply ≡ Some (record { call = call; at = at; answer = answer }) = sym told ∙ reply_from trace i call at answer is in
+    let one : Some reply ≡ Some (record { call = call; at = at; answer = answer }) = sym told ∙ reply_here trace i call at answer is in
     sym names ∙ ap (λ (r : Response). r.call) (same_Some reply (record { call = call; at = at; answer = answer }) one)
 
 pub put_reply : (trace : Recording) (old : List ℕ) (i call at m : ℕ) (answer : Answer) → slice_get trace.events i ≡ Some (Reply call at answer)
@@ -183,7 +173,7 @@ put_reply trace old i call at m answer is are l e = next_reply trace old (set ol
     let same : k ≡ call = only_call trace i call at answer is k answers in
     subst (λ n. get_or (set old call m) n 0 ≡ min (get_or old n 0) i) (sym same) (get_or-set_same old call m 0 l ∙ e))
     (λ k low none. get_or-set_other old call k m 0 (λ same. none
-    (answers_from trace i k (record { call = call; at = at; answer = answer }) (reply_from trace i call at answer is) (sym same))))
+    (answers_from trace i k (record { call = call; at = at; answer = answer }) (reply_here trace i call at answer is) (sym same))))
 
 pub pass_reply : (trace : Recording) (old : List ℕ) (i call at : ℕ) (answer : Answer) → slice_get trace.events i ≡ Some (Reply call at answer)
     → AreReplies trace old i → length old ≤ call → AreReplies trace old (i + 1)
@@ -201,11 +191,6 @@ pass_call trace old i event is no_reply are = next_reply trace old old i are ref
     cc))
     (λ k low none. refl)
 
-pub read_event : (trace : Recording) (events : List Event) (i : ℕ) (event shape : Event) → events ≡ trace.events → i < length events
-    → event ≡ get_or events i event → event ≡ shape → slice_get trace.events i ≡ Some shape
-read_event trace events i event shape same lt read is =
-    subst (λ (xs : List Event). slice_get xs i ≡ Some shape) same (slice_get-get_or events i event lt ∙ ap (λ x. Some x) (sym read ∙ is))
-
 pub read_log : (trace : Recording) (log : List ℕ) (place : ℕ) → log ≡ trace.log → place < length log → slice_get trace.log place ≡ Some (get_or log place 0)
 read_log trace log place same lt = subst (λ (xs : List ℕ). slice_get xs place ≡ Some (get_or log place 0)) same (slice_get-get_or log place 0 lt)
 
@@ -221,7 +206,7 @@ pub replied : (trace : Recording) (replies : List ℕ) (call : ℕ) → AreRepli
     → (event : ℕ) → event < 2 ^ 32 → (get_or replies call 0 < event) ↔ ((reply : ℕ) × (reply < event) × Answers trace reply call)
 replied trace replies call are l event fits = (
   λ less. let (reply, low, within, answers) = (are.first call event l fits).0 less in (reply, low, answers),
-  λ (reply, low, answers). (are.first call event l fits).1 (reply, low, reply_within trace reply call answers, answers),
+  λ (reply, low, answers). (are.first call event l fits).1 (reply, low, answers_within trace reply call answers, answers),
 )
 
 pub change_fits : (depth : Depth) (before after : Space) (change : Option Change) → IsChange depth before after change

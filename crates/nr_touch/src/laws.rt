@@ -21,7 +21,7 @@ pub fn touches_of_quiet_pages_are_of_the_present()
         → IsOfQuietPage start trace touch → IsAllowedPrefix start trace touch m
         → IsAllowedPrefix start trace touch n
         → page_after start trace touch.address m ≡ page_after start trace touch.address n }
-    ensures answers { (start : Space) (trace : Recording) (touch : Touch) (n : ℕ) → HasCleanLog trace
-        → IsOfQuietPage start trace touch → IsRightTouch start trace touch
+    ensures answers { (start : Space) (trace : Recording) (touch : Touch) (n : ℕ)
+        → HasCleanLog trace → IsOfQuietPage start trace touch → IsRightTouch start trace touch
         → IsOfThePresent trace touch n → IsAnsweredAt start trace touch n }
 {}

@@ -44,7 +44,8 @@ fn look_until(next: Option<PlacedChange>, space: &PlainSpace, address: u64) -> A
 /// Whether an address that looks so answers the touch as it was answered.
 fn answers(seen: Answer, touch: &Touch) -> bool
     ensures { (now : Space) → seen ≡ look now touch.now.address
-        → IsTrue result ↔ (touch.now.answer ≡ allow now touch.now.address touch.now.mode touch.now.access) }
+        → IsTrue result
+        ↔ (touch.now.answer ≡ allow now touch.now.address touch.now.mode touch.now.access) }
 {
     is_same(touch.answer, seen.accessed(touch.mode, touch.access))
 }

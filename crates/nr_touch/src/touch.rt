@@ -1,3 +1,5 @@
+//! An access through a TLB, as it was recorded.
+
 use vs_types::{Access, Answer, Mode};
 
 /// An answered access that a processor made through its TLB, while a trace was recorded.

@@ -9,8 +9,8 @@ use Rattle.vs_types.specs.declared.answer.Answer.{Answer}
 use Rattle.nr_trace.specs.Versions.{KnowsQuery}
 use Rattle.nr_trace.specs.Spelling.{answer_fields, touch_fields}
 use Rattle.nr_trace.specs.inside.Reading.{HasAnswerFields, IsAskedIn, IsRequestIn, IsAnswerIn, SpellsEvent}
-use Rattle.nr_trace.specs.declared.reading.event.Asked.{Asked}
-use Rattle.nr_trace.specs.declared.reading.event.Asked.TheVariants as askeds
+use Rattle.nr_trace.specs.declared.reading.events.Asked.{Asked}
+use Rattle.nr_trace.specs.declared.reading.events.Asked.TheVariants as askeds
 use Rattle.vs_types.specs.declared.access.Mode.{Mode}
 use Rattle.vs_types.specs.declared.access.Access.{Access as AccessKind}
 use Rattle.nr_trace.specs.declared.fields.AnswerFields.{AnswerFields}

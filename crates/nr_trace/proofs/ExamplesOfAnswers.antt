@@ -1,10 +1,9 @@
 -- What the address space answers in the worked examples. The pages of a space are its entries, and those of a space that
 -- is made by inserts compute.
-use Rattle.std.proofs.Common.{◌≡◌, ℕ, ◌+◌, nat_le, true, Some, None, List, [], ◌∷◌, map, filter, find, length, refl, ap, sym, ◌∙◌, arith}
+use Rattle.std.proofs.Common.{◌≡◌, ℕ, ◌+◌, nat_le, true, Some, None, List, [], ◌∷◌, map, filter, find, refl, ap, ◌∙◌}
 use Rattle.std.specs.FinMap as finite
 use Rattle.std.specs.FinMap.Entries as kept
 use Rattle.std.specs.Ordering.{nat_cmp}
-use Rattle.std.specs.Cmp.{nat_cmp_total}
 use Rattle.vs_types.specs.Space.{Space, no_pages, page_at, least, least_overlapped, tables_of_levels, table_count}
 use Rattle.vs_types.specs.Page.{covers, overlaps}
 use Rattle.vs_types.specs.Step.{Stepped, step, look, allow}
@@ -14,19 +13,10 @@ use Rattle.vs_types.specs.declared.access.Mode.TheVariants.{User}
 use Rattle.vs_types.specs.declared.access.Access.TheVariants.{Write}
 use Rattle.vs_types.specs.declared.page.Page.{Page}
 use Rattle.vs_types.specs.declared.answer.Answer.TheVariants.{Done, Allowed}
+use Rattle.vs_types.proofs.Computing.{entries_empty, entries_insert}
 use Rattle.nr_trace.specs.Orders.{space_after, answer_in}
 use Rattle.vs_walk.specs.Walk.{all_rights}
 use Rattle.nr_trace.specs.Examples.{map_then_resolve, map_page, map_it, resolve_it, looks_mapped, map_then_access, access_it}
-
-no_length : {A : Type 0} (xs : List A) → length xs ≡ 0 → xs ≡ []
-no_length [] e = refl
-no_length (x ∷ xs) e = absurd (omega arith)
-
-entries_empty : finite.entries no_pages ≡ []
-entries_empty = no_length _ (sym (finite.len-entries _) ∙ finite.len-empty nat_cmp Page)
-
-entries_insert : (space : Space) (k : ℕ) (v : Page) → finite.entries (finite.insert space k v) ≡ kept.put nat_cmp k v (finite.entries space)
-entries_insert space k v = finite.entries-insert nat_cmp_total space k v
 
 -- the page of `map_it`
 abbrev page : Page

@@ -36,10 +36,10 @@ pub record IsBetween (form : Form) (bytes piece : List ℕ) (reader : Reader) (r
 pub starts : (reader : Reader) (piece : List ℕ) → IsSound reader → IsBetween (form_of reader) (said reader) piece reader piece
 starts reader piece sound = record { form_is = refl; sound = sound; front = []; cut = refl; read = sym (append-nil (said reader)) }
 
--- the bytes and the piece are what is read, and the rest
-joined : (bytes piece front rest whole : List ℕ) → piece ≡ front ++ rest → whole ≡ bytes ++ front → bytes ++ piece ≡ whole ++ rest
-joined bytes piece front rest whole cut read =
-    ap (λ (l : List ℕ). bytes ++ l) cut ∙ sym (append_assoc bytes front rest) ∙ ap (λ (l : List ℕ). l ++ rest) (sym read)
+-- the bytes that a piece completes, of a unit or of all that is read, and what is behind them
+pub unit_completed : (begun piece front behind unit : List ℕ) → piece ≡ front ++ behind → unit ≡ begun ++ front → begun ++ piece ≡ unit ++ behind
+unit_completed begun piece front behind unit cut is =
+    ap (λ (l : List ℕ). begun ++ l) cut ∙ sym (append_assoc begun front behind) ∙ ap (λ (l : List ℕ). l ++ behind) (sym is)
 
 pub sound_from : (form : Form) (reader : Reader) → HasRead form [] (HasFaultAs form) reader → IsSound reader
 sound_from form reader has = record {
@@ -73,7 +73,7 @@ goes form bytes piece reader next rest unit behind way cut has = record {
 settled : (form : Form) (bytes piece : List ℕ) (reader : Reader) (rest : List ℕ) (fault : Format) → IsBetween form bytes piece reader rest
     → ((more : List ℕ) → Ahead reader (rest ++ more) fault) → LastsAs form (bytes ++ piece) fault
 settled form bytes piece reader rest fault way h = λ more.
-    let parts : bytes ++ piece ≡ said reader ++ rest = joined bytes piece way.front rest (said reader) way.cut way.read in
+    let parts : bytes ++ piece ≡ said reader ++ rest = unit_completed bytes piece way.front rest (said reader) way.cut way.read in
     subst (λ (f : Form). HasFaultAs f ((bytes ++ piece) ++ more) fault) way.form_is
     (subst (λ (l : List ℕ). HasFaultAs (form_of reader) l fault) (sym (ap (λ (l : List ℕ). l ++ more) parts ∙ append_assoc (said reader) rest more))
     (way.sound.faults (rest ++ more) fault (h more)))
@@ -130,7 +130,7 @@ come form bytes piece reader rest begun len cut more is =
         cut.sound,
         subst (λ (l : List ℕ). AreFewer (unit_bytes reader) l) (sym is) (subst (λ o. AreFewer o rest) (sym more) short),
       );
-      bytes_are = ap (λ (l : List ℕ). Taken (said reader ++ l)) is ∙ ap Taken (sym (joined bytes piece cut.front rest (said reader) cut.cut cut.read));
+      bytes_are = ap (λ (l : List ℕ). Taken (said reader ++ l)) is ∙ ap Taken (sym (unit_completed bytes piece cut.front rest (said reader) cut.cut cut.read));
     }
 
 -- all bytes of the piece are taken
@@ -237,11 +237,6 @@ fault_ahead (Some len) reader rest is sound short =
 pub may_go_on : (reader : Reader) (rest : List ℕ) → IsSound reader → AreFewer (unit_bytes reader) rest
     → IsFaultlessYet (form_of reader) (said reader ++ rest)
 may_go_on reader rest sound fewer = fault_ahead (unit_bytes reader) reader rest refl sound fewer
-
--- the bytes that complete a unit
-pub unit_completed : (begun piece front behind unit : List ℕ) → piece ≡ front ++ behind → unit ≡ begun ++ front → begun ++ piece ≡ unit ++ behind
-unit_completed begun piece front behind unit cut is =
-    ap (λ (l : List ℕ). begun ++ l) cut ∙ sym (append_assoc begun front behind) ∙ ap (λ (l : List ℕ). l ++ behind) (sym is)
 
 pub goes_on : (form : Form) (bytes : List ℕ) (state : State) → IsFeeding form state → fed state ≡ Taken bytes → IsFaultlessYet form bytes
 goes_on form bytes (Open reader begun) feeding is =

@@ -1,9 +1,10 @@
 -- Calls, their first replies, and the entries that they come after, where no fault holds of the events, the log or a
 -- reply's place.
-use Rattle.std.proofs.Common.{◌≡◌, ◌≢◌, ℕ, ◌<◌, ◌≤◌, ◌⊎◌, inl, inr, Bool, true, false, ◌==◌, length, slice_get, Option, Some, None, is_some, IsSome}
+use Rattle.std.proofs.Common.{◌≡◌, ◌≢◌, ℕ, ◌<◌, ◌≤◌, ◌⊎◌, inl, inr, Bool, true, false, ◌==◌, List, length, get_or, slice_get, Option, Some, None, is_some, IsSome}
 use Rattle.std.proofs.Common.{option_and_then, refl, ap, sym, ◌∙◌, subst, arith, eq-eqb, eqb-true, if◌then◌else◌}
 use Rattle.std.proofs.lemmas.Bool.{both_ways, cases_eq, cases_order, cases_lt}
-use Rattle.std.proofs.lemmas.Option.{same_Some, none-some, slice_get_within}
+use Rattle.std.proofs.lemmas.Option.{same_Some, none-some, slice_get_within, slice_get-get_or}
+use Rattle.vs_types.specs.declared.answer.Answer.{Answer}
 use Rattle.vs_types.specs.declared.request.Query.{Query}
 use Rattle.vs_types.specs.declared.request.Query.TheVariants.{Update, Resolve, Access}
 use Rattle.nr_trace.specs.Recording.{Recording}
@@ -12,7 +13,7 @@ use Rattle.nr_trace.specs.Calls.{Response, reply_in, reply_of, reply_to, Answers
 use Rattle.nr_trace.specs.Faults.{HasFault, StandsAfter}
 use Rattle.nr_trace.specs.Laws.{HasCleanLog}
 use Rattle.nr_trace.specs.declared.event.Event.{Event}
-use Rattle.nr_trace.specs.declared.event.Event.TheVariants.{Call}
+use Rattle.nr_trace.specs.declared.event.Event.TheVariants.{Call, Reply}
 use Rattle.nr_trace.specs.declared.fault.Fault.TheVariants.{NoSuchCall}
 use Rattle.nr_trace.proofs.LawsOfLists.{first_given, given_first}
 
@@ -169,6 +170,27 @@ pub reply_in_event : (o : Option Event) (reply : Response) → option_and_then r
     → (event : Event) × (o ≡ Some event) × (reply_in event ≡ Some reply)
 reply_in_event None reply e = absurd (none-some reply e)
 reply_in_event (Some event) reply e = (event, refl, e)
+
+-- the event at an index, as a pattern takes it apart
+pub read_event : (trace : Recording) (events : List Event) (i : ℕ) (event shape : Event) → events ≡ trace.events → i < length events
+    → event ≡ get_or events i event → event ≡ shape → slice_get trace.events i ≡ Some shape
+read_event trace events i event shape same lt read is =
+    subst (λ (xs : List Event). slice_get xs i ≡ Some shape) same (slice_get-get_or events i event lt ∙ ap (λ x. Some x) (sym read ∙ is))
+
+pub reply_here : (trace : Recording) (i call at : ℕ) (answer : Answer) → slice_get trace.events i ≡ Some (Reply call at answer)
+    → reply_of trace i ≡ Some (record { call = call; at = at; answer = answer })
+reply_here trace i call at answer e = ap (option_and_then reply_in) e
+
+-- a reply is one of the events
+pub reply_below : (trace : Recording) (index : ℕ) (reply : Response) → reply_of trace index ≡ Some reply → index < length trace.events
+reply_below trace index reply is =
+    let (event, at, gives) = reply_in_event (slice_get trace.events index) reply is in
+    slice_get_within trace.events index event at
+
+pub answers_within : (trace : Recording) (index call : ℕ) → Answers trace index call → index < length trace.events
+answers_within trace index call answers =
+    let (reply, is, names) = reply_that_answers trace index call answers in
+    reply_below trace index reply is
 
 naming_none : (call : ℕ) (o : Option Event)
     → (IsSome (option_and_then (λ (r : Response). if r.call == call then Some r else None) (option_and_then reply_in o)) → ⊥)

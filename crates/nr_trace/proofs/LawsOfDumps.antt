@@ -1,7 +1,7 @@
 -- Where no fault holds of a recording, each dump fits the recorded order.
 use Rattle.std.proofs.Common.{◌≡◌, ◌≢◌, ℕ, zero, suc, ◌<◌, ◌≤◌, ◌⊎◌, inl, inr, List, length, take, slice_get, Contains, Some, refl, ap, ap₂, sym, ◌∙◌, subst}
 use Rattle.std.proofs.Common.{arith}
-use Rattle.std.proofs.lemmas.Bool.{cases_eq, cases_lt, cases_order}
+use Rattle.std.proofs.lemmas.Bool.{cases_eq, cases_lt}
 use Rattle.vs_types.specs.Space.{Space}
 use Rattle.vs_types.specs.Step.{look}
 use Rattle.vs_walk.specs.Dump.{Image}
@@ -20,6 +20,7 @@ use Rattle.nr_trace.specs.Calls.{Invocation, call_of, IsUpdate, IsRead, Response
 use Rattle.nr_trace.specs.Orders.{below, before, updates, space_from, recorded_order, known_by, IsLegalFrom, FitsFrom}
 use Rattle.nr_trace.specs.Faults.{StandsAfter, RestsOnMore}
 use Rattle.vs_walk.specs.Differences.{IsLeast, TranslatesOtherwise}
+use Rattle.vs_walk.proofs.Leasts.{none_from_no_least}
 use Rattle.nr_trace.specs.Laws.{HasCleanLog, IsFaultlessFrom}
 use Rattle.nr_trace.specs.declared.fault.Fault.TheVariants.{ThreadOpen, NoSuchCall, AnsweredTwice, NotAnUpdate, PlacedTwice, NotPlaced, PastLog, Early}
 use Rattle.nr_trace.specs.declared.fault.Fault.TheVariants.{WrongAnswer, PrefixPastLog, PrefixShort, Differs}
@@ -70,19 +71,6 @@ same_walk a b h =
       by_parts (inl c) (inr n) r v = absurd (h (λ e. n (ap (λ x. (fields_of x).size) e)))
       by_parts (inl c) (inl s) (inr n) v = absurd (h (λ e. n (ap (λ x. (fields_of x).rights) e)))
       by_parts (inl c) (inl s) (inl r) (inr n) = absurd (h (λ e. n (ap (λ x. (fields_of x).value) e)))
-
--- ---- where none is the least, there is none
-
-none_up_to : (P : ℕ → Type 0) → ((n : ℕ) → IsLeast P n → ⊥) → (n k : ℕ) → k < n → P k → ⊥
-none_up_to P no_least zero k l p = omega arith
-none_up_to P no_least (suc n) k l p = by_order (λ j m q. none_up_to P no_least n j m q) (cases_order k n) where
-  by_order : ((j : ℕ) → j < n → P j → ⊥) → (k ≡ n) ⊎ ((k < n) ⊎ (n < k)) → ⊥
-  by_order less (inl e) = no_least n (subst P e p, less)
-  by_order less (inr (inl m)) = less k m p
-  by_order less (inr (inr m)) = omega arith
-
-pub none_from_no_least : (P : ℕ → Type 0) → ((n : ℕ) → IsLeast P n → ⊥) → (n : ℕ) → P n → ⊥
-none_from_no_least P no_least n p = none_up_to P no_least (suc n) n (omega arith) p
 
 -- ---- dumps
 

@@ -6,7 +6,6 @@ use Rattle.std.proofs.lemmas.Cmp.{nat_list_cmp_total}
 use Rattle.std.specs.Cmp.Lexicographic.{slice_cmp}
 use Rattle.std.specs.declared.cmp.Ordering.{Ordering}
 use Rattle.std.specs.declared.cmp.Ordering.TheVariants.{Less, Equal, Greater}
-use Rattle.std.proofs.lemmas.Bool.{cases_order}
 use Rattle.std.proofs.lemmas.Bool.Decides.{nat_tests}
 use Rattle.std.proofs.lemmas.Option.{same_Some, slice_get_within}
 use Rattle.vs_types.specs.Space.{Space, no_pages}
@@ -17,16 +16,17 @@ use Rattle.nr_trace.specs.Spelling.{Spells}
 use Rattle.nr_trace.specs.FirstFault.{HasFormatFault}
 use Rattle.nr_trace.specs.Calls.{Invocation, call_of, Response}
 use Rattle.nr_trace.specs.Orders.{before, space_from, recorded_order}
-use Rattle.vs_walk.specs.Differences.{IsLeast, IsStray, TranslatesOtherwise}
-use Rattle.nr_trace.specs.Faults.{IsReplyWith, HasDump, IsWrongFrom, HasFaultFrom, rank, Earlier, IsFirst, IsFirstFrom, IsFirstOf}
-use Rattle.nr_trace.specs.Laws.{HasCleanLog, HasRank}
+use Rattle.vs_walk.specs.Differences.{IsStray, TranslatesOtherwise}
+use Rattle.vs_walk.proofs.Leasts.{one_least}
+use Rattle.nr_trace.specs.Faults.{IsReplyWith, HasDump, IsWrongFrom, HasFault, HasFaultFrom, rank, Earlier, IsFirst, IsFirstFrom, IsFirstOf}
+use Rattle.nr_trace.specs.Laws.{HasCleanLog, HasRank, IsFaultless}
 use Rattle.nr_trace.specs.declared.fault.Format.{Format as FormatFault}
 use Rattle.nr_trace.specs.declared.fault.Fault.{Fault}
 use Rattle.nr_trace.specs.declared.fault.Fault.TheVariants.{Format, ThreadOpen, NoSuchCall, AnsweredTwice, NotAnUpdate, PlacedTwice, NotPlaced, PastLog, Early}
 use Rattle.nr_trace.specs.declared.fault.Fault.TheVariants.{WrongAnswer, PrefixPastLog, PrefixShort, MissingFrame, SharedFrame, ReservedBit, StrayFrame}
 use Rattle.nr_trace.specs.declared.fault.Fault.TheVariants.{Differs}
 use Rattle.nr_trace.proofs.LawsOfLists.{In, earlier_member, member_before, in_from_Contains, Contains-from_in, same_place}
-use Rattle.nr_trace.proofs.LawsOfCalls.{answered_stands, call_within, is_some_from, ordered_from_made, reply_in_event}
+use Rattle.nr_trace.proofs.LawsOfCalls.{answered_stands, call_within, is_some_from, ordered_from_made, reply_below}
 use Rattle.nr_trace.proofs.LawsOfOrder.{standing_is_member}
 use Rattle.nr_trace.proofs.LawsOfSpelling.{one_trace}
 use Rattle.nr_trace.proofs.LawsOfFormat.{one_fault, no_fault}
@@ -39,13 +39,6 @@ abbrev third : List ℕ → ℕ
 third ns = get_or ns 2 0
 
 -- ---- what a dump's fault names
-
-pub one_least : (P : ℕ → Type 0) (m n : ℕ) → IsLeast P m → IsLeast P n → m ≡ n
-one_least P m n h k = by_order (cases_order m n) where
-  by_order : (m ≡ n) ⊎ ((m < n) ⊎ (n < m)) → m ≡ n
-  by_order (inl e) = e
-  by_order (inr (inl l)) = absurd (k.1 m l h.0)
-  by_order (inr (inr l)) = absurd (h.1 n l k.0)
 
 -- what holds of a replica's dump holds of one dump
 of_one_dump : (trace : Recording) (replica other : ℕ) (P Q : Image → Type 0) {C : Type 0} → replica ≡ other → HasDump trace replica P → HasDump trace other Q
@@ -142,7 +135,7 @@ index_of trace fault = get_or (rank trace fault) 1 0
 abbrev pub number_of : Recording → Fault → ℕ
 number_of trace fault = get_or (rank trace fault) 2 0
 
-rank_is : (trace : Recording) (fault : Fault) → rank trace fault ≡ pass fault ∷ index_of trace fault ∷ number_of trace fault ∷ []
+pub rank_is : (trace : Recording) (fault : Fault) → rank trace fault ≡ pass fault ∷ index_of trace fault ∷ number_of trace fault ∷ []
 rank_is trace (Format fault) = refl
 rank_is trace (ThreadOpen index) = refl
 rank_is trace (NoSuchCall index) = refl
@@ -163,9 +156,7 @@ earlier_parts trace f g e = below_from_less _ _ _ _ _ _ (ap₂ (slice_cmp nat_cm
 -- ---- the indexes of what holds
 
 pub reply_within : (trace : Recording) (index : ℕ) (P : Response → Type 0) → IsReplyWith trace index P → index < length trace.events
-reply_within trace index P (reply, e, h) =
-    let (event, at, is) = reply_in_event (slice_get trace.events index) reply e in
-    slice_get_within trace.events index event at
+reply_within trace index P (reply, e, h) = reply_below trace index reply e
 
 pub dump_within : (trace : Recording) (replica : ℕ) (P : Image → Type 0) → HasDump trace replica P → replica < length trace.dumps
 dump_within trace replica P (dump, e, there, h) = slice_get_within trace.dumps replica dump e
@@ -245,3 +236,9 @@ one_first_of bytes f g x y = by_sides (by_side bytes f x) (by_side bytes g y) wh
   by_sides (inr (s, spells, first)) (inr (t, also, other)) =
       let e = one_trace bytes s t spells also in
       one_first no_pages t f g (subst (λ trace. IsFirst trace f) e first) other
+
+-- no fault is the first of bytes that spell a trace without one
+pub none_of_faultless : (bytes : List ℕ) (trace : Recording) (fault : Fault) → Spells bytes trace → IsFaultless trace → IsFirstOf bytes fault → ⊥
+none_of_faultless bytes trace (Format fault) spells none first = no_fault forms.Trace bytes trace fault spells first
+none_of_faultless bytes trace fault spells none (other, also, first) =
+    none fault (subst (λ t. HasFault t fault) (one_trace bytes other trace also spells) first.holds)

@@ -139,7 +139,7 @@ module _ {form : Form} {Beside : List ℕ → List ℕ → Type 0} {fault : Form
 
 -- ---- more after a spelling
 
-trailing : (version : Version) (rest : List ℕ) → IsVersionOf forms.Trace version → rest ≢ [] → AtEnd version rest Trailing
+pub trailing : (version : Version) (rest : List ℕ) → IsVersionOf forms.Trace version → rest ≢ [] → AtEnd version rest Trailing
 trailing Segment rest of some = absurd of
 trailing _ rest of some = (some, refl)
 

@@ -90,6 +90,16 @@ in_filtered p x (y ∷ ys) (inr h) t = by_test (in_filtered p x ys h t) (p y) wh
   by_test more true = inr more
   by_test more false = more
 
+pub in_map : {X Y : Type 0} (f : X → Y) (xs : List X) (y : Y) → In y (map f xs) → (x : X) × In x xs × (f x ≡ y)
+in_map f [] y h = absurd h
+in_map f (x ∷ xs) y (inl e) = (x, inl refl, e)
+in_map f (x ∷ xs) y (inr h) = let (z, i, e) = in_map f xs y h in (z, inr i, e)
+
+pub in_mapped : {X Y : Type 0} (f : X → Y) (xs : List X) (x : X) → In x xs → In (f x) (map f xs)
+in_mapped f [] x i = i
+in_mapped f (y ∷ ys) x (inl e) = inl (ap f e)
+in_mapped f (y ∷ ys) x (inr i) = inr (in_mapped f ys x i)
+
 pub in_flat_map : {X Y : Type 0} (f : X → List Y) (y : Y) (xs : List X) → In y (flat_map f xs) → (x : X) × In x xs × In y (f x)
 in_flat_map f y [] h = absurd h
 in_flat_map {X} f y (x ∷ xs) h = by_side (λ k. in_flat_map f y xs k) (in_either y (f x) (flat_map f xs) h) where

@@ -12,7 +12,7 @@ use Rattle.nr_trace.specs.Orders.{below, before, reads_at, recorded_order, known
 use Rattle.nr_trace.specs.Faults.{HasFault, HasFaultFrom, StandsAfter}
 use Rattle.nr_trace.specs.Laws.{HasCleanLog}
 use Rattle.nr_trace.specs.declared.fault.Fault.TheVariants.{Early, WrongAnswer}
-use Rattle.nr_trace.proofs.LawsOfLists.{In, Contains-from_in, in_from_Contains, in_left, in_right, in_filtered, below_in}
+use Rattle.nr_trace.proofs.LawsOfLists.{In, Contains-from_in, in_from_Contains, in_left, in_right, in_filtered, in_mapped, below_in}
 use Rattle.nr_trace.proofs.LawsOfCalls.{reply_in_event, reply_that_answers, reply_is_first, reply_behind_call, answered_stands, no_operation, ordered_no_touch}
 use Rattle.nr_trace.proofs.LawsOfCalls.{the_some}
 use Rattle.nr_trace.proofs.LawsOfOrder.{saw, saw_from_read, reads_at_in, blocks, blocks_in, earlier_reads, before_update, before_read, member_stands}
@@ -36,11 +36,6 @@ in_filter_map {X} {Y} h (z ∷ zs) x y (inr i) e = onto (in_filter_map h zs x y 
   onto j None = j
   onto j (Some w) = inr j
 
-in_map : {X Y : Type 0} (f : X → Y) (xs : List X) (x : X) → In x xs → In (f x) (map f xs)
-in_map f [] x i = i
-in_map f (y ∷ ys) x (inl e) = inl (ap f e)
-in_map f (y ∷ ys) x (inr i) = inr (in_map f ys x i)
-
 max_grows : (a : ℕ) (xs : List ℕ) → a ≤ fold max a xs
 max_grows a [] = omega arith
 max_grows a (x ∷ xs) = let h = max_grows (max a x) xs in omega arith
@@ -56,7 +51,7 @@ pub known_below_floor : (trace : Recording) (index call : ℕ) (reply : Response
 known_below_floor trace index call reply l e =
     let (event, at, is) = reply_in_event (slice_get trace.events index) reply e in
     max_reaches 0 (known_by trace reply) (map (known_by trace) (filter_map reply_in (take call trace.events)))
-    (in_map (known_by trace) (filter_map reply_in (take call trace.events)) reply
+    (in_mapped (known_by trace) (filter_map reply_in (take call trace.events)) reply
     (in_filter_map reply_in (take call trace.events) event reply (in_taken trace.events index call event l at) is))
 
 pub known_of_update : (trace : Recording) (reply : Response) → IsUpdate trace reply.call → known_by trace reply ≡ reply.at + 1

@@ -1,5 +1,5 @@
 -- One event or one place more: how the floor and the space go on.
-use Rattle.std.proofs.Common.{◌≡◌, ℕ, suc, ◌+◌, max, List, [], ◌∷◌, ◌++◌, take, map, fold, slice_get, Option, Some, None, option_to_list, option_and_then, refl}
+use Rattle.std.proofs.Common.{◌≡◌, ℕ, suc, ◌+◌, max, List, [], ◌∷◌, take, map, fold, slice_get, Option, Some, None, option_to_list, option_and_then, refl}
 use Rattle.std.proofs.Common.{ap, ◌∙◌, add-one}
 use Rattle.std.specs.Prelude.{filter_map}
 use Rattle.std.proofs.lemmas.List.{map-append}
@@ -7,8 +7,8 @@ use Rattle.std.proofs.lemmas.List.Elements.{filter_map-append}
 use Rattle.std.proofs.lemmas.Grind.{fold-append}
 use Rattle.vs_types.specs.Space.{Space}
 use Rattle.vs_types.specs.Step.{step, after_all}
-use Rattle.vs_types.specs.declared.depth.Depth.{Depth}
 use Rattle.vs_types.specs.declared.op.Action.{Action}
+use Rattle.vs_types.proofs.Afterwards.{after_all-append}
 use Rattle.nr_trace.specs.Recording.{Recording}
 use Rattle.nr_trace.specs.Calls.{operation_of, Response, reply_in, reply_of}
 use Rattle.nr_trace.specs.Orders.{operations, space_from, known_by, floor}
@@ -51,11 +51,6 @@ floor_after_other trace index e =
 pub floor_at_start : (trace : Recording) → floor trace 0 ≡ 0
 floor_at_start trace = refl
 
-after_append : (depth : Depth) (limit : ℕ) (space : Space) (first then : List Action)
-    → after_all depth limit space (first ++ then) ≡ after_all depth limit (after_all depth limit space first) then
-after_append depth limit space [] then = refl
-after_append depth limit space (action ∷ first) then = after_append depth limit (step depth limit space action).space first then
-
 one_operation : (trace : Recording) (o : Option ℕ) (call : ℕ) (action : Action) → o ≡ Some call → operation_of trace call ≡ Some action
     → operations trace (option_to_list o) ≡ action ∷ []
 one_operation trace o call action e f = rw (e, f) refl
@@ -71,6 +66,6 @@ space_next start trace place call action e f =
     ∙ ap (space_from start trace) (take-next place trace.log)
     ∙ ap (after_all trace.layout.depth trace.layout.tables start)
     (filter_map-append (operation_of trace) (take place trace.log) (option_to_list (slice_get trace.log place)))
-    ∙ after_append trace.layout.depth trace.layout.tables start (operations trace (take place trace.log))
+    ∙ after_all-append trace.layout.depth trace.layout.tables start (operations trace (take place trace.log))
     (operations trace (option_to_list (slice_get trace.log place)))
     ∙ ap (after_all trace.layout.depth trace.layout.tables (space_from start trace (take place trace.log))) more

@@ -11,8 +11,8 @@ use Rattle.nr_trace.specs.Versions.{KnowsTouch}
 use Rattle.nr_trace.specs.Recording.{IsEvent}
 use Rattle.nr_trace.specs.Spelling.{event}
 use Rattle.nr_trace.specs.inside.Reading.{asked_by, asked_fields, IsAsked, IsAskedIn, IsTouchWith, SpellsEvent}
-use Rattle.nr_trace.specs.declared.reading.event.Asked.{Asked}
-use Rattle.nr_trace.specs.declared.reading.event.Asked.TheVariants as askeds
+use Rattle.nr_trace.specs.declared.reading.events.Asked.{Asked}
+use Rattle.nr_trace.specs.declared.reading.events.Asked.TheVariants as askeds
 use Rattle.nr_trace.specs.declared.version.Version.{Version}
 use Rattle.nr_trace.proofs.LawsOfUnits.{request_fits}
 use Rattle.nr_trace.proofs.EventsApart.{call_bytes}

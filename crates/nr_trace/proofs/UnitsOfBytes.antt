@@ -61,13 +61,13 @@ number_told before = told (IsNext before) frame_number (from_be_bytes w64) (λ n
 abbrev pub AreBytes : List ℕ → Type 0
 AreBytes bytes = All (λ byte. byte < 256) bytes
 
-byte_in : (bytes : List ℕ) → AllByRecursion (λ byte. byte < 256) bytes → (i : ℕ) → get_or bytes i 0 < 256
-byte_in [] all i = omega arith
-byte_in (byte ∷ bytes) all zero = all.0
-byte_in (byte ∷ bytes) all (suc i) = byte_in bytes all.1 i
+pub bytes_from : (bytes : List ℕ) → AllByRecursion (λ byte. byte < 256) bytes → (i : ℕ) → get_or bytes i 0 < 256
+bytes_from [] all i = omega arith
+bytes_from (byte ∷ bytes) all zero = all.0
+bytes_from (byte ∷ bytes) all (suc i) = bytes_from bytes all.1 i
 
 byte_at : (bytes : List ℕ) → AreBytes bytes → (i : ℕ) → get_or bytes i 0 < 256
-byte_at bytes all = byte_in bytes (recursion_from_All (λ byte. byte < 256) bytes all)
+byte_at bytes all = bytes_from bytes (recursion_from_All (λ byte. byte < 256) bytes all)
 
 pub place_told : (unit : List ℕ) → AreBytes unit → length unit ≡ 4 → (call : ℕ) × (call < 2 ^ 32) × (unit ≡ log_word call)
 place_told unit all long =

@@ -1,3 +1,5 @@
+//! An event of a recorded run: a call, a touch or a reply.
+
 use vs_types::{Access, Answer, Mode, Request};
 
 /// What was recorded.

@@ -1,14 +1,15 @@
 //! Worked examples: what the definitions say of short recordings. Each function does nothing: the prover computes.
 
 ghost use Rattle.std.specs.Prelude.{◌≡◌, [], ◌∷◌, ◌++◌, None, Some, take, drop, length};
-ghost use Rattle.nr_trace.specs.Examples.{empty_dump, missing_frame, nothing_recorded, reserved_bit, shared_frame, stray_frame, unmapped_page};
+ghost use Rattle.nr_trace.specs.Examples.{empty_dump, missing_frame, nothing_recorded, reserved_bit, shared_frame};
+ghost use Rattle.nr_trace.specs.Examples.{stray_frame, unmapped_page};
 ghost use Rattle.nr_trace.specs.FirstFault.{HasFormatFault, HasSegmentFault};
 ghost use Rattle.nr_trace.specs.Laws.{IsFaultless};
 ghost use Rattle.nr_trace.specs.declared.fault.Format.TheVariants.{BadChain, BadMagic, BadVersion, Trailing, Truncated};
 ghost use Rattle.nr_trace.specs.Calls.{IsWellFormedHistory};
-ghost use Rattle.nr_trace.specs.Examples.{access_it, access_refused, answered_again, as_version_2, looks_mapped, map_it, map_then_access, map_then_resolve};
-ghost use Rattle.nr_trace.specs.Examples.{map_then_touch, map_then_touch_bytes};
-ghost use Rattle.nr_trace.specs.Examples.{map_then_resolve_bytes, read_before_and_after, resolve_it, stale_read, unanswered_left_out, unanswered_too_early};
+ghost use Rattle.nr_trace.specs.Examples.{access_it, access_refused, answered_again, as_version_2, looks_mapped, map_it, map_then_access};
+ghost use Rattle.nr_trace.specs.Examples.{map_then_resolve, map_then_resolve_bytes, map_then_touch, map_then_touch_bytes};
+ghost use Rattle.nr_trace.specs.Examples.{read_before_and_after, resolve_it, stale_read, unanswered_left_out, unanswered_too_early};
 ghost use Rattle.nr_trace.specs.Examples.{with_applied, with_log, with_replies, without_first_reply};
 ghost use Rattle.nr_trace.specs.Faults.{HasFault};
 ghost use Rattle.nr_trace.specs.Orders.{answer_in, before, floor, recorded_order, space_after, FitsOrder, IsLegalOrder};
@@ -19,8 +20,8 @@ ghost use Rattle.nr_trace.specs.declared.event.Event.TheVariants.{Call, Reply};
 ghost use Rattle.nr_trace.specs.declared.version.Version.TheVariants.{V1, V2};
 ghost use Rattle.vs_types.specs.declared.depth.Depth.TheVariants.{Five};
 ghost use Rattle.vs_types.specs.declared.answer.Answer.TheVariants.{Allowed, Done};
-ghost use Rattle.nr_trace.specs.declared.fault.Fault.TheVariants.{AnsweredTwice, Early, NoSuchCall, NotAnUpdate, NotPlaced, PastLog, PlacedTwice};
-ghost use Rattle.nr_trace.specs.declared.fault.Fault.TheVariants.{PrefixPastLog, PrefixShort, ThreadOpen, WrongAnswer};
+ghost use Rattle.nr_trace.specs.declared.fault.Fault.TheVariants.{AnsweredTwice, Early, NoSuchCall, NotAnUpdate, NotPlaced, PastLog};
+ghost use Rattle.nr_trace.specs.declared.fault.Fault.TheVariants.{PlacedTwice, PrefixPastLog, PrefixShort, ThreadOpen, WrongAnswer};
 ghost use Rattle.nr_trace.specs.declared.fault.Fault.TheVariants.{Differs, MissingFrame, ReservedBit, SharedFrame, StrayFrame};
 
 /// The update comes first, and then the read that saw it.
@@ -152,6 +153,7 @@ pub fn map_then_touch_is_a_segment()
     ensures first { SpellsSegment None map_then_touch_bytes map_then_touch }
     ensures further { SpellsSegment (Some map_then_touch.layout) map_then_touch_bytes
         map_then_touch }
-    ensures otherwise { HasSegmentFault (Some map_then_resolve.layout) map_then_touch_bytes BadChain }
+    ensures otherwise { HasSegmentFault (Some map_then_resolve.layout) map_then_touch_bytes
+        BadChain }
     ensures no_trace { HasFormatFault map_then_touch_bytes BadMagic }
 {}

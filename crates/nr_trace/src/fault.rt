@@ -1,3 +1,5 @@
+//! What can be wrong with bytes, and with the trace that they spell.
+
 /// What keeps bytes from spelling a trace: the first such thing in byte order.
 #[derive(Clone, Copy, Debug, PartialEq, Eq)]
 pub enum Format {

@@ -1,3 +1,5 @@
+//! How a recorded service was laid out.
+
 ghost use Rattle.std.specs.Prelude.{◌≡◌, ◌↔◌, IsTrue};
 ghost use Rattle.vs_types.specs.declared.limits.TheConstants.{FRAMES};
 
@@ -93,13 +95,14 @@ impl TraceLayout {
         self.threads <= version.most_threads() && self.tables <= version.most_tables()
     }
 
+    /// The depth of its page tables: four levels or five.
     pub fn depth(self) -> Depth
         ensures { result ≡ self.depth }
     {
         self.depth
     }
 
-    /// 1 to 4.
+    /// How many replicas there are: 1 to 4.
     pub fn replicas(self) -> u8
         ensures reads { result ≡ self.replicas }
         ensures in_range { IsLayoutWithin FRAMES FRAMES self }
@@ -107,7 +110,7 @@ impl TraceLayout {
         self.replicas
     }
 
-    /// 1 to 64; of a segment to 65,535.
+    /// How many threads there are: 1 to 64; of a segment up to 65,535.
     pub fn threads(self) -> u16
         ensures reads { result ≡ self.threads }
         ensures in_range { IsLayoutWithin FRAMES FRAMES self }
@@ -115,7 +118,7 @@ impl TraceLayout {
         self.threads
     }
 
-    /// 1 to 4,096, for each replica; of a segment to 65,535.
+    /// How many tables each replica has at most: 1 to 4,096; of a segment up to 65,535.
     pub fn tables(self) -> u16
         ensures reads { result ≡ self.tables }
         ensures in_range { IsLayoutWithin FRAMES FRAMES self }

@@ -1,3 +1,5 @@
+//! A recorded run, which a trace or a segment spells.
+
 ghost use Rattle.std.specs.Prelude.{◌≡◌, ◌↔◌, ◌≤◌, length, All, None, MatchResult, option_copied};
 
 use crate::fault::Format;
@@ -9,8 +11,8 @@ use std::marker::Model;
 use vs_types::{CALLS, Config, LOG_PLACES};
 use vs_walk::Dump;
 
-/// A recorded run, within the ranges of its version of the format: its layout, the page table with which it begins where that is answered, the
-/// call at each place of the log, the events in order, and a dump of each replica. Contracts see its recording.
+/// A recorded run, within the ranges of its version of the format: its layout, the page table with which it begins where that is
+/// answered, the call at each place of the log, the events in order, and a dump of each replica. Contracts see its recording.
 #[derive(Debug, Drop)]
 pub struct Trace {
     version: Version,
@@ -35,7 +37,8 @@ impl Model for Trace {
 
     ghost Value = { Recording };
 
-    ghost coded = { code_by (Version × (Layout × (Option Image × (List ℕ × (List Event × List Image)))))
+    ghost coded = { code_by
+        (Version × (Layout × (Option Image × (List ℕ × (List Event × List Image)))))
         (coded× version_contract.the_row.coded (coded× layout_contract.the_row.coded
         (coded× (coded_option image_code) (coded× (coded_list coded_ℕ)
         (coded× (coded_list event_contract.the_row.coded) (coded_list image_code))))))

@@ -38,7 +38,8 @@ fn write_calls(calls: &[u32], order: &mut [u32])
 }
 
 /// Whether bytes are those of a right trace: `audit` of `nr_audit`. Its verdict is given in numbers, and where it is yes and the array
-/// has room for the order, the calls are written there.
+/// has room for the order, the calls are written there. It allocates memory, which is freed when it returns; where some is refused,
+/// it returns 3.
 #[unsafe(no_mangle)]
 pub extern "C" fn nrvs_audit(
     alloc: Global,

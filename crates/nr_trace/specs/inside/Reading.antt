@@ -21,8 +21,8 @@ use Rattle.nr_trace.specs.declared.fields.Counts.{Counts}
 use Rattle.nr_trace.specs.declared.fields.DumpHead.{DumpHead}
 use Rattle.nr_trace.specs.declared.event.Event.{Event}
 use Rattle.nr_trace.specs.declared.event.Event.TheVariants.{Call, Touch}
-use Rattle.nr_trace.specs.declared.reading.event.Asked.{Asked}
-use Rattle.nr_trace.specs.declared.reading.event.Asked.TheVariants as askeds
+use Rattle.nr_trace.specs.declared.reading.events.Asked.{Asked}
+use Rattle.nr_trace.specs.declared.reading.events.Asked.TheVariants as askeds
 use Rattle.nr_trace.specs.declared.fault.Format.{Format}
 use Rattle.nr_trace.specs.declared.fault.Format.TheVariants.{BadEvent}
 

@@ -3,20 +3,22 @@
 ghost use Rattle.std.specs.Prelude.{◌≡◌, ◌<◌, ◌-◌, ◌^◌, ◌++◌, ◌∷◌, [], ◌↔◌, IsTrue, IfOk, length};
 ghost use Rattle.std.specs.FinMap as finite;
 ghost use Rattle.vs_types.specs.declared.limits.TheConstants.{FRAMES};
+ghost use Rattle.vs_types.specs.Finds.{Finds};
 ghost use Rattle.vs_types.specs.Frame.{IsFrame};
 ghost use Rattle.nr_trace.specs.FirstFault.{IsNext};
-ghost use Rattle.nr_trace.specs.inside.Progress.{AreBelow, AreInRange, AreUnits, AtWords, BehindFrames, Belongs, HasRead, IsOpened, IsReady, Takes};
-ghost use Rattle.nr_trace.specs.inside.Progress.{begun, frame_begun, opened_of, opened_spelling, own_fault, whole_of, words_begun};
+ghost use Rattle.nr_trace.specs.inside.Progress.{AreBelow, AreInRange, AreUnits, AtWords, BehindFrames, Belongs, HasRead};
+ghost use Rattle.nr_trace.specs.inside.Progress.{IsOpened, IsReady, Takes, begun, frame_begun, opened_of, opened_spelling, own_fault, whole_of, words_begun};
+ghost use Rattle.nr_trace.specs.inside.Reading.{SpellsHead};
 ghost use Rattle.vs_walk.specs.Dump.{Image};
 ghost use Rattle.std.specs.Global.{Vec};
 
 use crate::fault::Format;
-use crate::reading::events::at_log;
-use crate::reading::header::dump_head_of;
-use crate::reading::numbers::take_u64;
+use crate::fields::DumpHead;
+use crate::reading::lists::{at_log, push_words};
+use crate::reading::numbers::{take_u32, take_u64};
 use crate::reading::reader::{OpenFrame, Opened, Owner, Parts, Reader};
 use crate::reading::room::{make_room, room_step};
-use crate::reading::words::push_words;
+use crate::version::Version;
 use vs_types::{FRAME_WORDS, Fail, Memory};
 use vs_walk::Dump;
 
@@ -50,6 +52,27 @@ fn put_dump(mut parts: Parts, owner: Owner, dump: Dump) -> Result<Reader, Memory
     }
 }
 
+/// What the 16 bytes spell, if there are as many frames as the version allows, and nothing without frames.
+fn dump_head_of(version: Version, unit: &[u8]) -> Option<DumpHead>
+    requires { length unit.now ≡ 16 }
+    ensures { Finds (SpellsHead version unit.now) result }
+{
+    let (applied, rest) = take_u32(unit);
+    let (frames, rest) = take_u32(rest);
+    let (root, _) = take_u64(rest);
+    if frames < u32::from(version.least_frames()) || frames > u32::from(version.most_frames()) {
+        return None;
+    }
+    if frames == 0 && (applied != 0 || root != 0) {
+        return None;
+    }
+    Some(DumpHead {
+        applied,
+        frames,
+        root,
+    })
+}
+
 pub(crate) fn take_dump_head(parts: Parts, unit: &[u8]) -> Result<Reader, Fail<Format>>
     requires ready { IsReady (Reader.Dumps parts) }
     requires one_left { length parts.dumps.items < parts.layout.replicas }
@@ -74,12 +97,16 @@ pub(crate) fn take_dump_head(parts: Parts, unit: &[u8]) -> Result<Reader, Fail<F
     }
 }
 
+/// How many frame numbers there are.
+const FRAME_NUMBERS: u64 = 1 << 40;
+
+/// Whether a frame of this number can come after the last one.
 fn is_next(last: Option<u64>, number: u64) -> bool
     ensures { IsTrue result ↔ IsNext last number }
 {
     match last {
-        Some(last) => last < number && number < 1 << 40,
-        None => number < 1 << 40,
+        Some(last) => last < number && number < FRAME_NUMBERS,
+        None => number < FRAME_NUMBERS,
     }
 }
 

@@ -30,7 +30,8 @@ pub(crate) enum State {
 /// behind the last one.
 fn take_units(reader: Reader, bytes: &[u8]) -> Result<(Reader, &[u8]), Fail<Format>>
     requires { IsSound reader }
-    ensures { MatchResult result (λ left. IsCut (form_of reader) (said reader) bytes.now left.0 left.1.now)
+    ensures { MatchResult result
+        (λ left. IsCut (form_of reader) (said reader) bytes.now left.0 left.1.now)
         (IfRefused (LastsAs (form_of reader) (said reader ++ bytes.now))) }
 {
     let mut reader = reader;
@@ -221,7 +222,8 @@ impl Model for SegmentFeed {
 }
 
 impl SegmentFeed {
-    /// A feed that nothing was given yet, of a segment that comes after one that is laid out so, or of the first one. It allocates no memory.
+    /// A feed that nothing was given yet, of a segment that comes after one that is laid out so, or of the first one. It
+    /// allocates no memory.
     pub fn new(alloc: Global, before: Option<TraceLayout>) -> SegmentFeed
         ensures { result ≡ record { before = before; pieces = Taken [] } }
     {

@@ -1,18 +1,76 @@
-//! The layout and the lengths that the counts unit spells, and the head of a dump.
+//! The units of the header, which are the magic, the version and the counts, and the root of a start.
 
-ghost use Rattle.std.specs.Prelude.{◌≡◌, ◌⊎◌, ◌++◌, ◌+◌, length};
+ghost use Rattle.std.specs.Prelude.{◌≡◌, ◌⊎◌, ◌+◌, length};
 ghost use Rattle.vs_types.specs.Depth.{levels};
 ghost use Rattle.vs_types.specs.Finds.{Finds};
-ghost use Rattle.nr_trace.specs.FirstFault.{counts_bytes};
-ghost use Rattle.nr_trace.specs.declared.version.Version.TheVariants.{Segment};
+ghost use Rattle.nr_trace.specs.FirstFault.{counts_bytes, magic_of, AtLog, AtStart, IsCounts};
 ghost use Rattle.nr_trace.specs.Spelling.{start_count};
-ghost use Rattle.nr_trace.specs.inside.Reading.{SpellsCounts, SpellsHead};
+ghost use Rattle.nr_trace.specs.Versions.{version_code, IsVersionOf};
+ghost use Rattle.nr_trace.specs.declared.version.Version.TheVariants.{Segment};
+ghost use Rattle.nr_trace.specs.inside.Progress.{header_units, AreInRange, HasRead, IsEmpty, IsReady, Takes};
+ghost use Rattle.nr_trace.specs.inside.Reading.{SpellsCounts};
 
-use crate::fields::{Counts, DumpHead};
+use crate::fault::Format;
+use crate::fields::Counts;
 use crate::layout::TraceLayout;
+use crate::reading::lists::at_log;
 use crate::reading::numbers::{take_u8, take_u16, take_u32, take_u64};
-use crate::version::Version;
-use vs_types::{CALLS, Depth, LOG_PLACES};
+use crate::reading::reader::{Opened, Owner, Parts, Reader};
+use crate::version::{Form, Version};
+use std::alloc::Global;
+use vs_types::{CALLS, Depth, Fail, LOG_PLACES};
+use vs_walk::Dump;
+
+/// What the bytes begin with.
+fn magic_of(form: &Form) -> [u8; 4]
+    ensures { result ≡ magic_of form.now }
+{
+    match form {
+        Form::Trace => *b"NRVT",
+        Form::Segment(_) => *b"NRVS",
+    }
+}
+
+pub(crate) fn take_magic(alloc: Global, form: Form, unit: &[u8]) -> Result<Reader, Fail<Format>>
+    requires { length unit.now ≡ 4 }
+    ensures { Takes (Reader.Magic alloc form) unit.now result }
+{
+    let wanted = magic_of(&form);
+    if unit == wanted.as_slice() {
+        Ok(Reader::Version(alloc, form))
+    } else {
+        Err(Fail::Refused(Format::BadMagic))
+    }
+}
+
+/// The version of this number in what has the form.
+fn version_of(form: &Form, code: u16) -> Option<Version>
+    ensures { Finds (λ version. IsVersionOf form.now version × (code ≡ version_code version))
+        result }
+{
+    match form {
+        Form::Trace => match code {
+            1 => Some(Version::V1),
+            2 => Some(Version::V2),
+            _ => None,
+        },
+        Form::Segment(_) => match code {
+            1 => Some(Version::Segment),
+            _ => None,
+        },
+    }
+}
+
+pub(crate) fn take_version(alloc: Global, form: Form, unit: &[u8]) -> Result<Reader, Fail<Format>>
+    requires { length unit.now ≡ 2 }
+    ensures { Takes (Reader.Version alloc form) unit.now result }
+{
+    let (code, _) = take_u16(unit);
+    match version_of(&form, code) {
+        Some(version) => Ok(Reader::Header(alloc, form, version)),
+        None => Err(Fail::Refused(Format::BadVersion)),
+    }
+}
 
 fn depth_of(count: u8) -> Option<Depth>
     ensures { Finds (λ depth. count ≡ levels depth) result }
@@ -74,23 +132,65 @@ pub(crate) fn counts_of(version: Version, unit: &[u8]) -> Option<Counts>
     })
 }
 
-/// What the 16 bytes spell, if there are as many frames as the version allows, and nothing without frames.
-pub(crate) fn dump_head_of(version: Version, unit: &[u8]) -> Option<DumpHead>
-    requires { length unit.now ≡ 16 }
-    ensures { Finds (SpellsHead version unit.now) result }
+/// The units after the counts: those of the start, where it has frames, and else those of the log.
+fn at_start(parts: Parts, numbers: Counts) -> Reader
+    requires in_range { AreInRange parts }
+    requires empty { IsEmpty parts }
+    requires numbers { IsCounts parts.version numbers }
+    requires layout { numbers.layout ≡ parts.layout }
+    ensures { HasRead parts.form (header_units numbers parts) (AtStart numbers.start
+        (AtLog parts.version parts.layout numbers.places numbers.events)) result }
 {
-    let (applied, rest) = take_u32(unit);
-    let (frames, rest) = take_u32(rest);
-    let (root, _) = take_u64(rest);
-    if frames < u32::from(version.least_frames()) || frames > u32::from(version.most_frames()) {
-        return None;
+    if numbers.start == 0 {
+        at_log(parts, numbers.places, numbers.events)
+    } else {
+        Reader::Root(parts, numbers)
     }
-    if frames == 0 && (applied != 0 || root != 0) {
-        return None;
+}
+
+pub(crate) fn take_header(
+    alloc: Global,
+    form: Form,
+    version: Version,
+    unit: &[u8],
+) -> Result<Reader, Fail<Format>>
+    requires ready { IsVersionOf form version }
+    requires whole { length unit.now ≡ counts_bytes version }
+    ensures { Takes (Reader.Header alloc form version) unit.now result }
+{
+    match counts_of(version, unit) {
+        Some(counts) => {
+            let layout = counts.layout;
+            if !form.follows(&layout) {
+                return Err(Fail::Refused(Format::BadChain));
+            }
+            let parts = Parts {
+                alloc,
+                form,
+                version,
+                layout,
+                start: None,
+                log: Vec::new(alloc),
+                events: Vec::new(alloc),
+                dumps: Vec::new(alloc),
+            };
+            Ok(at_start(parts, counts))
+        }
+        None => Err(Fail::Refused(Format::BadCount)),
     }
-    Some(DumpHead {
-        applied,
-        frames,
-        root,
-    })
+}
+
+pub(crate) fn take_root(parts: Parts, numbers: Counts, unit: &[u8]) -> Result<Reader, Fail<Format>>
+    requires ready { IsReady (Reader.Root parts numbers) }
+    requires whole { length unit.now ≡ 8 }
+    ensures { Takes (Reader.Root parts numbers) unit.now result }
+{
+    let (root, _) = take_u64(unit);
+    let dump = Dump::new(parts.alloc, 0, root);
+    let opened = Opened {
+        dump,
+        left: numbers.start,
+        owner: Owner::Start(numbers.places, numbers.events),
+    };
+    Ok(Reader::Frame(parts, opened, None))
 }

@@ -6,9 +6,8 @@ use crate::fault::Format;
 use crate::fields::Counts;
 use crate::layout::TraceLayout;
 use crate::reading::dumps::{take_dump_head, take_frame_number, take_words};
-use crate::reading::events::{
-    take_events, take_header, take_magic, take_places, take_root, take_version,
-};
+use crate::reading::header::{take_header, take_magic, take_root, take_version};
+use crate::reading::lists::{take_events, take_places};
 use crate::recorded::Recorded;
 use crate::trace::Trace;
 use crate::version::{Form, Version};

@@ -55,7 +55,8 @@ fn put_dump(out: &mut Vec<u8>, held: &Dump) -> Result<(), Memory>
 
 /// The root of a start, and its frames, where there is one.
 pub(crate) fn put_start(out: &mut Vec<u8>, start: Option<&Dump>) -> Result<(), Memory>
-    ensures { OnOk result (out.new.items ≡ out.old.items ++ start_units (option_copied start.entry)) }
+    ensures { OnOk result
+        (out.new.items ≡ out.old.items ++ start_units (option_copied start.entry)) }
 {
     if let Some(start) = start {
         put_u64(out, start.root())?;

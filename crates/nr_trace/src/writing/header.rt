@@ -47,7 +47,8 @@ fn put_start_count(out: &mut Vec<u8>, version: Version, start: u32) -> Result<()
 /// The magic, the version and the counts.
 pub(crate) fn put_header(out: &mut Vec<u8>, version: Version, numbers: Counts) -> Result<(), Memory>
     ensures { OnOk result
-        (out.new.items ≡ out.old.items ++ (magic version ++ version_word version ++ counts version numbers)) }
+        (out.new.items
+        ≡ out.old.items ++ (magic version ++ version_word version ++ counts version numbers)) }
 {
     let start = numbers.start;
     put_magic(out, version)?;

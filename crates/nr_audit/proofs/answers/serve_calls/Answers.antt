@@ -53,7 +53,7 @@ returns-then-not-agrees-clause-first c =
     let own = subst (λ e. IsLastEvent trace (get_or order k 0) e) (sym (is.left k (omega arith))) (c.requires.listed.each k within) in
     let call = c.call_at-call.ensures ∙ own.names in
     let request = c.in-Some.request in
-    let serves = subst (λ (s : BoundedSpace). Serves s request c.in_ok-answer.answer c.serve.new.space) is.space c.in_ok-answer.ensures in
+    let serves = subst (λ (s : BoundedSpace). Serves s request c.in_ok-answer.answer c.serve.new.space) is.space c.in_ok-answer.ensures.ok in
     let gives = answered trace.layout (space_from start trace (take k order)) request c.in_ok-answer.answer c.serve.new.space serves in
     let asks = sym c.in-Some.is ∙ c.request_of.ensures.asks ∙ ap (asked_by trace) call in
     let told = c.answer_at.ensures ∙ ap (option_map (λ (r : Response). r.answer)) own.only_reply in
@@ -75,7 +75,7 @@ loop-member-preserved c =
     let call = c.call_at-call.ensures ∙ own.names in
     let asks = sym c.in-Some.is ∙ c.request_of.ensures.asks ∙ ap (asked_by trace) call in
     let told = c.answer_at.ensures ∙ ap (option_map (λ (r : Response). r.answer)) own.only_reply in
-    let serves = subst (λ (s : BoundedSpace). Serves s request c.in_ok-answer.answer c.serve.new.space) is.space c.in_ok-answer.ensures in
+    let serves = subst (λ (s : BoundedSpace). Serves s request c.in_ok-answer.answer c.serve.new.space) is.space c.in_ok-answer.ensures.ok in
     let gives = answered trace.layout (space_from start trace (take k order)) request c.in_ok-answer.answer c.serve.new.space serves in
     record {
       put = put_more order c.loop-member.members k c.call_at-call.result (omega arith) is.put call;

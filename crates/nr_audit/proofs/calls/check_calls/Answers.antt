@@ -4,7 +4,8 @@ use Rattle.std.proofs.lemmas.List.{get_or_read}
 use Rattle.nr_trace.specs.declared.fault.Fault.TheVariants.{ThreadOpen, NoSuchCall, AnsweredTwice}
 use Rattle.nr_audit.specs.inside.Search.{HasNone}
 use Rattle.nr_audit.specs.inside.Passes.{IsCallFaultAt}
-use Rattle.nr_audit.proofs.CallsAndReplies.{read_event, read_gone, read_some, call_on, no_event, told_call, if_some, open_call, no_open_call}
+use Rattle.nr_trace.proofs.LawsOfCalls.{read_event}
+use Rattle.nr_audit.proofs.CallsAndReplies.{read_gone, read_some, call_on, no_event, told_call, if_some, open_call, no_open_call}
 use Rattle.nr_audit.proofs.Ranks.{more_of}
 use Rattle.nr_audit.proofs.CallFaults.{HasFound, known_at_start, known_after_call, none_at_call, first_open, first_no_call, first_twice, none_at_reply}
 use Rattle.nr_audit.proofs.CallFaults.{known_after_reply, first_call_fault, no_call_fault, table_at_end}

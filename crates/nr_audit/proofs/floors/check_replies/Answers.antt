@@ -10,7 +10,8 @@ use Rattle.nr_audit.specs.declared.reads.Chains.{Chains}
 use Rattle.nr_audit.specs.inside.Search.{FindsEarly, HasNone, IsFirstAmong}
 use Rattle.nr_audit.specs.inside.Passes.{IsFloorFault, IsFloorFaultAt, IsPositionFault, IsPositionFaultAt}
 use Rattle.nr_audit.specs.inside.Prefixes.{AreNeeds, with_known}
-use Rattle.nr_audit.proofs.CallsAndReplies.{read_event, reply_here, no_reply_there, no_reply_unless, no_call_at_reply}
+use Rattle.nr_trace.proofs.LawsOfCalls.{read_event, reply_here}
+use Rattle.nr_audit.proofs.CallsAndReplies.{no_reply_there, no_reply_unless, no_call_at_reply}
 use Rattle.nr_audit.proofs.Ranks.{more_of}
 use Rattle.nr_audit.proofs.FloorFaults.{early_at_other, none_at_call, none_at_other, no_floor_fault}
 use Rattle.nr_audit.proofs.FirstOfPasses.{after_log, after_positions, clean_after_positions, first_from_any, first_of_pass, floor_faults, position_faults}
@@ -38,7 +39,7 @@ loop-index-preserved c =
             positions = more_of IsPositionFaultAt trace index old.positions (none_without_reply trace index none);
             early = λ clean. subst (λ o. FindsEarly trace (index + 1) o) (sym w.early-is) (w.early_call-early.ensures clean (old.early clean));
             passed = passed_as trace (index + 1) _ _ _ _ (ap (λ (v : Chains). v.lasts.items) w.chains-is)
-                (ap (λ (v : Chains). v.rows.items) w.chains-is) w.pass.ensures.passed;
+                (ap (λ (v : Chains). v.places_or_reads.items) w.chains-is) w.pass.ensures.passed;
             needs = subst (λ (needs : List ℕ). AreNeeds trace (index + 1) needs) (sym w.needed-is)
                 (needs_stay trace index needed
                 (λ replica other. no_reply_at trace index replica other none) old.needs);
@@ -56,7 +57,7 @@ loop-index-preserved c =
                 (none_at_call trace index w.pass.result clean w.pass.ensures.stands
                 (λ entries there. absurd (w.in_default-pass.not-Some entries there))) (old.early clean));
             passed = passed_as trace (index + 1) _ _ _ _ (ap (λ (v : Chains). v.lasts.items) w.chains-is)
-                (ap (λ (v : Chains). v.rows.items) w.chains-is) w.pass.ensures.passed;
+                (ap (λ (v : Chains). v.places_or_reads.items) w.chains-is) w.pass.ensures.passed;
             needs = subst (λ (needs : List ℕ). AreNeeds trace (index + 1) needs) (sym w.needed-is)
                 (needs_stay trace index needed
                 (λ replica other. no_reply_at trace index replica other none) old.needs);
@@ -78,8 +79,8 @@ loop-index-preserved c =
             early = λ clean. subst (λ o. FindsEarly trace (index + 1) o) (sym w.early-is)
                 (early_at_other trace index c.loop-index.early (none_at_other trace index (no_call_at_reply trace index _ _ _ is)) (old.early clean));
             passed = passed_as trace (index + 1) _ _ _ _ (ap (λ (v : Chains). v.lasts.items) w.chains-is)
-                (ap (λ (v : Chains). v.rows.items) w.chains-is)
-                (passed_by trace index c.loop-index.chains.lasts.items c.loop-index.chains.rows.items
+                (ap (λ (v : Chains). v.places_or_reads.items) w.chains-is)
+                (passed_by trace index c.loop-index.chains.lasts.items c.loop-index.chains.places_or_reads.items
                 (no_call_saw_nothing trace index (no_call_at_reply trace index _ _ _ is)) old.passed);
             needs = subst (λ (needs : List ℕ). AreNeeds trace (index + 1) needs)
                 (sym (w.needed-is ∙ w.raise_need.ensures.raised ∙ ap (λ n. with_known needed (call_of trace w.in-Reply.call) n) known))

@@ -13,6 +13,6 @@ invariant-loop-index l = record {
   floor : l.floor ≡ floor l.history l.index;
   positions : (lower : ℕ) → lower < l.index → HasNone (IsPositionFaultAt lower) l.history;
   early : HasCleanLog l.history → FindsEarly l.history l.index l.early;
-  passed : ArePassed l.history l.index l.chains.lasts.items l.chains.rows.items;
+  passed : ArePassed l.history l.index l.chains.lasts.items l.chains.places_or_reads.items;
   needs : AreNeeds l.history l.index l.needed;
 }

@@ -1,5 +1,4 @@
-use Rattle.std.proofs.Common.{◌≡◌, ℕ, ◌-◌, ◌==◌, true, false, List, length, take, drop, ap, sym, ◌∙◌, subst}
-use Rattle.std.proofs.Math.Seq.{take-length}
+use Rattle.std.proofs.Common.{◌≡◌, ℕ, ◌-◌, ◌==◌, true, false, length, ap, sym, ◌∙◌, subst, take_all, drop, arith}
 use Rattle.std.proofs.lemmas.List.{length-drop, nil_from_length}
 use Rattle.nr_chain.specs.Verdict.{FeedsChain}
 use Rattle.nr_chain.proofs.ChainSteps.{leads_end, leads_on, leads_wrong}
@@ -7,14 +6,12 @@ use Rattle.nr_chain.proofs.FoundChains.{right_chain}
 use Rattle.std.proofs.lemmas.Bool.{eqb-true}
 use Rattle.nr_chain.proofs.auditing.audit_chain.Goals as goal
 
-left_behind : (count : ℕ) (rest : List ℕ) → take (length rest - count) (drop count rest) ≡ drop count rest
-left_behind count rest = ap (λ (n : ℕ). take n (drop count rest)) (sym (length-drop count rest)) ∙ take-length (drop count rest)
-
 pub segments-preserved : goal.segments-preserved
 segments-preserved c =
     leads_on c.args.bytes.now c.segments.chain c.in-Right.next c.segments.orders.items c.push.new.self.items c.segments.rest.now _ c.in-Right.count
     c.in-Right.order c.segments.invariant (subst (FeedsChain c.segments.chain c.segments.rest.now) c.in-Right.is c.in_ok-next.ensures)
-    c.in_ok-push-in-Right.ensures.items (left_behind c.in-Right.count c.segments.rest.now)
+    c.in_ok-push-in-Right.ensures.items (take_all (length c.segments.rest.now - c.in-Right.count) (drop c.in-Right.count c.segments.rest.now)
+    (omega (arith, length-drop c.in-Right.count c.segments.rest.now)))
 
 pub returns-in-Wrong-clause-verdict : goal.returns-in-Wrong-clause-verdict
 returns-in-Wrong-clause-verdict c =

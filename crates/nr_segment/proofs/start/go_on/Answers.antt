@@ -4,7 +4,7 @@ use Rattle.vs_types.specs.Page.{IsPage}
 use Rattle.vs_types.specs.declared.page.Page.{Page}
 use Rattle.vs_walk.proofs.LawsOfDumps.{dump_is_whole}
 use Rattle.vs_walk.proofs.LawsOfSpaces.{translates_found}
-use Rattle.nr_segment.specs.Start.{found_in}
+use Rattle.vs_walk.specs.Traversal.{found_in}
 use Rattle.nr_segment.proofs.Starts.{differs_first, none_differs, none_of_start, own_formed}
 use Rattle.nr_segment.proofs.start.go_on.Goals as goal
 

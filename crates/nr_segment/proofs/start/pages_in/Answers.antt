@@ -1,8 +1,7 @@
 use Rattle.std.proofs.Common.{◌≡◌, List, ap, sym, ◌∙◌, subst}
 use Rattle.vs_types.specs.declared.page.Page.{Page}
-use Rattle.vs_walk.specs.Traversal.{traversal, found}
+use Rattle.vs_walk.specs.Traversal.{traversal, found, found_in}
 use Rattle.vs_walk.proofs.LawsOfDumps.{dump_is_whole}
-use Rattle.nr_segment.specs.Start.{found_in}
 use Rattle.nr_segment.specs.inside.Begun.{AreApart, HasNoneBeyond, IsFirstBeyond}
 use Rattle.nr_segment.proofs.Starts.{beyond_first, found_apart, least_beyond}
 use Rattle.nr_segment.proofs.start.pages_in.Goals as goal

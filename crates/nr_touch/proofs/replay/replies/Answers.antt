@@ -1,7 +1,8 @@
 use Rattle.std.proofs.Common.{Vec, Global, ◌≡◌, ℕ, ◌+◌, ◌<◌, length, sym, ap, ◌∙◌, refl, subst, arith}
 use Rattle.std.proofs.lemmas.List.{get_or_read}
 use Rattle.nr_touch.specs.inside.Changes.{AreReplies}
-use Rattle.nr_touch.proofs.Replayed.{no_replies, pass_call, pass_reply, put_reply, read_event}
+use Rattle.nr_trace.proofs.LawsOfCalls.{read_event}
+use Rattle.nr_touch.proofs.Replayed.{no_replies, pass_call, pass_reply, put_reply}
 use Rattle.nr_touch.proofs.replay.replies.Goals as goal
 use Rattle.nr_touch.proofs.replay.replies.Goals.{in-Call, in-Touch, in-Reply+then-call-len, in-Reply+else-call-len}
 
