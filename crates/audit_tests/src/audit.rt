@@ -1,3 +1,5 @@
+//! The verdicts on traces that are made by hand.
+
 use crate::audit_cases::{CALLS, Case, DUMPS, FORMATS, ORDERS};
 use crate::bytes::push_dump;
 use nr_audit::{Verdict, audit};

@@ -1,3 +1,5 @@
+//! Traces as bytes, each with the order or the fault that an audit finds.
+
 use nr_trace::{Fault, Format};
 
 /// The bytes of an event, but for others at some indexes.

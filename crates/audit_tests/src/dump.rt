@@ -1,3 +1,5 @@
+//! Dumps that are checked against the pages of a space.
+
 ghost use Rattle.std.specs.Prelude.{◌<◌, All, IsTrue};
 ghost use Rattle.std.specs.FinMap as finite;
 

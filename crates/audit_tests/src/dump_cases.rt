@@ -1,3 +1,5 @@
+//! Dumps, the pages beside them, and what a check of the two answers.
+
 use nr_dump::DumpFault;
 use vs_types::{Depth, Size};
 

@@ -1,3 +1,5 @@
+//! Events come back as they were kept.
+
 use nr_trace::{Event, Recorded};
 use vs_types::{Access, Answer, BadOp, Depth, Mode, Op, Page, Request, Rights, Size};
 

@@ -39,7 +39,7 @@ use Rattle.nr_pages.specs.Dumps.{dump_text}
 use Rattle.nr_pages.specs.Listing.{pages_text}
 use Rattle.nr_chain_engines.specs.ChainPages.{HasReadFewOfStart, IsChainStart}
 use Rattle.nr_chain_engines.specs.inside.Begun.{BeginsSo, HasReadFirst, IsBegun, SaysOfFirst, SaysUnread}
-use Rattle.nr_engines.proofs.Input.{whole_read, whole_with}
+use Rattle.nr_engines.proofs.Input.{one_block, whole_read, whole_with}
 
 abbrev fed_first : List ℕ → FedSegment
 fed_first bytes = record { before = None; pieces = Taken bytes }
@@ -56,9 +56,9 @@ took_first read piece feed new count is feeds =
 
 -- ---- how much is read
 
-pub few_begun : (known left next : Option (List ℕ)) (feed : FedSegment) (piece : List ℕ) → IsBegun known left feed → Consumes left next piece
+few_more : (known left next : Option (List ℕ)) (feed : FedSegment) (piece : List ℕ) → IsBegun known left feed → Consumes left next piece
     → length piece ≤ 4096 → HasReadFewOfStart known next
-few_begun known left next feed piece begun lost size = record {
+few_more known left next feed piece begun lost size = record {
   before = begun.read;
   block = piece;
   read = Consumes-trans known left next begun.read piece begun.consumed lost;
@@ -66,9 +66,14 @@ few_begun known left next feed piece begun lost size = record {
   one_block = size;
 }
 
-pub few_stayed : (known left next : Option (List ℕ)) (feed : FedSegment) → IsBegun known left feed → Keeps left next → HasReadFewOfStart known next
-few_stayed known left next feed begun keeps =
-    few_begun known left next feed [] begun (Consumes-kept left left next [] (Consumes-nil left) keeps) (omega arith)
+pub few_begun : {known left next : Option (List ℕ)} {feed : FedSegment} (count : ℕ) (block : List ℕ) → IsBegun known left feed
+    → Consumes left next (take count block) → length block ≡ 4096 → HasReadFewOfStart known next
+few_begun count block begun lost full = few_more _ _ _ _ (take count block) begun lost (one_block count block full)
+
+pub few_stayed : {known left next : Option (List ℕ)} {feed : FedSegment} → IsBegun known left feed → Keeps left next
+    → HasReadFewOfStart known next
+few_stayed {left = left} {next = next} begun keeps =
+    few_more _ _ _ _ [] begun (Consumes-kept left left next [] (Consumes-nil left) keeps) (omega arith)
 
 -- ---- the input ends
 
@@ -78,7 +83,8 @@ ends_so read (Err (Refused fault)) (is, short) =
     let same : fault ≡ Truncated = cc in subst (HasSegmentFault None read) (sym same) short
 ends_so read (Err Memory) ends = tt
 
-pub first_ended : (known left next : Option (List ℕ)) (feed : FedSegment) (piece : List ℕ) (result : Result Recording (Fail Format)) → IsBegun known left feed
+pub first_ended : (known left next : Option (List ℕ)) (feed : FedSegment) (piece : List ℕ) (result : Result Recording (Fail Format))
+    → IsBegun known left feed
     → Consumes left next piece → piece ≡ [] → IsAtEnd next → EndsSegment feed result → HasReadFirst known result
 first_ended known left next feed piece result begun lost none end ends =
     let consumed = subst (Consumes known next) (ap (λ (p : List ℕ). begun.read ++ p) none ∙ append-nil begun.read)
@@ -112,14 +118,16 @@ pub first_stopped : (known left next : Option (List ℕ)) (feed new : FedSegment
     (read : Result Recording (Fail Format)) → IsBegun known left feed → Consumes left next piece → FeedsSegment feed piece new (Err fail)
     → EndsSegment new read → HasReadFirst known read
 first_stopped known left next feed new piece fail read begun lost feeds ends =
-    let here : FeedsSegment (fed_first begun.read) piece new (Err fail) = subst (λ (f : FedSegment). FeedsSegment f piece new (Err fail)) begun.feed_is feeds in
+    let here : FeedsSegment (fed_first begun.read) piece new (Err fail) =
+    subst (λ (f : FedSegment). FeedsSegment f piece new (Err fail)) begun.feed_is feeds in
     let stopped : new ≡ record { before = new.before; pieces = Stopped fail } = λ i. record { before = new.before; pieces = here.1.0 i } in
     let same : read ≡ Err fail = subst (λ (f : FedSegment). EndsSegment f read) stopped ends in
     subst (HasReadFirst known) (sym same) (first_refused known left next feed new piece fail begun lost feeds)
 
 -- ---- the segment is whole
 
-whole_so : (read piece behind : List ℕ) (new : FedSegment) (count : ℕ) (result : Result Recording (Fail Format)) → Took None read piece new count
+whole_so : (read piece behind : List ℕ) (new : FedSegment) (count : ℕ) (result : Result Recording (Fail Format))
+    → Took None read piece new count
     → IsWhole new → EndsSegment new result → BeginsSo ((read ++ piece) ++ behind) result
 whole_so read piece behind new count (Ok segment) is whole ends =
     let pieces : bytes_in new.pieces ≡ read ++ take count piece = ap bytes_in is.taken in
@@ -129,7 +137,8 @@ whole_so read piece behind new count (Ok segment) is whole ends =
     (drop count piece ++ behind, record { own = read ++ take count piece; is = cut_so read piece behind count; spelled = spelled })
 whole_so read piece behind new count (Err fail) is whole ends = absurd (not_refused new fail whole ends)
 
-pub first_whole : (known left next : Option (List ℕ)) (feed new : FedSegment) (piece : List ℕ) (count : ℕ) (result : Result Recording (Fail Format))
+pub first_whole : (known left next : Option (List ℕ)) (feed new : FedSegment) (piece : List ℕ) (count : ℕ)
+    (result : Result Recording (Fail Format))
     → IsBegun known left feed → Consumes left next piece → FeedsSegment feed piece new (Ok count) → IsWhole new → EndsSegment new result
     → HasReadFirst known result
 first_whole known left next feed new piece count result begun lost feeds whole ends =
@@ -156,7 +165,8 @@ first_goes_on known left next feed new piece count begun lost feeds none =
 
 -- ---- what is said of its start
 
-pub said_of_first : (as_ranges : Bool) (bytes : List ℕ) (segment : Recording) (rest text : List ℕ) (status : ℕ) → BeginsWith None bytes segment rest
+pub said_of_first : (as_ranges : Bool) (bytes : List ℕ) (segment : Recording) (rest text : List ℕ) (status : ℕ)
+    → BeginsWith None bytes segment rest
     → SaysOfFirst as_ranges segment text status → IsChainStart as_ranges bytes text status
 said_of_first as_ranges bytes segment rest text status starts (inl says) = inl record {
   first = segment;
@@ -194,7 +204,8 @@ start_walked segment start has sound =
     (λ number index holds. sound.faultless (Start (Reserved number index)) (start, has, holds))
 
 -- and finds the pages with which the segment begins
-pub start_shown : (as_ranges : Bool) (segment : Recording) (start : Image) → IsRecording segment → segment.start ≡ Some start → IsSoundAfter None segment
+pub start_shown : (as_ranges : Bool) (segment : Recording) (start : Image) → IsRecording segment → segment.start ≡ Some start
+    → IsSoundAfter None segment
     → dump_text as_ranges segment.layout.depth start ≡ pages_text as_ranges (pages (first_space None segment))
 start_shown as_ranges segment start in_range has sound =
     let begun = space_of_start segment start has in_range sound in
@@ -215,7 +226,8 @@ none_text true = refl
 none_text false = refl
 
 -- of no start nothing is shown
-pub no_start_shown : (as_ranges : Bool) (segment : Recording) → segment.start ≡ None → pages_text as_ranges (pages (first_space None segment)) ≡ []
+pub no_start_shown : (as_ranges : Bool) (segment : Recording) → segment.start ≡ None
+    → pages_text as_ranges (pages (first_space None segment)) ≡ []
 no_start_shown as_ranges segment has =
     ap (λ (s : Option Image). pages_text as_ranges (pages (start_space segment.layout.depth s))) has
     ∙ ap (pages_text as_ranges) (none_listed segment.layout.depth) ∙ none_text as_ranges

@@ -1,11 +1,10 @@
 -- What is said of the end of a chain that was judged.
 use Rattle.std.proofs.Common.{◌≡◌, ℕ, ◌++◌, inl, inr, Bool, true, List, [], ◌∷◌, Option, Some, None, refl, sym, ap, ◌∙◌, subst}
-use Rattle.std.specs.Io.KnownBytes.{Appends}
 use Rattle.nr_chain.specs.Bytes.{kept_after, EndsWith}
 use Rattle.nr_chain.specs.Fed.{ChainFed, Kept}
 use Rattle.nr_chain.specs.Parts.{ComesTo}
 use Rattle.nr_chain.proofs.FoundChains.{right_chain}
-use Rattle.nr_engines.specs.Answers.{IsReadOf, WritesReport}
+use Rattle.nr_engines.specs.Answers.{IsReadOf}
 use Rattle.nr_chain_engines.specs.ChainPages.{IsChainEnd}
 use Rattle.nr_chain_engines.specs.ChainText.{end_lines}
 use Rattle.nr_chain_engines.specs.inside.Going.{GoesOnTo}
@@ -14,17 +13,6 @@ use Rattle.nr_chain_engines.specs.declared.audit.Judged.{Judged}
 use Rattle.nr_chain_engines.specs.declared.audit.Judged.TheVariants.{Ended, Faulty}
 use Rattle.nr_chain_engines.proofs.Going.{ended, lasting}
 use Rattle.nr_engines.proofs.Input.{whole_read, whole_with}
-
--- an answer that was written
-pub reported : (IsReport : List ℕ → List ℕ → ℕ → Type 0) (known old new : Option (List ℕ)) (input text : List ℕ) (own status : ℕ) → IsReadOf known input
-    → IsReport input text own → status ≡ own → Appends old new text → WritesReport IsReport known old new status
-reported IsReport known old new input text own status is_read is same written = record {
-  input = input;
-  is_read = is_read;
-  text = text;
-  is_report = subst (IsReport input text) (sym same) is;
-  written = written;
-}
 
 -- right segments to the end of the bytes come to what is kept of the last
 comes_to : (kept last : Option Kept) (bytes rest : List ℕ) (orders : List (List ℕ)) (end : Kept) → GoesOnTo kept bytes orders last rest

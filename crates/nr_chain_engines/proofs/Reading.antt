@@ -1,11 +1,11 @@
 -- A chain that is read in blocks, whose lines are written as its segments are judged.
 use Rattle.std.proofs.Common.{◌≡◌, ◌≢◌, ◌≤◌, ℕ, ◌+◌, ◌*◌, ◌++◌, ◌⊎◌, inl, inr, Bool, List, [], length, append-nil, Option, Some, None, Result, Ok}
-use Rattle.std.proofs.Common.{Err, IfErr, refl, sym, ap, ◌∙◌, subst, arith}
+use Rattle.std.proofs.Common.{Err, IfErr, IfOk, refl, sym, ap, ◌∙◌, subst, take, arith}
 use Rattle.std.specs.Io.KnownBytes.{Appends, Consumes, IsAtEnd, Keeps}
 use Rattle.std.proofs.KnownBytes.{Appends-nil, Appends-trans, Consumes-kept, Consumes-nil, Consumes-trans}
 use Rattle.std.proofs.lemmas.List.{length-append}
-use Rattle.nr_engines.proofs.Input.{whole_read, whole_with}
-use Rattle.nr_engines.specs.Answers.{WritesReport}
+use Rattle.nr_engines.proofs.Input.{one_block, whole_read, whole_with}
+use Rattle.nr_engines.specs.Answers.{IsReadOf, WritesReport}
 use Rattle.nr_engines.specs.declared.fault.ProgFault.{ProgFault}
 use Rattle.nr_engines.specs.declared.fault.ProgFault.TheVariants.{CannotRead, CannotWrite, Memory}
 use Rattle.nr_segment.specs.declared.fault.SegmentFault.{SegmentFault}
@@ -17,6 +17,7 @@ use Rattle.nr_chain_engines.specs.ChainAudit.{AuditsWhatIsRead, HasReadFewOfChai
 use Rattle.nr_chain_engines.specs.ChainText.{chain_status, chain_text, end_lines, shown_lines}
 use Rattle.nr_chain_engines.specs.inside.Going.{IsShort, TakesBlock, TakesSegments, TakesSome}
 use Rattle.nr_chain_engines.specs.inside.Judged.{IsAt}
+use Rattle.nr_chain_engines.specs.declared.audit.TheConstants.{MOST_BLOCKS}
 use Rattle.nr_chain_engines.specs.declared.audit.Taken.TheVariants.{More}
 use Rattle.nr_chain_engines.proofs.Lines.{none_shown, shown_lines-append}
 use Rattle.nr_chain_engines.proofs.Going.{ended, extend, front_of, lasting, none_short, right_yet, through}
@@ -25,11 +26,11 @@ use Rattle.nr_chain_engines.proofs.Going.{ended, extend, front_of, lasting, none
 pub record IsReading (quiet : Bool) (known left old new : Option (List ℕ)) (chain : ChainFed) (count room : ℕ) : Type 0 where
   pub here : IsAt quiet known left old new chain.kept chain.bytes count
   pub short : IsShort chain.kept chain.bytes
-  pub few : count + 4096 * room ≤ 4096 * 4503599627370495
+  pub few : count + 4096 * room ≤ 4096 * MOST_BLOCKS
 
 pub reading_begins : (quiet : Bool) (known old : Option (List ℕ)) (chain : ChainFed) → chain ≡ record { kept = None; bytes = [] }
-    → IsReading quiet known known old old chain 0 4503599627370495
-reading_begins quiet known old chain is = subst (λ (f : ChainFed). IsReading quiet known known old old f 0 4503599627370495) (sym is) record {
+    → IsReading quiet known known old old chain 0 MOST_BLOCKS
+reading_begins quiet known old chain is = subst (λ (f : ChainFed). IsReading quiet known known old old f 0 MOST_BLOCKS) (sym is) record {
   here = record {
     read = [];
     consumed = Consumes-nil known;
@@ -96,36 +97,45 @@ next_block quiet known left next old now new chain block last rest number count 
           (Appends-trans old now new (shown_lines quiet 0 here.orders) (shown_lines quiet number taken.orders) here.written taken.written);
     }
 
-few_more : (count number size room less : ℕ) → count ≤ number + size → number + 4096 * room ≤ 4096 * 4503599627370495 → size ≤ 4096 → less + 1 ≡ room
-    → count + 4096 * less ≤ 4096 * 4503599627370495
-few_more count number size room less more few short one = omega arith
+fewer_left : (count number size room less : ℕ) → count ≤ number + size → number + 4096 * room ≤ 4096 * MOST_BLOCKS → size ≤ 4096
+    → less + 1 ≡ room
+    → count + 4096 * less ≤ 4096 * MOST_BLOCKS
+fewer_left count number size room less more few short one = omega arith
 
-pub reads_on : (quiet : Bool) (known left next old now new : Option (List ℕ)) (chain more : ChainFed) (block : List ℕ) (number count room less : ℕ)
+pub reads_on : (quiet : Bool) (known left next old now new : Option (List ℕ)) (chain more : ChainFed) (block : List ℕ)
+    (number count room less : ℕ)
     → IsReading quiet known left old now chain number room → Consumes left next block → length block ≤ 4096 → less + 1 ≡ room
     → TakesBlock quiet chain number block now new (More more count) → IsReading quiet known next old new more count less
 reads_on quiet known left next old now new chain more block number count room less reading lost size one (taken, short, most) = record {
   here = next_block quiet known left next old now new chain block more.kept more.bytes number count reading.here lost taken;
   short = short;
-  few = few_more count number (length block) room less most reading.few size one;
+  few = fewer_left count number (length block) room less most reading.few size one;
 }
 
 -- ---- how much is read
 
-pub few_read : (quiet : Bool) (known left next old new : Option (List ℕ)) (last : Option Kept) (rest block : List ℕ) (count : ℕ)
-    → IsAt quiet known left old new last rest count → IsShort last rest → Consumes left next block → length block ≤ 4096 → HasReadFewOfChain known next
-few_read quiet known left next old new last rest block count here short lost size = record {
-  before = here.read;
-  block = block;
-  read = Consumes-trans known left next here.read block here.consumed lost;
-  orders = here.orders;
-  right_yet = right_yet last here.read rest here.orders here.goes_on short;
-  one_block = size;
-}
+few_more : {quiet : Bool} {known left next old new : Option (List ℕ)} {chain : ChainFed} {number room : ℕ} (block : List ℕ)
+    → IsReading quiet known left old new chain number room → Consumes left next block → length block ≤ 4096 → HasReadFewOfChain known next
+few_more {known = known} {left = left} {next = next} {chain = chain} block reading lost size =
+    let here = reading.here in
+    record {
+      before = here.read;
+      block = block;
+      read = Consumes-trans known left next here.read block here.consumed lost;
+      orders = here.orders;
+      right_yet = right_yet chain.kept here.read chain.bytes here.orders here.goes_on reading.short;
+      one_block = size;
+    }
 
-pub few_kept : (quiet : Bool) (known left next old new : Option (List ℕ)) (last : Option Kept) (rest : List ℕ) (count : ℕ)
-    → IsAt quiet known left old new last rest count → IsShort last rest → Keeps left next → HasReadFewOfChain known next
-few_kept quiet known left next old new last rest count here short keeps =
-    few_read quiet known left next old new last rest [] count here short (Consumes-kept left left next [] (Consumes-nil left) keeps) (omega arith)
+pub few_read : {quiet : Bool} {known left next old new : Option (List ℕ)} {chain : ChainFed} {number room : ℕ} (count : ℕ) (block : List ℕ)
+    → IsReading quiet known left old new chain number room → Consumes left next (take count block) → length block ≡ 4096
+    → HasReadFewOfChain known next
+few_read count block reading lost full = few_more (take count block) reading lost (one_block count block full)
+
+pub few_kept : {quiet : Bool} {known left next old new : Option (List ℕ)} {chain : ChainFed} {number room : ℕ}
+    → IsReading quiet known left old new chain number room → Keeps left next → HasReadFewOfChain known next
+few_kept {left = left} {next = next} reading keeps =
+    few_more [] reading (Consumes-kept left left next [] (Consumes-nil left) keeps) (omega arith)
 
 -- ---- where there is no answer
 
@@ -158,7 +168,8 @@ some_written quiet known left old new last rest count fault here none =
     }
 
 -- of a block that was not taken
-pub block_refused : (quiet : Bool) (known left next old now new : Option (List ℕ)) (chain : ChainFed) (block : List ℕ) (number : ℕ) (fault : ProgFault)
+pub block_refused : (quiet : Bool) (known left next old now new : Option (List ℕ)) (chain : ChainFed) (block : List ℕ) (number : ℕ)
+    (fault : ProgFault)
     → IsAt quiet known left old now chain.kept chain.bytes number → Consumes left next block
     → (fault ≡ CannotWrite) ⊎ ((fault ≡ Memory) × TakesSome quiet chain number block now new) → fault ≢ CannotWrite
     → HasWrittenFirst quiet known next old new fault
@@ -168,19 +179,19 @@ block_refused quiet known left next old now new chain block number fault here lo
     (next_block quiet known left next old now new chain block last rest number count here lost taken) none
 
 -- the last lines were not written
-pub end_refused : {W : Type 0} (quiet : Bool) (known left old : Option (List ℕ)) (contents : W
-    → Option (List ℕ)) (now next : W) (last : Option Kept) (rest : List ℕ)
-    (count : ℕ) (result : Result ℕ ProgFault) → IsAt quiet known left old (contents now) last rest count
+pub end_refused : {W : Type 0} {quiet : Bool} {known left old : Option (List ℕ)} {last : Option Kept} {rest : List ℕ} {count : ℕ}
+    (contents : W → Option (List ℕ)) (now next : W) (result : Result ℕ ProgFault) → IsAt quiet known left old (contents now) last rest count
     → IfErr result (λ fault. (fault ≡ CannotWrite) ⊎ ((fault ≡ Memory) × (next ≡ now)))
     → IfErr result (λ fault. fault ≢ CannotWrite → HasWrittenFirst quiet known left old (contents next) fault)
-end_refused quiet known left old contents now next last rest count (Ok status) here err = tt
-end_refused quiet known left old contents now next last rest count (Err fault) here (inl unwritable) = λ written. absurd (written unwritable)
-end_refused quiet known left old contents now next last rest count (Err fault) here (inr (none, same)) = λ written.
-    some_written quiet known left old (contents next) last rest count fault (unwritten quiet known left old contents now next last rest count here same) none
+end_refused contents now next (Ok status) here err = tt
+end_refused contents now next (Err fault) here (inl unwritable) = λ written. absurd (written unwritable)
+end_refused contents now next (Err fault) here (inr (none, same)) = λ written.
+    some_written _ _ _ _ (contents next) _ _ _ fault (unwritten _ _ _ _ contents now next _ _ _ here same) none
 
 -- ---- the answer
 
-audit_of : (quiet : Bool) (bytes text : List ℕ) (orders : List (List ℕ)) (found : Option SegmentFault) (status : ℕ) → GoesOnSo None bytes orders found
+audit_of : (quiet : Bool) (bytes text : List ℕ) (orders : List (List ℕ)) (found : Option SegmentFault) (status : ℕ)
+    → GoesOnSo None bytes orders found
     → text ≡ chain_text quiet orders found → status ≡ chain_status found → IsChainAudit quiet bytes text status
 audit_of quiet bytes text orders found status goes_on is exit = record {
   orders = orders;
@@ -191,69 +202,86 @@ audit_of quiet bytes text orders found status goes_on is exit = record {
   status_is = exit;
 }
 
-pub text_is : (quiet : Bool) (orders : List (List ℕ)) (count : ℕ) (found : Option SegmentFault) → count ≡ length orders
+text_is : (quiet : Bool) (orders : List (List ℕ)) (count : ℕ) (found : Option SegmentFault) → count ≡ length orders
     → shown_lines quiet 0 orders ++ end_lines count found ≡ chain_text quiet orders found
 text_is quiet orders count found counted = ap (λ n. shown_lines quiet 0 orders ++ end_lines n found) counted
 
--- the input ends
-pub answers_end : (quiet : Bool) (known left old now new : Option (List ℕ)) (chain : ChainFed) (count status : ℕ) (found : Option SegmentFault)
-    → IsAt quiet known left old now chain.kept chain.bytes count → EndsWith chain.kept chain.bytes found → status ≡ chain_status found
-    → Appends now new (end_lines count found) → AuditsWhatIsRead quiet known left old new status
-answers_end quiet known left old now new chain count status found here ends exit written = record {
+-- the lines of right segments, and the last ones of what is found of these bytes
+audited : {quiet : Bool} {known left old now : Option (List ℕ)} {last : Option Kept} {rest : List ℕ} {count : ℕ} (bytes : List ℕ)
+    (found : Option SegmentFault) (status : ℕ) → (here : IsAt quiet known left old now last rest count)
+    → GoesOnSo None bytes here.orders found
+    → status ≡ chain_status found → IsChainAudit quiet bytes (shown_lines quiet 0 here.orders ++ end_lines count found) status
+audited {quiet = quiet} {count = count} bytes found status here goes_on exit =
+    audit_of quiet bytes (shown_lines quiet 0 here.orders ++ end_lines count found) here.orders found status goes_on
+    (text_is quiet here.orders count found here.counted) exit
+
+-- they are an answer on what was read
+answers : {quiet : Bool} {known left old now : Option (List ℕ)} {last : Option Kept} {rest : List ℕ} {count : ℕ} {E : Type 0}
+    (new : Option (List ℕ)) (found : Option SegmentFault) (result : Result ℕ E) → (here : IsAt quiet known left old now last rest count)
+    → GoesOnSo None here.read here.orders found
+    → IfOk result (λ status. (status ≡ chain_status found) × Appends now new (end_lines count found))
+    → IfOk result (AuditsWhatIsRead quiet known left old new)
+answers {quiet = quiet} {old = old} {now = now} {count = count} new found (Ok status) here goes_on (exit, written) = record {
   read = here.read;
   consumed = here.consumed;
   text = shown_lines quiet 0 here.orders ++ end_lines count found;
-  is_audit = audit_of quiet here.read (shown_lines quiet 0 here.orders ++ end_lines count found) here.orders found status
-      (ended None chain.kept here.read chain.bytes here.orders found here.goes_on ends) (text_is quiet here.orders count found here.counted) exit;
+  is_audit = audited here.read found status here goes_on exit;
   written = Appends-trans old now new (shown_lines quiet 0 here.orders) (end_lines count found) here.written written;
 }
+answers new found (Err fault) here goes_on failed = tt
 
-pub reports_end : (quiet : Bool) (known left old now new : Option (List ℕ)) (chain : ChainFed) (count status : ℕ) (found : Option SegmentFault)
-    → IsAt quiet known left old now chain.kept chain.bytes count → IsAtEnd left → EndsWith chain.kept chain.bytes found → status ≡ chain_status found
-    → Appends now new (end_lines count found) → WritesReport (IsChainAudit quiet) known old new status
-reports_end quiet known left old now new chain count status found here end ends exit written =
-    let answer = answers_end quiet known left old now new chain count status found here ends exit written in
-    record {
-      input = answer.read;
-      is_read = whole_read known left answer.read answer.consumed end;
-      text = answer.text;
-      is_report = answer.is_audit;
-      written = answer.written;
-    }
-
--- ---- a fault
-
--- of what was read, and of whatever comes behind it
-wrong_with : (quiet : Bool) (known left old now new : Option (List ℕ)) (last : Option Kept) (rest behind : List ℕ) (count status : ℕ) (fault : SegmentFault)
-    → (here : IsAt quiet known left old now last rest count) → LastsNext last rest fault → (rest ≡ [] → ⊥) → status ≡ 1
-    → IsChainAudit quiet (here.read ++ behind) (shown_lines quiet 0 here.orders ++ end_lines count (Some fault)) status
-wrong_with quiet known left old now new last rest behind count status fault here lasts some exit =
-    audit_of quiet (here.read ++ behind) (shown_lines quiet 0 here.orders ++ end_lines count (Some fault)) here.orders (Some fault) status
-    (lasting last here.read rest behind here.orders fault here.goes_on lasts some) (text_is quiet here.orders count (Some fault) here.counted) exit
-
-pub answers_wrong : (quiet : Bool) (known left old now new : Option (List ℕ)) (last : Option Kept) (rest : List ℕ) (count status : ℕ) (fault : SegmentFault)
-    → IsAt quiet known left old now last rest count → LastsNext last rest fault → (rest ≡ [] → ⊥) → status ≡ 1
-    → Appends now new (end_lines count (Some fault)) → AuditsWhatIsRead quiet known left old new status
-answers_wrong quiet known left old now new last rest count status fault here lasts some exit written = record {
-  read = here.read;
-  consumed = here.consumed;
-  text = shown_lines quiet 0 here.orders ++ end_lines count (Some fault);
-  is_audit =
-      subst (λ (bytes : List ℕ). IsChainAudit quiet bytes (shown_lines quiet 0 here.orders ++ end_lines count (Some fault)) status)
-      (append-nil here.read)
-      (wrong_with quiet known left old now new last rest [] count status fault here lasts some exit);
-  written = Appends-trans old now new (shown_lines quiet 0 here.orders) (end_lines count (Some fault)) here.written written;
+-- and on the input
+reports : {quiet : Bool} {known left old now : Option (List ℕ)} {last : Option Kept} {rest : List ℕ} {count : ℕ} {E : Type 0}
+    (new : Option (List ℕ)) (input : List ℕ)
+    (found : Option SegmentFault) (result : Result ℕ E) → IsReadOf known input → (here : IsAt quiet known left old now last rest count)
+    → GoesOnSo None input here.orders found → IfOk result (λ status. (status ≡ chain_status found) × Appends now new (end_lines count found))
+    → IfOk result (WritesReport (IsChainAudit quiet) known old new)
+reports {quiet = quiet} {old = old} {now = now} {count = count} new input found (Ok status) is here goes_on (exit, written) = record {
+  input = input;
+  is_read = is;
+  text = shown_lines quiet 0 here.orders ++ end_lines count found;
+  is_report = audited input found status here goes_on exit;
+  written = Appends-trans old now new (shown_lines quiet 0 here.orders) (end_lines count found) here.written written;
 }
+reports new input found (Err fault) is here goes_on failed = tt
 
-pub reports_wrong : (quiet : Bool) (known left old now new : Option (List ℕ)) (last : Option Kept) (rest : List ℕ) (count status : ℕ) (fault : SegmentFault)
-    → IsAt quiet known left old now last rest count → LastsNext last rest fault → (rest ≡ [] → ⊥) → status ≡ 1
-    → Appends now new (end_lines count (Some fault)) → WritesReport (IsChainAudit quiet) known old new status
-reports_wrong quiet known left old now new last rest count status fault here lasts some exit written =
+-- ---- the input ends
+
+pub answers_end : {quiet : Bool} {known left old now : Option (List ℕ)} {last : Option Kept} {rest : List ℕ} {count : ℕ} {E : Type 0}
+    (new : Option (List ℕ)) (found : Option SegmentFault) (result : Result ℕ E) → IsAt quiet known left old now last rest count
+    → EndsWith last rest found
+    → IfOk result (λ status. (status ≡ chain_status found) × Appends now new (end_lines count found))
+    → IfOk result (AuditsWhatIsRead quiet known left old new)
+answers_end {last = last} {rest = rest} new found result here ends done =
+    answers new found result here (ended None last here.read rest here.orders found here.goes_on ends) done
+
+pub reports_end : {quiet : Bool} {known left old now : Option (List ℕ)} {last : Option Kept} {rest : List ℕ} {count : ℕ} {E : Type 0}
+    (new : Option (List ℕ)) (found : Option SegmentFault) (result : Result ℕ E) → IsAt quiet known left old now last rest count
+    → IsAtEnd left → EndsWith last rest found
+    → IfOk result (λ status. (status ≡ chain_status found) × Appends now new (end_lines count found))
+    → IfOk result (WritesReport (IsChainAudit quiet) known old new)
+reports_end {known = known} {left = left} {last = last} {rest = rest} new found result here end ends done =
+    reports new here.read found result (whole_read known left here.read here.consumed end) here
+    (ended None last here.read rest here.orders found here.goes_on ends) done
+
+-- ---- a fault, of what was read, and of whatever comes behind it
+
+pub answers_wrong : {quiet : Bool} {known left old now : Option (List ℕ)} {last : Option Kept} {rest : List ℕ} {count : ℕ} {E : Type 0}
+    (new : Option (List ℕ)) (fault : SegmentFault) (result : Result ℕ E) → IsAt quiet known left old now last rest count
+    → LastsNext last rest fault → (rest ≡ [] → ⊥)
+    → IfOk result (λ status. (status ≡ 1) × Appends now new (end_lines count (Some fault)))
+    → IfOk result (AuditsWhatIsRead quiet known left old new)
+answers_wrong {last = last} {rest = rest} new fault result here lasts some done =
+    answers new (Some fault) result here
+    (subst (λ (bytes : List ℕ). GoesOnSo None bytes here.orders (Some fault)) (append-nil here.read)
+    (lasting last here.read rest [] here.orders fault here.goes_on lasts some)) done
+
+pub reports_wrong : {quiet : Bool} {known left old now : Option (List ℕ)} {last : Option Kept} {rest : List ℕ} {count : ℕ} {E : Type 0}
+    (new : Option (List ℕ)) (fault : SegmentFault) (result : Result ℕ E) → IsAt quiet known left old now last rest count
+    → LastsNext last rest fault → (rest ≡ [] → ⊥)
+    → IfOk result (λ status. (status ≡ 1) × Appends now new (end_lines count (Some fault)))
+    → IfOk result (WritesReport (IsChainAudit quiet) known old new)
+reports_wrong {known = known} {left = left} {last = last} {rest = rest} new fault result here lasts some done =
     let (behind, is) = whole_with known left here.read here.consumed in
-    record {
-      input = here.read ++ behind;
-      is_read = is;
-      text = shown_lines quiet 0 here.orders ++ end_lines count (Some fault);
-      is_report = wrong_with quiet known left old now new last rest behind count status fault here lasts some exit;
-      written = Appends-trans old now new (shown_lines quiet 0 here.orders) (end_lines count (Some fault)) here.written written;
-    }
+    reports new (here.read ++ behind) (Some fault) result is here
+    (lasting last here.read rest behind here.orders fault here.goes_on lasts some) done

@@ -17,8 +17,8 @@ use nr_segment::SegmentFault;
 use std::alloc::Global;
 use std::io::{Read, Write};
 
-/// The most blocks that are read: those of so many bytes that their count has 64 bits.
-pub(crate) const MOST_BLOCKS: u64 = 4_503_599_627_370_495;
+/// The most blocks that are read of a chain: those of so many bytes that their count has 64 bits.
+pub const MOST_BLOCKS: u64 = (1 << 52) - 1;
 
 /// What a block makes of a chain.
 #[derive(Drop)]
@@ -37,8 +37,8 @@ fn write_right<W: Write>(
     order: &Order,
     quiet: bool,
 ) -> Result<(), ProgFault>
-    ensures ok { OnOk result
-        (Appends (W.contents writer.old) (W.contents writer.new) (lines_of quiet number order.now)) }
+    ensures ok { OnOk result (Appends (W.contents writer.old) (W.contents writer.new)
+        (lines_of quiet number order.now)) }
     ensures err { IfErr result (λ fault. (fault ≡ ProgFault.CannotWrite)
         ⊎ ((fault ≡ ProgFault.Memory) × (writer.new ≡ writer.old))) }
 {

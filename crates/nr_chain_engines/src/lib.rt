@@ -8,6 +8,6 @@ pub mod laws;
 mod pages;
 mod text;
 
-pub use audit::audit_chain_io;
+pub use audit::{MOST_BLOCKS, audit_chain_io};
 pub use pages::{chain_end_io, chain_start_io};
 pub use text::segment_fault_text;

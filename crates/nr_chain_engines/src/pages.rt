@@ -135,7 +135,8 @@ fn start_report(
     as_ranges: bool,
 ) -> Result<Report, Memory>
     ensures { (bytes : List ℕ) → BeginsSo bytes read
-        → IfOk result (λ report. IsChainStart as_ranges bytes (string_bytes report.text) report.status) }
+        → IfOk result (λ report.
+        IsChainStart as_ranges bytes (string_bytes report.text) report.status) }
 {
     match read {
         Ok(segment) => first_report(alloc, &segment, as_ranges),

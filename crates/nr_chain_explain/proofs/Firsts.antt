@@ -1,7 +1,6 @@
 -- Which fault of a segment is the first, as the evidence of a trace wants it.
-use Rattle.std.proofs.Common.{◌≡◌, ℕ, ◌<◌, inl, inr, Option, Some, None, is_some, true, false, refl, arith, lit<}
+use Rattle.std.proofs.Common.{◌≡◌, ℕ, ◌<◌, ◌≤◌, inl, inr, Option, Some, None, is_some, true, false, refl, arith, lit<, lit≤}
 use Rattle.std.specs.Prelude.{IsSome}
-use Rattle.std.specs.declared.cmp.Ordering.TheVariants.{Less, Greater}
 use Rattle.std.proofs.lemmas.Bool.{cases_order}
 use Rattle.std.proofs.lemmas.Option.{same_Some}
 use Rattle.vs_types.specs.Space.{Space, no_pages}
@@ -13,7 +12,7 @@ use Rattle.nr_trace.specs.declared.fault.Fault.{Fault}
 use Rattle.nr_trace.specs.declared.fault.Fault.TheVariants.{Format, ThreadOpen, NoSuchCall, AnsweredTwice, NotAnUpdate, PlacedTwice, NotPlaced, PastLog}
 use Rattle.nr_trace.specs.declared.fault.Fault.TheVariants.{WrongAnswer, PrefixPastLog, PrefixShort, MissingFrame, SharedFrame, ReservedBit, StrayFrame}
 use Rattle.nr_trace.specs.declared.fault.Fault.TheVariants.{Differs}
-use Rattle.nr_trace.proofs.LawsOfFaults.{IsBelow, below_from_less}
+use Rattle.nr_trace.proofs.LawsOfFaults.{IsBelow, below_from_less, earlier_parts, pass}
 use Rattle.nr_segment.specs.Start.{first_space, HasStartFault}
 use Rattle.nr_segment.specs.Faults.{part_of, IsFirstAfter}
 use Rattle.nr_segment.specs.declared.fault.StartFault.{StartFault}
@@ -73,30 +72,25 @@ from_anywhere start other trace (WrongAnswer call) own h = absurd own
 from_anywhere start other trace (Differs replica address) own h = absurd own
 from_anywhere start other trace _ own h = h
 
--- a wrong answer and a dump that differs come after the faults of the events, the log and the replies
-wrong_late : (trace : Recording) (call : ℕ) (fault : Fault) → IsOfItself fault → replica_of fault ≡ None → Earlier trace (WrongAnswer call) fault → ⊥
-wrong_late trace call (PrefixPastLog replica) own none less = cc
-wrong_late trace call (PrefixShort replica) own none less = cc
-wrong_late trace call (MissingFrame replica number) own none less = cc
-wrong_late trace call (SharedFrame replica number) own none less = cc
-wrong_late trace call (ReservedBit replica number index) own none less = cc
-wrong_late trace call (StrayFrame replica number) own none less = cc
-wrong_late trace call (Format fault) own none less = own
-wrong_late trace call (WrongAnswer other) own none less = own
-wrong_late trace call (Differs replica address) own none less = own
-wrong_late trace call _ own none less = let e : Greater ≡ Less = less in cc
+-- the faults of the events, the log and the replies come before a wrong answer and a dump that differs
+comes_early : (fault : Fault) → IsOfItself fault → replica_of fault ≡ None → pass fault < 6
+comes_early (PrefixPastLog replica) own none = cc
+comes_early (PrefixShort replica) own none = cc
+comes_early (MissingFrame replica number) own none = cc
+comes_early (SharedFrame replica number) own none = cc
+comes_early (ReservedBit replica number index) own none = cc
+comes_early (StrayFrame replica number) own none = cc
+comes_early (WrongAnswer other) own none = absurd own
+comes_early (Differs replica other) own none = absurd own
+comes_early _ own none = omega arith
 
-differs_late : (trace : Recording) (at address : ℕ) (fault : Fault) → IsOfItself fault → replica_of fault ≡ None → Earlier trace (Differs at address) fault → ⊥
-differs_late trace at address (PrefixPastLog replica) own none less = cc
-differs_late trace at address (PrefixShort replica) own none less = cc
-differs_late trace at address (MissingFrame replica number) own none less = cc
-differs_late trace at address (SharedFrame replica number) own none less = cc
-differs_late trace at address (ReservedBit replica number index) own none less = cc
-differs_late trace at address (StrayFrame replica number) own none less = cc
-differs_late trace at address (Format fault) own none less = own
-differs_late trace at address (WrongAnswer other) own none less = own
-differs_late trace at address (Differs replica other) own none less = own
-differs_late trace at address _ own none less = let e : Greater ≡ Less = less in cc
+not_before : (trace : Recording) (late fault : Fault) → 6 ≤ pass late → IsOfItself fault → replica_of fault ≡ None → Earlier trace late fault → ⊥
+not_before trace late fault high own none less =
+    let early = comes_early fault own none in
+    elim (earlier_parts trace late fault less) [
+      | inl low ↦ omega arith
+      | inr same ↦ elim same [ inl low ↦ omega (arith, low.0) | inr low ↦ omega (arith, low.0) ]
+    ]
 
 -- the first of these is the first of the trace
 pub first_of_calls : (start : Space) (trace : Recording) (fault : Fault) → IsOfItself fault → replica_of fault ≡ None → IsFirstFrom start trace fault
@@ -106,8 +100,8 @@ first_of_calls start trace fault own none first = record {
   none_earlier = λ other h less. first.none_earlier other (back other h less) less;
 } where
   back : (other : Fault) → HasFault trace other → Earlier trace other fault → HasFaultFrom start trace other
-  back (WrongAnswer call) h less = absurd (wrong_late trace call fault own none less)
-  back (Differs at address) h less = absurd (differs_late trace at address fault own none less)
+  back (WrongAnswer call) h less = absurd (not_before trace (WrongAnswer call) fault (lit≤ tt) own none less)
+  back (Differs at address) h less = absurd (not_before trace (Differs at address) fault (lit≤ tt) own none less)
   back _ h less = h
 
 -- a dump that differs comes after the other faults of a dump

@@ -1,5 +1,5 @@
 -- The units of a segment, walked to find the one that is bad.
-use Rattle.std.proofs.Common.{None, ◌≡◌, ◌<◌, ◌≤◌, ℕ, inl, inr, List, [], ◌∷◌, ◌++◌, length, take, drop, append_assoc, Option, Ok, Err, refl, sym, ap}
+use Rattle.std.proofs.Common.{None, ◌≡◌, ◌<◌, ◌≤◌, ℕ, inl, inr, List, [], ◌++◌, length, take, drop, append_assoc, Option, Ok, Err, refl, sym, ap}
 use Rattle.std.proofs.Common.{◌∙◌, subst, arith}
 use Rattle.std.proofs.lemmas.List.{append-nil}
 use Rattle.vs_types.specs.Config.{Layout}
@@ -14,31 +14,16 @@ use Rattle.nr_trace.specs.declared.version.Form.TheVariants as forms
 use Rattle.nr_trace.proofs.LawsOfFormat.{no_fault_of_segment, one_fault}
 use Rattle.nr_chain.specs.inside.Between.{bytes_in}
 use Rattle.nr_chain.proofs.Pieces.{Took, refused, spelled_whole, took, took_all}
-use Rattle.nr_explain.proofs.Leads.{concat_further}
+use Rattle.nr_explain.proofs.Leads.{goes_further}
 use Rattle.nr_explain.specs.Fields.{field_fault}
 use Rattle.nr_chain_explain.proofs.Cuts.{cut_so}
-use Rattle.nr_chain_explain.specs.Units.{after, first_unit, size, GoesOn, IsBadUnit, LeadOn, Shows}
+use Rattle.nr_chain_explain.specs.Units.{after, size, GoesOn, IsBadUnit, Shows}
 use Rattle.nr_chain_explain.specs.inside.Walked.{IsUnitOf, IsWalked, IsWithin, StepsOver}
 use Rattle.nr_chain_explain.specs.declared.evidence.BadSegment.{BadSegment}
 use Rattle.nr_chain_explain.specs.declared.units.Next.{Next}
 use Rattle.nr_explain.specs.declared.units.TraceUnit.TheVariants.{Magic}
 use Rattle.nr_chain_explain.specs.declared.units.SegmentUnit.{SegmentUnit}
 use Rattle.nr_chain_explain.specs.declared.units.SegmentUnit.TheVariants.{Shared}
-
--- ---- lists of units
-
-lead_further : (first : Next) (units : List (List ℕ)) (middle : Next) (bytes : List ℕ) → LeadOn first units middle
-    → length bytes ≡ size middle.unit → LeadOn first (units ++ (bytes ∷ [])) (after middle bytes)
-lead_further first [] middle bytes is long =
-    (long ∙ ap (λ (next : Next). size next.unit) (sym is), ap (λ (next : Next). after next bytes) is)
-lead_further first (unit ∷ units) middle bytes (is, leads) long = (is, lead_further (after first unit) units middle bytes leads long)
-
-goes_further : (front bytes : List ℕ) (next : Next) → GoesOn front next → length bytes ≡ size next.unit → GoesOn (front ++ bytes) (after next bytes)
-goes_further front bytes next goes long = record {
-  units = goes.units ++ (bytes ∷ []);
-  parts = ap (λ (l : List ℕ). l ++ bytes) goes.parts ∙ sym (concat_further goes.units bytes);
-  lead = lead_further first_unit goes.units next bytes goes.lead long;
-}
 
 -- ---- the walk
 

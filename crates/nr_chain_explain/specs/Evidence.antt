@@ -9,6 +9,7 @@ use Rattle.vs_types.specs.declared.depth.Depth.{Depth}
 use Rattle.vs_types.specs.declared.page.TheConstants.Page.{PHYS_END}
 use Rattle.vs_walk.specs.Differences.{IsStray}
 use Rattle.vs_walk.specs.Dump.{Image}
+use Rattle.vs_walk.specs.Traversal.{found_in}
 use Rattle.vs_walk.specs.Walk.{walk, as_walk}
 use Rattle.nr_trace.specs.Recording.{Recording}
 use Rattle.nr_trace.specs.Faults.{HasDump}
@@ -17,14 +18,13 @@ use Rattle.nr_trace.specs.declared.fault.Fault.{Fault}
 use Rattle.nr_trace.specs.declared.fault.Fault.TheVariants as faults
 use Rattle.nr_touch.specs.Touches.{IsAllowedPrefix}
 use Rattle.nr_touch.specs.declared.touch.Touch.{Touch}
-use Rattle.nr_segment.specs.Start.{found_in}
 use Rattle.nr_segment.specs.Touches.{HasTouch}
 use Rattle.nr_segment.specs.declared.fault.SegmentFault.{SegmentFault}
 use Rattle.nr_segment.specs.declared.fault.SegmentFault.TheVariants as segments
 use Rattle.nr_segment.specs.declared.fault.StartFault.TheVariants as starts
-use Rattle.nr_explain.specs.Evidence.{IsDifferenceFrom, IsEvidence, IsOtherAnswerFrom}
+use Rattle.nr_explain.specs.Evidence.{IsDifferenceFrom, IsEvidence, IsOtherAnswerFrom, IsRootPath, StepsLeadTo}
 use Rattle.nr_explain.specs.Facts.{IsCallOf, IsReplyOf, asked_address, entries_read, looks_from, HasReservedWord, IsReservedBit}
-use Rattle.nr_chain_explain.specs.Facts.{IsChangedAt, IsOrigin, IsStartPath, LeadsInStart}
+use Rattle.nr_chain_explain.specs.Facts.{IsChangedAt, IsOrigin}
 use Rattle.nr_chain_explain.specs.declared.evidence.Moment.{Moment}
 use Rattle.nr_chain_explain.specs.declared.evidence.StaleTouch.{StaleTouch}
 use Rattle.nr_chain_explain.specs.declared.evidence.StartMissing.{StartMissing}
@@ -39,16 +39,16 @@ use Rattle.nr_chain_explain.specs.declared.evidence.SegmentEvidence.TheVariants 
 
 -- the entries lead to a frame that the start lacks
 abbrev pub IsStartMissing : Depth → Image → StartMissing → Type 0
-IsStartMissing depth start wrong = (finite.get start.frames wrong.frame ≡ None) × LeadsInStart depth start wrong.frame wrong.path.items
+IsStartMissing depth start wrong = (finite.get start.frames wrong.frame ≡ None) × StepsLeadTo depth start wrong.frame wrong.path.items
 
 -- the entries lead to the frame, and so do others
 abbrev pub IsStartShared : Depth → Image → StartShared → Type 0
-IsStartShared depth start wrong = LeadsInStart depth start wrong.frame wrong.first.items
-    × LeadsInStart depth start wrong.frame wrong.second.items × (wrong.second.items ≢ wrong.first.items)
+IsStartShared depth start wrong = StepsLeadTo depth start wrong.frame wrong.first.items
+    × StepsLeadTo depth start wrong.frame wrong.second.items × (wrong.second.items ≢ wrong.first.items)
 
 -- the entries lead to a table, and the word that it has at an index has a reserved bit set, at its level: this one
 abbrev pub IsStartReserved : Depth → Image → StartReserved → Type 0
-IsStartReserved depth start wrong = IsStartPath depth start wrong.entry.level wrong.entry.frame wrong.path.items
+IsStartReserved depth start wrong = IsRootPath depth start wrong.entry.level wrong.entry.frame wrong.path.items
     × HasReservedWord start.frames wrong.entry × IsReservedBit wrong.entry.level wrong.entry.word wrong.bit
 
 -- the tables lead to the page, which ends above the physical addresses that a page may have; the walk of its base reads these entries

@@ -1,13 +1,9 @@
 -- Facts of a segment that evidence is made of, from the space on with which it begins.
-use Rattle.std.specs.Prelude.{◌≡◌, ◌≢◌, ℕ, ◌-◌, ◌<◌, List, Option, Some, None}
-use Rattle.vs_types.specs.Depth.{levels}
+use Rattle.std.specs.Prelude.{◌≡◌, ◌≢◌, ℕ, ◌-◌, ◌<◌, Option, Some, None}
 use Rattle.vs_types.specs.Space.{Space, no_pages}
 use Rattle.vs_types.specs.Step.{look}
-use Rattle.vs_types.specs.declared.depth.Depth.{Depth}
-use Rattle.vs_walk.specs.Dump.{Image}
 use Rattle.nr_trace.specs.Recording.{Recording}
-use Rattle.nr_explain.specs.Facts.{IsPath, looks_from}
-use Rattle.nr_explain.specs.declared.evidence.Step.{Step}
+use Rattle.nr_explain.specs.Facts.{looks_from}
 use Rattle.nr_chain_explain.specs.declared.evidence.Origin.{Origin}
 use Rattle.nr_chain_explain.specs.declared.evidence.Origin.TheVariants.{Nothing, Start, Earlier}
 
@@ -26,10 +22,3 @@ abbrev pub IsOrigin : Option Space → Space → ℕ → Origin → Type 0
 IsOrigin began now address Nothing = (began ≡ None) × (look now address ≡ look no_pages address)
 IsOrigin began now address Start = (space : Space) × (began ≡ Some space) × (look now address ≡ look space address)
 IsOrigin began now address Earlier = look now address ≢ look (first_of began) address
-
--- the steps lead from the root of a start to the frame, as a table of this level, or of some level
-abbrev pub IsStartPath : Depth → Image → ℕ → ℕ → List Step → Type 0
-IsStartPath depth start level frame steps = IsPath start.frames (levels depth) start.root level frame steps
-
-abbrev pub LeadsInStart : Depth → Image → ℕ → List Step → Type 0
-LeadsInStart depth start frame steps = (level : ℕ) × IsStartPath depth start level frame steps

@@ -1,6 +1,5 @@
 -- The units of a segment, one behind the other, as many as its own numbers say; and the one that shows a fault of the format.
-use Rattle.std.specs.Prelude.{◌≡◌, ◌⊎◌, ℕ, ◌+◌, ◌<◌, ◌≤◌, ◌++◌, nat_lt, List, [], ◌∷◌, length, Option, if◌then◌else◌}
-use Rattle.std.specs.List.{concat}
+use Rattle.std.specs.Prelude.{◌≡◌, ◌⊎◌, ℕ, ◌+◌, ◌<◌, ◌≤◌, ◌++◌, nat_lt, List, [], length, Option, if◌then◌else◌}
 use Rattle.vs_types.specs.Config.{Layout}
 use Rattle.nr_trace.specs.Feed.{IsFaultlessYet, LastsAs}
 use Rattle.nr_trace.specs.FirstFault.{HasSegmentFault}
@@ -8,7 +7,7 @@ use Rattle.nr_trace.specs.declared.fault.Format.TheVariants.{Truncated}
 use Rattle.nr_trace.specs.declared.version.Form.TheVariants as forms
 use Rattle.nr_explain.specs.Fields.{field_fault, number_32}
 use Rattle.nr_explain.specs.Units.{no_numbers as none_in_trace, numbers_after as numbers_in_trace, place_unit, size as size_in_trace}
-use Rattle.nr_explain.specs.Units.{unit_after as after_in_trace}
+use Rattle.nr_explain.specs.Units.{unit_after as after_in_trace, GoesOnFrom}
 use Rattle.nr_explain.specs.declared.units.TraceUnit.TheVariants.{Magic, Counts}
 use Rattle.nr_chain_explain.specs.Came.{sum_up}
 use Rattle.nr_chain_explain.specs.declared.evidence.BadSegment.{BadSegment}
@@ -62,16 +61,9 @@ abbrev pub after : Next → List ℕ → Next
 after next bytes =
     let numbers = numbers_after next.unit next.numbers bytes in record { unit = unit_after next.unit numbers; numbers = numbers }
 
--- whole units of these bytes, one behind the other, lead from one to another
-abbrev pub LeadOn : Next → List (List ℕ) → Next → Type 0
-LeadOn next [] last = next ≡ last
-LeadOn next (bytes ∷ more) last = (length bytes ≡ size next.unit) × LeadOn (after next bytes) more last
-
 -- the front is whole units of a segment, and the unit comes next
-pub record GoesOn (front : List ℕ) (next : Next) : Type 0 where
-  pub units : List (List ℕ)
-  pub parts : front ≡ concat units
-  pub lead : LeadOn first_unit units next
+abbrev pub GoesOn : List ℕ → Next → Type 0
+GoesOn front next = GoesOnFrom (λ unit. size unit.unit) after first_unit front next
 
 -- ---- the unit that is bad
 

@@ -78,7 +78,8 @@ pub(crate) fn bad_unit(
     fault: Format,
 ) -> Result<BadSegment, Memory>
     requires { HasSegmentFault (layout_in (all_seen last.now)) bytes.now fault }
-    ensures bad { IfOk result (IsBadUnit (layout_in (all_seen last.now)) (sums_in (all_seen last.now)).bytes bytes.now) }
+    ensures bad { IfOk result (IsBadUnit (layout_in (all_seen last.now))
+        (sums_in (all_seen last.now)).bytes bytes.now) }
     ensures fault { IfOk result (λ bad. bad.fault ≡ fault) }
 {
     let begins = sums_of(last).bytes;

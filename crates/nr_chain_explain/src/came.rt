@@ -137,7 +137,8 @@ pub(crate) fn go_on(
     requires well { BeginsWell last segment.now }
     requires order { order.now ≡ recorded_order segment.now }
     requires space { space.space ≡ (came_after (all_seen last) segment.now size).kept.space }
-    ensures seen { IfOk result (λ came. seen_of came ≡ came_after (all_seen last) segment.now size) }
+    ensures seen { IfOk result (λ came.
+        seen_of came ≡ came_after (all_seen last) segment.now size) }
     ensures layout { IfOk result (λ came. came.layout ≡ segment.now.layout) }
     ensures space { IfOk result (λ came. came.space ≡ space) }
 {

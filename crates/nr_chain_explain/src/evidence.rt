@@ -1,3 +1,5 @@
+//! What shows each fault of a segment.
+
 use crate::units::SegmentUnit;
 use nr_explain::{BadField, Difference, Evidence, OtherAnswer, RecordedCall, RecordedReply, Step};
 use nr_trace::Format;

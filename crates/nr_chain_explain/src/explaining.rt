@@ -34,8 +34,10 @@ fn explain_answer(
     call: u32,
 ) -> Result<SegmentEvidence, Memory>
     requires fits { IfSome last.now (FitsSegment segment.now) }
-    requires first { IsFirstAfter (space_in (all_seen last.now)) segment.now (segments.Within (Fault.WrongAnswer call)) }
-    ensures { IfOk result (IsShownBehind (all_seen last.now) segment.now (segments.Within (Fault.WrongAnswer call))) }
+    requires first { IsFirstAfter (space_in (all_seen last.now)) segment.now
+        (segments.Within (Fault.WrongAnswer call)) }
+    ensures { IfOk result (IsShownBehind (all_seen last.now) segment.now
+        (segments.Within (Fault.WrongAnswer call))) }
 {
     let first = begin(alloc, last, segment)?;
     let wrong = other_answer(alloc, segment, &first, call)?;
@@ -54,7 +56,8 @@ fn explain_difference(
     requires fits { IfSome last.now (FitsSegment segment.now) }
     requires first { IsFirstAfter (space_in (all_seen last.now)) segment.now
         (segments.Within (Fault.Differs replica address)) }
-    ensures { IfOk result (IsShownBehind (all_seen last.now) segment.now (segments.Within (Fault.Differs replica address))) }
+    ensures { IfOk result (IsShownBehind (all_seen last.now) segment.now
+        (segments.Within (Fault.Differs replica address))) }
 {
     let first = begin(alloc, last, segment)?;
     let wrong = difference(alloc, segment, &first, replica, address)?;
@@ -98,8 +101,10 @@ fn explain_within(
     fault: Fault,
 ) -> Result<SegmentEvidence, Memory>
     requires fits { IfSome last.now (FitsSegment segment.now) }
-    requires first { IsFirstAfter (space_in (all_seen last.now)) segment.now (segments.Within fault) }
-    ensures { IfOk result (IsShownBehind (all_seen last.now) segment.now (segments.Within fault)) }
+    requires first { IsFirstAfter (space_in (all_seen last.now)) segment.now
+        (segments.Within fault) }
+    ensures { IfOk result
+        (IsShownBehind (all_seen last.now) segment.now (segments.Within fault)) }
 {
     match fault {
         Fault::Format(_) => unreachable!(),

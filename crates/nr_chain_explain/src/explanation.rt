@@ -1,3 +1,5 @@
+//! What is said of a whole chain, or of a part of it.
+
 use crate::evidence::SegmentEvidence;
 use nr_segment::SegmentFault;
 

@@ -31,8 +31,9 @@ fn begin_first(alloc: Global, segment: &Trace) -> Result<PlainSpace, Memory>
 /// check of the start.
 pub(crate) fn start_space(alloc: Global, segment: &Trace) -> Result<Option<PlainSpace>, Memory>
     requires { BeginsWell None segment.now }
-    ensures { IfOk result (λ space. space ≡ option_map
-        (λ start. space_of segment.now.layout (start_space segment.now.layout.depth (Some start))) segment.now.start) }
+    ensures { IfOk result (λ space. space ≡ option_map (λ start.
+        space_of segment.now.layout (start_space segment.now.layout.depth (Some start)))
+        segment.now.start) }
 {
     let Some(_) = segment.start() else {
         return Ok(None);

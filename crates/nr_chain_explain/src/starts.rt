@@ -4,9 +4,9 @@ ghost use Rattle.std.specs.Prelude.{◌≡◌, ◌+◌, ◌<◌, ℕ, Contains, 
 ghost use Rattle.vs_types.specs.Page.{bytes_of};
 ghost use Rattle.vs_types.specs.declared.page.Page.{Page as PageRow};
 ghost use Rattle.vs_types.specs.declared.page.TheConstants.Page.{PHYS_END};
-ghost use Rattle.vs_walk.specs.Traversal.{walk_fault};
+ghost use Rattle.vs_walk.specs.Traversal.{walk_fault, found_in};
 ghost use Rattle.vs_walk.specs.Differences.{HasDifference, HasMissingFrame, HasReservedBit, HasSharedFrame};
-ghost use Rattle.nr_segment.specs.Start.{found_in, HasPageBeyond};
+ghost use Rattle.nr_segment.specs.Start.{HasPageBeyond};
 ghost use Rattle.nr_segment.specs.declared.fault.SegmentFault.TheVariants as segments;
 ghost use Rattle.nr_segment.specs.Faults.{IsFirstAfter};
 ghost use Rattle.nr_chain_explain.specs.inside.Starts.{IsFirstOfTables, IsShownInStart};
@@ -20,7 +20,7 @@ use crate::evidence::{
     SegmentEvidence, StartBeyond, StartDiffers, StartMissing, StartReserved, StartShared,
 };
 use crate::origins::origin_from;
-use nr_explain::{Target, another_way, entries_read, entry_at, find_way, reserved_bit};
+use nr_explain::{another_way, entries_read, way_to_frame, way_to_reserved};
 use nr_segment::StartFault;
 use nr_trace::Trace;
 use std::alloc::Global;
@@ -38,15 +38,8 @@ fn start_missing(
     ensures frame { IfOk result (λ wrong. wrong.frame ≡ frame) }
     ensures is { IfOk result (IsStartMissing depth start.now) }
 {
-    let target = Target {
-        frame,
-        reserved: None,
-        other: None,
-    };
-    match find_way(alloc, start, depth, &target)? {
-        Some(path) => Ok(StartMissing { frame, path }),
-        None => unreachable!(),
-    }
+    let path = way_to_frame(alloc, start, depth, frame)?;
+    Ok(StartMissing { frame, path })
 }
 
 /// The entries that lead to a frame, and others that lead there too. Allocates memory for them.
@@ -60,14 +53,7 @@ fn start_shared(
     ensures frame { IfOk result (λ wrong. wrong.frame ≡ frame) }
     ensures is { IfOk result (IsStartShared depth start.now) }
 {
-    let any = Target {
-        frame,
-        reserved: None,
-        other: None,
-    };
-    let Some(first) = find_way(alloc, start, depth, &any)? else {
-        unreachable!()
-    };
+    let first = way_to_frame(alloc, start, depth, frame)?;
     let (first, second) = another_way(alloc, start, depth, frame, first)?;
     Ok(StartShared {
         frame,
@@ -89,20 +75,8 @@ fn start_reserved(
     ensures index { IfOk result (λ wrong. wrong.entry.index ≡ index) }
     ensures is { IfOk result (IsStartReserved depth start.now) }
 {
-    let target = Target {
-        frame,
-        reserved: Some(index),
-        other: None,
-    };
-    let Some(path) = find_way(alloc, start, depth, &target)? else {
-        unreachable!()
-    };
-    let entry = entry_at(start, depth.levels() - path.len() as u8, frame, index);
-    Ok(StartReserved {
-        path,
-        entry,
-        bit: reserved_bit(entry.level, entry.word),
-    })
+    let (path, entry, bit) = way_to_reserved(alloc, start, depth, frame, index)?;
+    Ok(StartReserved { path, entry, bit })
 }
 
 /// The first of some pages at a base that ends above the physical addresses that a page may have.
@@ -163,8 +137,8 @@ fn start_differs(
 ) -> Result<StartDiffers, Memory>
     requires { HasDifference depth start.now last.now.space.space address }
     ensures address { IfOk result (λ wrong. wrong.address ≡ address) }
-    ensures is { IfOk result (IsStartDiffers (option_map (λ space. space.space) last.now.began) depth
-        start.now last.now.space.space) }
+    ensures is { IfOk result (IsStartDiffers (option_map (λ space. space.space) last.now.began)
+        depth start.now last.now.space.space) }
 {
     let found = translate(start, start.root(), depth, address);
     let path = entries_read(alloc, start, depth, address)?;

@@ -1,5 +1,5 @@
 -- What is known of a chain that is read in blocks and explained.
-use Rattle.std.proofs.Common.{◌≡◌, ◌≤◌, ℕ, Bool, List, [], ◌++◌, length, Option, None, refl, sym, subst, arith}
+use Rattle.std.proofs.Common.{◌≡◌, ◌≤◌, ℕ, List, [], ◌++◌, length, Option, None, refl, sym, subst, take, arith}
 use Rattle.std.specs.Io.KnownBytes.{Consumes, IsAtEnd, Keeps}
 use Rattle.std.proofs.KnownBytes.{Consumes-kept, Consumes-nil, Consumes-trans}
 use Rattle.std.proofs.lemmas.List.{append-nil, append_assoc}
@@ -14,8 +14,7 @@ use Rattle.nr_chain_explain.proofs.Verdicts.{goes_on_so, orders_in}
 use Rattle.nr_chain_engines.specs.ChainAudit.{HasReadFewOfChain}
 use Rattle.nr_chain_engines.proofs.Going.{ends_yet, none_short}
 use Rattle.nr_chain_explain.specs.declared.explanation.ChainExplanation.{ChainExplanation}
-use Rattle.nr_engines.proofs.Input.{whole_read, whole_with}
-use Rattle.nr_chain_texts.specs.ChainExplained.{IsChainExplained, chain_explanation_status, told_chain}
+use Rattle.nr_engines.proofs.Input.{one_block, whole_read, whole_with}
 use Rattle.nr_chain_texts.specs.inside.Explaining.{HasExplained}
 
 -- what was read is right segments, and the beginning of one more
@@ -51,9 +50,9 @@ explaining_goes_on known left new chain next block here lost some ((more, on), s
 }
 
 -- nothing is wrong yet with the bytes before the block
-pub few_read : (known left new : Option (List ℕ)) (chain : Seen) (block : List ℕ) → IsExplaining known left chain → Consumes left new block
+few_more : (known left new : Option (List ℕ)) (chain : Seen) (block : List ℕ) → IsExplaining known left chain → Consumes left new block
     → length block ≤ 4096 → HasReadFewOfChain known new
-few_read known left new chain block here lost size =
+few_more known left new chain block here lost size =
     let (found, ends, early) = ends_yet (kept_in chain.came) chain.bytes here.short in
     record {
       before = here.read;
@@ -64,9 +63,13 @@ few_read known left new chain block here lost size =
       one_block = size;
     }
 
-pub few_kept : (known left new : Option (List ℕ)) (chain : Seen) → IsExplaining known left chain → Keeps left new → HasReadFewOfChain known new
-few_kept known left new chain here keeps =
-    few_read known left new chain [] here (Consumes-kept left left new [] (Consumes-nil left) keeps) (omega arith)
+pub few_read : {known left new : Option (List ℕ)} {chain : Seen} (count : ℕ) (block : List ℕ) → IsExplaining known left chain
+    → Consumes left new (take count block) → length block ≡ 4096 → HasReadFewOfChain known new
+few_read count block here lost full = few_more _ _ _ _ (take count block) here lost (one_block count block full)
+
+pub few_kept : {known left new : Option (List ℕ)} {chain : Seen} → IsExplaining known left chain → Keeps left new → HasReadFewOfChain known new
+few_kept {left = left} {new = new} here keeps =
+    few_more _ _ _ _ [] here (Consumes-kept left left new [] (Consumes-nil left) keeps) (omega arith)
 
 -- nothing is left to read
 pub explained_at_end : (known left new : Option (List ℕ)) (chain : Seen) (block : List ℕ) (explanation : ChainExplanation)
@@ -95,13 +98,3 @@ explained_in_block known left new chain block explanation here lost explains =
           (explains_on None chain.came (here.read ++ (block ++ behind)) (chain.bytes ++ (block ++ behind)) here.segments explanation
           (goes_with None chain.came here.read chain.bytes (block ++ behind) here.segments here.goes_on) (explains behind));
     }
-
--- what is said of an explanation
-pub told_as : (as_json : Bool) (bytes : List ℕ) (explanation : ChainExplanation) (text : List ℕ) (status : ℕ) → IsExplanationOfChain bytes explanation
-    → text ≡ told_chain as_json explanation → status ≡ chain_explanation_status explanation → IsChainExplained as_json bytes text status
-told_as as_json bytes explanation text status is text_is status_is = record {
-  explanation = explanation;
-  is_explanation = is;
-  text_is = text_is;
-  status_is = status_is;
-}

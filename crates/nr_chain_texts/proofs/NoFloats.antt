@@ -1,11 +1,10 @@
 -- No float is in the JSON of an explanation of a chain.
-use Rattle.std.proofs.Common.{◌≡◌, Bool, false, ◌||◌, ◌++◌, List, [], ◌∷◌, Option, Some, None, ap, ap₂, map, refl}
+use Rattle.std.proofs.Common.{◌≡◌, false, ◌++◌, List, [], ◌∷◌, Option, Some, None, ap, ap₂, map, refl}
 use Rattle.serde_json.specs.View.{items_of}
 use Rattle.serde_json.specs.Written.{has_float, items_have_float}
 use Rattle.nr_explain.specs.declared.evidence.Difference.{Difference}
 use Rattle.nr_explain.specs.declared.evidence.OtherAnswer.{OtherAnswer}
 use Rattle.nr_explain.specs.declared.evidence.PlacedUpdate.{PlacedUpdate}
-use Rattle.nr_explain.specs.declared.evidence.Step.{Step}
 use Rattle.nr_chain_explain.specs.declared.evidence.Origin.{Origin}
 use Rattle.nr_chain_explain.specs.declared.evidence.Origin.TheVariants.{Nothing, Start, Earlier}
 use Rattle.nr_chain_explain.specs.declared.evidence.Moment.{Moment}
@@ -13,8 +12,7 @@ use Rattle.nr_chain_explain.specs.declared.evidence.SegmentEvidence.{SegmentEvid
 use Rattle.nr_chain_explain.specs.declared.evidence.SegmentEvidence.TheVariants as shown
 use Rattle.nr_chain_explain.specs.declared.explanation.ChainExplanation.{ChainExplanation}
 use Rattle.nr_chain_explain.specs.declared.explanation.ChainExplanation.TheVariants.{Yes, No}
-use Rattle.nr_engines.specs.EvidenceJson.{step_data, way_data}
-use Rattle.nr_engines.proofs.NoFloats.{evidence_has_no_float}
+use Rattle.nr_engines.proofs.NoFloats.{evidence_has_no_float, one, two, way}
 use Rattle.nr_engines.specs.Parts.{parts_data, says_data}
 use Rattle.nr_engines.specs.Evidence.{answer_parts, look_parts, missing_frame_parts, read_parts, reserved_entry_parts, shared_frame_parts}
 use Rattle.nr_engines.specs.Evidence.{stray_frame_parts, unlike_parts}
@@ -23,13 +21,6 @@ use Rattle.nr_chain_texts.specs.Evidence.{allowed_parts, bad_segment_parts, begi
 use Rattle.nr_chain_texts.specs.Evidence.{difference_parts, moment_data, origin_parts, origin_says, other_answer_parts, segment_evidence_data}
 use Rattle.nr_chain_texts.specs.Evidence.{segment_parts, start_beyond_parts, start_differs_parts, start_missing_parts, start_reserved_parts}
 use Rattle.nr_chain_texts.specs.Evidence.{start_shared_parts, start_stray_parts, window_parts, with_looks}
-
-steps : (entries : List Step) → items_have_float (items_of (map step_data entries)) ≡ false
-steps [] = refl
-steps (step ∷ more) = steps more
-
-way : (entries : List Step) → has_float (way_data entries) ≡ false
-way entries = steps entries
 
 moments : (looks : List Moment) → items_have_float (items_of (map moment_data looks)) ≡ false
 moments [] = refl
@@ -40,13 +31,6 @@ unfolding says_data origin_says
 from Nothing = refl
 from Start = refl
 from Earlier = refl
-
--- one of the members may be any of these, or two
-abbrev one : Bool → Bool
-one b = b || false
-
-abbrev two : Bool → Bool → Bool
-two a b = a || (b || false)
 
 answered : (wrong : OtherAnswer) (update : Option PlacedUpdate) (origin : Origin)
     → has_float (parts_data (answer_parts wrong ++ change_parts update origin)) ≡ false

@@ -27,14 +27,14 @@ use Rattle.nr_chain_explain.specs.declared.explanation.ChainCounts.{ChainCounts}
 use Rattle.nr_engines.specs.Text.{answer_text, line_end}
 use Rattle.nr_engines.specs.EvidenceText.{unit_text}
 use Rattle.nr_engines.specs.EvidenceJson.{number_data}
-use Rattle.nr_engines.specs.Parts.{Part, Says, said, told, words, named, parts_data, parts_text, put_part}
-use Rattle.nr_engines.specs.Parts.{address, allowed, call, changed, count, place, reply, steps, text, walk}
+use Rattle.nr_engines.specs.Parts.{Part, Says, in_both, in_json, in_lines, words, parts_data, parts_text, put_part}
+use Rattle.nr_engines.specs.Parts.{address, allowed, call, changed, count, nothing, reply, steps, text, walk}
 use Rattle.nr_engines.specs.Evidence.{answer_parts, evidence_parts, fault_is, look_parts, missing_frame_parts, read_parts, reserved_entry_parts}
 use Rattle.nr_engines.specs.Evidence.{shared_frame_parts, stray_frame_parts, unlike_parts}
 
 -- what an address looks like that no update of the segment has changed
 unfoldable pub origin_says : Origin → Says
-origin_says Nothing = place None
+origin_says Nothing = nothing
 origin_says Start = text (codes "the start")
 origin_says Earlier = text (codes "an earlier segment")
 
@@ -47,11 +47,11 @@ segment_unit_text (StartWords index) = codes "words of frame " ++ (decimal index
 
 -- where the look of an address comes from, behind the address
 unfoldable pub origin_parts : Origin → List Part
-origin_parts origin = words (codes ", last changed by: ") ∷ told (codes "changed") (origin_says origin) ∷ words line_end ∷ []
+origin_parts origin = words (codes ", last changed by: ") ∷ in_both (codes "changed") (origin_says origin) ∷ words line_end ∷ []
 
 -- the last change of an address, behind the address
 unfoldable pub change_parts : Option PlacedUpdate → Origin → List Part
-change_parts (Some update) origin = words (codes ", ") ∷ told (codes "changed") (changed (Some update)) ∷ []
+change_parts (Some update) origin = words (codes ", ") ∷ in_both (codes "changed") (changed (Some update)) ∷ []
 change_parts None origin = origin_parts origin
 
 unfoldable pub other_answer_parts : OtherAnswer → Origin → List Part
@@ -75,12 +75,12 @@ allowed_says (formats.BadFrame replica index) = allowed (formats.BadFrame replic
 allowed_says formats.Trailing = allowed formats.Trailing
 
 unfoldable pub allowed_parts : Format → List Part
-allowed_parts fault = said (allowed_says fault) ∷ named (codes "format") (allowed fault) ∷ []
+allowed_parts fault = in_lines (allowed_says fault) ∷ in_json (codes "format") (allowed fault) ∷ []
 
 -- where a segment begins, and the text of a unit
 unfoldable pub begin_parts : ℕ → List ℕ → List Part
-begin_parts begins unit = fault_is (codes "Format") ∷ words (codes "the segment begins at byte ") ∷ told (codes "begins") (count begins)
-    ∷ words line_end ∷ told (codes "unit") (text unit) ∷ []
+begin_parts begins unit = fault_is (codes "Format") ∷ words (codes "the segment begins at byte ") ∷ in_both (codes "begins") (count begins)
+    ∷ words line_end ∷ in_both (codes "unit") (text unit) ∷ []
 
 -- where the segment begins, the unit, how many of its bytes there are, and the first of them; and what is allowed there
 unfoldable pub bad_segment_parts : BadSegment → List Part
@@ -101,8 +101,9 @@ start_stray_parts number = stray_frame_parts (codes "StartStray") number
 
 unfoldable pub start_beyond_parts : StartBeyond → List Part
 start_beyond_parts wrong = fault_is (codes "StartBeyond") ∷ words (codes "the start: ")
-    ∷ told (codes "found") (walk (Mapped wrong.page.phys wrong.page.size wrong.page.rights)) ∷ words line_end ∷ told (codes "path") (steps wrong.path.items)
-    ∷ words (codes "its page ends above 0x8000000000000\n") ∷ named (codes "address") (address wrong.page.base) ∷ []
+    ∷ in_both (codes "found") (walk (Mapped wrong.page.phys wrong.page.size wrong.page.rights)) ∷ words line_end
+    ∷ in_both (codes "path") (steps wrong.path.items) ∷ words (codes "its page ends above 0x8000000000000\n")
+    ∷ in_json (codes "address") (address wrong.page.base) ∷ []
 
 unfoldable pub start_differs_parts : StartDiffers → List Part
 start_differs_parts wrong = ((fault_is (codes "StartDiffers") ∷ words (codes "the start: ") ∷ [])
@@ -110,9 +111,9 @@ start_differs_parts wrong = ((fault_is (codes "StartDiffers") ∷ words (codes "
 
 -- a touch, its reply, and how many entries of the log it may see
 unfoldable pub window_parts : StaleTouch → List Part
-window_parts touch = fault_is (codes "Stale") ∷ told (codes "call") (call touch.call) ∷ told (codes "reply") (reply touch.reply)
-    ∷ words (codes "entries seen at least: ") ∷ told (codes "first") (count touch.first) ∷ words (codes "\nentries seen at most: ")
-    ∷ told (codes "last") (count touch.last) ∷ words line_end ∷ []
+window_parts touch = fault_is (codes "Stale") ∷ in_both (codes "call") (call touch.call) ∷ in_both (codes "reply") (reply touch.reply)
+    ∷ words (codes "entries seen at least: ") ∷ in_both (codes "first") (count touch.first) ∷ words (codes "\nentries seen at most: ")
+    ∷ in_both (codes "last") (count touch.last) ∷ words line_end ∷ []
 
 -- how an address looked at a moment
 unfoldable pub moment_line : Moment → List ℕ
@@ -157,10 +158,11 @@ segment_evidence_data evidence = object (with_looks evidence (fold put_part no_m
 
 -- how much a right chain has
 unfoldable pub chain_counts_parts : ChainCounts → List Part
-chain_counts_parts counts = words (codes "calls: ") ∷ told (codes "calls") (count counts.calls) ∷ words (codes "\nupdates: ")
-    ∷ told (codes "updates") (count counts.updates) ∷ words (codes "\nreads: ") ∷ told (codes "reads") (count counts.reads) ∷ words (codes "\ntouches: ")
-    ∷ told (codes "touches") (count counts.touches) ∷ words (codes "\ndumps: ") ∷ told (codes "dumps") (count counts.dumps) ∷ words (codes "\nreplicas: ")
-    ∷ told (codes "replicas") (count counts.replicas) ∷ words (codes "\npages: ") ∷ told (codes "pages") (count counts.pages) ∷ words line_end ∷ []
+chain_counts_parts counts = words (codes "calls: ") ∷ in_both (codes "calls") (count counts.calls) ∷ words (codes "\nupdates: ")
+    ∷ in_both (codes "updates") (count counts.updates) ∷ words (codes "\nreads: ") ∷ in_both (codes "reads") (count counts.reads)
+    ∷ words (codes "\ntouches: ") ∷ in_both (codes "touches") (count counts.touches) ∷ words (codes "\ndumps: ")
+    ∷ in_both (codes "dumps") (count counts.dumps) ∷ words (codes "\nreplicas: ") ∷ in_both (codes "replicas") (count counts.replicas)
+    ∷ words (codes "\npages: ") ∷ in_both (codes "pages") (count counts.pages) ∷ words line_end ∷ []
 
 abbrev pub chain_counts_lines : ChainCounts → List ℕ
 chain_counts_lines counts = parts_text (chain_counts_parts counts)

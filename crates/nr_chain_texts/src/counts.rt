@@ -16,19 +16,19 @@ fn chain_counts_parts<'a>(counts: ChainCounts) -> [Part<'a>; 15]
 {
     [
         Part::Words("calls: "),
-        Part::Told("calls", Says::Count(counts.calls)),
+        Part::InBoth("calls", Says::Count(counts.calls)),
         Part::Words("\nupdates: "),
-        Part::Told("updates", Says::Count(counts.updates)),
+        Part::InBoth("updates", Says::Count(counts.updates)),
         Part::Words("\nreads: "),
-        Part::Told("reads", Says::Count(counts.reads)),
+        Part::InBoth("reads", Says::Count(counts.reads)),
         Part::Words("\ntouches: "),
-        Part::Told("touches", Says::Count(counts.touches)),
+        Part::InBoth("touches", Says::Count(counts.touches)),
         Part::Words("\ndumps: "),
-        Part::Told("dumps", Says::Count(counts.dumps)),
+        Part::InBoth("dumps", Says::Count(counts.dumps)),
         Part::Words("\nreplicas: "),
-        Part::Told("replicas", Says::Count(u64::from(counts.replicas))),
+        Part::InBoth("replicas", Says::Count(u64::from(counts.replicas))),
         Part::Words("\npages: "),
-        Part::Told("pages", Says::Count(counts.pages)),
+        Part::InBoth("pages", Says::Count(counts.pages)),
         Part::Words("\n"),
     ]
 }

@@ -3,8 +3,8 @@
 ghost use Rattle.std.specs.Prelude.{◌≡◌, ◌++◌, IfOk, OnOk, flat_map, map, string_bytes};
 ghost use Rattle.serde_json.specs.View.{members_view, view};
 ghost use Rattle.nr_engines.specs.Parts.{put_all, says_of};
-ghost use Rattle.nr_chain_texts.specs.Evidence.{allowed_parts, allowed_says, bad_segment_parts, begin_parts};
-ghost use Rattle.nr_chain_texts.specs.Evidence.{change_parts, difference_parts, looks_of, moment_data, moment_line, origin_parts, origin_says};
+ghost use Rattle.nr_chain_texts.specs.Evidence.{allowed_parts, allowed_says, bad_segment_parts, begin_parts, change_parts};
+ghost use Rattle.nr_chain_texts.specs.Evidence.{difference_parts, looks_of, moment_data, moment_line, origin_parts, origin_says};
 ghost use Rattle.nr_chain_texts.specs.Evidence.{other_answer_parts, segment_evidence_data, segment_evidence_text, segment_parts};
 ghost use Rattle.nr_chain_texts.specs.Evidence.{segment_unit_text, start_beyond_parts, start_differs_parts, start_missing_parts};
 ghost use Rattle.nr_chain_texts.specs.Evidence.{start_reserved_parts, start_shared_parts, start_stray_parts, window_parts, with_looks};
@@ -30,7 +30,7 @@ fn origin_says<'a>(origin: Origin) -> Says<'a>
     ensures { says_of result ≡ origin_says origin }
 {
     match origin {
-        Origin::Nothing => Says::Place(None),
+        Origin::Nothing => Says::Nothing,
         Origin::Start => Says::Text("the start"),
         Origin::Earlier => Says::Text("an earlier segment"),
     }
@@ -43,7 +43,7 @@ fn put_origin<O: Output>(out: &mut O, alloc: Global, origin: Origin) -> Result<(
 {
     let parts = [
         Part::Words(", last changed by: "),
-        Part::Told("changed", origin_says(origin)),
+        Part::InBoth("changed", origin_says(origin)),
         Part::Words("\n"),
     ];
     out.put_all(alloc, &parts)
@@ -64,7 +64,7 @@ fn put_change<O: Output>(
         Some(_) => {
             let parts = [
                 Part::Words(", "),
-                Part::Told("changed", Says::Changed(changed)),
+                Part::InBoth("changed", Says::Changed(changed)),
             ];
             out.put_all(alloc, &parts)
         }
@@ -149,11 +149,11 @@ fn put_begin<O: Output>(
         ≡ put_all (begin_parts begins unit.now) (O.held out.old)) }
 {
     let parts = [
-        Part::Named("fault", Says::Text("Format")),
+        Part::InJson("fault", Says::Text("Format")),
         Part::Words("the segment begins at byte "),
-        Part::Told("begins", Says::Count(begins)),
+        Part::InBoth("begins", Says::Count(begins)),
         Part::Words("\n"),
-        Part::Told("unit", Says::Text(unit)),
+        Part::InBoth("unit", Says::Text(unit)),
     ];
     out.put_all(alloc, &parts)
 }
@@ -164,8 +164,8 @@ fn put_allowed<O: Output>(out: &mut O, alloc: Global, fault: Format) -> Result<(
     ensures { OnOk result (O.held out.new ≡ put_all (allowed_parts fault) (O.held out.old)) }
 {
     let parts = [
-        Part::Said(allowed_says(fault)),
-        Part::Named("format", Says::Allowed(fault)),
+        Part::InLines(allowed_says(fault)),
+        Part::InJson("format", Says::Allowed(fault)),
     ];
     out.put_all(alloc, &parts)
 }
@@ -254,16 +254,16 @@ fn put_start_beyond<O: Output>(
 {
     let page = wrong.page;
     let parts = [
-        Part::Named("fault", Says::Text("StartBeyond")),
+        Part::InJson("fault", Says::Text("StartBeyond")),
         Part::Words("the start: "),
-        Part::Told(
+        Part::InBoth(
             "found",
             Says::Walk(Walk::Mapped(page.phys, page.size, page.rights)),
         ),
         Part::Words("\n"),
-        Part::Told("path", Says::Steps(wrong.path.as_slice())),
+        Part::InBoth("path", Says::Steps(wrong.path.as_slice())),
         Part::Words("its page ends above 0x8000000000000\n"),
-        Part::Named("address", Says::Address(page.base)),
+        Part::InJson("address", Says::Address(page.base)),
     ];
     out.put_all(alloc, &parts)
 }
@@ -278,7 +278,7 @@ fn put_start_differs<O: Output>(
         ≡ put_all (start_differs_parts wrong.now) (O.held out.old)) }
 {
     let parts = [
-        Part::Named("fault", Says::Text("StartDiffers")),
+        Part::InJson("fault", Says::Text("StartDiffers")),
         Part::Words("the start: "),
     ];
     out.put_all(alloc, &parts)?;
@@ -299,13 +299,13 @@ fn put_window<O: Output>(out: &mut O, alloc: Global, touch: &StaleTouch) -> Resu
     ensures { OnOk result (O.held out.new ≡ put_all (window_parts touch.now) (O.held out.old)) }
 {
     let parts = [
-        Part::Named("fault", Says::Text("Stale")),
-        Part::Told("call", Says::Call(touch.call)),
-        Part::Told("reply", Says::Reply(touch.reply)),
+        Part::InJson("fault", Says::Text("Stale")),
+        Part::InBoth("call", Says::Call(touch.call)),
+        Part::InBoth("reply", Says::Reply(touch.reply)),
         Part::Words("entries seen at least: "),
-        Part::Told("first", Says::Count(u64::from(touch.first))),
+        Part::InBoth("first", Says::Count(u64::from(touch.first))),
         Part::Words("\nentries seen at most: "),
-        Part::Told("last", Says::Count(u64::from(touch.last))),
+        Part::InBoth("last", Says::Count(u64::from(touch.last))),
         Part::Words("\n"),
     ];
     out.put_all(alloc, &parts)

@@ -14,16 +14,13 @@ ghost use Rattle.nr_chain_texts.specs.inside.Explaining.{HasExplained};
 use crate::counts::{chain_counts_lines, chain_counts_value};
 use crate::evidence::{segment_evidence_text, segment_evidence_value};
 use crate::sentence::segment_sentence;
-use nr_chain_engines::segment_fault_text;
+use nr_chain_engines::{MOST_BLOCKS, segment_fault_text};
 use nr_chain_explain::{ChainCounts, ChainExplanation, ChainReader, Fed, SegmentEvidence};
 use nr_engines::{BLOCK, Members, ProgFault, Report, read_block, write_report};
 use nr_segment::SegmentFault;
 use serde_json::{Map, Value, put};
 use std::alloc::{AllocError, Global};
 use std::io::{Read, Write};
-
-/// The most blocks that are read: those of so many bytes that their count has 64 bits.
-const MOST_BLOCKS: u64 = 4_503_599_627_370_495;
 
 fn status_of(explanation: &ChainExplanation) -> u8
     ensures { result ≡ chain_explanation_status explanation.now }
@@ -173,23 +170,7 @@ fn told_chain(
     }
 }
 
-/// The report of an explanation.
-fn report_of(
-    alloc: Global,
-    as_json: bool,
-    explanation: &ChainExplanation,
-) -> Result<Report, AllocError>
-    ensures { IfOk result (λ report. (string_bytes report.text ≡ told_chain as_json explanation.now)
-        × (report.status ≡ chain_explanation_status explanation.now)) }
-{
-    let text = told_chain(alloc, as_json, explanation)?;
-    Ok(Report {
-        text,
-        status: status_of(explanation),
-    })
-}
-
-/// The same, of one that isn't used any more.
+/// The report of an explanation, which is freed here, so that it isn't alive where the report is written.
 fn chain_report(
     alloc: Global,
     as_json: bool,
@@ -198,7 +179,11 @@ fn chain_report(
     ensures { IfOk result (λ report. (string_bytes report.text ≡ told_chain as_json explanation)
         × (report.status ≡ chain_explanation_status explanation)) }
 {
-    report_of(alloc, as_json, &explanation)
+    let text = told_chain(alloc, as_json, &explanation)?;
+    Ok(Report {
+        text,
+        status: status_of(&explanation),
+    })
 }
 
 /// Reads blocks and feeds each, to the end of the input or to the first fault.

@@ -2,21 +2,21 @@
 
 ghost use Rattle.std.specs.Prelude.{◌≡◌, IfOk, string_bytes};
 ghost use Rattle.vs_text.specs.Words.{hexadecimal};
-ghost use Rattle.nr_chain_explain.specs.declared.evidence.SegmentEvidence.TheVariants as shown;
 ghost use Rattle.nr_chain_texts.specs.Sentence.{bad_segment_sentence, cut_segment_text, segment_reason, segment_sentence, stale_sentence};
-ghost use Rattle.nr_chain_texts.specs.Sentence.{start_beyond_sentence, start_differs_sentence, start_entry_text, start_leads_text, start_missing_sentence};
-ghost use Rattle.nr_chain_texts.specs.Sentence.{start_reserved_sentence, start_shared_sentence, start_stray_sentence, window_text};
+ghost use Rattle.nr_chain_texts.specs.Sentence.{start_beyond_sentence, start_differs_sentence, start_entry_text, start_leads_text};
+ghost use Rattle.nr_chain_texts.specs.Sentence.{start_missing_sentence, start_reserved_sentence, start_shared_sentence};
+ghost use Rattle.nr_chain_texts.specs.Sentence.{start_stray_sentence, window_text};
 
 use crate::evidence::segment_unit_text;
 use nr_chain_explain::{
-    BadSegment, Origin, SegmentEvidence, StaleTouch, StartBeyond, StartDiffers, StartMissing,
+    BadSegment, SegmentEvidence, StaleTouch, StartBeyond, StartDiffers, StartMissing,
     StartReserved, StartShared,
 };
 use nr_engines::{
     answer_text, bytes_text, difference_sentence, event_text, frame_text, other_answer_sentence,
     sentence_text, start_text, walk_words,
 };
-use nr_explain::{Difference, Step};
+use nr_explain::Step;
 use nr_trace::Format;
 use std::alloc::{AllocError, Global};
 
@@ -154,15 +154,6 @@ fn stale_sentence(alloc: Global, touch: &StaleTouch) -> Result<String, AllocErro
     )
 }
 
-/// The sentence of a dump that translates otherwise, wherever its address comes from.
-#[tactic(auto, unfolding(crate::specs::Sentence::segment_sentence))]
-fn differs_sentence(alloc: Global, wrong: &Difference, origin: Origin) -> Result<String, AllocError>
-    ensures { IfOk result (λ text. string_bytes text ≡ segment_sentence (shown.Differs wrong.now origin)) }
-{
-    let _ = origin;
-    difference_sentence(alloc, wrong)
-}
-
 /// The sentence of a fault, by what shows it.
 #[tactic(auto, unfolding(crate::specs::Sentence::segment_sentence))]
 pub(crate) fn segment_sentence(alloc: Global, shown: &SegmentEvidence) -> Result<String, AllocError>
@@ -172,7 +163,7 @@ pub(crate) fn segment_sentence(alloc: Global, shown: &SegmentEvidence) -> Result
         SegmentEvidence::Format(bad) => bad_segment_sentence(alloc, bad),
         SegmentEvidence::Within(evidence) => sentence_text(alloc, evidence),
         SegmentEvidence::WrongAnswer(wrong, _) => other_answer_sentence(alloc, *wrong),
-        SegmentEvidence::Differs(wrong, origin) => differs_sentence(alloc, wrong, *origin),
+        SegmentEvidence::Differs(wrong, _) => difference_sentence(alloc, wrong),
         SegmentEvidence::StartMissing(wrong) => start_missing_sentence(alloc, wrong),
         SegmentEvidence::StartShared(wrong) => start_shared_sentence(alloc, wrong),
         SegmentEvidence::StartReserved(wrong) => start_reserved_sentence(alloc, wrong),

@@ -11,7 +11,11 @@ pub enum NoWords {
     NotText,
 }
 
-/// The program's own words, the first of which is its name.
+/// The program's own words, the first of which is its name. Allocates them.
+///
+/// # Errors
+///
+/// `Memory` where there was none, `NotText` where one of them is no text in UTF-8.
 pub fn program_words(rt: &HostRuntime) -> Result<Vec<String>, NoWords> {
     match env::args(rt) {
         Ok(words) => words.collect(rt.alloc()).map_err(|_| NoWords::Memory),

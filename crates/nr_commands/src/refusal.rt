@@ -18,7 +18,7 @@ fn is_shown(kind: ErrorKind) -> bool
     matches!(kind, ErrorKind::DisplayHelp | ErrorKind::DisplayVersion)
 }
 
-/// Writes what clap answers to the words: help on the output, a fault of the command line on the errors.
+/// Writes what clap answers to the words: help on the output, a fault of the command line on the errors. Allocates the text.
 ///
 /// # Errors
 ///

@@ -74,7 +74,8 @@ fn audit_one<F: FilesByName, R: Read, W: Write, E: Write>(
     errors: &mut E,
 ) -> Result<u8, ProgFault>
     ensures ok { IfOk result
-        (AuditsOne (F.file_bytes files.now) name.now (W.contents output.old) (W.contents output.new)) }
+        (AuditsOne (F.file_bytes files.now) name.now (W.contents output.old)
+        (W.contents output.new)) }
     ensures err { IfErr result (λ fault. fault ≡ ProgFault.CannotWrite) }
 {
     match write_line(files, alloc, name, reader, output) {
@@ -105,7 +106,8 @@ fn audit_each<F: FilesByName, R: Read, W: Write, E: Write>(
 }
 
 /// Makes the inspection, of standard input or of the files that are named. Why a file has no answer is written to the errors, by its
-/// name; of one file the name alone, before the line that the program ends with.
+/// name; of one file the name alone, before the line that the program ends with. Allocates what the task does, for one file after the
+/// other.
 ///
 /// # Errors
 ///

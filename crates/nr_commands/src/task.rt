@@ -26,7 +26,7 @@ impl Task<'_> {
     ghost use Rattle.nr_engines.specs.Refusals.{WritesAnswersAlone};
     ghost use Rattle.nr_commands.specs.Tasks.{IsTaskFault, IsTaskReport};
 
-    /// Does the task on the input, and gives the exit status.
+    /// Does the task on the input, and gives the exit status. Allocates what the engine of the task does.
     ///
     /// # Errors
     ///
@@ -78,7 +78,7 @@ pub enum ChainTask {
 impl ChainTask {
     ghost use Rattle.nr_commands.specs.Tasks.{RunsChainTask};
 
-    /// Does the task on the input, and gives the exit status.
+    /// Does the task on the input, and gives the exit status. Allocates what the engine of the task does.
     ///
     /// # Errors
     ///
@@ -89,7 +89,8 @@ impl ChainTask {
         reader: &mut R,
         writer: &mut W,
     ) -> Result<u8, ProgFault>
-        ensures { RunsChainTask self (R.remaining reader.old) W.contents writer.old writer.new result }
+        ensures { RunsChainTask self (R.remaining reader.old) W.contents writer.old writer.new
+            result }
     {
         match self {
             ChainTask::Audit(quiet) => audit_chain_io(alloc, reader, writer, quiet),

@@ -1,8 +1,8 @@
 //! The words of the commands.
 ghost use Rattle.std.specs.Prelude.{◌≡◌, false, IfOk};
 ghost use Rattle.clap.specs.Words.{App, app_of, rule_of, with_subcommand};
-ghost use Rattle.nr_commands.specs.Words.{address_option, audit_app, explain_app, file_argument, files_argument, flag_option, pages_app, replica_option};
-ghost use Rattle.nr_commands.specs.Words.{resolve_app, IsLocal};
+ghost use Rattle.nr_commands.specs.Words.{address_option, audit_app, explain_app, file_argument, files_argument, flag_option, pages_app};
+ghost use Rattle.nr_commands.specs.Words.{replica_option, resolve_app, IsLocal};
 
 use clap::{Arg, ArgAction, Command, value_parser};
 use std::alloc::{AllocError, Global};

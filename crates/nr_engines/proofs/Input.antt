@@ -1,16 +1,13 @@
 -- What is known of an input that is read in blocks and fed to a reader of units.
-use Rattle.std.proofs.Common.{◌≡◌, ℕ, ◌+◌, ◌≤◌, inl, List, [], ◌++◌, length, Option, Some, None, Result, Ok, Err, refl, ap, sym, subst, ◌∙◌, arith}
+use Rattle.std.proofs.Common.{◌≡◌, ℕ, ◌+◌, ◌≤◌, List, [], ◌++◌, length, Option, Some, None, Result, Ok, Err, ap, sym, subst, take, ◌∙◌, arith}
 use Rattle.std.specs.Io.KnownBytes.{Consumes, IsAtEnd, Keeps}
 use Rattle.std.proofs.KnownBytes.{Consumes-nil, Consumes-kept, Consumes-trans}
-use Rattle.std.proofs.lemmas.List.{append-nil, length-append}
+use Rattle.std.proofs.lemmas.List.{append-nil, length-append, length-take}
 use Rattle.vs_types.specs.declared.refusal.Fail.{Fail}
 use Rattle.nr_trace.specs.Recording.{Recording}
 use Rattle.nr_trace.specs.Spelling.{Spells}
 use Rattle.nr_trace.specs.Feed.{HasNoFaultYet, Reads}
 use Rattle.nr_trace.specs.declared.fault.Format.{Format}
-use Rattle.nr_trace.specs.declared.fault.Format.TheVariants.{Truncated}
-use Rattle.nr_trace.specs.declared.version.Form.TheVariants as forms
-use Rattle.nr_trace.proofs.LawsOfFormat.{one_fault}
 use Rattle.nr_explain.specs.Units.{IfBad, IsBadFor, IsBadUnit, ReadsUnits}
 use Rattle.nr_explain.specs.declared.units.Unread.{Unread}
 use Rattle.nr_explain.specs.declared.units.Unread.TheVariants.{Memory, Bad}
@@ -22,20 +19,11 @@ pub record AreFed (known left : Option (List ℕ)) (bytes : List ℕ) (room : �
   pub no_fault_yet : HasNoFaultYet bytes
   pub counted : length bytes + room ≡ 70647893
 
-nothing_yet : HasNoFaultYet []
-nothing_yet fault h = one_fault forms.Trace [] fault Truncated h (inl (omega arith, refl))
-
-pub units_start : (known : Option (List ℕ)) (bytes : List ℕ) → bytes ≡ [] → AreFed known known bytes 70647893
-units_start known bytes is = record {
-  consumed = subst (Consumes known known) (sym is) (Consumes-nil known);
-  no_fault_yet = subst HasNoFaultYet (sym is) nothing_yet;
-  counted = omega (arith, ap length is);
-}
-
 -- a piece was read, and taken
-pub units_go_on : (known left new : Option (List ℕ)) (bytes after piece : List ℕ) (room more : ℕ) → AreFed known left bytes room → Consumes left new piece
-    → length piece + more ≡ room → after ≡ bytes ++ piece → HasNoFaultYet (bytes ++ piece) → AreFed known new after more
-units_go_on known left new bytes after piece room more fed lost less is not_yet = record {
+pub units_go_on : {known left new : Option (List ℕ)} {bytes after : List ℕ} {room more : ℕ} (piece : List ℕ) → AreFed known left bytes room
+    → Consumes left new piece → length piece + more ≡ room → after ≡ bytes ++ piece → HasNoFaultYet (bytes ++ piece)
+    → AreFed known new after more
+units_go_on {known = known} {left = left} {new = new} {bytes = bytes} piece fed lost less is not_yet = record {
   consumed = subst (Consumes known new) (sym is) (Consumes-trans known left new bytes piece fed.consumed lost);
   no_fault_yet = subst HasNoFaultYet (sym is) not_yet;
   counted = omega (arith, fed.counted, ap length is, length-append bytes piece);
@@ -43,9 +31,9 @@ units_go_on known left new bytes after piece room more fed lost less is not_yet 
 
 -- ---- how much was read
 
-pub units_read_a_block : (known left new : Option (List ℕ)) (bytes piece : List ℕ) (room : ℕ) → AreFed known left bytes room → Consumes left new piece
-    → length piece ≤ 4096 → length piece ≤ room → HasReadFew known new
-units_read_a_block known left new bytes piece room fed lost short fits = record {
+units_read_more : {known left new : Option (List ℕ)} {bytes : List ℕ} {room : ℕ} (piece : List ℕ) → AreFed known left bytes room
+    → Consumes left new piece → length piece ≤ 4096 → length piece ≤ room → HasReadFew known new
+units_read_more {known = known} {left = left} {new = new} {bytes = bytes} piece fed lost short fits = record {
   before = bytes;
   block = piece;
   read = Consumes-trans known left new bytes piece fed.consumed lost;
@@ -54,9 +42,20 @@ units_read_a_block known left new bytes piece room fed lost short fits = record 
   few = omega (arith, fed.counted);
 }
 
-pub units_read_no_more : (known left new : Option (List ℕ)) (bytes : List ℕ) (room : ℕ) → AreFed known left bytes room → Keeps left new → HasReadFew known new
-units_read_no_more known left new bytes room fed keeps =
-    units_read_a_block known left new bytes [] room fed (Consumes-kept left left new [] (Consumes-nil left) keeps) (omega arith) (omega arith)
+-- what is read into a block is no longer
+pub one_block : (count : ℕ) (block : List ℕ) → length block ≡ 4096 → length (take count block) ≤ 4096
+one_block count block full = let long = length-take count block in omega arith
+
+pub units_read_a_block : {known left new : Option (List ℕ)} {bytes : List ℕ} {room : ℕ} (count : ℕ) (block : List ℕ)
+    → AreFed known left bytes room → Consumes left new (take count block) → length block ≤ 4096 → length block ≤ room → HasReadFew known new
+units_read_a_block count block fed lost short fits =
+    let long = length-take count block in
+    units_read_more (take count block) fed lost (omega arith) (omega arith)
+
+pub units_read_no_more : {known left new : Option (List ℕ)} {bytes : List ℕ} {room : ℕ} → AreFed known left bytes room → Keeps left new
+    → HasReadFew known new
+units_read_no_more {left = left} {new = new} fed keeps =
+    units_read_more [] fed (Consumes-kept left left new [] (Consumes-nil left) keeps) (omega arith) (omega arith)
 
 -- ---- which input it is
 
@@ -67,16 +66,17 @@ whole_read (Some whole) None bytes lost end = absurd lost
 whole_read (Some whole) (Some left) bytes lost end = sym (lost ∙ ap (λ (l : List ℕ). bytes ++ l) end ∙ append-nil bytes)
 
 -- or with what was not read of it
-pub whole_with : (known left : Option (List ℕ)) (bytes : List ℕ) → Consumes known left bytes → (behind : List ℕ) × IsReadOf known (bytes ++ behind)
+pub whole_with : (known left : Option (List ℕ)) (bytes : List ℕ) → Consumes known left bytes
+    → (behind : List ℕ) × IsReadOf known (bytes ++ behind)
 whole_with None left bytes lost = ([], tt)
 whole_with (Some whole) None bytes lost = absurd lost
 whole_with (Some whole) (Some left) bytes lost = (left, sym lost)
 
 -- ---- what it says
 
-pub units_stop : (known left new : Option (List ℕ)) (bytes piece : List ℕ) (unread : Unread) (room : ℕ) → AreFed known left bytes room
-    → Consumes left new piece → IfBad (IsBadFor (bytes ++ piece)) unread → HasReadUnits known (Err unread)
-units_stop known left new bytes piece unread room fed lost h =
+pub units_stop : {known left : Option (List ℕ)} {bytes : List ℕ} {unread : Unread} {room : ℕ} (new : Option (List ℕ)) (piece : List ℕ)
+    → AreFed known left bytes room → Consumes left new piece → IfBad (IsBadFor (bytes ++ piece)) unread → HasReadUnits known (Err unread)
+units_stop {known = known} {left = left} {bytes = bytes} {unread = unread} new piece fed lost h =
     let (behind, is) = whole_with known new (bytes ++ piece) (Consumes-trans known left new bytes piece fed.consumed lost) in
     record { input = (bytes ++ piece) ++ behind; is_read = is; read_is = of_all (bytes ++ piece) behind unread h }
   where
@@ -85,14 +85,16 @@ units_stop known left new bytes piece unread room fed lost h =
     of_all front behind (Bad bad) h = h behind
 
 -- nothing is left to read
-pub units_end : (known left new : Option (List ℕ)) (bytes piece : List ℕ) (read : Result Recording Unread) (room : ℕ)
+pub units_end : {known left : Option (List ℕ)} {bytes : List ℕ} {read : Result Recording Unread} {room : ℕ} (new : Option (List ℕ))
+    (piece : List ℕ)
     → AreFed known left bytes room → Consumes left new piece → piece ≡ [] → IsAtEnd new → ReadsUnits bytes read → HasReadUnits known read
-units_end known left new bytes piece read room fed lost none end is =
+units_end {known = known} {left = left} {bytes = bytes} new piece fed lost none end is =
     let lost_none = subst (Consumes left new) none lost in
     let consumed = subst (Consumes known new) (append-nil bytes) (Consumes-trans known left new bytes [] fed.consumed lost_none) in
     record { input = bytes; is_read = whole_read known new bytes consumed end; read_is = is }
 
 -- ---- what was read of an input
 
-pub trace_read : (bytes : List ℕ) (read : Result Recording (Fail Format)) (trace : Recording) → read ≡ Ok trace → Reads bytes read → Spells bytes trace
+pub trace_read : (bytes : List ℕ) (read : Result Recording (Fail Format)) (trace : Recording) → read ≡ Ok trace → Reads bytes read
+    → Spells bytes trace
 trace_read bytes read trace is h = subst (Reads bytes) is h

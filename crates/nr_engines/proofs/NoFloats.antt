@@ -33,7 +33,7 @@ steps : (way : List Step) → items_have_float (items_of (map step_data way)) �
 steps [] = refl
 steps (step ∷ more) = steps more
 
-way : (entries : List Step) → has_float (way_data entries) ≡ false
+pub way : (entries : List Step) → has_float (way_data entries) ≡ false
 way entries = steps entries
 
 option : (n : Option ℕ) → has_float (option_data n) ≡ false
@@ -55,10 +55,10 @@ own None = refl
 own (Some reply) = refl
 
 -- one of the members may be any of these, or two
-abbrev one : Bool → Bool
+abbrev pub one : Bool → Bool
 one b = b || false
 
-abbrev two : Bool → Bool → Bool
+abbrev pub two : Bool → Bool → Bool
 two a b = a || (b || false)
 
 pub evidence_has_no_float : (shown : Evidence) → has_float (evidence_data shown) ≡ false

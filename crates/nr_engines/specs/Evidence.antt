@@ -27,112 +27,121 @@ use Rattle.nr_explain.specs.declared.evidence.Difference.{Difference}
 use Rattle.nr_explain.specs.declared.evidence.Evidence.{Evidence}
 use Rattle.nr_explain.specs.declared.evidence.Evidence.TheVariants as evidence
 use Rattle.nr_engines.specs.Text.{line_end}
-use Rattle.nr_engines.specs.Parts.{Part, said, told, words, named, parts_data, parts_text}
+use Rattle.nr_engines.specs.Parts.{Part, in_both, in_json, in_lines, words, parts_data, parts_text}
 use Rattle.nr_engines.specs.Parts.{address, allowed, answer, bytes, call, changed, count, event, frame, own, place, reply, reserved, step, steps, text, unit}
 use Rattle.nr_engines.specs.Parts.{walk, way}
 
 -- the name of the fault
 abbrev pub fault_is : List ℕ → Part
-fault_is name = named (codes "fault") (text name)
+fault_is name = in_json (codes "fault") (text name)
 
 -- what was read of a unit of this size, behind its name
 unfoldable pub read_parts : ℕ → List ℕ → ℕ → List Part
-read_parts offset read size = words (codes ", at byte ") ∷ told (codes "offset") (count offset) ∷ words (codes "\nread ")
-    ∷ told (codes "there") (count (length read)) ∷ words (codes " of ") ∷ told (codes "size") (count size) ∷ words (codes " bytes: ")
-    ∷ told (codes "read") (bytes read) ∷ words line_end ∷ []
+read_parts offset read size = words (codes ", at byte ") ∷ in_both (codes "offset") (count offset) ∷ words (codes "\nread ")
+    ∷ in_both (codes "there") (count (length read)) ∷ words (codes " of ") ∷ in_both (codes "size") (count size) ∷ words (codes " bytes: ")
+    ∷ in_both (codes "read") (bytes read) ∷ words line_end ∷ []
 
 -- a frame that isn't there, and the way to it
 unfoldable pub missing_frame_parts : List ℕ → List Step → ℕ → List ℕ → List Part
-missing_frame_parts fault path number end = fault_is fault ∷ told (codes "path") (way path) ∷ words (codes "frame ") ∷ told (codes "frame") (frame number)
-    ∷ words end ∷ []
+missing_frame_parts fault path number end = fault_is fault ∷ in_both (codes "path") (way path) ∷ words (codes "frame ")
+    ∷ in_both (codes "frame") (frame number) ∷ words end ∷ []
 
 -- a frame to which tables lead twice, and the ways to it
 unfoldable pub shared_frame_parts : List ℕ → List Step → List Step → ℕ → List Part
-shared_frame_parts fault first second number = fault_is fault ∷ words (codes "one way:\n") ∷ told (codes "first") (way first)
-    ∷ words (codes "another:\n") ∷ told (codes "second") (way second) ∷ named (codes "frame") (frame number) ∷ []
+shared_frame_parts fault first second number = fault_is fault ∷ words (codes "one way:\n") ∷ in_both (codes "first") (way first)
+    ∷ words (codes "another:\n") ∷ in_both (codes "second") (way second) ∷ in_json (codes "frame") (frame number) ∷ []
 
 -- an entry with a reserved bit set, and the way to it
 unfoldable pub reserved_entry_parts : List ℕ → List Step → Step → ℕ → List Part
-reserved_entry_parts fault path entry bit = fault_is fault ∷ told (codes "path") (steps path) ∷ told (codes "entry") (step entry)
-    ∷ words (codes "bit ") ∷ told (codes "bit") (count bit) ∷ words (codes " is set: ") ∷ said (reserved entry.level) ∷ words line_end ∷ []
+reserved_entry_parts fault path entry bit = fault_is fault ∷ in_both (codes "path") (steps path) ∷ in_both (codes "entry") (step entry)
+    ∷ words (codes "bit ") ∷ in_both (codes "bit") (count bit) ∷ words (codes " is set: ") ∷ in_lines (reserved entry.level)
+    ∷ words line_end ∷ []
 
 -- a frame to which no table leads
 unfoldable pub stray_frame_parts : List ℕ → ℕ → List Part
-stray_frame_parts fault number = fault_is fault ∷ words (codes "no table leads to frame ") ∷ told (codes "frame") (frame number) ∷ words line_end ∷ []
+stray_frame_parts fault number = fault_is fault ∷ words (codes "no table leads to frame ") ∷ in_both (codes "frame") (frame number)
+    ∷ words line_end ∷ []
 
 -- a wrong answer, and the one of the space, up to the address
 unfoldable pub answer_parts : OtherAnswer → List Part
-answer_parts wrong = fault_is (codes "WrongAnswer") ∷ told (codes "call") (call wrong.call) ∷ told (codes "reply") (reply wrong.reply)
-    ∷ words (codes "the space answers: ") ∷ told (codes "wanted") (answer wrong.wanted) ∷ words (codes "\naddress ")
-    ∷ told (codes "address") (address wrong.address) ∷ []
+answer_parts wrong = fault_is (codes "WrongAnswer") ∷ in_both (codes "call") (call wrong.call) ∷ in_both (codes "reply") (reply wrong.reply)
+    ∷ words (codes "the space answers: ") ∷ in_both (codes "wanted") (answer wrong.wanted) ∷ words (codes "\naddress ")
+    ∷ in_both (codes "address") (address wrong.address) ∷ []
 
 -- how tables translate an address, and how it looks in the space, up to the address
 unfoldable pub look_parts : Walk → List Step → Answer → ℕ → List Part
-look_parts found path wanted at = told (codes "found") (walk found) ∷ words line_end ∷ told (codes "path") (steps path)
-    ∷ words (codes "the space: ") ∷ told (codes "wanted") (answer wanted) ∷ words (codes "\naddress ") ∷ told (codes "address") (address at) ∷ []
+look_parts found path wanted at = in_both (codes "found") (walk found) ∷ words line_end ∷ in_both (codes "path") (steps path)
+    ∷ words (codes "the space: ") ∷ in_both (codes "wanted") (answer wanted) ∷ words (codes "\naddress ")
+    ∷ in_both (codes "address") (address at) ∷ []
 
 -- how a dump translates an address and the space doesn't, up to the address
 unfoldable pub unlike_parts : Difference → List Part
-unlike_parts wrong = (fault_is (codes "Differs") ∷ named (codes "replica") (count wrong.replica) ∷ words (codes "applied: ")
-    ∷ told (codes "applied") (count wrong.applied) ∷ words (codes "\nthe dump: ") ∷ [])
+unlike_parts wrong = (fault_is (codes "Differs") ∷ in_json (codes "replica") (count wrong.replica) ∷ words (codes "applied: ")
+    ∷ in_both (codes "applied") (count wrong.applied) ∷ words (codes "\nthe dump: ") ∷ [])
     ++ look_parts wrong.found wrong.path.items wrong.wanted wrong.address
 
 -- the last change of an address, behind the address
 unfoldable pub changed_parts : Option PlacedUpdate → List Part
-changed_parts update = words (codes ", ") ∷ told (codes "changed") (changed update) ∷ []
+changed_parts update = words (codes ", ") ∷ in_both (codes "changed") (changed update) ∷ []
 
 -- the replica of a dump
 unfoldable pub replica_parts : ℕ → List Part
-replica_parts replica = named (codes "replica") (count replica) ∷ []
+replica_parts replica = in_json (codes "replica") (count replica) ∷ []
 
 unfoldable pub bad_unit_parts : BadUnit → List Part
-bad_unit_parts bad = ((fault_is (codes "Format") ∷ told (codes "unit") (unit bad.unit) ∷ [])
-    ++ read_parts bad.offset bad.read.items (size bad.unit)) ++ (told (codes "format") (allowed bad.fault) ∷ [])
+bad_unit_parts bad = ((fault_is (codes "Format") ∷ in_both (codes "unit") (unit bad.unit) ∷ [])
+    ++ read_parts bad.offset bad.read.items (size bad.unit)) ++ (in_both (codes "format") (allowed bad.fault) ∷ [])
 
 unfoldable pub open_parts : OpenCalls → List Part
-open_parts calls = fault_is (codes "ThreadOpen") ∷ told (codes "first") (call calls.first) ∷ told (codes "second") (call calls.second) ∷ []
+open_parts calls = fault_is (codes "ThreadOpen") ∷ in_both (codes "first") (call calls.first)
+    ∷ in_both (codes "second") (call calls.second) ∷ []
 
 unfoldable pub stray_reply_parts : StrayReply → List Part
-stray_reply_parts stray = fault_is (codes "NoSuchCall") ∷ told (codes "reply") (reply stray.reply)
-    ∷ told (codes "named") (event stray.reply.call stray.named) ∷ []
+stray_reply_parts stray = fault_is (codes "NoSuchCall") ∷ in_both (codes "reply") (reply stray.reply)
+    ∷ in_both (codes "named") (event stray.reply.call stray.named) ∷ []
 
 unfoldable pub two_replies_parts : TwoReplies → List Part
-two_replies_parts replies = fault_is (codes "AnsweredTwice") ∷ told (codes "call") (call replies.call) ∷ told (codes "first") (reply replies.first)
-    ∷ told (codes "second") (reply replies.second) ∷ []
+two_replies_parts replies = fault_is (codes "AnsweredTwice") ∷ in_both (codes "call") (call replies.call)
+    ∷ in_both (codes "first") (reply replies.first) ∷ in_both (codes "second") (reply replies.second) ∷ []
 
 unfoldable pub no_update_parts : NoUpdate → List Part
-no_update_parts wrong = fault_is (codes "NotAnUpdate") ∷ words (codes "place ") ∷ told (codes "place") (count wrong.place) ∷ words (codes " has ")
-    ∷ told (codes "call") (count wrong.call) ∷ words line_end ∷ told (codes "named") (event wrong.call wrong.named) ∷ []
+no_update_parts wrong = fault_is (codes "NotAnUpdate") ∷ words (codes "place ") ∷ in_both (codes "place") (count wrong.place)
+    ∷ words (codes " has ") ∷ in_both (codes "call") (count wrong.call) ∷ words line_end
+    ∷ in_both (codes "named") (event wrong.call wrong.named) ∷ []
 
 unfoldable pub two_places_parts : TwoPlaces → List Part
-two_places_parts places = fault_is (codes "PlacedTwice") ∷ words (codes "places ") ∷ told (codes "first") (count places.first) ∷ words (codes " and ")
-    ∷ told (codes "second") (count places.second) ∷ words line_end ∷ told (codes "call") (call places.call) ∷ []
+two_places_parts places = fault_is (codes "PlacedTwice") ∷ words (codes "places ") ∷ in_both (codes "first") (count places.first)
+    ∷ words (codes " and ") ∷ in_both (codes "second") (count places.second) ∷ words line_end
+    ∷ in_both (codes "call") (call places.call) ∷ []
 
 unfoldable pub misplaced_parts : Misplaced → List Part
-misplaced_parts wrong = fault_is (codes "NotPlaced") ∷ told (codes "call") (call wrong.call) ∷ told (codes "reply") (reply wrong.reply)
-    ∷ words (codes "its place: ") ∷ told (codes "own") (place wrong.own) ∷ words (codes "\nthe call there: ") ∷ told (codes "there") (place wrong.there)
-    ∷ words line_end ∷ []
+misplaced_parts wrong = fault_is (codes "NotPlaced") ∷ in_both (codes "call") (call wrong.call)
+    ∷ in_both (codes "reply") (reply wrong.reply) ∷ words (codes "its place: ") ∷ in_both (codes "own") (place wrong.own)
+    ∷ words (codes "\nthe call there: ") ∷ in_both (codes "there") (place wrong.there) ∷ words line_end ∷ []
 
 unfoldable pub past_end_parts : PastEnd → List Part
-past_end_parts wrong = fault_is (codes "PastLog") ∷ told (codes "call") (call wrong.call) ∷ told (codes "reply") (reply wrong.reply)
-    ∷ words (codes "entries of the log: ") ∷ told (codes "places") (count wrong.places) ∷ words line_end ∷ []
+past_end_parts wrong = fault_is (codes "PastLog") ∷ in_both (codes "call") (call wrong.call) ∷ in_both (codes "reply") (reply wrong.reply)
+    ∷ words (codes "entries of the log: ") ∷ in_both (codes "places") (count wrong.places) ∷ words line_end ∷ []
 
 unfoldable pub early_parts : EarlyCall → List Part
-early_parts early = fault_is (codes "Early") ∷ told (codes "call") (call early.call) ∷ told (codes "own") (own early.own)
-    ∷ words (codes "entries before it: ") ∷ told (codes "entries") (count early.entries) ∷ words (codes "\nknown when it was made: ")
-    ∷ told (codes "floor") (count early.floor) ∷ words line_end ∷ told (codes "reply") (reply early.reply) ∷ told (codes "answered") (call early.answered) ∷ []
+early_parts early = fault_is (codes "Early") ∷ in_both (codes "call") (call early.call) ∷ in_both (codes "own") (own early.own)
+    ∷ words (codes "entries before it: ") ∷ in_both (codes "entries") (count early.entries) ∷ words (codes "\nknown when it was made: ")
+    ∷ in_both (codes "floor") (count early.floor) ∷ words line_end ∷ in_both (codes "reply") (reply early.reply)
+    ∷ in_both (codes "answered") (call early.answered) ∷ []
 
 unfoldable pub other_answer_parts : OtherAnswer → List Part
 other_answer_parts wrong = answer_parts wrong ++ changed_parts wrong.changed
 
 unfoldable pub long_prefix_parts : LongPrefix → List Part
-long_prefix_parts wrong = fault_is (codes "PrefixPastLog") ∷ words (codes "applied: ") ∷ told (codes "applied") (count wrong.applied)
-    ∷ words (codes "\nentries of the log: ") ∷ told (codes "places") (count wrong.places) ∷ words line_end ∷ named (codes "replica") (count wrong.replica) ∷ []
+long_prefix_parts wrong = fault_is (codes "PrefixPastLog") ∷ words (codes "applied: ") ∷ in_both (codes "applied") (count wrong.applied)
+    ∷ words (codes "\nentries of the log: ") ∷ in_both (codes "places") (count wrong.places) ∷ words line_end
+    ∷ in_json (codes "replica") (count wrong.replica) ∷ []
 
 unfoldable pub short_prefix_parts : ShortPrefix → List Part
-short_prefix_parts wrong = fault_is (codes "PrefixShort") ∷ words (codes "applied: ") ∷ told (codes "applied") (count wrong.applied)
-    ∷ words (codes "\nknown there: ") ∷ told (codes "known") (count wrong.known) ∷ words line_end ∷ told (codes "reply") (reply wrong.reply)
-    ∷ told (codes "call") (call wrong.call) ∷ named (codes "replica") (count wrong.replica) ∷ []
+short_prefix_parts wrong = fault_is (codes "PrefixShort") ∷ words (codes "applied: ") ∷ in_both (codes "applied") (count wrong.applied)
+    ∷ words (codes "\nknown there: ") ∷ in_both (codes "known") (count wrong.known) ∷ words line_end
+    ∷ in_both (codes "reply") (reply wrong.reply) ∷ in_both (codes "call") (call wrong.call)
+    ∷ in_json (codes "replica") (count wrong.replica) ∷ []
 
 unfoldable pub missing_parts : MissingTable → List Part
 missing_parts wrong = missing_frame_parts (codes "MissingFrame") wrong.path.items wrong.frame (codes ", which the dump doesn't have\n")
@@ -180,10 +189,10 @@ evidence_data shown = parts_data (evidence_parts shown)
 
 -- how much a right trace has
 unfoldable pub counts_parts : Counts → List Part
-counts_parts counts = words (codes "calls: ") ∷ told (codes "calls") (count counts.calls) ∷ words (codes "\nupdates: ")
-    ∷ told (codes "updates") (count counts.updates)
-    ∷ words (codes "\nreads: ") ∷ told (codes "reads") (count counts.reads) ∷ words (codes "\nreplicas: ") ∷ told (codes "replicas") (count counts.replicas)
-    ∷ words (codes "\npages: ") ∷ told (codes "pages") (count counts.pages) ∷ words line_end ∷ []
+counts_parts counts = words (codes "calls: ") ∷ in_both (codes "calls") (count counts.calls) ∷ words (codes "\nupdates: ")
+    ∷ in_both (codes "updates") (count counts.updates) ∷ words (codes "\nreads: ") ∷ in_both (codes "reads") (count counts.reads)
+    ∷ words (codes "\nreplicas: ") ∷ in_both (codes "replicas") (count counts.replicas) ∷ words (codes "\npages: ")
+    ∷ in_both (codes "pages") (count counts.pages) ∷ words line_end ∷ []
 
 -- its lines
 abbrev pub counts_lines : Counts → List ℕ

@@ -1,6 +1,6 @@
 -- What is said of a fault, as a list of parts: words, and facts with their names. One walk makes lines of it, another a JSON object.
-use Rattle.std.specs.Prelude.{ℕ, ◌++◌, List, [], decimal, flat_map, fold, Option}
-use Rattle.serde_json.specs.Data.{Data, Members, no_members, object, put, string}
+use Rattle.std.specs.Prelude.{ℕ, ◌++◌, List, [], codes, decimal, flat_map, fold, Option}
+use Rattle.serde_json.specs.Data.{Data, Members, no_members, null, object, put, string}
 use Rattle.vs_types.specs.declared.answer.Answer.{Answer}
 use Rattle.vs_text.specs.Words.{hexadecimal}
 use Rattle.vs_walk.specs.declared.walk.Walk.{Walk}
@@ -18,10 +18,11 @@ use Rattle.nr_engines.specs.EvidenceJson.{call_data, changed_data, event_data, n
 use Rattle.nr_engines.specs.declared.parts.Says.{Says as Spoken}
 use Rattle.nr_engines.specs.declared.parts.Says.TheVariants as spoken
 use Rattle.nr_engines.specs.declared.parts.Part.{Part as Spelled}
-use Rattle.nr_engines.specs.declared.parts.Part.TheVariants.{Words, Said, Told, Named}
+use Rattle.nr_engines.specs.declared.parts.Part.TheVariants.{Words, InLines, InBoth, InJson}
 
 -- what a fact says
 pub data Says : Type 0 where
+  nothing : Says
   call : RecordedCall → Says
   reply : RecordedReply → Says
   own : Option RecordedReply → Says
@@ -44,6 +45,7 @@ pub data Says : Type 0 where
 
 -- in the lines
 unfoldable pub says_text : Says → List ℕ
+says_text nothing = codes "none"
 says_text (call it) = call_line it
 says_text (reply it) = reply_line it
 says_text (own it) = own_line it
@@ -66,6 +68,7 @@ says_text (text it) = it
 
 -- in JSON
 unfoldable pub says_data : Says → Data
+says_data nothing = null
 says_data (call it) = call_data it
 says_data (reply it) = reply_data it
 says_data (own it) = own_data it
@@ -86,18 +89,18 @@ says_data (allowed it) = string (format_text it)
 says_data (reserved it) = string (reserved_text it)
 says_data (text it) = string it
 
--- words and what is only said are for the lines alone, what is only named is for JSON alone
+-- where it is printed: words in the lines alone, a fact in the lines, in both or in JSON, where it has a name
 pub data Part : Type 0 where
   words : List ℕ → Part
-  said : Says → Part
-  told : List ℕ → Says → Part
-  named : List ℕ → Says → Part
+  in_lines : Says → Part
+  in_both : List ℕ → Says → Part
+  in_json : List ℕ → Says → Part
 
 abbrev pub part_text : Part → List ℕ
 part_text (words it) = it
-part_text (said it) = says_text it
-part_text (told name it) = says_text it
-part_text (named name it) = []
+part_text (in_lines it) = says_text it
+part_text (in_both name it) = says_text it
+part_text (in_json name it) = []
 
 -- the parts one after the other
 abbrev pub parts_text : List Part → List ℕ
@@ -106,9 +109,9 @@ parts_text parts = flat_map part_text parts
 -- the members with that of a part
 abbrev pub put_part : Members → Part → Members
 put_part members (words it) = members
-put_part members (said it) = members
-put_part members (told name it) = put name (says_data it) members
-put_part members (named name it) = put name (says_data it) members
+put_part members (in_lines it) = members
+put_part members (in_both name it) = put name (says_data it) members
+put_part members (in_json name it) = put name (says_data it) members
 
 -- the object with the members of all parts
 abbrev pub parts_data : List Part → Data
@@ -126,6 +129,7 @@ put_all parts (members them) = members (fold put_part them parts)
 
 -- what the values of the code are
 abbrev pub says_of : Spoken → Says
+says_of spoken.Nothing = nothing
 says_of (spoken.Call it) = call it
 says_of (spoken.Reply it) = reply it
 says_of (spoken.Own it) = own it
@@ -148,6 +152,6 @@ says_of (spoken.Text it) = text it.now
 
 abbrev pub part_of : Spelled → Part
 part_of (Words it) = words it.now
-part_of (Said it) = said (says_of it)
-part_of (Told name it) = told name.now (says_of it)
-part_of (Named name it) = named name.now (says_of it)
+part_of (InLines it) = in_lines (says_of it)
+part_of (InBoth name it) = in_both name.now (says_of it)
+part_of (InJson name it) = in_json name.now (says_of it)

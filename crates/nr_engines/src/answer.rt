@@ -26,7 +26,11 @@ fn push_number(text: &mut String, word: &str, number: u64) -> Result<(), AllocEr
     text.push_str(Buffer::new().format(number))
 }
 
-/// Adds the name of an answer, and what it says.
+/// Adds the name of an answer, and what it says. The text allocates where it grows.
+///
+/// # Errors
+///
+/// Out of memory. A part of it may have been added.
 #[tactic(auto, unfolding(crate::specs::Text::answer_text))]
 pub fn push_answer(text: &mut String, answer: Answer) -> Result<(), AllocError>
     ensures { OnOk result

@@ -99,7 +99,8 @@ pub fn named_audit_read(
     })
 }
 
-/// Reads a trace as `audit_io` does, judges it, and writes a line: this name, a colon and the first line of the verdict.
+/// Reads a trace as `audit_io` does, judges it, and writes a line: this name, a colon and the first line of the verdict. Allocates what
+/// `audit_io` does.
 ///
 /// # Errors
 ///

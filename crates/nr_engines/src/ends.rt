@@ -12,6 +12,10 @@ use std::io::{ErrorKind, Read, Write};
 pub const BLOCK: usize = 4096;
 
 /// Reads into the block: how many bytes, none at the end of the input. A read that was interrupted is tried again.
+///
+/// # Errors
+///
+/// `CannotRead` where the reader gave another error.
 pub fn read_block<R: Read>(reader: &mut R, block: &mut [u8]) -> Result<usize, ProgFault>
     ensures bound { ReadsAtMost result block.new }
     ensures ok { IfOk result (λ count.
@@ -48,6 +52,10 @@ pub fn write_text<W: Write>(writer: &mut W, text: &[u8]) -> Result<(), ProgFault
 }
 
 /// Writes a report's lines and nothing else, and gives its status.
+///
+/// # Errors
+///
+/// Those of `write_text`.
 pub fn write_report<W: Write>(writer: &mut W, report: &Report) -> Result<u8, ProgFault>
     ensures ok { IfOk result (λ status. (status ≡ report.now.status)
         × Appends (W.contents writer.old) (W.contents writer.new) (string_bytes report.now.text)) }

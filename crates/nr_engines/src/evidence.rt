@@ -3,10 +3,10 @@
 ghost use Rattle.std.specs.Prelude.{◌≡◌, IfOk, OnOk, map, string_bytes};
 ghost use Rattle.serde_json.specs.View.{view};
 ghost use Rattle.nr_engines.specs.Evidence.{bad_unit_parts, changed_parts, counts_data, counts_lines, counts_parts, difference_parts};
-ghost use Rattle.nr_engines.specs.Evidence.{early_parts, evidence_data, evidence_parts, evidence_text, long_prefix_parts, misplaced_parts};
-ghost use Rattle.nr_engines.specs.Evidence.{missing_parts, no_update_parts, open_parts, other_answer_parts, past_end_parts};
-ghost use Rattle.nr_engines.specs.Evidence.{replica_parts, reserved_parts, shared_parts, short_prefix_parts, stray_parts, stray_reply_parts};
-ghost use Rattle.nr_engines.specs.Evidence.{two_places_parts, two_replies_parts};
+ghost use Rattle.nr_engines.specs.Evidence.{early_parts, evidence_data, evidence_parts, evidence_text, long_prefix_parts};
+ghost use Rattle.nr_engines.specs.Evidence.{misplaced_parts, missing_parts, no_update_parts, open_parts, other_answer_parts};
+ghost use Rattle.nr_engines.specs.Evidence.{past_end_parts, replica_parts, reserved_parts, shared_parts, short_prefix_parts, stray_parts};
+ghost use Rattle.nr_engines.specs.Evidence.{stray_reply_parts, two_places_parts, two_replies_parts};
 ghost use Rattle.nr_engines.specs.Parts.{part_of, put_all};
 
 use crate::output::Output;
@@ -30,7 +30,7 @@ use std::alloc::{AllocError, Global};
 fn put_replica<O: Output>(out: &mut O, alloc: Global, replica: u8) -> Result<(), AllocError>
     ensures { OnOk result (O.held out.new ≡ put_all (replica_parts replica) (O.held out.old)) }
 {
-    let parts = [Part::Named("replica", Says::Count(u64::from(replica)))];
+    let parts = [Part::InJson("replica", Says::Count(u64::from(replica)))];
     out.put_all(alloc, &parts)
 }
 
@@ -45,7 +45,7 @@ fn put_changed<O: Output>(
 {
     let parts = [
         Part::Words(", "),
-        Part::Told("changed", Says::Changed(changed)),
+        Part::InBoth("changed", Says::Changed(changed)),
     ];
     out.put_all(alloc, &parts)
 }
@@ -55,12 +55,12 @@ fn put_bad_unit<O: Output>(out: &mut O, alloc: Global, bad: &BadUnit) -> Result<
     ensures { OnOk result (O.held out.new ≡ put_all (bad_unit_parts bad.now) (O.held out.old)) }
 {
     let begin = [
-        Part::Named("fault", Says::Text("Format")),
-        Part::Told("unit", Says::Unit(bad.unit)),
+        Part::InJson("fault", Says::Text("Format")),
+        Part::InBoth("unit", Says::Unit(bad.unit)),
     ];
     out.put_all(alloc, &begin)?;
     put_read(out, alloc, bad.offset, bad.read.as_slice(), bad.unit.size())?;
-    out.put_all(alloc, &[Part::Told("format", Says::Allowed(bad.fault))])
+    out.put_all(alloc, &[Part::InBoth("format", Says::Allowed(bad.fault))])
 }
 
 #[tactic(auto, unfolding(crate::specs::Evidence::open_parts))]
@@ -68,9 +68,9 @@ fn put_open<O: Output>(out: &mut O, alloc: Global, calls: OpenCalls) -> Result<(
     ensures { OnOk result (O.held out.new ≡ put_all (open_parts calls) (O.held out.old)) }
 {
     let parts = [
-        Part::Named("fault", Says::Text("ThreadOpen")),
-        Part::Told("first", Says::Call(calls.first)),
-        Part::Told("second", Says::Call(calls.second)),
+        Part::InJson("fault", Says::Text("ThreadOpen")),
+        Part::InBoth("first", Says::Call(calls.first)),
+        Part::InBoth("second", Says::Call(calls.second)),
     ];
     out.put_all(alloc, &parts)
 }
@@ -84,9 +84,9 @@ fn put_stray_reply<O: Output>(
     ensures { OnOk result (O.held out.new ≡ put_all (stray_reply_parts stray) (O.held out.old)) }
 {
     let parts = [
-        Part::Named("fault", Says::Text("NoSuchCall")),
-        Part::Told("reply", Says::Reply(stray.reply)),
-        Part::Told("named", Says::Event(stray.reply.call, stray.named)),
+        Part::InJson("fault", Says::Text("NoSuchCall")),
+        Part::InBoth("reply", Says::Reply(stray.reply)),
+        Part::InBoth("named", Says::Event(stray.reply.call, stray.named)),
     ];
     out.put_all(alloc, &parts)
 }
@@ -100,10 +100,10 @@ fn put_two_replies<O: Output>(
     ensures { OnOk result (O.held out.new ≡ put_all (two_replies_parts replies) (O.held out.old)) }
 {
     let parts = [
-        Part::Named("fault", Says::Text("AnsweredTwice")),
-        Part::Told("call", Says::Call(replies.call)),
-        Part::Told("first", Says::Reply(replies.first)),
-        Part::Told("second", Says::Reply(replies.second)),
+        Part::InJson("fault", Says::Text("AnsweredTwice")),
+        Part::InBoth("call", Says::Call(replies.call)),
+        Part::InBoth("first", Says::Reply(replies.first)),
+        Part::InBoth("second", Says::Reply(replies.second)),
     ];
     out.put_all(alloc, &parts)
 }
@@ -113,13 +113,13 @@ fn put_no_update<O: Output>(out: &mut O, alloc: Global, wrong: NoUpdate) -> Resu
     ensures { OnOk result (O.held out.new ≡ put_all (no_update_parts wrong) (O.held out.old)) }
 {
     let parts = [
-        Part::Named("fault", Says::Text("NotAnUpdate")),
+        Part::InJson("fault", Says::Text("NotAnUpdate")),
         Part::Words("place "),
-        Part::Told("place", Says::Count(u64::from(wrong.place))),
+        Part::InBoth("place", Says::Count(u64::from(wrong.place))),
         Part::Words(" has "),
-        Part::Told("call", Says::Count(u64::from(wrong.call))),
+        Part::InBoth("call", Says::Count(u64::from(wrong.call))),
         Part::Words("\n"),
-        Part::Told("named", Says::Event(wrong.call, wrong.named)),
+        Part::InBoth("named", Says::Event(wrong.call, wrong.named)),
     ];
     out.put_all(alloc, &parts)
 }
@@ -133,13 +133,13 @@ fn put_two_places<O: Output>(
     ensures { OnOk result (O.held out.new ≡ put_all (two_places_parts places) (O.held out.old)) }
 {
     let parts = [
-        Part::Named("fault", Says::Text("PlacedTwice")),
+        Part::InJson("fault", Says::Text("PlacedTwice")),
         Part::Words("places "),
-        Part::Told("first", Says::Count(u64::from(places.first))),
+        Part::InBoth("first", Says::Count(u64::from(places.first))),
         Part::Words(" and "),
-        Part::Told("second", Says::Count(u64::from(places.second))),
+        Part::InBoth("second", Says::Count(u64::from(places.second))),
         Part::Words("\n"),
-        Part::Told("call", Says::Call(places.call)),
+        Part::InBoth("call", Says::Call(places.call)),
     ];
     out.put_all(alloc, &parts)
 }
@@ -149,13 +149,13 @@ fn put_misplaced<O: Output>(out: &mut O, alloc: Global, wrong: Misplaced) -> Res
     ensures { OnOk result (O.held out.new ≡ put_all (misplaced_parts wrong) (O.held out.old)) }
 {
     let parts = [
-        Part::Named("fault", Says::Text("NotPlaced")),
-        Part::Told("call", Says::Call(wrong.call)),
-        Part::Told("reply", Says::Reply(wrong.reply)),
+        Part::InJson("fault", Says::Text("NotPlaced")),
+        Part::InBoth("call", Says::Call(wrong.call)),
+        Part::InBoth("reply", Says::Reply(wrong.reply)),
         Part::Words("its place: "),
-        Part::Told("own", Says::Place(wrong.own)),
+        Part::InBoth("own", Says::Place(wrong.own)),
         Part::Words("\nthe call there: "),
-        Part::Told("there", Says::Place(wrong.there)),
+        Part::InBoth("there", Says::Place(wrong.there)),
         Part::Words("\n"),
     ];
     out.put_all(alloc, &parts)
@@ -166,11 +166,11 @@ fn put_past_end<O: Output>(out: &mut O, alloc: Global, wrong: PastEnd) -> Result
     ensures { OnOk result (O.held out.new ≡ put_all (past_end_parts wrong) (O.held out.old)) }
 {
     let parts = [
-        Part::Named("fault", Says::Text("PastLog")),
-        Part::Told("call", Says::Call(wrong.call)),
-        Part::Told("reply", Says::Reply(wrong.reply)),
+        Part::InJson("fault", Says::Text("PastLog")),
+        Part::InBoth("call", Says::Call(wrong.call)),
+        Part::InBoth("reply", Says::Reply(wrong.reply)),
         Part::Words("entries of the log: "),
-        Part::Told("places", Says::Count(u64::from(wrong.places))),
+        Part::InBoth("places", Says::Count(u64::from(wrong.places))),
         Part::Words("\n"),
     ];
     out.put_all(alloc, &parts)
@@ -181,16 +181,16 @@ fn put_early<O: Output>(out: &mut O, alloc: Global, early: EarlyCall) -> Result<
     ensures { OnOk result (O.held out.new ≡ put_all (early_parts early) (O.held out.old)) }
 {
     let parts = [
-        Part::Named("fault", Says::Text("Early")),
-        Part::Told("call", Says::Call(early.call)),
-        Part::Told("own", Says::Own(early.own)),
+        Part::InJson("fault", Says::Text("Early")),
+        Part::InBoth("call", Says::Call(early.call)),
+        Part::InBoth("own", Says::Own(early.own)),
         Part::Words("entries before it: "),
-        Part::Told("entries", Says::Count(u64::from(early.entries))),
+        Part::InBoth("entries", Says::Count(u64::from(early.entries))),
         Part::Words("\nknown when it was made: "),
-        Part::Told("floor", Says::Count(early.floor)),
+        Part::InBoth("floor", Says::Count(early.floor)),
         Part::Words("\n"),
-        Part::Told("reply", Says::Reply(early.reply)),
-        Part::Told("answered", Says::Call(early.answered)),
+        Part::InBoth("reply", Says::Reply(early.reply)),
+        Part::InBoth("answered", Says::Call(early.answered)),
     ];
     out.put_all(alloc, &parts)
 }
@@ -217,13 +217,13 @@ fn put_long_prefix<O: Output>(
     ensures { OnOk result (O.held out.new ≡ put_all (long_prefix_parts wrong) (O.held out.old)) }
 {
     let parts = [
-        Part::Named("fault", Says::Text("PrefixPastLog")),
+        Part::InJson("fault", Says::Text("PrefixPastLog")),
         Part::Words("applied: "),
-        Part::Told("applied", Says::Count(u64::from(wrong.applied))),
+        Part::InBoth("applied", Says::Count(u64::from(wrong.applied))),
         Part::Words("\nentries of the log: "),
-        Part::Told("places", Says::Count(u64::from(wrong.places))),
+        Part::InBoth("places", Says::Count(u64::from(wrong.places))),
         Part::Words("\n"),
-        Part::Named("replica", Says::Count(u64::from(wrong.replica))),
+        Part::InJson("replica", Says::Count(u64::from(wrong.replica))),
     ];
     out.put_all(alloc, &parts)
 }
@@ -237,15 +237,15 @@ fn put_short_prefix<O: Output>(
     ensures { OnOk result (O.held out.new ≡ put_all (short_prefix_parts wrong) (O.held out.old)) }
 {
     let parts = [
-        Part::Named("fault", Says::Text("PrefixShort")),
+        Part::InJson("fault", Says::Text("PrefixShort")),
         Part::Words("applied: "),
-        Part::Told("applied", Says::Count(u64::from(wrong.applied))),
+        Part::InBoth("applied", Says::Count(u64::from(wrong.applied))),
         Part::Words("\nknown there: "),
-        Part::Told("known", Says::Count(wrong.known)),
+        Part::InBoth("known", Says::Count(wrong.known)),
         Part::Words("\n"),
-        Part::Told("reply", Says::Reply(wrong.reply)),
-        Part::Told("call", Says::Call(wrong.call)),
-        Part::Named("replica", Says::Count(u64::from(wrong.replica))),
+        Part::InBoth("reply", Says::Reply(wrong.reply)),
+        Part::InBoth("call", Says::Call(wrong.call)),
+        Part::InJson("replica", Says::Count(u64::from(wrong.replica))),
     ];
     out.put_all(alloc, &parts)
 }
@@ -378,15 +378,15 @@ fn counts_parts<'a>(counts: Counts) -> [Part<'a>; 11]
 {
     [
         Part::Words("calls: "),
-        Part::Told("calls", Says::Count(counts.calls)),
+        Part::InBoth("calls", Says::Count(counts.calls)),
         Part::Words("\nupdates: "),
-        Part::Told("updates", Says::Count(counts.updates)),
+        Part::InBoth("updates", Says::Count(counts.updates)),
         Part::Words("\nreads: "),
-        Part::Told("reads", Says::Count(counts.reads)),
+        Part::InBoth("reads", Says::Count(counts.reads)),
         Part::Words("\nreplicas: "),
-        Part::Told("replicas", Says::Count(u64::from(counts.replicas))),
+        Part::InBoth("replicas", Says::Count(u64::from(counts.replicas))),
         Part::Words("\npages: "),
-        Part::Told("pages", Says::Count(counts.pages)),
+        Part::InBoth("pages", Says::Count(counts.pages)),
         Part::Words("\n"),
     ]
 }

@@ -119,7 +119,8 @@ fn put_yes(
     counts: Counts,
 ) -> Result<(), AllocError>
     requires { members.old.entries ≡ [] }
-    ensures { OnOk result (object (members_view members.new.entries) ≡ explanation_data (Explanation.Yes order.now counts)) }
+    ensures { OnOk result (object (members_view members.new.entries)
+        ≡ explanation_data (Explanation.Yes order.now counts)) }
 {
     let counts = counts_value(alloc, counts)?;
     put(members, alloc, "counts", counts)?;
@@ -134,7 +135,8 @@ fn put_explanation(
     explanation: &Explanation,
 ) -> Result<(), AllocError>
     requires { members.old.entries ≡ [] }
-    ensures { OnOk result (object (members_view members.new.entries) ≡ explanation_data explanation.now) }
+    ensures { OnOk result (object (members_view members.new.entries)
+        ≡ explanation_data explanation.now) }
 {
     match explanation {
         Explanation::Yes(order, counts) => put_yes(members, alloc, order.calls(), *counts),
@@ -185,7 +187,8 @@ fn explanation_report(
     as_json: bool,
     explanation: &Explanation,
 ) -> Result<Report, Memory>
-    ensures { IfOk result (λ report. (string_bytes report.text ≡ told_explanation as_json explanation.now)
+    ensures { IfOk result (λ report.
+        (string_bytes report.text ≡ told_explanation as_json explanation.now)
         × (report.status ≡ explanation_status explanation.now)) }
 {
     let text = told_explanation(alloc, as_json, explanation)?;

@@ -53,7 +53,8 @@ fn called_value(
     thread: u16,
     asked: String,
 ) -> Result<Value, AllocError>
-    ensures { IfOk result (λ value. view value ≡ called_data event replica thread (string_bytes asked)) }
+    ensures { IfOk result (λ value. view value
+        ≡ called_data event replica thread (string_bytes asked)) }
 {
     let mut members = Map::new(alloc);
     put(&mut members, alloc, "request", Value::String(asked))?;

@@ -262,7 +262,8 @@ pub(crate) fn format_lines(alloc: Global, fault: Format) -> Result<String, Alloc
         Format::BadVersion => String::from_str(alloc, "bytes 4 and 5 are the version, 1 or 2\n"),
         Format::BadCount => String::from_str(
             alloc,
-            "levels 4 (version 2: or 5), replicas 1 to 4, threads 1 to 64, tables 1 to 4096, places to 65536, events to 131072, frames 1 to 4096\n",
+            "levels 4 (version 2: or 5), replicas 1 to 4, threads 1 to 64, tables 1 to 4096, places to 65536, events to 131072, \
+            frames 1 to 4096\n",
         ),
         Format::BadChain => String::from_str(
             alloc,

@@ -174,7 +174,8 @@ fn no_value(
     shown: &Evidence,
     dumps: &[DumpExplanation],
 ) -> Result<Value, AllocError>
-    ensures { IfOk result (λ value. view value ≡ full_data (Explanation.No fault shown.now) dumps.now) }
+    ensures { IfOk result (λ value. view value
+        ≡ full_data (Explanation.No fault shown.now) dumps.now) }
 {
     let mut members = Map::new(alloc);
     put_no_and_dumps(&mut members, alloc, fault, shown, dumps)?;
@@ -183,7 +184,8 @@ fn no_value(
 
 /// The object that `explain --all --json` prints.
 fn full_value(alloc: Global, full: &FullExplanation) -> Result<Value, AllocError>
-    ensures { IfOk result (λ value. view value ≡ full_data full.now.explanation full.now.dumps.items) }
+    ensures { IfOk result (λ value. view value
+        ≡ full_data full.now.explanation full.now.dumps.items) }
 {
     match &full.explanation {
         Explanation::Yes(_, _) => explanation_value(alloc, &full.explanation),

@@ -22,6 +22,7 @@ fn says_value(alloc: Global, says: &Says) -> Result<Value, AllocError>
     ensures { IfOk result (λ value. view value ≡ says_data (says_of says.now)) }
 {
     match says {
+        Says::Nothing => Ok(Value::Null),
         Says::Call(call) => call_value(alloc, *call),
         Says::Reply(reply) => reply_value(alloc, *reply),
         Says::Own(own) => own_value(alloc, *own),
@@ -50,10 +51,10 @@ fn put_part(members: &mut Members, alloc: Global, part: &Part) -> Result<(), All
         ≡ put_part (members_view members.old.entries) (part_of part.now)) }
 {
     match part {
-        Part::Words(_) => Ok(()),
-        Part::Said(_) => Ok(()),
-        Part::Told(name, says) => put(members, alloc, *name, says_value(alloc, says)?),
-        Part::Named(name, says) => put(members, alloc, *name, says_value(alloc, says)?),
+        Part::Words(_) | Part::InLines(_) => Ok(()),
+        Part::InBoth(name, says) | Part::InJson(name, says) => {
+            put(members, alloc, *name, says_value(alloc, says)?)
+        }
     }
 }
 

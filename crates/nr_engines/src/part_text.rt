@@ -19,6 +19,7 @@ fn says_text(alloc: Global, says: &Says) -> Result<String, AllocError>
     ensures { IfOk result (λ text. string_bytes text ≡ says_text (says_of says.now)) }
 {
     match says {
+        Says::Nothing => String::from_str(alloc, "none"),
         Says::Call(call) => call_line(alloc, *call),
         Says::Reply(reply) => reply_line(alloc, *reply),
         Says::Own(own) => own_line(alloc, *own),
@@ -57,9 +58,8 @@ fn push_part(alloc: Global, text: &mut String, part: &Part) -> Result<(), AllocE
 {
     match part {
         Part::Words(words) => text.push_str(*words),
-        Part::Said(says) => push_says(alloc, text, says),
-        Part::Told(_, says) => push_says(alloc, text, says),
-        Part::Named(_, _) => Ok(()),
+        Part::InLines(says) | Part::InBoth(_, says) => push_says(alloc, text, says),
+        Part::InJson(_, _) => Ok(()),
     }
 }
 

@@ -8,6 +8,8 @@ use vs_walk::Walk;
 /// What a fact says.
 #[derive(Clone, Copy)]
 pub enum Says<'a> {
+    /// `none` in the lines, null in JSON.
+    Nothing,
     Call(RecordedCall),
     Reply(RecordedReply),
     /// The reply to a call, if there is one.
@@ -18,15 +20,16 @@ pub enum Says<'a> {
     Changed(Option<PlacedUpdate>),
     /// An entry of a table.
     Step(Step),
-    /// The entries that are read on a way.
+    /// The entries that are read on a way: a line each, and none where there are none.
     Steps(&'a [Step]),
-    /// The entries on a way from the root. The root itself has none.
+    /// The entries on the way from the root to a table: the same, but without entries it is the root, and a line says so.
     Way(&'a [Step]),
     Count(u64),
     /// A place of the log, or what it has there, if there is such a place.
     Place(Option<u32>),
-    /// The number of a frame.
+    /// The number of a frame: hexadecimal in the lines, a number in JSON.
     Frame(u64),
+    /// Hexadecimal in both.
     Address(u64),
     Answer(Answer),
     /// Where a walk ends.
@@ -42,15 +45,15 @@ pub enum Says<'a> {
     Text(&'a str),
 }
 
-/// A part of what is said.
+/// A part of what is said, by where it is printed; in JSON a fact is a member of this name.
 #[derive(Clone, Copy)]
 pub enum Part<'a> {
-    /// Words that only the lines have.
+    /// Words in the lines alone.
     Words(&'static str),
-    /// A fact that only the lines have.
-    Said(Says<'a>),
-    /// A fact, and its name in JSON.
-    Told(&'static str, Says<'a>),
-    /// A fact that only JSON has.
-    Named(&'static str, Says<'a>),
+    /// A fact in the lines alone.
+    InLines(Says<'a>),
+    /// A fact in the lines and in JSON.
+    InBoth(&'static str, Says<'a>),
+    /// A fact in JSON alone.
+    InJson(&'static str, Says<'a>),
 }

@@ -5,6 +5,7 @@ ghost use Rattle.vs_types.specs.Depth.{IsCanonical};
 ghost use Rattle.vs_types.specs.Finds.{Finds};
 ghost use Rattle.vs_text.specs.Words.{SpellsAddress};
 ghost use Rattle.nr_trace.specs.Feed.{Reads};
+ghost use Rattle.nr_trace.specs.Spelling.{Spells};
 ghost use Rattle.nr_engines.specs.Answers.{HasReadFew, IsResolve, IsWalk, WritesReport, walk_lines};
 ghost use Rattle.nr_engines.specs.Refusals.{IsWalkFault, IsResolveFault, WritesAnswersAlone};
 
@@ -38,7 +39,8 @@ fn walk_lines(
     with_steps: bool,
 ) -> Result<String, Memory>
     requires { IsCanonical depth address }
-    ensures { IfOk result (λ text. string_bytes text ≡ walk_lines with_steps depth dump.now address) }
+    ensures { IfOk result (λ text. string_bytes text
+        ≡ walk_lines with_steps depth dump.now address) }
 {
     let walk = translate(dump, dump.root(), depth, address);
     let mut text = walk_text(alloc, walk)?;
@@ -47,6 +49,29 @@ fn walk_lines(
         push_steps(alloc, &mut text, path.as_slice())?;
     }
     Ok(text)
+}
+
+/// The report of where the walk of an address ends in a replica's dump of a trace.
+fn walk_report(
+    alloc: Global,
+    trace: &Trace,
+    address: u64,
+    replica: u8,
+    with_steps: bool,
+) -> Result<Report, ProgFault>
+    ensures { (bytes : List ℕ) → Spells bytes trace.now → MatchResult result
+        (λ report. IsWalk address replica with_steps bytes (string_bytes report.text) report.status)
+        (IsWalkFault bytes address replica) }
+{
+    let depth = trace.layout().depth();
+    if !depth.is_canonical(address) {
+        return Err(ProgFault::NotCanonical);
+    }
+    let Some(dump) = trace.dumps().get(replica as usize) else {
+        return Err(ProgFault::NoSuchReplica);
+    };
+    let text = walk_lines(alloc, dump, depth, address, with_steps)?;
+    Ok(Report { text, status: 0 })
 }
 
 /// What `resolve` answers to what was read of an input: where the walk of the address ends in a replica's dump, and with steps
@@ -69,17 +94,7 @@ pub fn resolve_read(
         (IsWalkFault bytes address replica) }
 {
     match read {
-        Ok(trace) => {
-            let depth = trace.layout().depth();
-            if !depth.is_canonical(address) {
-                return Err(ProgFault::NotCanonical);
-            }
-            let Some(dump) = trace.dumps().get(replica as usize) else {
-                return Err(ProgFault::NoSuchReplica);
-            };
-            let text = walk_lines(alloc, dump, depth, address, with_steps)?;
-            Ok(Report { text, status: 0 })
-        }
+        Ok(trace) => walk_report(alloc, &trace, address, replica, with_steps),
         Err(Fail::Refused(fault)) => {
             let text = no_text(alloc, Fault::Format(fault))?;
             Ok(Report { text, status: 1 })
@@ -108,7 +123,8 @@ pub fn resolve_io<R: Read, W: Write>(
 ) -> Result<u8, ProgFault>
     ensures ok { IfOk result (WritesReport (IsResolve address.now replica with_steps)
         (R.remaining reader.old) (W.contents writer.old) (W.contents writer.new)) }
-    ensures err { IfErr result (IsResolveFault address.now replica with_steps (R.remaining reader.old)) }
+    ensures err { IfErr result
+        (IsResolveFault address.now replica with_steps (R.remaining reader.old)) }
     ensures alone { WritesAnswersAlone writer.old writer.new result }
     ensures few { HasReadFew (R.remaining reader.old) (R.remaining reader.new) }
 {

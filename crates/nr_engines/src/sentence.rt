@@ -2,12 +2,12 @@
 
 ghost use Rattle.std.specs.Prelude.{◌≡◌, ◌==◌, IfOk, Some, if◌then◌else◌, string_bytes};
 ghost use Rattle.vs_text.specs.Words.{hexadecimal};
-ghost use Rattle.nr_engines.specs.Sentence.{cut_text, event_text, frame_text, start_text, version_text};
-ghost use Rattle.nr_engines.specs.Sentence.{bad_unit_sentence, difference_sentence, early_sentence, entries_text, leads_text, long_prefix_sentence};
-ghost use Rattle.nr_engines.specs.Sentence.{misplaced_sentence, missing_sentence, no_update_sentence, noun, open_sentence, other_answer_sentence};
-ghost use Rattle.nr_engines.specs.Sentence.{past_end_sentence, reason_text, reserved_sentence, sentence_text, shared_sentence, short_prefix_sentence};
-ghost use Rattle.nr_engines.specs.Sentence.{stands_text, stray_reply_sentence, stray_sentence, stray_text, there_text, two_places_sentence};
-ghost use Rattle.nr_engines.specs.Sentence.{two_replies_sentence, unlogged_text, updates_text};
+ghost use Rattle.nr_engines.specs.Sentence.{bad_unit_sentence, cut_text, difference_sentence, early_sentence, entries_text, event_text};
+ghost use Rattle.nr_engines.specs.Sentence.{frame_text, leads_text, long_prefix_sentence, misplaced_sentence, missing_sentence};
+ghost use Rattle.nr_engines.specs.Sentence.{no_update_sentence, noun, open_sentence, other_answer_sentence, past_end_sentence};
+ghost use Rattle.nr_engines.specs.Sentence.{reason_text, reserved_sentence, sentence_text, shared_sentence, short_prefix_sentence};
+ghost use Rattle.nr_engines.specs.Sentence.{stands_text, start_text, stray_reply_sentence, stray_sentence, stray_text, there_text};
+ghost use Rattle.nr_engines.specs.Sentence.{two_places_sentence, two_replies_sentence, unlogged_text, updates_text, version_text};
 
 use crate::answer::answer_text;
 use crate::field_text::since_text;
@@ -63,6 +63,10 @@ fn version_text(alloc: Global, bad: &BadUnit) -> Result<String, AllocError>
 }
 
 /// Which event is none, and which of its fields is wrong. Allocates memory for the text.
+///
+/// # Errors
+///
+/// Out of memory.
 pub fn event_text(alloc: Global, index: u32, found: Option<BadField>) -> Result<String, AllocError>
     ensures { IfOk result (λ text. string_bytes text ≡ event_text index found) }
 {
@@ -71,6 +75,10 @@ pub fn event_text(alloc: Global, index: u32, found: Option<BadField>) -> Result<
 }
 
 /// Which frame of a dump has a wrong number. Allocates memory for the text.
+///
+/// # Errors
+///
+/// Out of memory.
 pub fn frame_text(alloc: Global, replica: u8, index: u32) -> Result<String, AllocError>
     ensures { IfOk result (λ text. string_bytes text ≡ frame_text replica index) }
 {
@@ -80,6 +88,10 @@ pub fn frame_text(alloc: Global, replica: u8, index: u32) -> Result<String, Allo
 }
 
 /// Which frame of a start has a wrong number. Allocates memory for the text.
+///
+/// # Errors
+///
+/// Out of memory.
 pub fn start_text(alloc: Global, index: u32) -> Result<String, AllocError>
     ensures { IfOk result (λ text. string_bytes text ≡ start_text index) }
 {

@@ -1,8 +1,8 @@
 //! What is said alike of faults of a trace and of a chain.
 
 ghost use Rattle.std.specs.Prelude.{◌≡◌, OnOk, map};
-ghost use Rattle.nr_engines.specs.Evidence.{answer_parts, look_parts, missing_frame_parts, read_parts, reserved_entry_parts, shared_frame_parts};
-ghost use Rattle.nr_engines.specs.Evidence.{stray_frame_parts, unlike_parts};
+ghost use Rattle.nr_engines.specs.Evidence.{answer_parts, look_parts, missing_frame_parts, read_parts, reserved_entry_parts};
+ghost use Rattle.nr_engines.specs.Evidence.{shared_frame_parts, stray_frame_parts, unlike_parts};
 ghost use Rattle.nr_engines.specs.Parts.{part_of, put_all};
 
 use crate::output::Output;
@@ -30,13 +30,13 @@ pub fn put_read<O: Output>(
 {
     let parts = [
         Part::Words(", at byte "),
-        Part::Told("offset", Says::Count(offset)),
+        Part::InBoth("offset", Says::Count(offset)),
         Part::Words("\nread "),
-        Part::Told("there", Says::Count(read.len() as u64)),
+        Part::InBoth("there", Says::Count(read.len() as u64)),
         Part::Words(" of "),
-        Part::Told("size", Says::Count(size as u64)),
+        Part::InBoth("size", Says::Count(size as u64)),
         Part::Words(" bytes: "),
-        Part::Told("read", Says::Bytes(read)),
+        Part::InBoth("read", Says::Bytes(read)),
         Part::Words("\n"),
     ];
     out.put_all(alloc, &parts)
@@ -60,10 +60,10 @@ pub fn put_missing_frame<'a, O: Output>(
         ≡ put_all (missing_frame_parts fault.now path.now frame end.now) (O.held out.old)) }
 {
     let parts = [
-        Part::Named("fault", Says::Text(fault)),
-        Part::Told("path", Says::Way(path)),
+        Part::InJson("fault", Says::Text(fault)),
+        Part::InBoth("path", Says::Way(path)),
         Part::Words("frame "),
-        Part::Told("frame", Says::Frame(frame)),
+        Part::InBoth("frame", Says::Frame(frame)),
         Part::Words(end),
     ];
     out.put_all(alloc, &parts)
@@ -87,12 +87,12 @@ pub fn put_shared_frame<'a, O: Output>(
         ≡ put_all (shared_frame_parts fault.now first.now second.now frame) (O.held out.old)) }
 {
     let parts = [
-        Part::Named("fault", Says::Text(fault)),
+        Part::InJson("fault", Says::Text(fault)),
         Part::Words("one way:\n"),
-        Part::Told("first", Says::Way(first)),
+        Part::InBoth("first", Says::Way(first)),
         Part::Words("another:\n"),
-        Part::Told("second", Says::Way(second)),
-        Part::Named("frame", Says::Frame(frame)),
+        Part::InBoth("second", Says::Way(second)),
+        Part::InJson("frame", Says::Frame(frame)),
     ];
     out.put_all(alloc, &parts)
 }
@@ -115,13 +115,13 @@ pub fn put_reserved_entry<'a, O: Output>(
         ≡ put_all (reserved_entry_parts fault.now path.now entry bit) (O.held out.old)) }
 {
     let parts = [
-        Part::Named("fault", Says::Text(fault)),
-        Part::Told("path", Says::Steps(path)),
-        Part::Told("entry", Says::Step(entry)),
+        Part::InJson("fault", Says::Text(fault)),
+        Part::InBoth("path", Says::Steps(path)),
+        Part::InBoth("entry", Says::Step(entry)),
         Part::Words("bit "),
-        Part::Told("bit", Says::Count(u64::from(bit))),
+        Part::InBoth("bit", Says::Count(u64::from(bit))),
         Part::Words(" is set: "),
-        Part::Said(Says::Reserved(entry.level)),
+        Part::InLines(Says::Reserved(entry.level)),
         Part::Words("\n"),
     ];
     out.put_all(alloc, &parts)
@@ -143,9 +143,9 @@ pub fn put_stray_frame<O: Output>(
         ≡ put_all (stray_frame_parts fault.now frame) (O.held out.old)) }
 {
     let parts = [
-        Part::Named("fault", Says::Text(fault)),
+        Part::InJson("fault", Says::Text(fault)),
         Part::Words("no table leads to frame "),
-        Part::Told("frame", Says::Frame(frame)),
+        Part::InBoth("frame", Says::Frame(frame)),
         Part::Words("\n"),
     ];
     out.put_all(alloc, &parts)
@@ -165,13 +165,13 @@ pub fn put_answer<O: Output>(
     ensures { OnOk result (O.held out.new ≡ put_all (answer_parts wrong) (O.held out.old)) }
 {
     let parts = [
-        Part::Named("fault", Says::Text("WrongAnswer")),
-        Part::Told("call", Says::Call(wrong.call)),
-        Part::Told("reply", Says::Reply(wrong.reply)),
+        Part::InJson("fault", Says::Text("WrongAnswer")),
+        Part::InBoth("call", Says::Call(wrong.call)),
+        Part::InBoth("reply", Says::Reply(wrong.reply)),
         Part::Words("the space answers: "),
-        Part::Told("wanted", Says::Answer(wrong.wanted)),
+        Part::InBoth("wanted", Says::Answer(wrong.wanted)),
         Part::Words("\naddress "),
-        Part::Told("address", Says::Address(wrong.address)),
+        Part::InBoth("address", Says::Address(wrong.address)),
     ];
     out.put_all(alloc, &parts)
 }
@@ -194,13 +194,13 @@ pub fn put_look<O: Output>(
         ≡ put_all (look_parts found path.now wanted address) (O.held out.old)) }
 {
     let parts = [
-        Part::Told("found", Says::Walk(found)),
+        Part::InBoth("found", Says::Walk(found)),
         Part::Words("\n"),
-        Part::Told("path", Says::Steps(path)),
+        Part::InBoth("path", Says::Steps(path)),
         Part::Words("the space: "),
-        Part::Told("wanted", Says::Answer(wanted)),
+        Part::InBoth("wanted", Says::Answer(wanted)),
         Part::Words("\naddress "),
-        Part::Told("address", Says::Address(address)),
+        Part::InBoth("address", Says::Address(address)),
     ];
     out.put_all(alloc, &parts)
 }
@@ -219,10 +219,10 @@ pub fn put_unlike<O: Output>(
     ensures { OnOk result (O.held out.new ≡ put_all (unlike_parts wrong.now) (O.held out.old)) }
 {
     let parts = [
-        Part::Named("fault", Says::Text("Differs")),
-        Part::Named("replica", Says::Count(u64::from(wrong.replica))),
+        Part::InJson("fault", Says::Text("Differs")),
+        Part::InJson("replica", Says::Count(u64::from(wrong.replica))),
         Part::Words("applied: "),
-        Part::Told("applied", Says::Count(u64::from(wrong.applied))),
+        Part::InBoth("applied", Says::Count(u64::from(wrong.applied))),
         Part::Words("\nthe dump: "),
     ];
     out.put_all(alloc, &parts)?;

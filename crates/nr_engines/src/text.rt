@@ -29,6 +29,11 @@ pub(crate) fn format_text(alloc: Global, fault: Format) -> Result<String, AllocE
     }
 }
 
+/// The name of a fault, before it its number and behind it where it is. Allocates the text.
+///
+/// # Errors
+///
+/// Out of memory.
 #[tactic(auto, unfolding(crate::specs::Text::fault_text))]
 pub fn fault_text(alloc: Global, fault: Fault) -> Result<String, AllocError>
     ensures { IfOk result (λ text. string_bytes text ≡ fault_text fault) }

@@ -1,8 +1,10 @@
 //! A trace that is read in blocks, to its end or to the first refusal.
 
-ghost use Rattle.std.specs.Prelude.{◌≡◌, ℕ, List, IfOk, IfErr, length, take};
+ghost use Rattle.std.specs.Prelude.{◌≡◌, ℕ, List, [], IfOk, IfErr, MatchResult, Result, length, take};
 ghost use Rattle.nr_trace.specs.Feed.{Reads};
+ghost use Rattle.nr_trace.specs.Recording.{Recording};
 ghost use Rattle.nr_explain.specs.Units.{ReadsUnits};
+ghost use Rattle.nr_explain.specs.declared.units.Unread.{Unread};
 ghost use Rattle.nr_engines.specs.Answers.{HasRead, HasReadFew, HasReadUnits};
 
 use crate::ends::{BLOCK, read_block};
@@ -16,25 +18,28 @@ use vs_types::Fail;
 /// The most bytes that are read of an input: one more than any trace has, so that the last of them is refused.
 const MOST_BYTES: usize = 70_647_893;
 
-/// Reads blocks and feeds each, to the end of the input or to the first refusal, which comes at the latest with the last byte
-/// that there is room for.
+/// Reads blocks and feeds each, to the end of the input, of which the feed has all then, or to the first refusal, which comes at the
+/// latest with the last byte that there is room for.
 fn feed_units<R: Read>(
-    alloc: Global,
     reader: &mut R,
+    feed: &mut UnitFeed,
     block: &mut [u8],
-) -> Result<Result<Trace, Unread>, ProgFault>
-    requires { length block.old ≡ 4096 }
-    ensures ok { IfOk result (HasReadUnits (R.remaining reader.old)) }
+) -> Result<Result<(), Unread>, ProgFault>
+    requires empty { feed.old ≡ [] }
+    requires block { length block.old ≡ 4096 }
+    ensures ok { IfOk result (λ fed. MatchResult fed
+        (λ _. (read : Result Recording Unread) → ReadsUnits feed.new read
+        → HasReadUnits (R.remaining reader.old) read)
+        (λ unread. HasReadUnits (R.remaining reader.old) (Err unread))) }
     ensures err { IfErr result (λ fault. fault ≡ ProgFault.CannotRead) }
     ensures few { HasReadFew (R.remaining reader.old) (R.remaining reader.new) }
 {
-    let mut feed = UnitFeed::new(alloc);
     let mut room = MOST_BYTES;
     while room > 0 {
         let piece = &mut block[..room.min(BLOCK)];
         let count = read_block(reader, piece)?;
         if count == 0 {
-            return Ok(feed.end());
+            return Ok(Ok(()));
         }
         if let Err(unread) = feed.feed(&piece[..count]) {
             return Ok(Err(unread));
@@ -59,7 +64,11 @@ pub fn read_units<R: Read>(
     ensures err { IfErr result (λ fault. fault ≡ ProgFault.CannotRead) }
     ensures few { HasReadFew (R.remaining reader.old) (R.remaining reader.new) }
 {
-    feed_units(alloc, reader, &mut [0; BLOCK])
+    let mut feed = UnitFeed::new(alloc);
+    match feed_units(reader, &mut feed, &mut [0; BLOCK])? {
+        Ok(()) => Ok(feed.end()),
+        Err(unread) => Ok(Err(unread)),
+    }
 }
 
 /// What was read, of which the unit that is bad isn't known.
@@ -73,7 +82,7 @@ fn without_unit(read: Result<Trace, Unread>) -> Result<Trace, Fail<Format>>
     }
 }
 
-/// Reads as `read_units` does: the trace that the input spells, or why it spells none.
+/// Reads as `read_units` does: the trace that the input spells, or why it spells none. Allocates what that does.
 ///
 /// # Errors
 ///

@@ -7,6 +7,10 @@ use nr_explain::TraceUnit;
 use std::alloc::{AllocError, Global};
 
 /// Which unit of a trace it is. Allocates memory for the text.
+///
+/// # Errors
+///
+/// Out of memory.
 #[tactic(auto, unfolding(crate::specs::EvidenceText::unit_text))]
 pub fn unit_text(alloc: Global, unit: TraceUnit) -> Result<String, AllocError>
     ensures { IfOk result (λ text. string_bytes text ≡ unit_text unit) }
@@ -30,7 +34,8 @@ pub fn unit_text(alloc: Global, unit: TraceUnit) -> Result<String, AllocError>
 
 /// Adds two digits for each byte.
 fn push_bytes(alloc: Global, text: &mut String, bytes: &[u8]) -> Result<(), AllocError>
-    ensures { OnOk result (string_bytes text.new ≡ string_bytes text.old ++ flat_map byte_text bytes.now) }
+    ensures { OnOk result (string_bytes text.new
+        ≡ string_bytes text.old ++ flat_map byte_text bytes.now) }
 {
     for byte in bytes {
         let high = *byte / 16;
@@ -42,6 +47,10 @@ fn push_bytes(alloc: Global, text: &mut String, bytes: &[u8]) -> Result<(), Allo
 }
 
 /// The first bytes, at most 24, two digits each. Allocates memory for the text.
+///
+/// # Errors
+///
+/// Out of memory.
 pub fn bytes_text(alloc: Global, bytes: &[u8]) -> Result<String, AllocError>
     ensures { IfOk result (λ text. string_bytes text ≡ bytes_text bytes.now) }
 {

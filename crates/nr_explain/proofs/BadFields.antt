@@ -1,17 +1,18 @@
 -- Where no field of 24 bytes is wrong, they spell an event.
-use Rattle.std.proofs.Common.{◌≡◌, ◌≢◌, inl, inr, eqb, ℕ, zero, suc, ◌+◌, ◌%◌, ◌<◌, ◌^◌, Bool, true, false, List, [], ◌∷◌, ◌++◌, length, get_or, Option, None}
-use Rattle.std.proofs.Common.{refl, ap, sym, ◌∙◌, subst, arith}
+use Rattle.std.proofs.Common.{◌≡◌, ◌≢◌, inl, inr, eqb, ℕ, zero, suc, ◌+◌, ◌%◌, ◌<◌, ◌^◌, Bool, true, false, List, [], ◌∷◌, ◌++◌, length, get_or, None}
+use Rattle.std.proofs.Common.{refl, ap, sym, ◌∙◌, subst, arith, rules}
 use Rattle.std.specs.Prelude.{All, if◌then◌else◌, ◌==◌}
 use Rattle.std.specs.Int.{w8, w16, w32, w64, to_be_bytes}
 use Rattle.std.proofs.lemmas.Nat.{be_bytes_2, be_bytes_4, be_bytes_8}
+use Rattle.std.proofs.lemmas.Bool.{eqb-true, eqb-false}
 use Rattle.std.proofs.lemmas.Bool.Decides.{eqb_tells}
-use Rattle.std.specs.List.{AllByRecursion}
 use Rattle.std.proofs.lemmas.List.{nil_from_length}
 use Rattle.std.proofs.lemmas.List.Elements.{recursion_from_All}
 use Rattle.vs_types.specs.Config.{Layout}
 use Rattle.vs_types.specs.declared.depth.Depth.{Depth}
 use Rattle.vs_types.specs.declared.fields.RequestFields.{RequestFields}
 use Rattle.nr_trace.specs.FirstFault.{IsCounts}
+use Rattle.nr_trace.proofs.UnitsOfBytes.{bytes_from}
 use Rattle.nr_trace.specs.Recording.{IsEvent}
 use Rattle.nr_trace.specs.Spelling.{event}
 use Rattle.nr_trace.specs.declared.event.Event.{Event}
@@ -22,25 +23,10 @@ use Rattle.nr_trace.specs.declared.version.Version.TheVariants.{Segment}
 use Rattle.nr_explain.specs.Fields.{address_fault, answers_of, call_fault, event_fault, kinds_of, limited, number_8}
 use Rattle.nr_explain.specs.Fields.{number_16, number_32, number_64, physical_fault, reply_fault, rights_fault, rights_of, size_fault, size_of}
 use Rattle.nr_explain.specs.Fields.{sizes_of}
-use Rattle.nr_explain.specs.declared.fields.BadField.{BadField}
 use Rattle.nr_explain.specs.declared.fields.EventField.TheVariants as fields
 use Rattle.nr_explain.proofs.RightFields.{both, below, kinds, answers_known, Says, says, header_bytes, request_there, touch_there, knows_touch, answer_there}
 
 -- ---- bytes
-
-abbrev Bytes : List ℕ → Type 0
-Bytes [] = Unit {0}
-Bytes (byte ∷ bytes) = (byte < 256) × Bytes bytes
-
-byte_in : (bytes : List ℕ) → Bytes bytes → (i : ℕ) → get_or bytes i 0 < 256
-byte_in [] all i = omega arith
-byte_in (byte ∷ bytes) all zero = all.0
-byte_in (byte ∷ bytes) all (suc i) = byte_in bytes all.1 i
-
-bytes_from : (bytes : List ℕ) → AllByRecursion (λ byte. byte < 256) bytes → (i : ℕ) → get_or bytes i 0 < 256
-bytes_from [] all i = omega arith
-bytes_from (byte ∷ bytes) all zero = all.0
-bytes_from (byte ∷ bytes) all (suc i) = bytes_from bytes all.1 i
 
 -- so many items from one on
 abbrev items : ℕ → ℕ → List ℕ → List ℕ
@@ -62,47 +48,21 @@ InBytes unit = (i : ℕ) → number_8 unit i < 256
 
 two_bytes : (unit : List ℕ) (at : ℕ) → InBytes unit → to_be_bytes w16 (number_16 unit at) ≡ number_8 unit at ∷ number_8 unit (at + 1) ∷ []
 two_bytes unit at fits = be_bytes_2 (number_8 unit at ∷ number_8 unit (at + 1) ∷ []) (number_16 unit at) refl
-    (byte_in (number_8 unit at ∷ number_8 unit (at + 1) ∷ []) (fits at, (fits (at + 1), tt))) refl
+    (bytes_from (number_8 unit at ∷ number_8 unit (at + 1) ∷ []) (fits at, (fits (at + 1), tt))) refl
 
 abbrev four : List ℕ → ℕ → List ℕ
 four unit at = number_8 unit at ∷ number_8 unit (at + 1) ∷ number_8 unit (at + 2) ∷ number_8 unit (at + 3) ∷ []
 
 four_bytes : (unit : List ℕ) (at : ℕ) → InBytes unit → to_be_bytes w32 (number_32 unit at) ≡ four unit at
 four_bytes unit at fits = be_bytes_4 (four unit at) (number_32 unit at) refl
-    (byte_in (four unit at) (fits at, (fits (at + 1), (fits (at + 2), (fits (at + 3), tt))))) refl
+    (bytes_from (four unit at) (search rules)) refl
 
 abbrev eight : List ℕ → ℕ → List ℕ
 eight unit at = number_8 unit at ∷ number_8 unit (at + 1) ∷ number_8 unit (at + 2) ∷ number_8 unit (at + 3)
     ∷ number_8 unit (at + 4) ∷ number_8 unit (at + 5) ∷ number_8 unit (at + 6) ∷ number_8 unit (at + 7) ∷ []
 
 eight_bytes : (unit : List ℕ) (at : ℕ) → InBytes unit → to_be_bytes w64 (number_64 unit at) ≡ eight unit at
-eight_bytes unit at fits = be_bytes_8 (eight unit at) (number_64 unit at) refl
-    (byte_in (eight unit at) (
-      fits at,
-      (
-        fits (at + 1),
-        (
-          fits (at + 2),
-          (
-            fits (at + 3),
-            (
-              fits (at + 4),
-              (
-                fits (at + 5),
-                (
-                  fits (at + 6),
-                  (
-                    fits (at
-                        + 7),
-                    tt,
-                  ),
-                ),
-              ),
-            ),
-          ),
-        ),
-      ),
-    )) refl
+eight_bytes unit at fits = be_bytes_8 (eight unit at) (number_64 unit at) refl (bytes_from (eight unit at) (search rules)) refl
 
 few_32 : (unit : List ℕ) (at : ℕ) → InBytes unit → number_32 unit at < 2 ^ 32
 few_32 unit at fits = omega (arith, fits at, fits (at + 1), fits (at + 2), fits (at + 3))
@@ -223,40 +183,21 @@ reply_there version layout header unit said long fits tag h =
 
 -- ---- events
 
-few_tags : (tag : ℕ) → tag < 2 → tag ≢ 0 → tag ≢ 1 → ⊥
-few_tags zero few not more = not refl
-few_tags (suc zero) few not more = more refl
-few_tags (suc (suc n)) few not more = omega arith
-
-pick_then : (b : Bool) (x y : Option BadField) → b ≡ true → (if b then x else y) ≡ None → x ≡ None
-pick_then true x y e h = h
-pick_then false x y e h = absurd cc
-
-pick_else : (b : Bool) (x y : Option BadField) → b ≡ false → (if b then x else y) ≡ None → y ≡ None
-pick_else true x y e h = absurd cc
-pick_else false x y e h = h
-
-by_tag : (version : Version) (layout : Layout) (header unit : List ℕ) → Says header version layout → length unit ≡ 24 → InBytes unit
-    → event_fault header unit ≡ None → SomeEvent version layout unit
-unfolding event_fault
-by_tag version layout header unit said long fits none =
-    let tag = number_8 unit 0 in
-    let last = limited fields.Tag tag 2 in
-    elim (eqb_tells tag 0) [
-      | inl is ↦ call_there version layout header unit said long fits is.1
-          (pick_then (eqb tag 0) (call_fault header unit) (if tag == 1 then reply_fault header unit else last) is.0 none)
-      | inr not ↦ (
-          let rest = pick_else (eqb tag 0) (call_fault header unit) (if tag == 1 then reply_fault header unit else last) not.0 none in
-          elim (eqb_tells tag 1) [
-            | inl is ↦ reply_there version layout header unit said long fits is.1 (pick_then (eqb tag 1) (reply_fault header unit) last is.0 rest)
-            | inr more ↦ absurd (few_tags tag (below fields.Tag tag 2 (pick_else (eqb tag 1) (reply_fault header unit) last more.0 rest)) not.1 more.1)
-          ])
-    ]
+by_tag : (version : Version) (layout : Layout) (header unit : List ℕ) (is_call is_reply : Bool) → Says header version layout → length unit ≡ 24
+    → InBytes unit → eqb (number_8 unit 0) 0 ≡ is_call → eqb (number_8 unit 0) 1 ≡ is_reply
+    → (if is_call then call_fault header unit else (if is_reply then reply_fault header unit else limited fields.Tag (number_8 unit 0) 2)) ≡ None
+    → SomeEvent version layout unit
+by_tag version layout header unit true is_reply said long fits c r none =
+    call_there version layout header unit said long fits (eqb-true (number_8 unit 0) 0 c) none
+by_tag version layout header unit false true said long fits c r none =
+    reply_there version layout header unit said long fits (eqb-true (number_8 unit 0) 1 r) none
+by_tag version layout header unit false false said long fits c r none =
+    absurd (omega (arith, below fields.Tag (number_8 unit 0) 2 none, eqb-false (number_8 unit 0) 0 c, eqb-false (number_8 unit 0) 1 r))
 
 pub spelled_unless_wrong : (version : Version) (numbers : Counts) (header behind unit : List ℕ) → IsCounts version numbers
     → header ≡ header_bytes version numbers behind → length unit ≡ 24 → All (λ byte. byte < 256) unit → event_fault header unit ≡ None
     → (one : Event) × IsEvent version numbers.layout one × (unit ≡ event one)
-unfolding SomeEvent
+unfolding event_fault SomeEvent
 spelled_unless_wrong version numbers header behind unit in_range spelled long all none =
-    by_tag version numbers.layout header unit (says version numbers header behind in_range spelled) long
-    (bytes_from unit (recursion_from_All (λ byte. byte < 256) unit all)) none
+    by_tag version numbers.layout header unit (number_8 unit 0 == 0) (number_8 unit 0 == 1) (says version numbers header behind in_range spelled) long
+    (bytes_from unit (recursion_from_All (λ byte. byte < 256) unit all)) refl refl none

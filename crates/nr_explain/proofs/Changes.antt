@@ -7,10 +7,10 @@ use Rattle.nr_trace.specs.Recording.{Recording}
 use Rattle.vs_types.specs.Space.{Space}
 use Rattle.vs_types.specs.Step.{look}
 use Rattle.nr_trace.specs.Calls.{call_of}
+use Rattle.nr_trace.proofs.LawsOfCalls.{some_or_none}
 use Rattle.nr_audit.specs.Served.{asked_by}
 use Rattle.nr_audit.proofs.AnswerFaults.{space_stays}
 use Rattle.nr_explain.specs.inside.Searches.{HasCallAt}
-use Rattle.nr_explain.proofs.FirstFaults.{some_or_none}
 use Rattle.nr_explain.specs.Facts.{IsCallOf, IsLastChangeFrom, LooksSameFrom, looks_from}
 use Rattle.nr_explain.specs.declared.evidence.PlacedUpdate.{PlacedUpdate}
 

@@ -9,7 +9,7 @@ use Rattle.vs_types.specs.declared.depth.Depth.{Depth}
 use Rattle.vs_types.proofs.Pages.{three_levels}
 use Rattle.vs_walk.specs.Dump.{Image}
 use Rattle.vs_walk.specs.Memory.{Memory}
-use Rattle.vs_walk.specs.Traversal.{OfFrame, OfReservedBit, traversal, walk_fault}
+use Rattle.vs_walk.specs.Traversal.{OfFrame, traversal, walk_fault}
 use Rattle.vs_walk.specs.declared.walk.WalkFault.TheVariants as walks
 use Rattle.vs_walk.proofs.LawsOfVisits.{reached_is_met}
 use Rattle.vs_walk.proofs.LawsOfTraversals.{shared_reached}
@@ -17,10 +17,10 @@ use Rattle.vs_walk.proofs.Walks.{few_levels}
 use Rattle.nr_trace.specs.Faults.{HasDump}
 use Rattle.nr_trace.specs.Recording.{IsThere, Recording}
 use Rattle.nr_explain.specs.Facts.{IsPath}
-use Rattle.nr_explain.specs.inside.Ways.{GoesNowhere, GoesOnTo, HasTwoWays, IsAnotherWay, IsMet, IsReservedAt}
+use Rattle.nr_explain.specs.inside.Ways.{GoesNowhere, GoesOnTo, HasTwoWays, IsAnotherWay, IsMet}
 use Rattle.nr_explain.specs.declared.evidence.Step.{Step}
 use Rattle.nr_explain.specs.declared.paths.Target.{Target}
-use Rattle.nr_explain.proofs.Ways.{levels_of_way, way_to_frame, way_to_reserved}
+use Rattle.nr_explain.proofs.Ways.{levels_of_way}
 
 -- the dump of a replica that is read
 dump_read : (trace : Recording) (dumps : List Image) (replica : ℕ) (dump other : Image) → dumps ≡ trace.dumps
@@ -41,37 +41,6 @@ read_as trace dumps replica Is dump (other, has, is_there, is) same read =
     let one = one_dump trace replica dump other there has in
     (there, subst IsThere one is_there, subst Is one is)
 
--- a frame that is visited is found
-pub frame_is_found : (depth given : Depth) (dump : Image) (frame : ℕ) (target : Target) → given ≡ depth → target.frame ≡ frame
-    → Contains (traversal depth dump.frames dump.root) (OfFrame frame) → ((end : ℕ) (way : List Step) → IsMet dump.frames target end way)
-    → GoesNowhere dump.frames target (levels given) dump.root [] → ⊥
-frame_is_found depth given dump frame target same names met all nowhere =
-    let leads = way_to_frame depth dump.frames dump.root frame met in
-    nowhere leads.0 (record {
-      rest = leads.0;
-      end = leads.1.0;
-      goes_on = refl;
-      leads = subst (λ (d : Depth). IsPath dump.frames (levels d) dump.root leads.1.0 target.frame leads.0) (sym same)
-          (subst (λ (n : ℕ). IsPath dump.frames (levels depth) dump.root leads.1.0 n leads.0) (sym names) leads.1.1);
-      met = all leads.1.0 leads.0;
-    })
-
--- so is a word with a reserved bit set
-pub word_is_found : (depth given : Depth) (dump : Image) (frame index : ℕ) (target : Target) → given ≡ depth → target.frame ≡ frame
-    → Contains (traversal depth dump.frames dump.root) (OfReservedBit frame index)
-    → ((end : ℕ) (way : List Step) → IsReservedAt dump.frames end frame index → IsMet dump.frames target end way)
-    → GoesNowhere dump.frames target (levels given) dump.root [] → ⊥
-word_is_found depth given dump frame index target same names met all nowhere =
-    let leads = way_to_reserved depth dump.frames dump.root frame index met in
-    nowhere leads.0 (record {
-      rest = leads.0;
-      end = leads.1.0;
-      goes_on = refl;
-      leads = subst (λ (d : Depth). IsPath dump.frames (levels d) dump.root leads.1.0 target.frame leads.0) (sym same)
-          (subst (λ (n : ℕ). IsPath dump.frames (levels depth) dump.root leads.1.0 n leads.0) (sym names) leads.1.1);
-      met = all leads.1.0 leads.0 leads.1.2;
-    })
-
 -- a way that was found from the root
 pub record Found (depth : Depth) (dump : Image) (target : Target) (way : List Step) : Type 0 where
   pub end : ℕ
@@ -80,24 +49,24 @@ pub record Found (depth : Depth) (dump : Image) (target : Target) (way : List St
   pub down : end + length way ≡ levels depth
   pub few : levels depth ≤ 5
 
-pub found_from : (depth given : Depth) (dump : Image) (target : Target) (way : List Step) → given ≡ depth
-    → GoesOnTo dump.frames target (levels given) dump.root [] way → Found depth dump target way
-found_from depth given dump target way same goes =
-    let leads = subst (λ (d : Depth). IsPath dump.frames (levels d) dump.root goes.end target.frame way) same
-    (subst (λ (w : List Step). IsPath dump.frames (levels given) dump.root goes.end target.frame w) (sym goes.goes_on) goes.leads) in
+-- what a search found, or that there is none
+abbrev pub IsSought : Image → Target → ℕ → Option (Vec Step) → Type 0
+IsSought dump target level found = MatchOption found (GoesNowhere dump.frames target level dump.root [])
+    (λ way. GoesOnTo dump.frames target level dump.root [] way.items)
+
+pub found_from : (depth : Depth) (dump : Image) (target : Target) (found : Option (Vec Step)) (way : Vec Step) → found ≡ Some way
+    → IsSought dump target (levels depth) found → Found depth dump target way.items
+found_from depth dump target found way is sought =
+    let goes = subst (λ (o : Option (Vec Step)). IsSought dump target (levels depth) o) is sought in
+    let leads = subst (λ (w : List Step). IsPath dump.frames (levels depth) dump.root goes.end target.frame w) (sym goes.goes_on) goes.leads in
     let three = three_levels depth in
     record {
       end = goes.end;
       leads = leads;
       met = goes.met;
-      down = (levels_of_way dump.frames (levels depth) dump.root goes.end target.frame way (omega arith) leads).1;
+      down = (levels_of_way dump.frames (levels depth) dump.root goes.end target.frame way.items (omega arith) leads).1;
       few = few_levels depth;
     }
-
--- what a search found, or that there is none
-abbrev pub IsSought : Image → Target → ℕ → Option (Vec Step) → Type 0
-IsSought dump target level found = MatchOption found (GoesNowhere dump.frames target level dump.root [])
-    (λ way. GoesOnTo dump.frames target level dump.root [] way.items)
 
 pub shared_is_visited : (depth : Depth) (dump : Image) (frame : ℕ) → walk_fault depth dump.frames dump.root ≡ Some (walks.Shared frame)
     → Contains (traversal depth dump.frames dump.root) (OfFrame frame)

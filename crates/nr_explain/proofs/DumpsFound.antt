@@ -1,6 +1,6 @@
 -- The first fault of the dump of a replica, as it is looked for.
 use Rattle.std.proofs.Common.{◌≡◌, ℕ, zero, suc, ◌<◌, ◌≤◌, inl, inr, List, Option, Some, None, length, get_or, replicate, take, slice_get}
-use Rattle.std.proofs.Common.{refl, sym, ap, subst, ◌∙◌, arith, add-one}
+use Rattle.std.proofs.Common.{refl, sym, ap, subst, ◌∙◌, arith, add-one, rules}
 use Rattle.std.specs.Prelude.{IfSome, IsSome, option_and_then}
 use Rattle.std.proofs.lemmas.Bool.{cases_lt}
 use Rattle.std.proofs.lemmas.Option.{get_or_from_slice_get, slice_get_within}
@@ -12,7 +12,7 @@ use Rattle.nr_trace.specs.Orders.{known_by, space_after}
 use Rattle.nr_trace.specs.declared.event.Event.{Event}
 use Rattle.nr_trace.specs.declared.event.Event.TheVariants.{Reply}
 use Rattle.nr_trace.specs.declared.fault.Fault.{Fault}
-use Rattle.nr_trace.specs.declared.fault.Fault.TheVariants.{PrefixPastLog, PrefixShort, MissingFrame, SharedFrame, ReservedBit, StrayFrame, Differs}
+use Rattle.nr_trace.specs.declared.fault.Fault.TheVariants.{PrefixPastLog, PrefixShort}
 use Rattle.nr_trace.proofs.LawsOfCalls.{reply_in_event}
 use Rattle.nr_dump.specs.Faults.{HasNoFault, IsFirstOfDump}
 use Rattle.nr_dump.specs.declared.fault.DumpFault.{DumpFault}
@@ -31,23 +31,11 @@ use Rattle.nr_explain.specs.declared.evidence.ShortPrefix.{ShortPrefix}
 
 among_own : (replica : ℕ) (fault : Fault) → replica_of fault ≡ Some replica → IsDumpFaultAt replica fault
 among_own replica (PrefixPastLog at) same = cc
-among_own replica (PrefixShort at) same = cc
-among_own replica (MissingFrame at number) same = cc
-among_own replica (SharedFrame at number) same = cc
-among_own replica (ReservedBit at number index) same = cc
-among_own replica (StrayFrame at number) same = cc
-among_own replica (Differs at address) same = cc
-among_own replica fault same = absurd cc
+among_own replica _ same = cc
 
 own_among : (replica : ℕ) (fault : Fault) → IsDumpFaultAt replica fault → replica_of fault ≡ Some replica
 own_among replica (PrefixPastLog at) same = ap Some same
-own_among replica (PrefixShort at) same = ap Some same
-own_among replica (MissingFrame at number) same = ap Some same
-own_among replica (SharedFrame at number) same = ap Some same
-own_among replica (ReservedBit at number index) same = ap Some same
-own_among replica (StrayFrame at number) same = ap Some same
-own_among replica (Differs at address) same = ap Some same
-own_among replica fault same = absurd same
+own_among replica _ same = search rules
 
 found_none : (trace : Recording) (replica : ℕ) → HasNoneFrom no_pages (IsDumpFaultAt replica) trace → IsFoundOfDump trace replica None
 found_none trace replica none = λ fault of holds. none fault (among_own replica fault of) holds

@@ -1,17 +1,17 @@
 -- What is so where one fault is the first.
-use Rattle.std.proofs.Common.{◌≡◌, ℕ, ◌+◌, ◌<◌, ◌≤◌, ◌⊎◌, inl, inr, Option, Some, None, is_some, length, slice_get, refl, sym, ap, subst, ◌∙◌, arith}
+use Rattle.std.proofs.Common.{◌≡◌, ℕ, ◌+◌, ◌<◌, ◌≤◌, ◌⊎◌, inl, inr, Some, length, slice_get, refl, sym, subst, ◌∙◌, arith}
 use Rattle.std.specs.Prelude.{IsSome}
-use Rattle.std.proofs.lemmas.Bool.{both_ways, cases_order, cases_lt}
+use Rattle.std.proofs.lemmas.Bool.{cases_order, cases_lt}
 use Rattle.std.proofs.lemmas.Option.{same_Some}
 use Rattle.vs_walk.specs.Dump.{Image}
 use Rattle.nr_trace.specs.Recording.{IsThere, Recording}
 use Rattle.nr_trace.specs.Calls.{Invocation, IsCall, IsUpdate, Response, call_of, reply_of}
-use Rattle.nr_trace.specs.Faults.{HasFault, IsFirst, OpensTwice}
+use Rattle.nr_trace.specs.Faults.{IsFirst, OpensTwice}
 use Rattle.nr_trace.specs.Laws.{HasCleanLog}
 use Rattle.nr_trace.specs.declared.fault.Fault.{Fault}
 use Rattle.nr_trace.specs.declared.fault.Fault.TheVariants.{AnsweredTwice, Differs, Early, NoSuchCall, NotAnUpdate, NotPlaced, PastLog, PlacedTwice}
 use Rattle.nr_trace.specs.declared.fault.Fault.TheVariants.{PrefixPastLog, ThreadOpen}
-use Rattle.nr_trace.proofs.LawsOfCalls.{update_from_not_not}
+use Rattle.nr_trace.proofs.LawsOfCalls.{behind_its_call, update_from_not_not}
 use Rattle.nr_trace.proofs.LawsOfFaults.{less_from_below}
 use Rattle.nr_explain.specs.Dumps.{IsFirstOfItsDump, replica_of}
 use Rattle.nr_explain.specs.inside.Searches.{IsIdle, IsLastCall, IsOpenBelow}
@@ -61,26 +61,9 @@ last_is_open trace index thread last first own is = by_order (cases_order first.
 
 -- ---- calls that replies name
 
-pub some_or_none : {A : Type 0} (o : Option A) → IsSome o ⊎ (o ≡ None)
-some_or_none None = inr refl
-some_or_none (Some x) = inl refl
-
--- a reply that is not one to no call names an earlier call
-pub names_call : (trace : Recording) (index : ℕ) (reply : Response) → (HasFault trace (NoSuchCall index) → ⊥) → reply_of trace index ≡ Some reply
-    → (reply.call < index) × IsCall trace reply.call
-names_call trace index reply none e = by_order (cases_lt reply.call index) (some_or_none (call_of trace reply.call)) where
-  too_late : reply.call < index → index ≤ reply.call → ⊥
-  too_late h l = omega arith
-
-  by_order : (reply.call < index) ⊎ (index ≤ reply.call) → IsCall trace reply.call ⊎ (call_of trace reply.call ≡ None)
-      → (reply.call < index) × IsCall trace reply.call
-  by_order (inl l) (inl c) = (l, c)
-  by_order (inl l) (inr n) = absurd (none (reply, e, λ h. both_ways (is_some (call_of trace reply.call)) (ap is_some n) h.1))
-  by_order (inr l) c = absurd (none (reply, e, λ h. too_late h.0 l))
-
 pub twice_names_call : (trace : Recording) (index : ℕ) (reply : Response) → IsFirst trace (AnsweredTwice index) → reply_of trace index ≡ Some reply
     → (reply.call < index) × IsCall trace reply.call
-twice_names_call trace index reply first e = names_call trace index reply
+twice_names_call trace index reply first e = behind_its_call trace index reply
     (λ h. first.none_earlier (NoSuchCall index) h (less_from_below 2 index 3 2 index 4 (inr (inr (refl, refl, omega arith))))) e
 
 -- what is at a place twice is an update

@@ -1,6 +1,6 @@
 -- What fields that are not wrong say: a request, and an answer.
 use Rattle.std.proofs.Common.{◌≡◌, ℕ, zero, suc, ◌+◌, ◌%◌, ◌<◌, ◌≤◌, ◌^◌, Bool, true, false, List, ◌++◌, Option, Some, None}
-use Rattle.std.proofs.Common.{refl, sym, ◌∙◌, subst, arith}
+use Rattle.std.proofs.Common.{refl, sym, subst, arith}
 use Rattle.std.specs.Prelude.{if◌then◌else◌, nat_lt, ◌==◌}
 use Rattle.std.specs.Int.{w16, from_be_bytes, to_be_bytes}
 use Rattle.std.specs.Option.{option_or}
@@ -63,6 +63,9 @@ pub below : (field : EventField) (value limit : ℕ) → limited field value lim
 unfolding limited
 below field value limit h = ltb-true value limit (unless (nat_lt value limit) _ h)
 
+unused : (field : EventField) (value : ℕ) → limited field value 1 ≡ None → value ≡ 0
+unused field value h = omega (arith, below field value 1 h)
+
 is_canonical_there : (depth : Depth) (address : ℕ) → canonical depth address ≡ None → IsCanonical depth address
 unfolding canonical
 is_canonical_there depth address h = unless (is_canonical depth address) _ h
@@ -111,42 +114,20 @@ depth_back : (depth : Depth) → (if levels depth % 256 == 4 then Four else Five
 depth_back Four = refl
 depth_back Five = refl
 
-depth_said : (version : Version) (numbers : Counts) (behind : List ℕ) → depth_of (header_bytes version numbers behind) ≡ numbers.layout.depth
-unfolding depth_of
-depth_said V1 numbers behind = depth_back numbers.layout.depth
-depth_said _ numbers behind = depth_back numbers.layout.depth
-
-replicas_said : (version : Version) (numbers : Counts) (behind : List ℕ) → number_8 (header_bytes version numbers behind) 7 ≡ numbers.layout.replicas % 256
-replicas_said V1 numbers behind = refl
-replicas_said _ numbers behind = refl
-
-threads_said : (version : Version) (numbers : Counts) (behind : List ℕ)
-    → number_16 (header_bytes version numbers behind) 8 ≡ from_be_bytes w16 (to_be_bytes w16 numbers.layout.threads)
-threads_said V1 numbers behind = refl
-threads_said _ numbers behind = refl
-
-kinds_said : (version : Version) (numbers : Counts) (behind : List ℕ) → kinds_of (header_bytes version numbers behind) ≡ kinds version
-unfolding kinds_of
-kinds_said V1 numbers behind = refl
-kinds_said _ numbers behind = refl
-
-answers_said : (version : Version) (numbers : Counts) (behind : List ℕ) → answers_of (header_bytes version numbers behind) ≡ answers_known version
-unfolding answers_of
-answers_said V1 numbers behind = refl
-answers_said _ numbers behind = refl
+said : (version : Version) (numbers : Counts) (behind : List ℕ) → numbers.layout.replicas % 256 ≡ numbers.layout.replicas
+    → from_be_bytes w16 (to_be_bytes w16 numbers.layout.threads) ≡ numbers.layout.threads → Says (header_bytes version numbers behind) version numbers.layout
+unfolding depth_of kinds_of answers_of
+said V1 numbers behind replicas threads =
+    record { depth = depth_back numbers.layout.depth; replicas = replicas; threads = threads; kinds_are = refl; answers_are = refl }
+said _ numbers behind replicas threads =
+    record { depth = depth_back numbers.layout.depth; replicas = replicas; threads = threads; kinds_are = refl; answers_are = refl }
 
 pub says : (version : Version) (numbers : Counts) (header behind : List ℕ) → IsCounts version numbers → header ≡ header_bytes version numbers behind
     → Says header version numbers.layout
 says version numbers header behind in_range spelled =
     let wide = is_wide version numbers.layout in_range.layout in
-    let there : Says (header_bytes version numbers behind) version numbers.layout = record {
-      depth = depth_said version numbers behind;
-      replicas = omega (arith, wide.few_replicas, replicas_said version numbers behind);
-      threads = threads_said version numbers behind ∙ from_be_bytes-to_be_bytes_2 numbers.layout.threads (omega (arith, wide.few_threads));
-      kinds_are = kinds_said version numbers behind;
-      answers_are = answers_said version numbers behind;
-    } in
-    subst (λ (l : List ℕ). Says l version numbers.layout) (sym spelled) there
+    let threads = from_be_bytes-to_be_bytes_2 numbers.layout.threads (omega (arith, wide.few_threads)) in
+    subst (λ (l : List ℕ). Says l version numbers.layout) (sym spelled) (said version numbers behind (omega (arith, wide.few_replicas)) threads)
 
 -- ---- requests
 
@@ -160,71 +141,6 @@ knows_update _ action = tt
 knows_resolve : (version : Version) (address : ℕ) → KnowsQuery version (Resolve address)
 knows_resolve V1 address = tt
 knows_resolve _ address = tt
-
-map_there : (version : Version) (depth : Depth) (size rights address physical : ℕ) → size_fault 0 size ≡ None → rights_fault 0 rights ≡ None
-    → address_fault depth 0 (size_of size) address ≡ None → physical_fault 0 (size_of size) physical ≡ None
-    → SomeRequest version depth (record { kind = 0; size = size; rights = rights; address = address; physical = physical })
-unfolding size_fault rights_fault address_fault physical_fault
-map_there version depth size rights address physical s r a p =
-    let sizes = size_back size (below fields.Size size 3 s) in
-    let all_rights = rights_back rights (below fields.Rights rights 8 r) in
-    let at = both (canonical depth address) (multiple fields.Address address (size_of size)) a in
-    let to = both (multiple fields.Physical physical (size_of size)) (within physical (size_of size)) p in
-    let page : Page = record { base = address; size = size_of size; phys = physical; rights = rights_from rights } in (
-      Update (Map page),
-      record {
-        canonical = is_canonical_there depth address at.0;
-        aligned = is_multiple fields.Address address (size_of size) at.1;
-        phys_aligned = is_multiple fields.Physical physical (size_of size) to.0;
-        phys_range = is_within physical (size_of size) to.1;
-      },
-      knows_update version (Map page),
-      λ i. record { kind = 0; size = sizes i; rights = all_rights i; address = address; physical = physical },
-    )
-
-unmap_there : (version : Version) (depth : Depth) (size rights address physical : ℕ) → size_fault 1 size ≡ None → rights_fault 1 rights ≡ None
-    → address_fault depth 1 (size_of size) address ≡ None → physical_fault 1 (size_of size) physical ≡ None
-    → SomeRequest version depth (record { kind = 1; size = size; rights = rights; address = address; physical = physical })
-unfolding size_fault rights_fault address_fault physical_fault
-unmap_there version depth size rights address physical s r a p =
-    let no_size : size ≡ 0 = omega (arith, below fields.Size size 1 s) in
-    let no_rights : rights ≡ 0 = omega (arith, below fields.Rights rights 1 r) in
-    let nowhere : physical ≡ 0 = omega (arith, below fields.Physical physical 1 p) in
-    let at = both (canonical depth address) (multiple fields.Address address K4) a in (
-      Update (Unmap address),
-      record { canonical = is_canonical_there depth address at.0; aligned = is_multiple fields.Address address K4 at.1 },
-      knows_update version (Unmap address),
-      λ i. record { kind = 1; size = no_size i; rights = no_rights i; address = address; physical = nowhere i },
-    )
-
-protect_there : (version : Version) (depth : Depth) (size rights address physical : ℕ) → size_fault 2 size ≡ None → rights_fault 2 rights ≡ None
-    → address_fault depth 2 (size_of size) address ≡ None → physical_fault 2 (size_of size) physical ≡ None
-    → SomeRequest version depth (record { kind = 2; size = size; rights = rights; address = address; physical = physical })
-unfolding size_fault rights_fault address_fault physical_fault
-protect_there version depth size rights address physical s r a p =
-    let no_size : size ≡ 0 = omega (arith, below fields.Size size 1 s) in
-    let all_rights = rights_back rights (below fields.Rights rights 8 r) in
-    let nowhere : physical ≡ 0 = omega (arith, below fields.Physical physical 1 p) in
-    let at = both (canonical depth address) (multiple fields.Address address K4) a in (
-      Update (Protect address (rights_from rights)),
-      record { canonical = is_canonical_there depth address at.0; aligned = is_multiple fields.Address address K4 at.1 },
-      knows_update version (Protect address (rights_from rights)),
-      λ i. record { kind = 2; size = no_size i; rights = all_rights i; address = address; physical = nowhere i },
-    )
-
-resolve_there : (version : Version) (depth : Depth) (size rights address physical : ℕ) → size_fault 3 size ≡ None → rights_fault 3 rights ≡ None
-    → address_fault depth 3 (size_of size) address ≡ None → physical_fault 3 (size_of size) physical ≡ None
-    → SomeRequest version depth (record { kind = 3; size = size; rights = rights; address = address; physical = physical })
-unfolding size_fault rights_fault address_fault physical_fault
-resolve_there version depth size rights address physical s r a p =
-    let no_size : size ≡ 0 = omega (arith, below fields.Size size 1 s) in
-    let no_rights : rights ≡ 0 = omega (arith, below fields.Rights rights 1 r) in
-    let nowhere : physical ≡ 0 = omega (arith, below fields.Physical physical 1 p) in (
-      Resolve address,
-      is_canonical_there depth address (both (canonical depth address) None a).0,
-      knows_resolve version address,
-      λ i. record { kind = 3; size = no_size i; rights = no_rights i; address = address; physical = nowhere i },
-    )
 
 -- what an access does, and its mode
 abbrev AreOfAccess : ℕ → ℕ → Type 0
@@ -244,31 +160,64 @@ knows_access : (version : Version) (address : ℕ) (mode : Mode) (access : Acces
 knows_access V1 address mode access few = absurd (omega arith)
 knows_access _ address mode access few = tt
 
-access_there : (version : Version) (depth : Depth) (size rights address physical : ℕ) → 4 < kinds version → size < 3 → rights < 2
-    → IsCanonical depth address → physical ≡ 0
-    → SomeRequest version depth (record { kind = 4; size = size; rights = rights; address = address; physical = physical })
-access_there version depth size rights address physical few s r at nowhere =
-    let (mode, access, does, by) = access_back size rights s r in (
-      AccessQuery address mode access,
-      at,
-      knows_access version address mode access few,
-      λ i. record { kind = 4; size = does i; rights = by i; address = address; physical = nowhere i },
-    )
-
 pub request_there : (version : Version) (depth : Depth) (kind size rights address physical : ℕ) → kind < kinds version → kind < 5
     → size_fault kind size ≡ None → rights_fault kind rights ≡ None → address_fault depth kind (size_of size) address ≡ None
     → physical_fault kind (size_of size) physical ≡ None
     → SomeRequest version depth (record { kind = kind; size = size; rights = rights; address = address; physical = physical })
 unfolding size_fault rights_fault address_fault physical_fault
-request_there version depth zero size rights address physical few most s r a p = map_there version depth size rights address physical s r a p
-request_there version depth (suc zero) size rights address physical few most s r a p = unmap_there version depth size rights address physical s r a p
+request_there version depth zero size rights address physical few most s r a p =
+    let sizes = size_back size (below fields.Size size 3 s) in
+    let all_rights = rights_back rights (below fields.Rights rights 8 r) in
+    let at = both (canonical depth address) (multiple fields.Address address (size_of size)) a in
+    let to = both (multiple fields.Physical physical (size_of size)) (within physical (size_of size)) p in
+    let page : Page = record { base = address; size = size_of size; phys = physical; rights = rights_from rights } in (
+      Update (Map page),
+      record {
+        canonical = is_canonical_there depth address at.0;
+        aligned = is_multiple fields.Address address (size_of size) at.1;
+        phys_aligned = is_multiple fields.Physical physical (size_of size) to.0;
+        phys_range = is_within physical (size_of size) to.1;
+      },
+      knows_update version (Map page),
+      λ i. record { kind = 0; size = sizes i; rights = all_rights i; address = address; physical = physical },
+    )
+request_there version depth (suc zero) size rights address physical few most s r a p =
+    let no_size = unused fields.Size size s in
+    let no_rights = unused fields.Rights rights r in
+    let nowhere = unused fields.Physical physical p in
+    let at = both (canonical depth address) (multiple fields.Address address K4) a in (
+      Update (Unmap address),
+      record { canonical = is_canonical_there depth address at.0; aligned = is_multiple fields.Address address K4 at.1 },
+      knows_update version (Unmap address),
+      λ i. record { kind = 1; size = no_size i; rights = no_rights i; address = address; physical = nowhere i },
+    )
 request_there version depth (suc (suc zero)) size rights address physical few most s r a p =
-    protect_there version depth size rights address physical s r a p
+    let no_size = unused fields.Size size s in
+    let all_rights = rights_back rights (below fields.Rights rights 8 r) in
+    let nowhere = unused fields.Physical physical p in
+    let at = both (canonical depth address) (multiple fields.Address address K4) a in (
+      Update (Protect address (rights_from rights)),
+      record { canonical = is_canonical_there depth address at.0; aligned = is_multiple fields.Address address K4 at.1 },
+      knows_update version (Protect address (rights_from rights)),
+      λ i. record { kind = 2; size = no_size i; rights = all_rights i; address = address; physical = nowhere i },
+    )
 request_there version depth (suc (suc (suc zero))) size rights address physical few most s r a p =
-    resolve_there version depth size rights address physical s r a p
+    let no_size = unused fields.Size size s in
+    let no_rights = unused fields.Rights rights r in
+    let nowhere = unused fields.Physical physical p in (
+      Resolve address,
+      is_canonical_there depth address (both (canonical depth address) None a).0,
+      knows_resolve version address,
+      λ i. record { kind = 3; size = no_size i; rights = no_rights i; address = address; physical = nowhere i },
+    )
 request_there version depth (suc (suc (suc (suc zero)))) size rights address physical few most s r a p =
-    access_there version depth size rights address physical few (below fields.Access size 3 s) (below fields.Mode rights 2 r)
-    (is_canonical_there depth address (both (canonical depth address) None a).0) (omega (arith, below fields.Physical physical 1 p))
+    let (mode, access, does, by) = access_back size rights (below fields.Access size 3 s) (below fields.Mode rights 2 r) in
+    let nowhere = unused fields.Physical physical p in (
+      AccessQuery address mode access,
+      is_canonical_there depth address (both (canonical depth address) None a).0,
+      knows_access version address mode access few,
+      λ i. record { kind = 4; size = does i; rights = by i; address = address; physical = nowhere i },
+    )
 request_there version depth (suc (suc (suc (suc (suc n))))) size rights address physical few most s r a p = absurd (omega arith)
 
 abbrev SomeTouch : Depth → RequestFields → Type 0
@@ -281,7 +230,7 @@ pub touch_there : (depth : Depth) (kind size rights address physical : ℕ) → 
 unfolding size_fault rights_fault address_fault physical_fault
 touch_there depth kind size rights address physical is s r a p =
     let (mode, access, does, by) = access_back size rights (below fields.Access size 3 s) (below fields.Mode rights 2 r) in
-    let nowhere : physical ≡ 0 = omega (arith, below fields.Physical physical 1 p) in (
+    let nowhere = unused fields.Physical physical p in (
       address,
       mode,
       access,
@@ -313,98 +262,41 @@ knows_below V1 (answers.Allowed phys) few = absurd (omega arith)
 knows_below V1 (answers.Fault code) few = absurd (omega arith)
 knows_below _ _ few = tt
 
+told : (version : Version) (size rights value : ℕ) (answer : Answer) → IsAnswer answer → answer_code answer < answers_known version
+    → size ≡ (answer_fields answer).size → rights ≡ (answer_fields answer).rights → value ≡ (answer_fields answer).value
+    → SomeAnswer version (answer_fields answer).code size rights value
+told version size rights value answer in_range few s r v = record {
+  answer = answer;
+  in_range = in_range;
+  known = knows_below version answer few;
+  code_is = refl;
+  size_is = s;
+  rights_are = r;
+  value_is = v;
+}
+
 pub answer_there : (version : Version) (code size rights value : ℕ) → code < answers_known version → size < sizes_of code → rights < rights_of code
     → value_fault code value ≡ None → value < 2 ^ 64 → SomeAnswer version code size rights value
 unfolding sizes_of rights_of value_fault
-answer_there version zero size rights value few s r v fits = record {
-  answer = answers.Done;
-  in_range = tt;
-  known = knows_below version (answers.Done) few;
-  code_is = refl;
-  size_is = omega (arith, s);
-  rights_are = omega (arith, r);
-  value_is = omega (arith, below fields.Value value 1 v);
-}
-answer_there version (suc zero) size rights value few s r v fits = record {
-  answer = answers.Overlap value;
-  in_range = fits;
-  known = knows_below version (answers.Overlap value) few;
-  code_is = refl;
-  size_is = omega (arith, s);
-  rights_are = omega (arith, r);
-  value_is = refl;
-}
-answer_there version (suc (suc zero)) size rights value few s r v fits = record {
-  answer = answers.Full value;
-  in_range = fits;
-  known = knows_below version (answers.Full value) few;
-  code_is = refl;
-  size_is = omega (arith, s);
-  rights_are = omega (arith, r);
-  value_is = refl;
-}
-answer_there version (suc (suc (suc zero))) size rights value few s r v fits = record {
-  answer = answers.Removed value (size_of size) (rights_from rights);
-  in_range = fits;
-  known = knows_below version (answers.Removed value (size_of size) (rights_from rights)) few;
-  code_is = refl;
-  size_is = size_back size s;
-  rights_are = rights_back rights r;
-  value_is = refl;
-}
-answer_there version (suc (suc (suc (suc zero)))) size rights value few s r v fits = record {
-  answer = answers.NotMapped;
-  in_range = tt;
-  known = knows_below version (answers.NotMapped) few;
-  code_is = refl;
-  size_is = omega (arith, s);
-  rights_are = omega (arith, r);
-  value_is = omega (arith, below fields.Value value 1 v);
-}
-answer_there version (suc (suc (suc (suc (suc zero))))) size rights value few s r v fits = record {
-  answer = answers.Inside value;
-  in_range = fits;
-  known = knows_below version (answers.Inside value) few;
-  code_is = refl;
-  size_is = omega (arith, s);
-  rights_are = omega (arith, r);
-  value_is = refl;
-}
-answer_there version (suc (suc (suc (suc (suc (suc zero)))))) size rights value few s r v fits = record {
-  answer = answers.Changed (rights_from rights);
-  in_range = tt;
-  known = knows_below version (answers.Changed (rights_from rights)) few;
-  code_is = refl;
-  size_is = omega (arith, s);
-  rights_are = rights_back rights r;
-  value_is = omega (arith, below fields.Value value 1 v);
-}
-answer_there version (suc (suc (suc (suc (suc (suc (suc zero))))))) size rights value few s r v fits = record {
-  answer = answers.Mapped value (size_of size) (rights_from rights);
-  in_range = fits;
-  known = knows_below version (answers.Mapped value (size_of size) (rights_from rights)) few;
-  code_is = refl;
-  size_is = size_back size s;
-  rights_are = rights_back rights r;
-  value_is = refl;
-}
-answer_there version (suc (suc (suc (suc (suc (suc (suc (suc zero)))))))) size rights value few s r v fits = record {
-  answer = answers.Allowed value;
-  in_range = fits;
-  known = knows_below version (answers.Allowed value) few;
-  code_is = refl;
-  size_is = omega (arith, s);
-  rights_are = omega (arith, r);
-  value_is = refl;
-}
-answer_there version (suc (suc (suc (suc (suc (suc (suc (suc (suc zero))))))))) size rights value few s r v fits = record {
-  answer = answers.Fault value;
-  in_range = fits;
-  known = knows_below version (answers.Fault value) few;
-  code_is = refl;
-  size_is = omega (arith, s);
-  rights_are = omega (arith, r);
-  value_is = refl;
-}
+answer_there version zero size rights value few s r v fits =
+    told version size rights value answers.Done tt few (omega (arith, s)) (omega (arith, r)) (unused fields.Value value v)
+answer_there version (suc zero) size rights value few s r v fits =
+    told version size rights value (answers.Overlap value) fits few (omega (arith, s)) (omega (arith, r)) refl
+answer_there version (suc (suc zero)) size rights value few s r v fits =
+    told version size rights value (answers.Full value) fits few (omega (arith, s)) (omega (arith, r)) refl
+answer_there version (suc (suc (suc zero))) size rights value few s r v fits =
+    told version size rights value (answers.Removed value (size_of size) (rights_from rights)) fits few (size_back size s) (rights_back rights r) refl
+answer_there version (suc (suc (suc (suc zero)))) size rights value few s r v fits =
+    told version size rights value answers.NotMapped tt few (omega (arith, s)) (omega (arith, r)) (unused fields.Value value v)
+answer_there version (suc (suc (suc (suc (suc zero))))) size rights value few s r v fits =
+    told version size rights value (answers.Inside value) fits few (omega (arith, s)) (omega (arith, r)) refl
+answer_there version (suc (suc (suc (suc (suc (suc zero)))))) size rights value few s r v fits =
+    told version size rights value (answers.Changed (rights_from rights)) tt few (omega (arith, s)) (rights_back rights r) (unused fields.Value value v)
+answer_there version (suc (suc (suc (suc (suc (suc (suc zero))))))) size rights value few s r v fits =
+    told version size rights value (answers.Mapped value (size_of size) (rights_from rights)) fits few (size_back size s) (rights_back rights r) refl
+answer_there version (suc (suc (suc (suc (suc (suc (suc (suc zero)))))))) size rights value few s r v fits =
+    told version size rights value (answers.Allowed value) fits few (omega (arith, s)) (omega (arith, r)) refl
+answer_there version (suc (suc (suc (suc (suc (suc (suc (suc (suc zero))))))))) size rights value few s r v fits =
+    told version size rights value (answers.Fault value) fits few (omega (arith, s)) (omega (arith, r)) refl
 answer_there version (suc (suc (suc (suc (suc (suc (suc (suc (suc (suc n)))))))))) size rights value few s r v fits =
     absurd (omega (arith, few, few_answers version))

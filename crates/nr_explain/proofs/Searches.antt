@@ -1,7 +1,7 @@
 -- The search for a way, table by table.
-use Rattle.std.proofs.Common.{◌≡◌, ℕ, ◌+◌, ◌-◌, ◌<◌, ◌≤◌, List, [], ◌∷◌, ◌++◌, Some, None, length, get_or, take, inl, inr, arith, refl, sym, ap, subst, ◌∙◌}
+use Rattle.std.proofs.Common.{◌≡◌, ℕ, ◌-◌, ◌<◌, List, [], ◌∷◌, ◌++◌, Some, None, length, get_or, take, sym, ap, subst, ◌∙◌}
 use Rattle.std.proofs.Common.{append_assoc}
-use Rattle.std.proofs.lemmas.Bool.{cases_lt}
+use Rattle.std.proofs.Math.Seq.{take-append_seam}
 use Rattle.std.proofs.lemmas.List.{append-nil}
 use Rattle.std.proofs.lemmas.Option.{same_Some, none-some}
 use Rattle.std.specs.FinMap as finite
@@ -78,20 +78,6 @@ pub nowhere_from_table : (memory : Memory) (target : Target) (level number : ℕ
 nowhere_from_table memory target level number begun words is none passed way goes =
     nothing_below memory target level number goes.end begun way goes.rest words is none passed goes.goes_on goes.leads goes.met
 
-pub passed_more : (memory : Memory) (target : Target) (level number : ℕ) (begun : List Step) (words : List ℕ) (end : ℕ)
-    → ((index : ℕ) → index < end → IsPassed memory target level number begun words index) → IsPassed memory target level number begun words end
-    → (index : ℕ) → index < end + 1 → IsPassed memory target level number begun words index
-passed_more memory target level number begun words end before here index lt = elim (cases_lt index end) [
-  | inl low ↦ before index low
-  | inr past ↦ subst (IsPassed memory target level number begun words) (same index end lt past) here
-] where
-  same : (index end : ℕ) → index < end + 1 → end ≤ index → end ≡ index
-  same index end lt past = omega arith
-
-take_front : (begun rest : List Step) → take (length begun) (begun ++ rest) ≡ begun
-take_front [] rest = refl
-take_front (step ∷ begun) rest = ap (λ (l : List Step). step ∷ l) (take_front begun rest)
-
 -- what is left of a way when its last step is taken off
 pub front_left : (begun left : List Step) (step : Step) (n : ℕ) → n ≡ length begun → left ≡ take n (begun ++ step ∷ []) → left ≡ begun
-front_left begun left step n e is = is ∙ ap (λ k. take k (begun ++ step ∷ [])) e ∙ take_front begun (step ∷ [])
+front_left begun left step n e is = is ∙ ap (λ k. take k (begun ++ step ∷ [])) e ∙ take-append_seam begun (step ∷ [])

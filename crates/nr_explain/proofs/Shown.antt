@@ -20,6 +20,7 @@ use Rattle.nr_trace.specs.declared.fields.Counts.{Counts as TraceCounts}
 use Rattle.nr_trace.specs.declared.fault.Format.{Format}
 use Rattle.nr_trace.specs.declared.fault.Format.TheVariants.{BadMagic, BadVersion, BadCount, BadEvent, BadFrame, Truncated, Trailing}
 use Rattle.nr_trace.proofs.LawsOfFormat.{one_fault, BehindCounts, BehindVersion, BehindMagic}
+use Rattle.nr_trace.proofs.LawsOfFronts.{trailing}
 use Rattle.nr_trace.proofs.Units.{refused}
 use Rattle.nr_trace.proofs.LawsOfUnits.{is_wide, length-counts, length-event, length-frame_words, length-head}
 use Rattle.nr_explain.specs.Fields.{number_8, number_32}
@@ -74,10 +75,6 @@ trailing_told : (version : Version) (rest : List ℕ) (fault : Format) → IsVer
     → (rest ≢ []) × (fault ≡ Trailing)
 trailing_told Segment rest fault of h = absurd of
 trailing_told _ rest fault of h = h
-
-trailing : (version : Version) (rest : List ℕ) → IsVersionOf forms.Trace version → rest ≢ [] → AtEnd version rest Trailing
-trailing Segment rest of some = absurd of
-trailing _ rest of some = (some, refl)
 
 -- ---- the unit that shows the fault
 

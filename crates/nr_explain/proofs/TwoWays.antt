@@ -18,11 +18,11 @@ use Rattle.vs_walk.specs.declared.walk.WalkFault.TheVariants as walks
 use Rattle.vs_walk.proofs.LawsOfLists.{contained_at_some_word}
 use Rattle.vs_walk.proofs.LawsOfTraversals.{shared_reached}
 use Rattle.vs_walk.proofs.LawsOfVisits.{at_word_met, table_met, missing_met, nothing_met, reached_is_met}
-use Rattle.nr_explain.specs.Facts.{IsPath}
+use Rattle.nr_explain.specs.Facts.{IsPath, LeadsOn}
 use Rattle.nr_explain.specs.inside.Ways.{HasTwoWays}
 use Rattle.nr_explain.specs.declared.evidence.Step.{Step}
 use Rattle.nr_explain.proofs.Searches.{entry_of}
-use Rattle.nr_explain.proofs.Ways.{page_by, table_way}
+use Rattle.nr_explain.proofs.Ways.{lower, page_by, table_way}
 
 -- ---- twice in a list
 
@@ -125,9 +125,6 @@ record BeginsBy (memory : Memory) (level number target : ℕ) (step : Step) : Ty
   end : ℕ
   leads : IsPath memory level number end target (step ∷ rest)
 
-lower : (level : ℕ) → level ≡ suc level - 1
-lower level = omega arith
-
 frame_met : (depth : Depth) (memory : Memory) (level : ℕ) (table : ReachedTable) (words : List ℕ) (index target : ℕ) (means : Meaning)
     → finite.get memory table.number ≡ Some words → index < length words → meaning (suc level) (get_or words index 0) ≡ means
     → Contains (entry_visits depth (suc level) table index (λ next. table_visits depth memory level next) means) (OfFrame target)
@@ -168,14 +165,6 @@ begins_at depth memory level table words index target is within met =
 
 -- ---- two ways
 
-abbrev first_index : List Step → ℕ
-first_index [] = 0
-first_index (step ∷ steps) = step.index
-
-abbrev rest_of : List Step → List Step
-rest_of [] = []
-rest_of (step ∷ steps) = steps
-
 abbrev LowerTwo : Depth → Memory → ℕ → ℕ → Type 0
 LowerTwo depth memory level target = (next : ReachedTable) → Twice (OfFrame target) (table_visits depth memory level next)
     → HasTwoWays memory level next.number target
@@ -189,30 +178,15 @@ twice_below depth memory level table words index target entry.Absent two is with
 twice_below depth memory level table words index target (entry.Table number own) two is within says met =
     let below = two (record { number = number; start = table.start + index * entry_bytes (suc level); rights = intersection table.rights own }) met in
     let step : Step = entry_of (suc level) table.number words index in
+    let on : LeadsOn memory step number = record { words = words; own = own; there = is; within = within; read = refl; leads = says } in
     record {
       first = step ∷ below.first;
       second = step ∷ below.second;
       first_end = below.first_end;
       second_end = below.second_end;
-      first_leads = (
-        refl,
-        refl,
-        (
-          number,
-          record { words = words; own = own; there = is; within = within; read = refl; leads = says },
-          subst (λ l. IsPath memory l number below.first_end target below.first) (lower level) below.first_leads,
-        ),
-      );
-      second_leads = (
-        refl,
-        refl,
-        (
-          number,
-          record { words = words; own = own; there = is; within = within; read = refl; leads = says },
-          subst (λ l. IsPath memory l number below.second_end target below.second) (lower level) below.second_leads,
-        ),
-      );
-      apart = λ same. below.apart (ap rest_of same);
+      first_leads = (refl, refl, (number, on, subst (λ l. IsPath memory l number below.first_end target below.first) (lower level) below.first_leads));
+      second_leads = (refl, refl, (number, on, subst (λ l. IsPath memory l number below.second_end target below.second) (lower level) below.second_leads));
+      apart = λ same. below.apart cc;
     }
 twice_below depth memory level table words index target _ two is within says (inl met) = absurd (not_in_nil (OfFrame target) met.1)
 twice_below depth memory level table words index target _ two is within says (inr met) = absurd met
@@ -236,7 +210,7 @@ at_some depth memory level table target words lower_two is (inr two) =
       second_end = second.end;
       first_leads = first.leads;
       second_leads = second.leads;
-      apart = λ same. let equal : two.j ≡ two.k = ap first_index same in omega arith;
+      apart = λ same. let equal : two.j ≡ two.k = cc in omega arith;
     }
 
 of_words : (depth : Depth) (memory : Memory) (level : ℕ) (table : ReachedTable) (target : ℕ) (words : List ℕ) → LowerTwo depth memory level target

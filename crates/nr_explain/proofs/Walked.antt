@@ -9,6 +9,7 @@ use Rattle.vs_types.specs.declared.page.Rights.{Rights}
 use Rattle.vs_walk.specs.Memory.{Memory}
 use Rattle.nr_explain.specs.Facts.{behind, entries_read, entry_for, of_frame}
 use Rattle.nr_explain.specs.declared.evidence.Step.{Step}
+use Rattle.nr_explain.proofs.Ways.{lower}
 
 pub read_nowhere : (memory : Memory) (level number address : ℕ) → level ≡ 0 → entries_read memory level number address ≡ []
 unfolding entries_read
@@ -34,9 +35,6 @@ read_found memory below number address words is = ap (of_frame (from_words memor
 abbrev pub step_at : ℕ → ℕ → ℕ → ℕ → Step
 step_at level number index word = record { level = level; frame = number; index = index; word = word }
 
-less_one : (below : ℕ) → below ≡ suc below - 1
-less_one below = omega arith
-
 -- at an entry, by its word as it was read
 pub read_at : (memory : Memory) (level number index word address : ℕ) (words : List ℕ) (found : Meaning) → 0 < level → finite.get memory number ≡ Some words
     → index ≡ index_at level address → word ≡ slice_index words index → found ≡ meaning level word
@@ -49,7 +47,7 @@ read_at memory (suc below) number index word address words found some is place r
     (read_found memory below number address words is) in
     let by_word = subst (λ w. Reads index w (meaning (suc below) w) below) (sym read) by_index in
     let by_meaning = subst (λ f. Reads index word f below) (sym means) by_word in
-    subst (λ b. Reads index word found b) (less_one below) by_meaning
+    subst (λ b. Reads index word found b) (lower below) by_meaning
 
 -- nothing is read behind an entry that leads to no table
 nothing_behind : (below : ℕ → List Step) (found : Meaning) → ((next : ℕ) (own : Rights) → found ≡ entry.Table next own → ⊥) → behind below found ≡ []

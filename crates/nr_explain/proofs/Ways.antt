@@ -47,6 +47,9 @@ at_once memory level number here visit same is = record {
   visited = subst (λ v. IsVisitedAt memory level number v) same is;
 }
 
+pub lower : (level : ℕ) → level ≡ suc level - 1
+lower level = omega arith
+
 -- a visit below an entry that leads on
 pub further : (memory : Memory) (level number next : ℕ) (visit : Visit) (step : Step) → step.level ≡ suc level → step.frame ≡ number → LeadsOn memory step next
     → HasWay memory level next visit → HasWay memory (suc level) number visit
@@ -56,9 +59,7 @@ further memory level number next visit step at of leads below = record {
   frame = below.frame;
   leads = (at, of, (next, leads, subst (λ l. IsPath memory l next below.end below.frame below.way) (lower level) below.leads));
   visited = below.visited;
-} where
-  lower : (level : ℕ) → level ≡ suc level - 1
-  lower level = omega arith
+}
 
 abbrev LowerHave : Depth → Memory → ℕ → Visit → Type 0
 LowerHave depth memory level visit = (next : ReachedTable) → Contains (table_visits depth memory level next) visit → HasWay memory level next.number visit

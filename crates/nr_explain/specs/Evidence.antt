@@ -3,6 +3,7 @@ use Rattle.std.specs.Prelude.{◌≡◌, ◌≢◌, ℕ, ◌<◌, ◌≤◌, Lis
 use Rattle.std.specs.FinMap as finite
 use Rattle.vs_types.specs.Depth.{levels, IsCanonical}
 use Rattle.vs_types.specs.Space.{Space, no_pages}
+use Rattle.vs_types.specs.declared.depth.Depth.{Depth}
 use Rattle.vs_walk.specs.Dump.{Image}
 use Rattle.vs_walk.specs.Differences.{IsStray}
 use Rattle.vs_walk.specs.Walk.{walk, as_walk}
@@ -144,28 +145,28 @@ pub record IsShortPrefix (trace : Recording) (wrong : ShortPrefix) : Type 0 wher
       → call_of trace reply.call ≡ Some made → made.replica ≡ wrong.replica → known_by trace reply ≤ wrong.applied
 
 -- the steps lead from the root of a dump to the frame, as a table of this level
-abbrev pub IsRootPath : Recording → Image → ℕ → ℕ → List Step → Type 0
-IsRootPath trace dump level frame steps = IsPath dump.frames (levels trace.layout.depth) dump.root level frame steps
+abbrev pub IsRootPath : Depth → Image → ℕ → ℕ → List Step → Type 0
+IsRootPath depth dump level frame steps = IsPath dump.frames (levels depth) dump.root level frame steps
 
 -- the same as a table of some level
-abbrev pub StepsLeadTo : Recording → Image → ℕ → List Step → Type 0
-StepsLeadTo trace dump frame steps = (level : ℕ) × IsRootPath trace dump level frame steps
+abbrev pub StepsLeadTo : Depth → Image → ℕ → List Step → Type 0
+StepsLeadTo depth dump frame steps = (level : ℕ) × IsRootPath depth dump level frame steps
 
 -- the entries lead to a frame that the dump lacks
 abbrev pub IsMissingTable : Recording → MissingTable → Type 0
 IsMissingTable trace wrong = HasDump trace wrong.replica (λ dump.
-    (finite.get dump.frames wrong.frame ≡ None) × StepsLeadTo trace dump wrong.frame wrong.path.items)
+    (finite.get dump.frames wrong.frame ≡ None) × StepsLeadTo trace.layout.depth dump wrong.frame wrong.path.items)
 
 -- the entries lead to the frame, and so do others
 abbrev pub IsSharedTable : Recording → SharedTable → Type 0
 IsSharedTable trace wrong = HasDump trace wrong.replica (λ dump.
-    StepsLeadTo trace dump wrong.frame wrong.first.items
-    × StepsLeadTo trace dump wrong.frame wrong.second.items × (wrong.second.items ≢ wrong.first.items))
+    StepsLeadTo trace.layout.depth dump wrong.frame wrong.first.items
+    × StepsLeadTo trace.layout.depth dump wrong.frame wrong.second.items × (wrong.second.items ≢ wrong.first.items))
 
 -- the entries lead to a table, and the word that it has at an index has a reserved bit set, at its level: this one
 abbrev pub IsReservedEntry : Recording → ReservedEntry → Type 0
 IsReservedEntry trace wrong = HasDump trace wrong.replica (λ dump.
-    IsRootPath trace dump wrong.entry.level wrong.entry.frame wrong.path.items × HasReservedWord dump.frames wrong.entry
+    IsRootPath trace.layout.depth dump wrong.entry.level wrong.entry.frame wrong.path.items × HasReservedWord dump.frames wrong.entry
     × IsReservedBit wrong.entry.level wrong.entry.word wrong.bit)
 
 -- the tables do not lead to the frame

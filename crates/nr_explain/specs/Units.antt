@@ -103,16 +103,20 @@ abbrev pub after : Next → List ℕ → Next
 after next bytes =
     let numbers = numbers_after next.unit next.numbers bytes in record { unit = unit_after next.unit numbers; numbers = numbers }
 
--- whole units of these bytes, one behind the other, lead from one to another
-abbrev pub LeadOn : Next → List (List ℕ) → Next → Type 0
-LeadOn next [] last = next ≡ last
-LeadOn next (bytes ∷ more) last = (length bytes ≡ size next.unit) × LeadOn (after next bytes) more last
+-- whole units of these bytes, one behind the other, lead from one to another: each has so many bytes, and this comes behind it
+abbrev pub LeadOn : {N : Type 0} → (N → ℕ) → (N → List ℕ → N) → N → List (List ℕ) → N → Type 0
+LeadOn size after next [] last = next ≡ last
+LeadOn size after next (bytes ∷ more) last = (length bytes ≡ size next) × LeadOn size after (after next bytes) more last
 
--- the front is whole units of a trace, and the unit comes next
-pub record GoesOn (front : List ℕ) (next : Next) : Type 0 where
+-- the front is such units from the first one on, and this one comes next
+pub record GoesOnFrom {N : Type 0} (size : N → ℕ) (after : N → List ℕ → N) (first : N) (front : List ℕ) (next : N) : Type 0 where
   pub units : List (List ℕ)
   pub parts : front ≡ concat units
-  pub lead : LeadOn first_unit units next
+  pub lead : LeadOn size after first units next
+
+-- the front is whole units of a trace, and the unit comes next
+abbrev pub GoesOn : List ℕ → Next → Type 0
+GoesOn front next = GoesOnFrom (λ unit. size unit.unit) after first_unit front next
 
 -- ---- the unit that is bad
 

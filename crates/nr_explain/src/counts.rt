@@ -1,3 +1,5 @@
+//! How many calls, updates, reads, replicas and pages a trace has.
+
 ghost use Rattle.std.specs.Prelude.{◌≡◌, IfOk};
 ghost use Rattle.nr_trace.specs.Orders.{recorded_order};
 ghost use Rattle.nr_explain.specs.Counts.{IsCountOf};

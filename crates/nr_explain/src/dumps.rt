@@ -2,18 +2,20 @@
 
 ghost use Rattle.std.specs.Prelude.{◌≡◌, ◌≤◌, IfOk, length};
 ghost use Rattle.nr_trace.specs.Faults.{HasDump, HasFaultFrom};
-ghost use Rattle.nr_trace.specs.declared.fault.Fault.TheVariants.{Differs, MissingFrame, PrefixPastLog, ReservedBit, SharedFrame, StrayFrame};
+ghost use Rattle.nr_trace.specs.declared.fault.Fault.TheVariants.{Differs, MissingFrame, PrefixPastLog, ReservedBit, SharedFrame};
+ghost use Rattle.nr_trace.specs.declared.fault.Fault.TheVariants.{StrayFrame};
+ghost use Rattle.nr_trace.specs.Recording.{IsRecording};
 ghost use Rattle.nr_audit.specs.Verdict.{space_of};
 ghost use Rattle.nr_explain.specs.Dumps.{IsFirstOfItsDump};
-ghost use Rattle.nr_explain.specs.Evidence.{IsDifference, IsDifferenceFrom, IsEvidence, IsLongPrefix, IsMissingTable, IsReservedEntry, IsSharedTable};
-ghost use Rattle.nr_explain.specs.Evidence.{IsStrayTable};
+ghost use Rattle.nr_explain.specs.Evidence.{IsDifference, IsDifferenceFrom, IsEvidence, IsLongPrefix, IsMissingTable, IsReservedEntry};
+ghost use Rattle.nr_explain.specs.Evidence.{IsSharedTable, IsStrayTable};
 
 use crate::evidence::{
     Difference, Evidence, LongPrefix, MissingTable, ReservedEntry, SharedTable, StrayTable,
 };
 use crate::floors::short_prefix;
 use crate::log::places;
-use crate::paths::{Target, another_way, entries_read, entry_at, find_way, reserved_bit};
+use crate::paths::{another_way, entries_read, way_to_frame, way_to_reserved};
 use crate::replay::{last_look, no_pages};
 use nr_trace::{Fault, Trace};
 use std::alloc::Global;
@@ -47,19 +49,12 @@ fn missing_table(
     ensures is { IfOk result (IsMissingTable trace.now) }
 {
     let dump = &trace.dumps()[replica as usize];
-    let target = Target {
+    let path = way_to_frame(alloc, dump, trace.layout().depth(), frame)?;
+    Ok(MissingTable {
+        replica,
         frame,
-        reserved: None,
-        other: None,
-    };
-    match find_way(alloc, dump, trace.layout().depth(), &target)? {
-        Some(path) => Ok(MissingTable {
-            replica,
-            frame,
-            path,
-        }),
-        None => unreachable!(),
-    }
+        path,
+    })
 }
 
 /// The entries that lead to a frame, and others that lead there too. Allocates memory for them.
@@ -76,14 +71,7 @@ fn shared_table(
 {
     let dump = &trace.dumps()[replica as usize];
     let depth = trace.layout().depth();
-    let any = Target {
-        frame,
-        reserved: None,
-        other: None,
-    };
-    let Some(first) = find_way(alloc, dump, depth, &any)? else {
-        unreachable!()
-    };
+    let first = way_to_frame(alloc, dump, depth, frame)?;
     let (first, second) = another_way(alloc, dump, depth, frame, first)?;
     Ok(SharedTable {
         replica,
@@ -109,21 +97,20 @@ fn reserved_entry(
 {
     let dump = &trace.dumps()[replica as usize];
     let depth = trace.layout().depth();
-    let target = Target {
-        frame,
-        reserved: Some(index),
-        other: None,
-    };
-    let Some(path) = find_way(alloc, dump, depth, &target)? else {
-        unreachable!()
-    };
-    let entry = entry_at(dump, depth.levels() - path.len() as u8, frame, index);
+    let (path, entry, bit) = way_to_reserved(alloc, dump, depth, frame, index)?;
     Ok(ReservedEntry {
         replica,
         path,
         entry,
-        bit: reserved_bit(entry.level, entry.word),
+        bit,
     })
+}
+
+/// A law: a trace is a recording.
+fn is_a_recording(trace: &Trace)
+    ensures { IsRecording trace.now }
+{
+    let _dumps = trace.dumps();
 }
 
 /// The frame of a dump to which its tables do not lead.
@@ -133,7 +120,7 @@ fn stray_table(trace: &Trace, replica: u8, frame: u64) -> StrayTable
     ensures frame { result.frame ≡ frame }
     ensures is { IsStrayTable trace.now result }
 {
-    let _dumps = trace.dumps();
+    is_a_recording(trace);
     StrayTable { replica, frame }
 }
 

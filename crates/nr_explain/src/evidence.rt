@@ -1,3 +1,5 @@
+//! What shows each fault of a trace.
+
 use crate::units::BadUnit;
 use nr_trace::Event;
 use vs_types::{Answer, Request};

@@ -1,3 +1,5 @@
+//! The first fault of a trace with its evidence, or its order with counts.
+
 ghost use Rattle.std.specs.Prelude.{ℕ, IfOk, List};
 ghost use Rattle.nr_trace.specs.Faults.{IsFirst};
 ghost use Rattle.nr_explain.specs.Evidence.{IsEvidence};

@@ -2,8 +2,8 @@
 
 ghost use Rattle.std.specs.Prelude.{◌≡◌, ◌<◌};
 ghost use Rattle.nr_explain.specs.Fields.{address_fault, answers_of, call_fault, canonical, depth_of, event_fault, field_fault, is_segment};
-ghost use Rattle.nr_explain.specs.Fields.{kinds_of, limited, multiple, number_8, number_16, number_32, number_64, physical_fault, reply_fault};
-ghost use Rattle.nr_explain.specs.Fields.{rights_fault, rights_of, size_fault, size_of, sizes_of, value_fault, within};
+ghost use Rattle.nr_explain.specs.Fields.{kinds_of, limited, multiple, number_8, number_16, number_32, number_64, physical_fault};
+ghost use Rattle.nr_explain.specs.Fields.{reply_fault, rights_fault, rights_of, size_fault, size_of, sizes_of, value_fault, within};
 
 use nr_trace::Format;
 use vs_types::{Depth, Page, Size};

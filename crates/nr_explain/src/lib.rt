@@ -33,7 +33,10 @@ pub use explaining::{Explanation, explain, explain_read};
 pub use fields::{BadField, EventField, FieldFault, field_fault};
 pub use lookup::call_at;
 pub use next_unit::Numbers;
-pub use paths::{Target, another_way, entries_read, entry_at, find_way, reserved_bit};
+pub use paths::{
+    Target, another_way, entries_read, entry_at, find_way, reserved_bit, way_to_frame,
+    way_to_reserved,
+};
 pub use replay::{answer_after, apply_place, last_look};
 pub use searching::reply_to;
 pub use unit_feed::UnitFeed;

@@ -1,8 +1,8 @@
 //! Which unit of a trace comes behind another.
 
 ghost use Rattle.std.specs.Prelude.{◌≡◌, ◌+◌, ◌≤◌, ◌<◌, ◌++◌, ℕ, List, MatchOption, length};
-ghost use Rattle.nr_explain.specs.Units.{dump_unit, event_unit, first_unit, frame_unit, no_numbers, numbers_after, place_unit, size, unit_after, GoesOn};
-ghost use Rattle.nr_explain.specs.Units.{IsWithin};
+ghost use Rattle.nr_explain.specs.Units.{dump_unit, event_unit, first_unit, frame_unit, no_numbers, numbers_after, place_unit, size};
+ghost use Rattle.nr_explain.specs.Units.{unit_after, GoesOn, IsWithin};
 ghost use Rattle.nr_explain.specs.inside.UnitsFed.{last_unit, IsRun};
 
 use crate::fields::{number_8, number_32};

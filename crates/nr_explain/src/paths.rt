@@ -1,12 +1,14 @@
 //! Ways through the tables of a dump.
 
-ghost use Rattle.std.specs.Prelude.{◌≡◌, ◌≤◌, ◌<◌, ◌↔◌, ◌++◌, [], IfOk, IsTrue, MatchOption, OnOk, length};
+ghost use Rattle.std.specs.Prelude.{◌≡◌, ◌≤◌, ◌<◌, ◌↔◌, ◌++◌, [], ℕ, IfOk, IsTrue, List, MatchOption, OnOk, length};
 ghost use Rattle.vs_types.specs.declared.limits.TheConstants.{MOST_LEVELS};
 ghost use Rattle.vs_types.specs.Depth.{levels};
 ghost use Rattle.nr_explain.specs.inside.Ways.{GoesNowhere, GoesOnTo, HasTwoWays, IsAnotherWay, IsMet, IsReservedAt, IsSearched};
 ghost use Rattle.vs_types.specs.Entry.{meaning};
 ghost use Rattle.vs_types.specs.declared.entry.Meaning.TheVariants.{Reserved};
+ghost use Rattle.nr_explain.specs.Evidence.{IsRootPath, StepsLeadTo};
 ghost use Rattle.nr_explain.specs.Facts.{entries_read, HasReservedWord, IsReservedBit};
+ghost use Rattle.nr_explain.specs.declared.evidence.Step.{Step};
 
 use crate::evidence::Step;
 use std::alloc::Global;
@@ -76,7 +78,8 @@ fn go_on(
 ) -> Result<bool, Memory>
     requires some_level { 1 ≤ level }
     requires few_levels { level ≤ MOST_LEVELS }
-    ensures { IfOk result (IsSearched dump.now.frames target.now level number way.old.items way.new.items) }
+    ensures { IfOk result
+        (IsSearched dump.now.frames target.now level number way.old.items way.new.items) }
 {
     if number == target.frame && is_met(dump, target, level, way) {
         return Ok(true);
@@ -113,7 +116,8 @@ pub fn find_way(
     depth: Depth,
     target: &Target,
 ) -> Result<Option<Vec<Step>>, Memory>
-    ensures { IfOk result (λ found. MatchOption found (GoesNowhere dump.now.frames target.now (levels depth) dump.now.root [])
+    ensures { IfOk result (λ found. MatchOption found
+        (GoesNowhere dump.now.frames target.now (levels depth) dump.now.root [])
         (λ way. GoesOnTo dump.now.frames target.now (levels depth) dump.now.root [] way.items)) }
 {
     let mut way = Vec::new(alloc);
@@ -121,6 +125,31 @@ pub fn find_way(
         return Ok(Some(way));
     }
     Ok(None)
+}
+
+/// The first way from the root of a dump to a frame to which some way leads. Allocates memory for the way.
+///
+/// # Errors
+///
+/// `Memory` where a growth of memory was refused.
+pub fn way_to_frame(
+    alloc: Global,
+    dump: &Dump,
+    depth: Depth,
+    frame: u64,
+) -> Result<Vec<Step>, Memory>
+    requires { (steps : List Step) × StepsLeadTo depth dump.now frame steps }
+    ensures { IfOk result (λ path. StepsLeadTo depth dump.now frame path.items) }
+{
+    let target = Target {
+        frame,
+        reserved: None,
+        other: None,
+    };
+    match find_way(alloc, dump, depth, &target)? {
+        Some(path) => Ok(path),
+        None => unreachable!(),
+    }
 }
 
 /// A way to a frame, and another one that leads there. Allocates memory for the other way.
@@ -137,7 +166,8 @@ pub fn another_way(
 ) -> Result<(Vec<Step>, Vec<Step>), Memory>
     requires { HasTwoWays dump.now.frames (levels depth) dump.now.root frame }
     ensures first { IfOk result (λ ways. ways.0 ≡ first) }
-    ensures second { IfOk result (λ ways. IsAnotherWay dump.now.frames (levels depth) dump.now.root frame first.items ways.1.items) }
+    ensures second { IfOk result (λ ways.
+        IsAnotherWay dump.now.frames (levels depth) dump.now.root frame first.items ways.1.items) }
 {
     let target = Target {
         frame,
@@ -183,6 +213,40 @@ pub fn reserved_bit(level: u8, word: u64) -> u8
     }
     let reserved = (word % (1 << (3 + 9 * level))) >> 13;
     13 + reserved.trailing_zeros() as u8
+}
+
+/// The first way from the root of a dump to a table that has at an index a word with a reserved bit set, where some way leads there; that
+/// word, as an entry of the table's level; and the lowest such bit. Allocates memory for the way.
+///
+/// # Errors
+///
+/// `Memory` where a growth of memory was refused.
+pub fn way_to_reserved(
+    alloc: Global,
+    dump: &Dump,
+    depth: Depth,
+    frame: u64,
+    index: u16,
+) -> Result<(Vec<Step>, Step, u8), Memory>
+    requires { (steps : List Step) × (level : ℕ) × IsRootPath depth dump.now level frame steps
+        × IsReservedAt dump.now.frames level frame index }
+    ensures leads { IfOk result (λ way.
+        IsRootPath depth dump.now way.1.level way.1.frame way.0.items) }
+    ensures frame { IfOk result (λ way. way.1.frame ≡ frame) }
+    ensures index { IfOk result (λ way. way.1.index ≡ index) }
+    ensures reserved { IfOk result (λ way. HasReservedWord dump.now.frames way.1) }
+    ensures bit { IfOk result (λ way. IsReservedBit way.1.level way.1.word way.2) }
+{
+    let target = Target {
+        frame,
+        reserved: Some(index),
+        other: None,
+    };
+    let Some(path) = find_way(alloc, dump, depth, &target)? else {
+        unreachable!()
+    };
+    let entry = entry_at(dump, depth.levels() - path.len() as u8, frame, index);
+    Ok((path, entry, reserved_bit(entry.level, entry.word)))
 }
 
 /// Adds the entries that the walk of an address reads from the frame of a number on, the table of a level. Allocates room for them.

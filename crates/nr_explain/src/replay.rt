@@ -1,6 +1,6 @@
 //! The space after the first places of the log, and the last of these that changed how an address looks.
 
-ghost use Rattle.std.specs.Prelude.{◌≡◌, ◌+◌, ◌<◌, ◌≤◌, ◌↔◌, length, take, slice_get, Some, IfOk, IsTrue, OnOk};
+ghost use Rattle.std.specs.Prelude.{◌≡◌, ◌+◌, ◌<◌, ◌≤◌, ◌↔◌, length, take, slice_get, Some, IfOk, IsTrue, OnErr, OnOk};
 ghost use Rattle.vs_types.specs.Query.{IsQuery};
 ghost use Rattle.vs_types.specs.Space.{Space, no_pages};
 ghost use Rattle.nr_trace.specs.Orders.{answer_in, space_after, space_from};
@@ -20,15 +20,16 @@ use vs_types::{Answer, Memory, Request};
 ///
 /// # Errors
 ///
-/// `Memory` where a growth of memory was refused.
+/// `Memory` where a growth of memory was refused; the space is then unchanged.
 pub fn apply_place(trace: &Trace, space: &mut PlainSpace, place: u32) -> Result<(), Memory>
     requires within { place < length trace.now.log }
     requires before { (start : Space) × (space.old
         ≡ space_of trace.now.layout (space_from start trace.now (take place trace.now.log))) }
-    ensures { (start : Space) → space.old
+    ensures ok { (start : Space) → space.old
         ≡ space_of trace.now.layout (space_from start trace.now (take place trace.now.log))
         → OnOk result (space.new
         ≡ space_of trace.now.layout (space_from start trace.now (take (place + 1) trace.now.log))) }
+    ensures err { OnErr result (space.new ≡ space.old) }
 {
     let log = trace.log();
     if let Some(request) = request_of(trace, log[place as usize]) {

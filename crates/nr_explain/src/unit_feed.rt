@@ -31,8 +31,8 @@ pub(crate) struct Walk {
 /// Puts the first bytes of a run behind the header's that are there.
 fn keep_header(header: &mut Vec<u8>, run: &[u8]) -> Result<(), AllocError>
     requires { length header.old.items ≤ HEADER_BYTES }
-    ensures { OnOk result (header.new.items
-        ≡ header.old.items ++ take (min (HEADER_BYTES - length header.old.items) (length run.now)) run.now) }
+    ensures { OnOk result (header.new.items ≡ header.old.items
+        ++ take (min (HEADER_BYTES - length header.old.items) (length run.now)) run.now) }
 {
     let missing = (HEADER_BYTES - header.len()).min(run.len());
     header.extend_from_slice(&run[..missing])

@@ -13,13 +13,13 @@ use Rattle.vs_types.proofs.Spaces.{holds_listed, look_same}
 use Rattle.vs_walk.specs.Dump.{Image, IsDump}
 use Rattle.vs_walk.specs.Laws.{as_found}
 use Rattle.vs_walk.specs.Memory.{AreWhole, Memory}
-use Rattle.vs_walk.specs.Traversal.{found, traversal}
+use Rattle.vs_walk.specs.Traversal.{found, traversal, found_in}
 use Rattle.vs_walk.specs.Walk.{walk, TranslatesAs}
 use Rattle.vs_walk.proofs.LawsOfDumps.{dump_is_whole}
 use Rattle.vs_walk.proofs.LawsOfRising.{pages_formed}
 use Rattle.vs_walk.proofs.LawsOfSpaces.{found_are_pages, same_pages as same_found, translates_found}
 use Rattle.vs_walk.proofs.LawsOfTraversals.{faultless_walk}
-use Rattle.nr_pages.specs.Dumps.{dump_text, pages_in, IsFaultless, TranslateAlike}
+use Rattle.nr_pages.specs.Dumps.{dump_text, IsFaultless, TranslateAlike}
 use Rattle.nr_pages.specs.Listing.{pages_text}
 use Rattle.nr_pages.specs.Ranges.{alone, joined, longer, page_after, pages_of, range_end, ranges_of, same_page}
 use Rattle.nr_pages.specs.declared.range.PageRange.{PageRange}
@@ -97,20 +97,20 @@ found_within depth memory root whole =
     All-weaker (IsPageBelow (2 ^ 52) depth) IsWithin (is_within (2 ^ 52) depth (omega arith)) (found (traversal depth memory root))
     (pages_formed depth memory root whole)
 
-pub dump_within : (depth : Depth) (dump : Image) → IsDump dump → All IsWithin (pages_in depth dump)
+pub dump_within : (depth : Depth) (dump : Image) → IsDump dump → All IsWithin (found_in depth dump)
 dump_within depth dump is = found_within depth dump.frames dump.root (dump_is_whole dump is)
 
-pub dump_ends : (depth : Depth) (dump : Image) → IsDump dump → All (λ page. end_of page ≤ 2 ^ 64) (pages_in depth dump)
-dump_ends depth dump is = All-weaker IsWithin (λ page. end_of page ≤ 2 ^ 64) (λ page within. within.end) (pages_in depth dump) (dump_within depth dump is)
+pub dump_ends : (depth : Depth) (dump : Image) → IsDump dump → All (λ page. end_of page ≤ 2 ^ 64) (found_in depth dump)
+dump_ends depth dump is = All-weaker IsWithin (λ page. end_of page ≤ 2 ^ 64) (λ page within. within.end) (found_in depth dump) (dump_within depth dump is)
 
 walked : (depth : Depth) (dump : Image) → IsFaultless depth dump → (address : ℕ) → IsCanonical depth address
-    → walk depth dump.frames dump.root address ≡ as_found address (page_covering address (pages_in depth dump))
+    → walk depth dump.frames dump.root address ≡ as_found address (page_covering address (found_in depth dump))
 walked depth dump is address canonical = faultless_walk depth dump.frames dump.root address (dump_is_whole dump is.is_dump) canonical is.no_fault
 
 pub equal_texts : (as_ranges : Bool) (depth other_depth : Depth) (dump other : Image) → IsFaultless depth dump → IsFaultless other_depth other
     → dump_text as_ranges depth dump ≡ dump_text as_ranges other_depth other → TranslateAlike depth dump other_depth other
 equal_texts as_ranges depth other_depth dump other first second same address canonical other_canonical =
-    let them = one_list as_ranges (pages_in depth dump) (pages_in other_depth other) (dump_within depth dump first.is_dump)
+    let them = one_list as_ranges (found_in depth dump) (found_in other_depth other) (dump_within depth dump first.is_dump)
     (dump_within other_depth other second.is_dump) same in
     walked depth dump first address canonical
     ∙ ap (λ (ps : List Page). as_found address (page_covering address ps)) them

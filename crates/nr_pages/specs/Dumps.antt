@@ -2,19 +2,14 @@
 use Rattle.std.specs.Prelude.{◌≡◌, ℕ, Bool, List, None}
 use Rattle.vs_types.specs.Depth.{IsCanonical}
 use Rattle.vs_types.specs.declared.depth.Depth.{Depth}
-use Rattle.vs_types.specs.declared.page.Page.{Page}
 use Rattle.vs_walk.specs.Dump.{Image, IsDump}
-use Rattle.vs_walk.specs.Traversal.{found, traversal, walk_fault}
+use Rattle.vs_walk.specs.Traversal.{found_in, walk_fault}
 use Rattle.vs_walk.specs.Walk.{walk}
 use Rattle.nr_pages.specs.Listing.{pages_text}
 
--- its pages, in the order of the traversal: each once, by rising base
-abbrev pub pages_in : Depth → Image → List Page
-pages_in depth dump = found (traversal depth dump.frames dump.root)
-
--- what is printed of them
+-- what is printed of its pages, in the order of the traversal: each once, by rising base
 abbrev pub dump_text : Bool → Depth → Image → List ℕ
-dump_text as_ranges depth dump = pages_text as_ranges (pages_in depth dump)
+dump_text as_ranges depth dump = pages_text as_ranges (found_in depth dump)
 
 -- a dump whose traversal meets no fault
 pub record IsFaultless (depth : Depth) (dump : Image) : Type 0 where

@@ -67,7 +67,8 @@ pub fn dump_text(
 
 /// The lines of the pages of a space.
 fn lines_of_space(alloc: Global, space: &PlainSpace) -> Result<String, Memory>
-    ensures text { IfOk result (λ text. string_bytes text ≡ pages_text false (pages space.now.space)) }
+    ensures text { IfOk result (λ text. string_bytes text
+        ≡ pages_text false (pages space.now.space)) }
     ensures apart { IsSpace space.now.depth space.now.space }
 {
     let mut lines = PageLines::new(alloc);
@@ -79,7 +80,8 @@ fn lines_of_space(alloc: Global, space: &PlainSpace) -> Result<String, Memory>
 
 /// The lines of their ranges.
 fn ranges_of_space(alloc: Global, space: &PlainSpace) -> Result<String, Memory>
-    ensures text { IfOk result (λ text. string_bytes text ≡ pages_text true (pages space.now.space)) }
+    ensures text { IfOk result (λ text. string_bytes text
+        ≡ pages_text true (pages space.now.space)) }
     ensures apart { IsSpace space.now.depth space.now.space }
 {
     let mut lines = RangeLines::new(alloc);

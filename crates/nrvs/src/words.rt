@@ -102,14 +102,19 @@ fn read_words<'a>(alloc: Global, words: &'a [String]) -> Result<Command<'a>, Err
         (ErrorKind.MissingSubcommand
         ∷ fault_of command_line (map (λ word. string_bytes word) words.entry.now)) error
         ⊎ IsMisused
-        (subcommand_of command_line (map (λ word. string_bytes word) words.entry.now)) (kind_of error)) }
+        (subcommand_of command_line (map (λ word. string_bytes word) words.entry.now))
+        (kind_of error)) }
 {
     let mut line = command_line(alloc)?;
     let matches = line.try_get_matches_from_mut(words)?;
     read_matches(alloc, &mut line, &matches)
 }
 
-/// The same, where the words are known.
+/// The same, where the words are known. Allocates what clap reads them with.
+///
+/// # Errors
+///
+/// What clap answers to the words, also to those that ask for help or the version, and where memory ran out.
 pub fn read_program_words<'a>(
     alloc: Global,
     words: &'a Result<Vec<String>, NoWords>,
@@ -127,7 +132,8 @@ pub fn read_program_words<'a>(
         (ErrorKind.MissingSubcommand
         ∷ fault_of command_line (map (λ word. string_bytes word) given.items)) error
         ⊎ IsMisused
-        (subcommand_of command_line (map (λ word. string_bytes word) given.items)) (kind_of error))) }
+        (subcommand_of command_line (map (λ word. string_bytes word) given.items))
+        (kind_of error))) }
     ensures no_words { IfErr words.entry.now
         (λ why. MatchResult result (λ _. ⊥) (HasKind (kinds_of_no_words why))) }
 {

@@ -26,7 +26,8 @@ fn try_run<F: FilesByName, R: Read + Drop, W: Write, E: Write>(
     }
 }
 
-/// The whole program over what its words ask for and its three ends: gives the exit status.
+/// The whole program over what its words ask for and its three ends: gives the exit status. Allocates what its command does, and the line
+/// of a refusal.
 pub fn run<F: FilesByName, R: Read + Drop, W: Write, E: Write>(
     files: &F,
     alloc: Global,

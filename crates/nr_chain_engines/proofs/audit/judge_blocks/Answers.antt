@@ -1,7 +1,7 @@
-use Rattle.std.proofs.Common.{◌≡◌, ◌≢◌, ℕ, ◌-◌, [], ap, subst, take, arith}
-use Rattle.std.proofs.lemmas.List.{length-take}
+use Rattle.std.proofs.Common.{◌≡◌, ◌≢◌, ℕ, ◌-◌, [], length, ap, subst, take, arith}
 use Rattle.std.specs.Io.KnownBytes.{IsAtEnd}
 use Rattle.std.proofs.KnownBytes.{Keeps-refl}
+use Rattle.nr_engines.proofs.Input.{one_block}
 use Rattle.nr_engines.specs.declared.fault.ProgFault.{ProgFault}
 use Rattle.nr_engines.specs.declared.fault.ProgFault.TheVariants.{CannotRead, CannotWrite}
 use Rattle.nr_chain_engines.specs.ChainAudit.{HasWrittenFirst}
@@ -29,21 +29,16 @@ returns-in_err-count-clause-first g c =
     c.loop-room.invariant.here c.in_err-count.ensures.kept) c.loop-room.invariant.short)
 
 pub returns-in_err-count-clause-few : goal.returns-in_err-count-clause-few
-returns-in_err-count-clause-few g c =
-    let known = g.R.Read.remaining in
-    few_kept c.args.quiet _ (known c.loop-room.reader) (known c.read_block.new.reader) _ _ c.loop-room.chain.kept c.loop-room.chain.bytes c.loop-room.number
-    c.loop-room.invariant.here c.loop-room.invariant.short c.in_err-count.ensures.kept
+returns-in_err-count-clause-few g c = few_kept c.loop-room.invariant c.in_err-count.ensures.kept
 
 pub returns-then-count-eq0-clause-ok : goal.returns-then-count-eq0-clause-ok
 returns-then-count-eq0-clause-ok g c =
     let known = g.R.Read.remaining in
     let chain = c.loop-room.chain in
     let piece = take c.in_ok-count.count c.read_block.new.block in
-    let read = c.read_block.auto.block in
-    let whole = c.loop-room.auto.block in
-    let asked = c.requires in
     let nothing : piece ≡ [] = ap (λ (n : ℕ). take n c.read_block.new.block) c.if-count-eq0.true in
-    let end : IsAtEnd (known c.read_block.new.reader) = c.in_ok-count.ensures.end c.if-count-eq0.true (omega arith) in (
+    let end : IsAtEnd (known c.read_block.new.reader) = c.in_ok-count.ensures.end c.if-count-eq0.true
+    (omega (arith, c.read_block.auto.block, c.loop-room.auto.block, c.requires)) in (
       read_nothing c.args.quiet _ (known c.loop-room.reader) (known c.read_block.new.reader) _ _ chain.kept chain.bytes piece c.loop-room.number
           c.loop-room.invariant.here c.in_ok-count.ensures.ok nothing,
       end,
@@ -51,15 +46,8 @@ returns-then-count-eq0-clause-ok g c =
 
 pub returns-then-count-eq0-clause-few : goal.returns-then-count-eq0-clause-few
 returns-then-count-eq0-clause-few g c =
-    let known = g.R.Read.remaining in
-    let chain = c.loop-room.chain in
-    let piece = take c.in_ok-count.count c.read_block.new.block in
-    let long = length-take c.in_ok-count.count c.read_block.new.block in
-    let read = c.read_block.auto.block in
-    let whole = c.loop-room.auto.block in
-    let asked = c.requires in
-    few_read c.args.quiet _ (known c.loop-room.reader) (known c.read_block.new.reader) _ _ chain.kept chain.bytes piece c.loop-room.number
-    c.loop-room.invariant.here c.loop-room.invariant.short c.in_ok-count.ensures.ok (omega arith)
+    few_read c.in_ok-count.count c.read_block.new.block c.loop-room.invariant c.in_ok-count.ensures.ok
+    (omega (arith, c.read_block.auto.block, c.loop-room.auto.block, c.requires))
 
 pub returns-in_err-next-clause-first : goal.returns-in_err-next-clause-first
 returns-in_err-next-clause-first g c =
@@ -76,15 +64,8 @@ returns-in_err-next-clause-first g c =
 
 pub returns-in_err-next-clause-few : goal.returns-in_err-next-clause-few
 returns-in_err-next-clause-few g c =
-    let known = g.R.Read.remaining in
-    let chain = c.loop-room.chain in
-    let piece = take c.in_ok-count.count c.read_block.new.block in
-    let long = length-take c.in_ok-count.count c.read_block.new.block in
-    let read = c.read_block.auto.block in
-    let whole = c.loop-room.auto.block in
-    let asked = c.requires in
-    few_read c.args.quiet _ (known c.loop-room.reader) (known c.read_block.new.reader) _ _ chain.kept chain.bytes piece c.loop-room.number
-    c.loop-room.invariant.here c.loop-room.invariant.short c.in_ok-count.ensures.ok (omega arith)
+    few_read c.in_ok-count.count c.read_block.new.block c.loop-room.invariant c.in_ok-count.ensures.ok
+    (omega (arith, c.read_block.auto.block, c.loop-room.auto.block, c.requires))
 
 pub returns-in-Wrong-clause-ok : goal.returns-in-Wrong-clause-ok
 returns-in-Wrong-clause-ok g c =
@@ -100,30 +81,20 @@ returns-in-Wrong-clause-ok g c =
 
 pub returns-in-Wrong-clause-few : goal.returns-in-Wrong-clause-few
 returns-in-Wrong-clause-few g c =
-    let known = g.R.Read.remaining in
-    let chain = c.loop-room.chain in
-    let piece = take c.in_ok-count.count c.read_block.new.block in
-    let long = length-take c.in_ok-count.count c.read_block.new.block in
-    let read = c.read_block.auto.block in
-    let whole = c.loop-room.auto.block in
-    let asked = c.requires in
-    few_read c.args.quiet _ (known c.loop-room.reader) (known c.read_block.new.reader) _ _ chain.kept chain.bytes piece c.loop-room.number
-    c.loop-room.invariant.here c.loop-room.invariant.short c.in_ok-count.ensures.ok (omega arith)
+    few_read c.in_ok-count.count c.read_block.new.block c.loop-room.invariant c.in_ok-count.ensures.ok
+    (omega (arith, c.read_block.auto.block, c.loop-room.auto.block, c.requires))
 
 pub loop-room-preserved : goal.loop-room-preserved
 loop-room-preserved g c =
     let known = g.R.Read.remaining in
     let contents = g.W.Write.contents in
     let piece = take c.in_ok-count.count c.read_block.new.block in
-    let long = length-take c.in_ok-count.count c.read_block.new.block in
-    let read = c.read_block.auto.block in
-    let whole = c.loop-room.auto.block in
-    let asked = c.requires in
+    let full : length c.read_block.new.block ≡ 4096 = omega (arith, c.read_block.auto.block, c.loop-room.auto.block, c.requires) in
     let taken = subst (λ (t : Taken). TakesBlock c.args.quiet c.loop-room.chain c.loop-room.number piece (contents c.loop-room.writer)
     (contents c.take_block.new.writer) t) c.in-More.is c.in_ok-next.ensures.ok in
     reads_on c.args.quiet _ (known c.loop-room.reader) (known c.read_block.new.reader) _ (contents c.loop-room.writer) (contents c.take_block.new.writer)
     c.loop-room.chain c.in-More.next piece c.loop-room.number c.in-More.right c.loop-room.room (c.loop-room.room - 1) c.loop-room.invariant
-    c.in_ok-count.ensures.ok (omega arith) (omega arith) taken
+    c.in_ok-count.ensures.ok (one_block c.in_ok-count.count c.read_block.new.block full) (omega arith) taken
 
 pub returns-clause-first : goal.returns-clause-first
 returns-clause-first g c =
@@ -131,7 +102,4 @@ returns-clause-first g c =
     λ written. all_written c.args.quiet _ _ _ _ chain.kept chain.bytes c.loop-room.number CannotRead c.loop-room.invariant.here c.loop-room.invariant.short
 
 pub returns-clause-few : goal.returns-clause-few
-returns-clause-few g c =
-    let known = g.R.Read.remaining in
-    few_kept c.args.quiet _ (known c.loop-room.reader) (known c.loop-room.reader) _ _ c.loop-room.chain.kept c.loop-room.chain.bytes c.loop-room.number
-    c.loop-room.invariant.here c.loop-room.invariant.short (Keeps-refl (known c.loop-room.reader))
+returns-clause-few g c = few_kept c.loop-room.invariant (Keeps-refl (g.R.Read.remaining c.loop-room.reader))

@@ -1,5 +1,4 @@
-use Rattle.std.proofs.Common.{◌≡◌, ◌∙◌, ℕ, ◌-◌, ◌==◌, ◌⊎◌, true, false, List, length, take, drop, ap, sym, subst}
-use Rattle.std.proofs.Math.Seq.{take-length}
+use Rattle.std.proofs.Common.{◌≡◌, ◌∙◌, ℕ, ◌-◌, ◌==◌, ◌⊎◌, true, false, length, take_all, drop, ap, subst, arith}
 use Rattle.std.proofs.lemmas.List.{length-drop}
 use Rattle.nr_chain.specs.Verdict.{FeedsChain}
 use Rattle.nr_chain_engines.specs.inside.Going.{TakesSome}
@@ -8,9 +7,6 @@ use Rattle.nr_engines.specs.declared.fault.ProgFault.TheVariants.{CannotWrite, M
 use Rattle.nr_chain_engines.proofs.Going.{block_begins, block_taken, block_wrong, next_segment, passed_on, unwritten_lines}
 use Rattle.nr_chain_engines.proofs.audit.take_block.Goals as goal
 
-left_behind : (count : ℕ) (rest : List ℕ) → take (length rest - count) (drop count rest) ≡ drop count rest
-left_behind count rest = ap (λ (n : ℕ). take n (drop count rest)) (sym (length-drop count rest)) ∙ take-length (drop count rest)
-
 pub returns-in-More-clause-ok : goal.returns-in-More-clause-ok
 returns-in-More-clause-ok g c =
     block_taken c.args.quiet c.args.begun c.segments.chain c.in-More.next c.args.right c.segments.number c.args.block.now c.segments.rest.now _ _
@@ -18,10 +14,12 @@ returns-in-More-clause-ok g c =
 
 pub segments-preserved : goal.segments-preserved
 segments-preserved g c =
+    let long = length-drop c.in-Right.count c.segments.rest.now in
     next_segment c.args.quiet c.args.begun c.segments.chain c.in-Right.next c.args.right c.segments.number c.in-Right.count c.args.block.now
     c.segments.rest.now _ c.in-Right.order _ _ _ c.segments.invariant
     (subst (FeedsChain c.segments.chain c.segments.rest.now) c.in-Right.is c.in_ok-next.ensures)
-    c.in_ok-write_right-in-Right.ensures.ok (left_behind c.in-Right.count c.segments.rest.now)
+    c.in_ok-write_right-in-Right.ensures.ok
+    (take_all (length c.segments.rest.now - c.in-Right.count) (drop c.in-Right.count c.segments.rest.now) (omega arith))
 
 pub returns-in-Wrong-clause-ok : goal.returns-in-Wrong-clause-ok
 returns-in-Wrong-clause-ok g c =

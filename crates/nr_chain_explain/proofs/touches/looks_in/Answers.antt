@@ -42,7 +42,7 @@ loop-place-preserved c =
     let first = c.args.window.first in
     let place = c.loop-place.place in
     let is = c.loop-place.invariant in
-    let space = c.in_ok-apply_place.ensures start is.space in
+    let space = c.in_ok-apply_place.ensures.ok start is.space in
     let looks : c.resolve-then.result ≡ looks_from start segment address (place + 1) =
     c.resolve-then.ensures ∙ ap (λ (s : BoundedSpace). look s.space address) space in
     let moment : Moment = record { entries = place + 1; look = c.resolve-then.result } in

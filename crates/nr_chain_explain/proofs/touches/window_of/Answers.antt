@@ -20,7 +20,7 @@ loop-place-preserved c =
     let address = c.args.address in
     let place = c.loop-place.place in
     let is = c.loop-place.invariant in
-    let space = c.in_ok-apply_place.ensures start is.space in
+    let space = c.in_ok-apply_place.ensures.ok start is.space in
     let then_is = ap (λ (s : BoundedSpace). s.space) space in
     let looks : c.look_of-then.result ≡ looks_from start segment address (place + 1) =
     c.look_of-then.ensures.looks ∙ ap (λ (s : Space). look s address) then_is in

@@ -13,11 +13,9 @@ pub returns-then-count-eq0-clause-ok : goal.returns-then-count-eq0-clause-ok
 returns-then-count-eq0-clause-ok g c =
     let known = g.R.Read.remaining in
     let piece = take c.in_ok-count.count c.read_block.new.block in
-    let read = c.read_block.auto.block in
-    let whole = c.loop-room.auto.block in
-    let asked = c.requires in
     let nothing : piece ≡ [] = ap (λ (n : ℕ). take n c.read_block.new.block) c.if-count-eq0.true in
-    let end : IsAtEnd (known c.read_block.new.reader) = c.in_ok-count.ensures.end c.if-count-eq0.true (omega arith) in
+    let end : IsAtEnd (known c.read_block.new.reader) = c.in_ok-count.ensures.end c.if-count-eq0.true
+    (omega (arith, c.read_block.auto.block, c.loop-room.auto.block, c.requires)) in
     explained_at_end (known c.args.reader.now) (known c.loop-room.reader) (known c.read_block.new.reader) c.loop-room.chain piece c.in_ok-found.found
     c.loop-room.invariant c.in_ok-count.ensures.ok nothing end c.in_ok-found.ensures
 
@@ -33,67 +31,34 @@ loop-room-preserved g c =
     let known = g.R.Read.remaining in
     let piece = take c.in_ok-count.count c.read_block.new.block in
     let long = length-take c.in_ok-count.count c.read_block.new.block in
-    let read = c.read_block.auto.block in
-    let whole = c.loop-room.auto.block in
-    let asked = c.requires in
-    let not = c.if-count-eq0.false in
-    let some : 1 ≤ length piece = omega arith in
+    let some : 1 ≤ length piece =
+    omega (arith, c.if-count-eq0.false, c.read_block.auto.block, c.loop-room.auto.block, c.requires) in
     explaining_goes_on (known c.args.reader.now) (known c.loop-room.reader) (known c.read_block.new.reader) c.loop-room.chain c.in-More.next piece
     c.loop-room.invariant c.in_ok-count.ensures.ok (λ none. let zero : length piece ≡ 0 = ap length none in omega (arith, some, zero))
     (subst (FeedsReader c.loop-room.chain piece) c.in-More.is c.in_ok-next.ensures)
 
 pub returns-in_err-count-clause-few : goal.returns-in_err-count-clause-few
-returns-in_err-count-clause-few g c =
-    let known = g.R.Read.remaining in
-    few_kept (known c.args.reader.now) (known c.loop-room.reader) (known c.read_block.new.reader) c.loop-room.chain c.loop-room.invariant
-    c.in_err-count.ensures.kept
+returns-in_err-count-clause-few g c = few_kept c.loop-room.invariant c.in_err-count.ensures.kept
 
 pub returns-in_err-found-clause-few : goal.returns-in_err-found-clause-few
 returns-in_err-found-clause-few g c =
-    let known = g.R.Read.remaining in
-    let piece = take c.in_ok-count.count c.read_block.new.block in
-    let long = length-take c.in_ok-count.count c.read_block.new.block in
-    let read = c.read_block.auto.block in
-    let whole = c.loop-room.auto.block in
-    let asked = c.requires in
-    few_read (known c.args.reader.now) (known c.loop-room.reader) (known c.read_block.new.reader) c.loop-room.chain piece c.loop-room.invariant
-    c.in_ok-count.ensures.ok (omega arith)
+    few_read c.in_ok-count.count c.read_block.new.block c.loop-room.invariant c.in_ok-count.ensures.ok
+    (omega (arith, c.read_block.auto.block, c.loop-room.auto.block, c.requires))
 
 pub returns-then-count-eq0-clause-few : goal.returns-then-count-eq0-clause-few
 returns-then-count-eq0-clause-few g c =
-    let known = g.R.Read.remaining in
-    let piece = take c.in_ok-count.count c.read_block.new.block in
-    let long = length-take c.in_ok-count.count c.read_block.new.block in
-    let read = c.read_block.auto.block in
-    let whole = c.loop-room.auto.block in
-    let asked = c.requires in
-    few_read (known c.args.reader.now) (known c.loop-room.reader) (known c.read_block.new.reader) c.loop-room.chain piece c.loop-room.invariant
-    c.in_ok-count.ensures.ok (omega arith)
+    few_read c.in_ok-count.count c.read_block.new.block c.loop-room.invariant c.in_ok-count.ensures.ok
+    (omega (arith, c.read_block.auto.block, c.loop-room.auto.block, c.requires))
 
 pub returns-in_err-next-clause-few : goal.returns-in_err-next-clause-few
 returns-in_err-next-clause-few g c =
-    let known = g.R.Read.remaining in
-    let piece = take c.in_ok-count.count c.read_block.new.block in
-    let long = length-take c.in_ok-count.count c.read_block.new.block in
-    let read = c.read_block.auto.block in
-    let whole = c.loop-room.auto.block in
-    let asked = c.requires in
-    few_read (known c.args.reader.now) (known c.loop-room.reader) (known c.read_block.new.reader) c.loop-room.chain piece c.loop-room.invariant
-    c.in_ok-count.ensures.ok (omega arith)
+    few_read c.in_ok-count.count c.read_block.new.block c.loop-room.invariant c.in_ok-count.ensures.ok
+    (omega (arith, c.read_block.auto.block, c.loop-room.auto.block, c.requires))
 
 pub returns-in-Found-clause-few : goal.returns-in-Found-clause-few
 returns-in-Found-clause-few g c =
-    let known = g.R.Read.remaining in
-    let piece = take c.in_ok-count.count c.read_block.new.block in
-    let long = length-take c.in_ok-count.count c.read_block.new.block in
-    let read = c.read_block.auto.block in
-    let whole = c.loop-room.auto.block in
-    let asked = c.requires in
-    few_read (known c.args.reader.now) (known c.loop-room.reader) (known c.read_block.new.reader) c.loop-room.chain piece c.loop-room.invariant
-    c.in_ok-count.ensures.ok (omega arith)
+    few_read c.in_ok-count.count c.read_block.new.block c.loop-room.invariant c.in_ok-count.ensures.ok
+    (omega (arith, c.read_block.auto.block, c.loop-room.auto.block, c.requires))
 
 pub returns-clause-few : goal.returns-clause-few
-returns-clause-few g c =
-    let known = g.R.Read.remaining in
-    few_kept (known c.args.reader.now) (known c.loop-room.reader) (known c.loop-room.reader) c.loop-room.chain c.loop-room.invariant
-    (Keeps-refl (known c.loop-room.reader))
+returns-clause-few g c = few_kept c.loop-room.invariant (Keeps-refl (g.R.Read.remaining c.loop-room.reader))

@@ -1,11 +1,11 @@
-use Rattle.std.proofs.Common.{◌≡◌, ℕ, ◌-◌, Bool, List, [], ◌∷◌, ◌++◌, Some, None, length, get_or, take, vec_len, Vec, Global, refl, sym, ap, subst, ◌∙◌, arith}
+use Rattle.std.proofs.Common.{◌≡◌, ℕ, ◌-◌, Bool, List, [], ◌∷◌, ◌++◌, Some, None, length, get_or, take, vec_len, Vec, Global, refl, sym, ap, subst, ◌∙◌, arith, below_more}
 use Rattle.std.proofs.lemmas.Bool.{iff_false}
 use Rattle.std.proofs.lemmas.List.{length-append}
 use Rattle.std.specs.FinMap as finite
 use Rattle.vs_types.specs.Entry.{meaning}
 use Rattle.nr_explain.specs.inside.Ways.{GoesNowhere, IsMet, IsSearched}
 use Rattle.nr_explain.specs.declared.evidence.Step.{Step}
-use Rattle.nr_explain.proofs.Searches.{IsNotHere, entry_of, front_left, nowhere_from_missing, nowhere_from_table, passed_more}
+use Rattle.nr_explain.proofs.Searches.{IsNotHere, entry_of, front_left, nowhere_from_missing, nowhere_from_table, IsPassed}
 use Rattle.nr_explain.proofs.paths.+go_on.Goals as goal
 use Rattle.nr_explain.proofs.paths.+go_on.Goals.{else-number-target-via-then-number-target+else-is_met, else-number-target-via-else-number-target}
 use Rattle.nr_explain.proofs.paths.+go_on.Goals.{in-Table+in_ok-push+in_ok-go_on+else-branch, in_default-read}
@@ -51,14 +51,14 @@ loop-index-preserved t c =
                 ∙ front_left begun w.pop-passed.new.self.items step (vec_len w.go_on.new.way - 1)
                 (omega (arith, w.go_on.new.way.ok.0, ap length whole, length-append begun (step ∷ [])))
                 (w.pop-passed.ensures.rest ∙ ap (λ (l : List Step). take (vec_len w.go_on.new.way - 1) l) whole);
-            passed = passed_more memory target level number begun words index old.passed (λ next own means.
+            passed = below_more (IsPassed memory target level number begun words) index old.passed (λ next own means.
                 let same : w.in-Table.next ≡ next = cc (w.in-Table.is, read, means) in
                 subst (λ (n : ℕ). GoesNowhere memory target (level - 1) n (begun ++ step ∷ [])) same
                 (subst (λ (l : List Step). GoesNowhere memory target (level - 1) w.in-Table.next l) pushed searched.1));
           }
       | in_default-read w ↦ record {
         way = ap (λ (v : Vec Step Global). v.items) w.way'-is ∙ old.way;
-        passed = passed_more memory target level number begun words index old.passed
+        passed = below_more (IsPassed memory target level number begun words) index old.passed
             (λ next own means. absurd (w.in_default-read.not-Table next own (sym read ∙ means)));
       }
     ]

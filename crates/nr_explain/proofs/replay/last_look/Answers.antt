@@ -14,7 +14,7 @@ loop-place-preserved c =
     let address = c.args.address in
     let place = c.loop-place.place in
     let is = c.loop-place.invariant in
-    let space = c.in_ok-apply_place.ensures start is.space in
+    let space = c.in_ok-apply_place.ensures.ok start is.space in
     let looks : c.resolve-then.result ≡ looks_from start trace address (place + 1) =
     c.resolve-then.ensures ∙ ap (λ (s : BoundedSpace). look s.space address) space in
     record {
@@ -39,7 +39,7 @@ update_at-requires-clause-call c =
     let place = c.loop-place.place in
     let is = c.loop-place.invariant in
     let looks : c.resolve-then.result ≡ looks_from start trace address (place + 1) =
-    c.resolve-then.ensures ∙ ap (λ (s : BoundedSpace). look s.space address) (c.in_ok-apply_place.ensures start is.space) in
+    c.resolve-then.ensures ∙ ap (λ (s : BoundedSpace). look s.space address) (c.in_ok-apply_place.ensures.ok start is.space) in
     let test = c.loop-place-test.true in
     let within : place < length trace.log = omega (arith, c.requires.within, test) in
     change_has_call start trace address place within

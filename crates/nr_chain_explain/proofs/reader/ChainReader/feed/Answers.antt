@@ -1,13 +1,9 @@
-use Rattle.std.proofs.Common.{◌≡◌, ℕ, ◌-◌, ◌==◌, true, false, List, [], inl, inr, length, take, drop, refl, ap, sym, ◌∙◌, subst}
-use Rattle.std.proofs.Math.Seq.{take-length}
-use Rattle.std.proofs.lemmas.List.{length-drop, nil_from_length}
+use Rattle.std.proofs.Common.{◌≡◌, ℕ, ◌-◌, ◌==◌, true, false, [], inl, inr, length, drop, refl, ap, sym, ◌∙◌, subst, arith}
+use Rattle.std.proofs.lemmas.List.{length-drop, nil_from_length, take_all}
 use Rattle.nr_chain_explain.specs.inside.Steps.{StepsTo}
 use Rattle.nr_chain_explain.proofs.Feeding.{explains_behind, leads_end, leads_more, leads_on, short_after, short_fresh}
 use Rattle.std.proofs.lemmas.Bool.{eqb-true}
 use Rattle.nr_chain_explain.proofs.reader.ChainReader.feed.Goals as goal
-
-left_behind : (count : ℕ) (rest : List ℕ) → take (length rest - count) (drop count rest) ≡ drop count rest
-left_behind count rest = ap (λ (n : ℕ). take n (drop count rest)) (sym (length-drop count rest)) ∙ take-length (drop count rest)
 
 pub segments-init : goal.segments-init
 segments-init c = record { leads = ([], (refl, refl)); short = inl refl }
@@ -15,9 +11,11 @@ segments-init c = record { leads = ([], (refl, refl)); short = inl refl }
 pub segments-preserved : goal.segments-preserved
 segments-preserved c =
     let step = subst (StepsTo c.segments.reader c.segments.rest.now) c.in-Right.is c.in_ok-next.ensures in
+    let rest = drop c.in-Right.count c.segments.rest.now in
+    let left = take_all (length c.segments.rest.now - c.in-Right.count) rest (omega (arith, length-drop c.in-Right.count c.segments.rest.now)) in
     record {
       leads = leads_on c.args.self c.segments.reader c.in-Right.next c.args.piece.now c.segments.rest.now _ c.in-Right.count
-          c.segments.invariant.leads step (left_behind c.in-Right.count c.segments.rest.now);
+          c.segments.invariant.leads step left;
       short = inr (short_fresh c.segments.reader c.in-Right.next c.segments.rest.now c.in-Right.count step);
     }
 
