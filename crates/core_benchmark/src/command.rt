@@ -1,3 +1,5 @@
+//! The program's words, and what it prints.
+
 use crate::calls::steps;
 use crate::measure::{Measured, measure};
 use crate::scripts::{are_scripts, scripts};

@@ -1,3 +1,5 @@
+//! The recorder's trace of one pen or two, and the version that it needs.
+
 ghost use Rattle.std.specs.Prelude.{◌≡◌, ◌≤◌, [], ◌∷◌, IfOk};
 ghost use Rattle.vs_types.specs.Query.{IsQuery};
 ghost use Rattle.vs_types.specs.declared.limits.TheConstants.{LOG_PLACES};

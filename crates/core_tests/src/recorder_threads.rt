@@ -1,3 +1,5 @@
+//! Two threads record at once.
+
 ghost use Rattle.std.specs.Prelude.{◌≡◌, [], None};
 ghost use Rattle.vs_types.specs.Query.{IsQuery};
 

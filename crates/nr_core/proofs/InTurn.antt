@@ -1,6 +1,7 @@
 -- Steps in turn.
-use Rattle.std.proofs.Common.{◌≡◌, ℕ, zero, suc, ◌+◌, ◌<◌, ◌≤◌, Bool, List, [], ◌∷◌, length, take, get_or, Option, Some, None, refl, subst, ap, sym, ◌∙◌, arith}
+use Rattle.std.proofs.Common.{◌≡◌, ℕ, ◌+◌, ◌<◌, ◌≤◌, Bool, List, length, take, get_or, Option, Some, None, subst, ap, sym, ◌∙◌}
 use Rattle.std.proofs.lemmas.List.{take_all}
+use Rattle.std.proofs.lemmas.List.Sums.{fold_more}
 use Rattle.std.specs.Prelude.{unwrap_or}
 use Rattle.vs_types.specs.Config.{Layout}
 use Rattle.vs_types.specs.declared.request.Query.{Query}
@@ -14,24 +15,13 @@ stepped : (old : State) (o : Option State) (done : Bool) (new : State) → IsSte
 stepped old None done new is = is.1
 stepped old (Some next) done new is = is.1
 
-one_more : (state : State) (steps : List Step) (i : ℕ) (d : Step) → i < length steps
-    → after_steps state (take (suc i) steps) ≡ unwrap_or (after_step (after_steps state (take i steps)) (get_or steps i d)) (after_steps state (take i steps))
-one_more state [] i d within = absurd (omega (arith, within))
-one_more state (step ∷ steps) zero d within = refl
-one_more state (step ∷ steps) (suc i) d within = one_more (unwrap_or (after_step state step) state) steps i d (omega (arith, within))
-
-more : (i : ℕ) → suc i ≡ i + 1
-more i = omega arith
-
 -- one step more
 pub stepped_more : (first core next : State) (steps : List Step) (i : ℕ) (d : Step) (done : Bool) → i < length steps → core ≡ after_steps first (take i steps)
     → IsStepped core (after_step core (get_or steps i d)) done next → next ≡ after_steps first (take (i + 1) steps)
 stepped_more first core next steps i d done within before taken =
-    let begun = after_steps first (take i steps) in
-    let one : after_steps first (take (i + 1) steps) ≡ unwrap_or (after_step begun (get_or steps i d)) begun =
-    subst (λ n. after_steps first (take n steps) ≡ unwrap_or (after_step begun (get_or steps i d)) begun) (more i) (one_more first steps i d within) in
     stepped core (after_step core (get_or steps i d)) done next taken
-    ∙ ap (λ s. unwrap_or (after_step s (get_or steps i d)) s) before ∙ sym one
+    ∙ ap (λ s. unwrap_or (after_step s (get_or steps i d)) s) before
+    ∙ sym (fold_more (λ s step. unwrap_or (after_step s step) s) first steps i d within)
 
 -- after all of them
 pub is_after_all : (layout : Layout) (scripts : List (List Query)) (steps : List Step) (core : State) (trace : Recording) (i : ℕ) → length steps ≤ i

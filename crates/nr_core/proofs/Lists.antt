@@ -1,11 +1,12 @@
 -- Loops over lists.
-use Rattle.std.proofs.Common.{◌≡◌, ℕ, zero, suc, ◌+◌, ◌<◌, Bool, true, false, cond, List, [], ◌∷◌, ◌++◌, length, map, take, drop, get_or, set, Some, None, refl}
-use Rattle.std.proofs.Common.{ap, arith, sym, subst, ◌∙◌, ◌&&◌, nat_eq}
-use Rattle.std.specs.Prelude.{find, slice_get, All}
-use Rattle.std.proofs.lemmas.List.{map_more}
+use Rattle.std.proofs.Common.{◌≡◌, ℕ, zero, suc, ◌+◌, ◌<◌, Bool, true, false, cond, List, [], ◌∷◌, ◌++◌, length, map, take, drop, get_or, Some, None, refl}
+use Rattle.std.proofs.Common.{add-one, ap, arith, sym, subst, ◌∙◌, nat_eq}
+use Rattle.std.specs.Prelude.{find, All}
+use Rattle.std.proofs.Math.Seq.{drop-cons}
+use Rattle.std.proofs.lemmas.List.{length-drop, map_more}
 use Rattle.std.proofs.lemmas.List.Elements.{All-map}
 use Rattle.std.proofs.lemmas.Slice.Zip.{all_zipped_more}
-use Rattle.std.specs.List.{list_all, AllZip}
+use Rattle.std.specs.List.{AllZip}
 use Rattle.vs_types.specs.Operation.{IsAction}
 use Rattle.vs_types.specs.declared.depth.Depth.{Depth}
 use Rattle.nr_core.specs.Steps.{is_some_left, note}
@@ -14,19 +15,6 @@ use Rattle.nr_core.specs.declared.stage.Collected.{Collected}
 
 more : (i : ℕ) → suc i ≡ i + 1
 more i = omega arith
-
--- one element more is mapped in place
-mapped_next : {A : Type 0} (f : A → A) (xs : List A) (i : ℕ) (d : A) → i < length xs
-    → set (map f (take i xs) ++ drop i xs) i (f (get_or (map f (take i xs) ++ drop i xs) i d)) ≡ map f (take (suc i) xs) ++ drop (suc i) xs
-mapped_next f [] i d within = absurd (omega (arith, within))
-mapped_next f (x ∷ xs) zero d within = refl
-mapped_next f (x ∷ xs) (suc i) d within = ap (λ ys. f x ∷ ys) (mapped_next f xs i d (omega (arith, within)))
-
-pub mapped_more : {A : Type 0} (f : A → A) (xs : List A) (i : ℕ) (d : A) → i < length xs
-    → set (map f (take i xs) ++ drop i xs) i (f (get_or (map f (take i xs) ++ drop i xs) i d)) ≡ map f (take (i + 1) xs) ++ drop (i + 1) xs
-mapped_more f xs i d within =
-    subst (λ n. set (map f (take i xs) ++ drop i xs) i (f (get_or (map f (take i xs) ++ drop i xs) i d)) ≡ map f (take n xs) ++ drop n xs) (more i)
-    (mapped_next f xs i d within)
 
 -- the first element that passes is here
 pub found_at : {A : Type 0} (p : A → Bool) (xs : List A) (i : ℕ) (d : A) → find p (take i xs) ≡ None → i < length xs → p (get_or xs i d) ≡ true
@@ -54,30 +42,13 @@ pub none_more : {A : Type 0} (p : A → Bool) (xs : List A) (i : ℕ) (d : A) �
     → find p (take (i + 1) xs) ≡ None
 none_more p xs i d none within fails = subst (λ n. find p (take n xs) ≡ None) (more i) (none_next p xs i d none within fails)
 
-pub list_all-map : {A B : Type 0} (p : B → Bool) (f : A → B) (xs : List A) → list_all p (map f xs) ≡ list_all (λ x. p (f x)) xs
-list_all-map p f [] = refl
-list_all-map p f (x ∷ xs) = ap (λ b. p (f x) && b) (list_all-map p f xs)
-
 -- what is left of a list, and its first
-next_left : {A : Type 0} (xs : List A) (n : ℕ) (x : A) (ys : List A) → drop n xs ≡ x ∷ ys → (n < length xs) × (drop (suc n) xs ≡ ys)
-next_left [] zero x ys is = let wrong : [] ≡ x ∷ ys = is in cc
-next_left [] (suc n) x ys is = let wrong : [] ≡ x ∷ ys = is in cc
-next_left (z ∷ zs) zero x ys is = let it : z ∷ zs ≡ x ∷ ys = is in (omega arith, cc)
-next_left (z ∷ zs) (suc n) x ys is = let rest = next_left zs n x ys is in (omega (arith, rest.0), rest.1)
-
 pub drop_next : {A : Type 0} (xs : List A) (n : ℕ) (x : A) (ys : List A) → drop n xs ≡ x ∷ ys → (n < length xs) × (drop (n + 1) xs ≡ ys)
-drop_next xs n x ys is = let next = next_left xs n x ys is in (next.0, subst (λ m. drop m xs ≡ ys) (more n) next.1)
-
-pub drop_first : {A : Type 0} (xs : List A) (n : ℕ) (x : A) → slice_get xs n ≡ Some x → drop n xs ≡ x ∷ drop (suc n) xs
-drop_first [] n x is = let wrong : None ≡ Some x = is in cc
-drop_first (z ∷ zs) zero x is = let it : Some z ≡ Some x = is in cc
-drop_first (z ∷ zs) (suc n) x is = drop_first zs n x is
-
-pub drop_none : {A : Type 0} (xs : List A) (n : ℕ) → slice_get xs n ≡ None → drop n xs ≡ []
-drop_none [] zero is = refl
-drop_none [] (suc n) is = refl
-drop_none (z ∷ zs) zero is = let wrong : Some z ≡ None = is in cc
-drop_none (z ∷ zs) (suc n) is = drop_none zs n is
+drop_next xs n x ys is =
+    let within : n < length xs = omega (arith, length-drop n xs, ap length is) in
+    let both : get_or xs n x ∷ drop (suc n) xs ≡ x ∷ ys = sym (drop-cons xs n x within) ∙ is in
+    let rest : drop (suc n) xs ≡ ys = cc in
+    (within, rw add-one rest)
 
 -- what is left of a batch
 pub some_left : (batch : List Collected) → (length batch ≡ 0 → ⊥) → is_some_left batch ≡ true

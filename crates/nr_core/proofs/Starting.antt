@@ -38,7 +38,8 @@ threads_seen (s ∷ scripts) = ap (λ ts. new_thread s.items ∷ ts) (threads_se
 -- a state from its parts at the start
 pub parts_good : (layout : Layout) (scripts : List (Vec Query)) (replicas : List ReplicaState)
     → AreScripts layout (map (λ (script : Vec Query). script.items) scripts)
-    → map replica_in replicas ≡ replicate layout.replicas new_replica → All (IsReplica layout) replicas → AreParts layout [] [] replicas (map thread_of scripts)
+    → map replica_in replicas ≡ replicate layout.replicas new_replica → All (IsReplica layout) replicas
+    → AreParts (record { layout = layout; events = []; log = []; completed = 0; replicas = replicas; threads = map thread_of scripts })
 parts_good layout scripts replicas are seen good = record {
   each_thread = threads_good layout scripts are;
   each_replica = good;

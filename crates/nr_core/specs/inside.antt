@@ -2,4 +2,5 @@
 pub mod Reached
 pub mod OneSpace
 pub mod Parts
+pub mod Fields
 pub mod Views

@@ -69,10 +69,7 @@ pub(crate) fn keep_up(replicas: &[ReplicaState], end: usize) -> bool
     requires { end ≤ CALLS }
     ensures { result ≡ list_all (λ replica. nat_le end (replica.marks.local + RING)) replicas.now }
 {
-    for replica in replicas {
-        if end > replica.marks.local as usize + RING {
-            return false;
-        }
-    }
-    true
+    replicas
+        .iter()
+        .all(|replica| end <= replica.marks.local as usize + RING)
 }

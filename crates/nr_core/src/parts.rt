@@ -1,3 +1,4 @@
+//! What is stored of a thread and of a replica.
 use crate::stage::{Collected, Stage};
 use crate::table::Table;
 use vs_types::Request;

@@ -1,3 +1,4 @@
+//! How far a thread has come with its call, and what a batch has of an update.
 ghost use Rattle.std.specs.Prelude.{◌≡◌};
 
 use nr_trace::Event;

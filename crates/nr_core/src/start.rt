@@ -13,7 +13,8 @@ use vs_types::{Config, Memory, Request};
 
 impl Core {
     /// The protocol at its start, with a script for each thread. It keeps the scripts, and allocates memory: 4,101 bytes for each
-    /// table that each replica may have. There is one script for each thread, with at most 65,536 requests in all, each well formed at the depth.
+    /// table that each replica may have. There is one script for each thread, with at most 65,536 requests in all, each well formed
+    /// at the depth.
     ///
     /// # Errors
     ///

@@ -1,3 +1,4 @@
+//! The state of the protocol, as it is stored and as contracts see it.
 use crate::parts::{ReplicaState, ThreadState};
 use nr_trace::Recorded;
 use std::alloc::Global;
@@ -23,15 +24,15 @@ impl Model for Core {
     ghost use Rattle.std.specs.Ordering.{nat_cmp};
     ghost use Rattle.vs_types.specs.contracts.page.Page as page_contract;
     ghost use Rattle.nr_core.specs.State.{State};
-    ghost use Rattle.nr_core.specs.inside.Parts.{state_in, AreParts};
 
     ghost Value = { State };
 
     ghost coded = { Prim.hlevel (codes, finite.code {R = nat_cmp} coded_ℕ page_contract.the_row.coded) };
 
-    ghost view = { λ c.
-        state_in c.config c.events.items c.log.items c.completed c.replicas.items c.threads.items };
+    ghost use Rattle.nr_core.specs.inside.Fields.{parts_in};
+    ghost use Rattle.nr_core.specs.inside.Parts.{state_in, AreParts};
 
-    ghost invariant = { λ c.
-        AreParts c.config c.events.items c.log.items c.replicas.items c.threads.items };
+    ghost view = { λ c. state_in (parts_in c) };
+
+    ghost invariant = { λ c. AreParts (parts_in c) };
 }

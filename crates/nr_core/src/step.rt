@@ -1,3 +1,5 @@
+//! The steps, and what a running thread does for each.
+
 /// One step of one thread. It may name a replica or a thread that is not there; it is not enabled then.
 #[derive(Clone, Copy, Debug, PartialEq, Eq)]
 pub struct Step {

@@ -1,3 +1,4 @@
+//! The page table of a replica.
 ghost use Rattle.std.specs.FinMap as finite;
 ghost use Rattle.std.specs.Prelude.{◌≡◌, ◌+◌, ◌*◌, ◌<◌, ◌≤◌, IfOk};
 ghost use Rattle.vs_types.specs.Depth.{IsCanonical};

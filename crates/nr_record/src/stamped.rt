@@ -1,3 +1,4 @@
+//! A note of a pen.
 use nr_trace::Recorded;
 
 /// What a pen was given with a stamp.

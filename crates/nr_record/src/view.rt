@@ -1,3 +1,4 @@
+//! What a clock is made for, and what is known of it and of a seat at its word.
 use std::collections::LinkedList;
 use vs_types::Config;
 

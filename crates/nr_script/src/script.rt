@@ -1,3 +1,4 @@
+//! A script, and how it is read.
 ghost use Rattle.std.specs.Prelude.{◌≡◌, ◌≤◌, IfOk, IfErr, length, map};
 ghost use Rattle.vs_types.specs.Config.{Layout};
 ghost use Rattle.vs_types.specs.Refusal.{IfRefused};

@@ -9,6 +9,7 @@ use Rattle.std.proofs.lemmas.List.{get_or-map, length-map}
 use Rattle.std.proofs.lemmas.List.Elements.{All-contains, All-head, All-map, All-tail}
 use Rattle.std.proofs.lemmas.Option.{get_or_from_slice_get, slice_get-get_or, slice_get_within, slice_get-map}
 use Rattle.std.proofs.lemmas.Bool.Decides.{Decides-eqb}
+use Rattle.vs_types.proofs.Lists.{item_of}
 use Rattle.vs_types.specs.Config.{Layout}
 use Rattle.vs_types.specs.declared.op.Action.{Action}
 use Rattle.vs_types.specs.declared.request.Query.{Query}
@@ -32,11 +33,6 @@ use Rattle.nr_serve.specs.declared.said.Said.{Said}
 use Rattle.nr_serve.specs.declared.said.Said.TheVariants.{Answer, Stopped}
 use Rattle.nr_serve.proofs.Notes.{AreNoted, answers_are, made_calls, note_is_call, numbers, response, rise_numbers, spoken, stamps}
 use Rattle.nr_serve.proofs.Numbers.{passes_below}
-
-pub present : {X : Type 0} (xs : List X) (k : ℕ) → k < length xs → (x : X) × (slice_get xs k ≡ Some x)
-present [] k lt = absurd (omega arith)
-present (x ∷ xs) zero lt = (x, refl)
-present (x ∷ xs) (suc k) lt = present xs k (omega arith)
 
 all_at : {X : Type 0} (P : X → Type 0) (xs : List X) (k : ℕ) (x : X) → All P xs → slice_get xs k ≡ Some x → P x
 all_at P xs k x all at = subst P (get_or_from_slice_get xs k x x at) (all k x (slice_get_within xs k x at))
@@ -120,7 +116,7 @@ only_own clock log scripts workers events all are thread script worker at served
     let other : WorkerState = get_or workers k worker in
     let other_at : slice_get workers k ≡ Some other = slice_get-get_or workers k worker within in
     let pen_is : pen ≡ other.pen = sym found.1.2 ∙ get_or-map (λ (w : WorkerState). w.pen) workers k worker pen within in
-    let its = present scripts k (omega (arith, within, all.one_each)) in
+    let its = item_of scripts k (omega (arith, within, all.one_each)) in
     let others = all.each k its.0 other its.1 other_at in
     let theirs = subst (λ (made : List Stamped). Contains made item) (ap (λ (p : PenState). p.made) pen_is ∙ others.notes) found.2.1 in
     let one = note_is_call clock.layout k others.calls item thread theirs event in
@@ -230,7 +226,7 @@ known_call : (clock : ClockId) (log : TableId) (scripts : List (List Query)) (wo
     → slice_get workers thread ≡ Some worker → (call : ℕ) (made : Invocation) → call_of trace call ≡ Some made → made.thread ≡ thread
     → IsKnownCall trace clock.layout (log_after clock.layout.replicas worker.pass.view.seen) thread call
 known_call clock log scripts workers trace all are thread worker at call made is_made who =
-    let its = present scripts thread (omega (arith, slice_get_within workers thread worker at, all.one_each)) in
+    let its = item_of scripts thread (omega (arith, slice_get_within workers thread worker at, all.one_each)) in
     let served = all.each thread its.0 worker its.1 at in
     let calls = served.calls in
     let noted = noted_of clock log thread its.0 worker workers trace.events are at served in

@@ -13,7 +13,7 @@ use Rattle.nr_ring.specs.Pass.{Known, TableId}
 use Rattle.nr_record.specs.Pen.{AreAllPens, ClockId, PenState}
 use Rattle.nr_serve.specs.inside.Calls.{AreServed, IsServed, WorkerState}
 use Rattle.nr_serve.specs.inside.Ending.{passes_of, pens_of}
-use Rattle.nr_serve.proofs.Made.{present}
+use Rattle.vs_types.proofs.Lists.{item_of}
 
 -- the thread of this number, its script, and what it has done
 record IsAt (clock : ClockId) (log : TableId) (scripts : List (List Query)) (workers : List WorkerState) (k : ℕ) (worker : WorkerState) : Type 0 where
@@ -24,7 +24,7 @@ record IsAt (clock : ClockId) (log : TableId) (scripts : List (List Query)) (wor
 is_at : (clock : ClockId) (log : TableId) (scripts : List (List Query)) (workers : List WorkerState) → AreServed clock log scripts workers
     → (k : ℕ) (d : WorkerState) → k < length workers → IsAt clock log scripts workers k (get_or workers k d)
 is_at clock log scripts workers all k d lt =
-    let its = present scripts k (omega (arith, lt, all.one_each)) in
+    let its = item_of scripts k (omega (arith, lt, all.one_each)) in
     record { script = its.0; at = its.1; served = all.each k its.0 (get_or workers k d) its.1 (slice_get-get_or workers k d lt) }
 
 pub all_of_log : (clock : ClockId) (log : TableId) (scripts : List (List Query)) (workers : List WorkerState) → AreServed clock log scripts workers
@@ -44,7 +44,7 @@ threads_are clock log scripts workers all each =
     same_lists (map thread_of pens) (range_with_len 0 n) (long ∙ all.one_each ∙ each ∙ sym (length-range_with_len 0 n))
     (λ k d lt.
     let within : k < length workers = omega (arith, lt, long) in
-    let w = (present workers k within).0 in
+    let w = (item_of workers k within).0 in
     let is = (is_at clock log scripts workers all k w within).served.of_thread in
     let there = length-map workers (λ (v : WorkerState). v.pen) in
     let counted : get_or (range_with_len 0 n) k d ≡ 0 + k = get_or-range_with_len 0 n k d (omega (arith, within, all.one_each, each)) in
@@ -63,7 +63,7 @@ quotas_are clock log scripts workers all =
     same_lists (map quota_of pens) (map length_of scripts) (long ∙ all.one_each ∙ sym (length-map scripts length_of))
     (λ k d lt.
     let within : k < length workers = omega (arith, lt, long) in
-    let w = (present workers k within).0 in
+    let w = (item_of workers k within).0 in
     let is = is_at clock log scripts workers all k w within in
     let there = length-map workers (λ (v : WorkerState). v.pen) in
     let script_is : get_or scripts k is.script ≡ is.script = get_or_from_slice_get scripts k is.script is.script is.at in

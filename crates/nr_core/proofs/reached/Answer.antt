@@ -7,7 +7,7 @@ use Rattle.std.proofs.lemmas.Bool.{false≢true}
 use Rattle.std.proofs.lemmas.Option.{same_Some, none-some}
 use Rattle.vs_types.specs.declared.request.Query.TheVariants.{Update}
 use Rattle.nr_trace.specs.Calls.{made_by}
-use Rattle.nr_trace.proofs.LawsOfLists.{In, in_filter, absent_from, absent_not_in}
+use Rattle.nr_trace.proofs.LawsOfLists.{In, in_filter, absent_from, absent_not_in, in_map, in_mapped}
 use Rattle.nr_core.specs.State.{State, Thread, Replica, with_thread, with_replica}
 use Rattle.nr_core.specs.Steps.{without, is_some_left}
 use Rattle.nr_core.specs.declared.stage.Answered.{Answered}
@@ -15,8 +15,8 @@ use Rattle.nr_core.specs.declared.stage.Collected.{Collected}
 use Rattle.nr_core.specs.declared.stage.Stage.TheVariants.{Taken, Ready}
 use Rattle.nr_core.specs.Laws.{IsTaken}
 use Rattle.nr_core.specs.inside.Reached.{At, call_at, made_of, shared_in, FitsStage, open_in, IsRight, IsCollected, AreCollected, IsReached}
-use Rattle.nr_core.proofs.reached.Places.{each_set, in_map, in_mapped}
-use Rattle.nr_core.proofs.reached.Growth.{read_within, replies_have_calls, right_stays}
+use Rattle.nr_core.proofs.reached.Places.{each_set}
+use Rattle.nr_core.proofs.reached.Growth.{read_within, right_stays}
 use Rattle.nr_core.proofs.reached.Changes.{thread_changes, replica_changes, replica_grows, nothing_grows, still_collected, collected_stays, taken_keeps}
 
 distinct_left : (p : Collected → Bool) (batch : List Collected) → IsDistinct nat_eq (map (λ (u : Collected). u.entry.call) batch)
@@ -89,10 +89,7 @@ answered state s r call replica other u a reached there here i of_s noted is =
         ap (call_at state.events) noted_call.0 ∙ item.asks ∙ ap (λ n. Some (made_of state.layout n (Update u.entry.op))) of_s,
         subst (λ n. IsRight state.layout (shared_in (with_replica state r later))
             (made_of state.layout n (Update u.entry.op)) a.call a.at a.answer) of_s
-            (right_stays state.layout (shared_in state) (shared_in (with_replica state r later))
-            (made_of state.layout u.thread (Update u.entry.op)) a.call a.at a.answer
-            (replica_grows state r replica later there (omega arith))
-            (replies_have_calls state.layout (shared_in state) reached.replies) reached.completed
+            (right_stays (replica_grows state r replica later reached there (omega arith))
             (subst (λ (n : ℕ). n < length state.events) (sym noted_call.0) (read_within made_by state.events u.entry.call _ item.asks)) noted_call.1),
       )
 
@@ -102,8 +99,5 @@ answered state s r call replica other u a reached there here i of_s noted is =
           (λ n y out f k. out (sym (reached.collected n y v f k).home ∙ ap (λ m. m % state.layout.replicas) (e ∙ sym of_s) ∙ item.home)) q x at j
 
       left : AreCollected state.layout (shared_in (with_replica state r later)) (slice_set state.threads s next)
-      left q x v at j = collected_stays state.layout (shared_in (with_replica state r later)) (shared_in (with_replica state r later)) state.threads
-          (slice_set state.threads s next) q x.placed x.placed v (nothing_grows (shared_in (with_replica state r later)))
-          (replies_have_calls state.layout (shared_in (with_replica state r later)) first.replies) first.completed
+      left q x v at j = collected_stays (nothing_grows (with_replica state r later) first) (first.collected q x v at j)
           (taken_keeps state.threads s v.thread v.entry.call other next here (λ e f. absurd (not_of_s q x v at j e))) (λ h. h)
-          (first.collected q x v at j)

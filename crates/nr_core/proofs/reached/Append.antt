@@ -6,11 +6,11 @@ use Rattle.std.proofs.lemmas.Bool.{false≢true}
 use Rattle.vs_types.specs.declared.log_entry.LogEntry.{LogEntry}
 use Rattle.vs_types.specs.declared.request.Query.TheVariants.{Update}
 use Rattle.nr_trace.specs.Calls.{Invocation}
-use Rattle.nr_trace.proofs.LawsOfLists.{In}
+use Rattle.nr_trace.proofs.LawsOfLists.{In, in_map}
 use Rattle.nr_core.specs.State.{State, Thread, Replica, with_replica}
 use Rattle.nr_core.specs.declared.stage.Collected.{Collected}
 use Rattle.nr_core.specs.inside.Reached.{At, call_at, made_of, calls_of, waiting_in, IsFresh, IsReached}
-use Rattle.nr_core.proofs.reached.Places.{each_set, in_map}
+use Rattle.nr_core.proofs.reached.Places.{each_set}
 use Rattle.nr_core.proofs.reached.Changes.{replica_changes, still_collected, log_grows}
 use Rattle.nr_core.proofs.reached.Waiting.{waiting_not_collected, same_thread}
 

@@ -13,13 +13,13 @@ use Rattle.vs_types.specs.declared.log_entry.LogEntry.{LogEntry}
 use Rattle.vs_types.specs.declared.op.Action.{Action}
 use Rattle.vs_types.specs.declared.request.Query.TheVariants.{Update}
 use Rattle.nr_trace.specs.Calls.{Invocation, operation_in}
-use Rattle.nr_trace.proofs.LawsOfLists.{In}
+use Rattle.nr_trace.proofs.LawsOfLists.{In, in_map}
 use Rattle.nr_core.specs.State.{State, Replica, with_replica}
 use Rattle.nr_core.specs.Steps.{note, with_entry}
 use Rattle.nr_core.specs.declared.stage.Answered.{Answered}
 use Rattle.nr_core.specs.declared.stage.Collected.{Collected}
 use Rattle.nr_core.specs.inside.Reached.{At, call_at, made_of, space_at, shared_in, IsRight, IsCollected, IsReplicaOf, IsReached}
-use Rattle.nr_core.proofs.reached.Places.{at_set, in_map, at_mapped}
+use Rattle.nr_core.proofs.reached.Places.{at_set, at_mapped}
 use Rattle.nr_core.proofs.reached.Changes.{replica_changes, still_collected}
 
 -- ---- the space after one entry more

@@ -7,11 +7,11 @@ use Rattle.vs_types.specs.declared.request.Query.{Query}
 use Rattle.nr_trace.specs.Calls.{Invocation, made_by, Response, reply_in}
 use Rattle.nr_trace.specs.declared.event.Event.{Event}
 use Rattle.nr_trace.specs.declared.event.Event.TheVariants as events
-use Rattle.nr_trace.proofs.LawsOfLists.{In}
+use Rattle.nr_trace.proofs.LawsOfLists.{In, in_map}
 use Rattle.nr_core.specs.State.{State, Thread, home, with_thread}
 use Rattle.nr_core.specs.declared.stage.Stage.TheVariants.{Idle, Called}
 use Rattle.nr_core.specs.inside.Reached.{At, RepliesTo, made_of, open_in, IsUnanswered, HasOpen, IsFresh, AreCalls, IsReached}
-use Rattle.nr_core.proofs.reached.Places.{at_set, at_in, in_map}
+use Rattle.nr_core.proofs.reached.Places.{at_set, at_in}
 use Rattle.nr_core.proofs.reached.Growth.{Longer, read_within, read_stays}
 use Rattle.nr_core.proofs.reached.Events.{one_longer, answer_last, last_read, calls_go_on, event_recorded}
 

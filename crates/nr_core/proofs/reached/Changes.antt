@@ -4,7 +4,7 @@ use Rattle.std.proofs.Common.{arith}
 use Rattle.std.specs.Prelude.{slice_set}
 use Rattle.std.specs.List.{IsDistinct}
 use Rattle.std.proofs.lemmas.Bool.{cases_eq}
-use Rattle.std.proofs.lemmas.List.{map-append}
+use Rattle.std.proofs.lemmas.List.{length-append, map-append}
 use Rattle.std.proofs.lemmas.Option.{same_Some}
 use Rattle.vs_types.specs.Config.{Layout}
 use Rattle.vs_types.specs.declared.log_entry.LogEntry.{LogEntry}
@@ -14,13 +14,12 @@ use Rattle.nr_trace.specs.declared.event.Event.{Event}
 use Rattle.nr_trace.proofs.LawsOfLists.{In, in_either, distinct_append}
 use Rattle.nr_core.specs.State.{State, Thread, Replica, with_thread, with_replica}
 use Rattle.nr_core.specs.declared.stage.Collected.{Collected}
-use Rattle.nr_core.specs.declared.stage.Answered.{Answered}
 use Rattle.nr_core.specs.declared.stage.Stage.TheVariants.{Taken}
 use Rattle.nr_core.specs.Laws.{IsTaken}
-use Rattle.nr_core.specs.inside.Reached.{At, call_at, RepliesTo, made_of, Behind, calls_of, Shared, shared_in, IsRight, FitsStage, open_in, waiting_in}
+use Rattle.nr_core.specs.inside.Reached.{At, call_at, RepliesTo, Behind, calls_of, Shared, shared_in, FitsStage, open_in, waiting_in}
 use Rattle.nr_core.specs.inside.Reached.{IsUnanswered, HasOpen, IsFresh, IsCollected, IsReplicaOf, AreCalls, AreCollected, IsReached}
 use Rattle.nr_core.proofs.reached.Places.{each_set, at_set, at_other, at_front, at_either}
-use Rattle.nr_core.proofs.reached.Growth.{Longer, Grows, HaveCalls, read_within, read_stays, replies_have_calls, behind_completed, behind_more, space_stays}
+use Rattle.nr_core.proofs.reached.Growth.{Longer, Grows, read_within, read_stays, replies_have_calls, behind_completed, behind_more, space_stays}
 use Rattle.nr_core.proofs.reached.Growth.{right_stays}
 use Rattle.nr_core.proofs.reached.Growth.{stage_fits, replies_stay}
 
@@ -29,15 +28,16 @@ same_events events = record { stays = λ i event e. e; stood = λ i event l e. e
 
 -- ---- one thread
 
-open_keeps : (threads : List Thread) (t u call : ℕ) (thread next : Thread) → At threads t thread → open_in next.stage ≡ open_in thread.stage
-    → HasOpen threads u call → HasOpen (slice_set threads t next) u call
-open_keeps threads t u call thread next at same (other, there, is) = by_case (cases_eq u t) where
-  by_case : (u ≡ t) ⊎ (u ≡ t → ⊥) → HasOpen (slice_set threads t next) u call
+-- what holds of some thread at an index still does
+still_some : (P : Thread → Type 0) (threads : List Thread) (t u : ℕ) (thread next : Thread) → At threads t thread → (u ≡ t → P thread → P next)
+    → (x : Thread) × At threads u x × P x → (x : Thread) × At (slice_set threads t next) u x × P x
+still_some P threads t u thread next at same (other, there, is) = by_case (cases_eq u t) where
+  by_case : (u ≡ t) ⊎ (u ≡ t → ⊥) → (x : Thread) × At (slice_set threads t next) u x × P x
   by_case (inl e) =
-      let one : thread ≡ other = same_Some thread other (sym at ∙ ap (slice_get threads) (sym e) ∙ there) in (
+      let one : other ≡ thread = same_Some other thread (sym there ∙ ap (slice_get threads) e ∙ at) in (
         next,
         subst (λ (v : ℕ). At (slice_set threads t next) v next) (sym e) (at_set threads t thread next at),
-        same ∙ ap (λ (x : Thread). open_in x.stage) one ∙ is,
+        same e (subst P one is),
       )
   by_case (inr out) = (other, at_other threads t u other next out there, is)
 
@@ -53,46 +53,37 @@ calls_keep events threads t thread next at same calls = record {
 } where
   still : (call : ℕ) (made : Invocation) → HasOpen threads made.thread call ⊎ ((index : ℕ) × RepliesTo events index call)
       → HasOpen (slice_set threads t next) made.thread call ⊎ ((index : ℕ) × RepliesTo events index call)
-  still call made (inl h) = inl (open_keeps threads t made.thread call thread next at same h)
+  still call made (inl h) =
+      inl (still_some (λ (x : Thread). open_in x.stage ≡ Some call) threads t made.thread thread next at (λ _ is. same ∙ is) h)
   still call made (inr h) = inr h
 
 pub taken_keeps : (threads : List Thread) (t u call : ℕ) (thread next : Thread) → At threads t thread
     → (u ≡ t → thread.stage ≡ Taken call → next.stage ≡ Taken call)
     → IsTaken threads u call → IsTaken (slice_set threads t next) u call
-taken_keeps threads t u call thread next at same (other, there, is) = by_case (cases_eq u t) where
-  by_case : (u ≡ t) ⊎ (u ≡ t → ⊥) → IsTaken (slice_set threads t next) u call
-  by_case (inl e) =
-      let one : thread ≡ other = same_Some thread other (sym at ∙ ap (slice_get threads) (sym e) ∙ there) in (
-        next,
-        subst (λ (v : ℕ). At (slice_set threads t next) v next) (sym e) (at_set threads t thread next at),
-        same e (ap (λ (x : Thread). x.stage) one ∙ is),
-      )
-  by_case (inr out) = (other, at_other threads t u other next out there, is)
+taken_keeps threads t u call thread next at same = still_some (λ (x : Thread). x.stage ≡ Taken call) threads t u thread next at same
 
-pub collected_stays : (layout : Layout) (before after : Shared) (threads threads' : List Thread) (r : ℕ) (placed placed' : Bool) (update : Collected)
-    → Grows before after → HaveCalls before.events → before.completed ≤ length before.log
+pub collected_stays : {layout : Layout} {before after : Shared} {threads threads' : List Thread} {r : ℕ} {placed placed' : Bool} {update : Collected}
+    → Grows before after → IsCollected layout before threads r placed update
     → (IsTaken threads update.thread update.entry.call → IsTaken threads' update.thread update.entry.call)
     → ((placed ≡ false → IsFresh before.log update.entry.call) → placed' ≡ false → IsFresh after.log update.entry.call)
-    → IsCollected layout before threads r placed update → IsCollected layout after threads' r placed' update
-collected_stays layout before after threads threads' r placed placed' update grows have l taken fresh h = record {
+    → IsCollected layout after threads' r placed' update
+collected_stays {before = before} {after = after} {update = update} grows h taken fresh = record {
   home = h.home;
   taken = taken h.taken;
   asks = read_stays made_by before.events after.events update.entry.call _ grows.longer h.asks;
-  noted = λ a e. later a (h.noted a e);
-  fresh = fresh h.fresh;
-} where
-  later : (a : Answered) → (a.call ≡ update.entry.call) × IsRight layout before (made_of layout update.thread (Update update.entry.op)) a.call a.at a.answer
-      → (a.call ≡ update.entry.call) × IsRight layout after (made_of layout update.thread (Update update.entry.op)) a.call a.at a.answer
-  later a (is, right) = (
+  noted = λ a e. let (is, right) = h.noted a e in (
     is,
-    right_stays layout before after (made_of layout update.thread (Update update.entry.op)) a.call a.at a.answer grows have l
-        (subst (λ (n : ℕ). n < length before.events) (sym is) (read_within made_by before.events update.entry.call _ h.asks)) right,
-  )
+    right_stays grows (subst (λ (n : ℕ). n < length before.events) (sym is) (read_within made_by before.events update.entry.call _ h.asks)) right,
+  );
+  fresh = fresh h.fresh;
+}
 
 -- nothing goes on but one thread
-pub nothing_grows : (shared : Shared) → Grows shared shared
-nothing_grows shared = record {
-  longer = same_events shared.events;
+pub nothing_grows : (state : State) → IsReached state → Grows (shared_in state) (shared_in state)
+nothing_grows state reached = record {
+  have = replies_have_calls state.layout (shared_in state) reached.replies;
+  within = reached.completed;
+  longer = same_events state.events;
   entry_stays = λ i entry e. e;
   rises = omega arith;
   goes_on = λ r later e. (later, e, omega arith);
@@ -103,11 +94,8 @@ pub collected_keep : (state : State) (t : ℕ) (thread next : Thread) → IsReac
     → ((call : ℕ) → thread.stage ≡ Taken call → next.stage ≡ Taken call)
     → AreCollected state.layout (shared_in state) (slice_set state.threads t next)
 collected_keep state t thread next reached at same r replica update there i =
-    collected_stays state.layout (shared_in state) (shared_in state) state.threads (slice_set state.threads t next) r replica.placed replica.placed update
-    (nothing_grows (shared_in state))
-    (replies_have_calls state.layout (shared_in state) reached.replies) reached.completed
+    collected_stays (nothing_grows state reached) (reached.collected r replica update there i)
     (taken_keeps state.threads t update.thread update.entry.call thread next at (λ _. same update.entry.call)) (λ h. h)
-    (reached.collected r replica update there i)
 
 pub thread_changes : (state : State) (t : ℕ) (thread next : Thread) → IsReached state → At state.threads t thread → open_in next.stage ≡ open_in thread.stage
     → FitsStage state.layout (shared_in state) t next.stage
@@ -131,12 +119,14 @@ thread_changes state t thread next reached at same fits waits collected = record
 
 -- ---- one replica
 
-pub replica_grows : (state : State) (r : ℕ) (replica next : Replica) → At state.replicas r replica → replica.applied ≤ next.applied
+pub replica_grows : (state : State) (r : ℕ) (replica next : Replica) → IsReached state → At state.replicas r replica → replica.applied ≤ next.applied
     → Grows (shared_in state) (shared_in (with_replica state r next))
-replica_grows state r replica next at more = record {
-  longer = same_events state.events;
-  entry_stays = λ i entry e. e;
-  rises = omega arith;
+replica_grows state r replica next reached at more = let same = nothing_grows state reached in record {
+  have = same.have;
+  within = same.within;
+  longer = same.longer;
+  entry_stays = same.entry_stays;
+  rises = same.rises;
   goes_on = each_set (λ q (x : Replica). (first : Replica) × At state.replicas q first × (first.applied ≤ x.applied)) state.replicas r next
       (replica, at, more) (λ q x out e. (x, e, omega arith));
 }
@@ -148,10 +138,7 @@ pub still_collected : (state : State) (r : ℕ) (replica next : Replica) (update
     → In update replica.batch
     → IsCollected state.layout (shared_in (with_replica state r next)) state.threads r next.placed update
 still_collected state r replica next update reached at more fresh i =
-    collected_stays state.layout (shared_in state) (shared_in (with_replica state r next)) state.threads state.threads r replica.placed next.placed update
-    (replica_grows state r replica next at more)
-    (replies_have_calls state.layout (shared_in state) reached.replies) reached.completed (λ h. h) fresh
-    (reached.collected r replica update at i)
+    collected_stays (replica_grows state r replica next reached at more) (reached.collected r replica update at i) (λ h. h) fresh
 
 pub replica_changes : (state : State) (r : ℕ) (replica next : Replica) → IsReached state → At state.replicas r replica → replica.applied ≤ next.applied
     → IsReplicaOf state.layout state.log state.completed next
@@ -161,8 +148,8 @@ pub replica_changes : (state : State) (r : ℕ) (replica next : Replica) → IsR
     → IsReached (with_replica state r next)
 replica_changes state r replica next reached at more is collected distinct = record {
   calls = reached.calls;
-  replies = replies_stay state.layout (shared_in state) later refl grows reached.completed reached.replies;
-  threads = λ t thread e. stage_fits state.layout (shared_in state) later t thread.stage grows have reached.completed (reached.threads t thread e);
+  replies = replies_stay state.layout refl grows reached.replies;
+  threads = λ t thread e. stage_fits state.layout t thread.stage grows (reached.threads t thread e);
   waiting = reached.waiting;
   entries = reached.entries;
   distinct = reached.distinct;
@@ -174,54 +161,39 @@ replica_changes state r replica next reached at more is collected distinct = rec
   batches = each_set (λ q (x : Replica). IsDistinct nat_eq (map (λ update. update.entry.call) x.batch)) state.replicas r next distinct
       (λ q x out e. reached.batches q x e);
 } where
-  later : Shared
-  later = shared_in (with_replica state r next)
-
-  grows : Grows (shared_in state) later
-  grows = replica_grows state r replica next at more
-
-  have : HaveCalls state.events
-  have = replies_have_calls state.layout (shared_in state) reached.replies
+  grows : Grows (shared_in state) (shared_in (with_replica state r next))
+  grows = replica_grows state r replica next reached at more
 
   others : (q : ℕ) (x : Replica) (update : Collected) → At state.replicas q x → In update x.batch
       → IsCollected state.layout (shared_in (with_replica state r next)) state.threads q x.placed update
-  others q x update e i = collected_stays state.layout (shared_in state) later state.threads state.threads q x.placed x.placed update grows have
-      reached.completed (λ h. h) (λ h. h)
-      (reached.collected q x update e i)
+  others q x update e i = collected_stays grows (reached.collected q x update e i) (λ h. h) (λ h. h)
 
 -- ---- the completed tail
 
 pub completed_rises : (state : State) (n : ℕ) → IsReached state → state.completed ≤ n → n ≤ length state.log → IsReached (record state { completed = n })
 completed_rises state n reached more l = record {
   calls = reached.calls;
-  replies = replies_stay state.layout (shared_in state) after refl grows reached.completed reached.replies;
-  threads = λ t thread e. stage_fits state.layout (shared_in state) after t thread.stage grows have reached.completed (reached.threads t thread e);
+  replies = replies_stay state.layout refl grows reached.replies;
+  threads = λ t thread e. stage_fits state.layout t thread.stage grows (reached.threads t thread e);
   waiting = reached.waiting;
   entries = reached.entries;
   distinct = reached.distinct;
   completed = l;
-  replicas = λ r replica e. later replica (reached.replicas r replica e);
-  collected = λ r replica update e i. collected_stays state.layout (shared_in state) after state.threads state.threads r replica.placed replica.placed update
-      grows have reached.completed (λ h. h) (λ h. h)
-      (reached.collected r replica update e i);
+  replicas = λ r replica e.
+      let h = reached.replicas r replica e in
+      record { fetched = h.fetched; known = omega (arith, h.known, more); space = h.space };
+  collected = λ r replica update e i. collected_stays grows (reached.collected r replica update e i) (λ h. h) (λ h. h);
   batches = reached.batches;
 } where
-  after : Shared
-  after = shared_in (record state { completed = n })
-
-  grows : Grows (shared_in state) after
-  grows = record {
-    longer = same_events state.events;
-    entry_stays = λ i entry e. e;
+  grows : Grows (shared_in state) (shared_in (record state { completed = n }))
+  grows = let same = nothing_grows state reached in record {
+    have = same.have;
+    within = same.within;
+    longer = same.longer;
+    entry_stays = same.entry_stays;
     rises = more;
-    goes_on = λ r replica e. (replica, e, omega arith);
+    goes_on = same.goes_on;
   }
-
-  have : HaveCalls state.events
-  have = replies_have_calls state.layout (shared_in state) reached.replies
-
-  later : (replica : Replica) → IsReplicaOf state.layout state.log state.completed replica → IsReplicaOf state.layout state.log n replica
-  later replica h = let k = h.known in record { fetched = h.fetched; known = omega arith; space = h.space }
 
 -- ---- the log
 
@@ -246,50 +218,34 @@ pub log_grows : (state : State) (entries : List LogEntry) → IsReached state �
     → IsReached (record state { log = state.log ++ entries })
 log_grows state entries reached new = record {
   calls = reached.calls;
-  replies = replies_stay state.layout (shared_in state) after refl grows reached.completed reached.replies;
-  threads = λ t thread e. stage_fits state.layout (shared_in state) after t thread.stage grows have reached.completed (reached.threads t thread e);
+  replies = replies_stay state.layout refl grows reached.replies;
+  threads = λ t thread e. stage_fits state.layout t thread.stage grows (reached.threads t thread e);
   waiting = λ t thread call e is. fresh_in_both state.log entries call (reached.waiting t thread call e is) (new.not_waiting t thread call e is);
   entries = λ place entry e. each place entry (at_either state.log entries place entry e);
   distinct = subst (IsDistinct nat_eq) (sym (calls_of_both state.log entries))
       (distinct_append (calls_of state.log) (calls_of entries) reached.distinct new.once (λ call i j. new.fresh call j i));
-  completed = longer reached.completed (Rattle.std.proofs.Common.length-append state.log entries);
-  replicas = λ r replica e. later replica (reached.replicas r replica e);
-  collected = λ r replica update e i. collected_stays state.layout (shared_in state) after state.threads state.threads r replica.placed replica.placed update
-      grows have reached.completed (λ h. h)
-      (λ h f. fresh_in_both state.log entries update.entry.call (h f) (new.in_no_other r replica update e i f))
-      (reached.collected r replica update e i);
+  completed = omega (arith, reached.completed, length-append state.log entries);
+  replicas = λ r replica e.
+      let h = reached.replicas r replica e in
+      record {
+        fetched = h.fetched;
+        known = h.known;
+        space = h.space ∙ space_stays state.layout state.log (state.log ++ entries) replica.applied (at_front state.log entries)
+            (omega (arith, h.fetched, h.known, reached.completed));
+      };
+  collected = λ r replica update e i. collected_stays grows (reached.collected r replica update e i) (λ h. h)
+      (λ h f. fresh_in_both state.log entries update.entry.call (h f) (new.in_no_other r replica update e i f));
   batches = reached.batches;
 } where
-  stays : (i : ℕ) (entry : LogEntry) → At state.log i entry → At (state.log ++ entries) i entry
-  stays i entry e = at_front state.log entries i entry e
-
-  after : Shared
-  after = shared_in (record state { log = state.log ++ entries })
-
-  grows : Grows (shared_in state) after
-  grows = record {
-    longer = same_events state.events;
-    entry_stays = stays;
-    rises = omega arith;
-    goes_on = λ r replica e. (replica, e, omega arith);
+  grows : Grows (shared_in state) (shared_in (record state { log = state.log ++ entries }))
+  grows = let same = nothing_grows state reached in record {
+    have = same.have;
+    within = same.within;
+    longer = same.longer;
+    entry_stays = at_front state.log entries;
+    rises = same.rises;
+    goes_on = same.goes_on;
   }
-
-  have : HaveCalls state.events
-  have = replies_have_calls state.layout (shared_in state) reached.replies
-
-  longer : state.completed ≤ length state.log → length (state.log ++ entries) ≡ length state.log + length entries
-      → state.completed ≤ length (state.log ++ entries)
-  longer h e = omega arith
-
-  later : (replica : Replica) → IsReplicaOf state.layout state.log state.completed replica
-      → IsReplicaOf state.layout (state.log ++ entries) state.completed replica
-  later replica h = record {
-    fetched = h.fetched;
-    known = h.known;
-    space = h.space ∙ space_stays state.layout state.log (state.log ++ entries) replica.applied stays (within h.fetched h.known reached.completed);
-  } where
-    within : replica.applied ≤ replica.local → replica.local ≤ state.completed → state.completed ≤ length state.log → replica.applied ≤ length state.log
-    within a b c = omega arith
 
   each : (place : ℕ) (entry : LogEntry) → At state.log place entry ⊎ ((length state.log ≤ place) × In entry entries)
       → (made : Invocation) × (call_at state.events entry.call ≡ Some made) × (made.request ≡ Update entry.op) × Behind state.events entry.call place
@@ -299,8 +255,6 @@ log_grows state entries reached new = record {
         made,
         e,
         asks,
-        behind_more state.events entry.call state.completed place (more reached.completed l)
+        behind_more state.events entry.call state.completed place (omega (arith, reached.completed, l))
             (behind_completed state.layout (shared_in state) entry.call reached.replies),
-      ) where
-        more : state.completed ≤ length state.log → length state.log ≤ place → state.completed ≤ place
-        more a b = omega arith
+      )

@@ -1,5 +1,5 @@
 -- No fault of the events by themselves, of the log or of a reply's place.
-use Rattle.std.proofs.Common.{◌≡◌, ℕ, ◌<◌, ◌≤◌, List, length, Some, refl, ap, sym, ◌∙◌, arith}
+use Rattle.std.proofs.Common.{◌≡◌, ℕ, List, Some, refl, ap, sym, ◌∙◌, arith}
 use Rattle.std.proofs.lemmas.List.{length-map}
 use Rattle.std.proofs.lemmas.Option.{same_Some}
 use Rattle.vs_types.specs.declared.log_entry.LogEntry.{LogEntry}
@@ -57,7 +57,5 @@ clean_log state version dumps reached = record {
   past_log : (index : ℕ) → HasFault (recording state version dumps) (PastLog index) → ⊥
   past_log index (reply, e, (is_read, past)) =
       let (made, before, is, right) = reached.replies index reply e in
-      beyond (at_within_reach made.request reply.at) right.known reached.completed (length-map state.log (λ (entry : LogEntry). entry.call)) past where
-        beyond : {r : ℕ} → reply.at ≤ r → r ≤ state.completed → state.completed ≤ length state.log → length (calls_of state.log) ≡ length state.log
-            → length (calls_of state.log) < reply.at → ⊥
-        beyond a b c d f = omega arith
+      let long = length-map state.log (λ (entry : LogEntry). entry.call) in
+      omega (arith, at_within_reach made.request reply.at, right.known, reached.completed, long, past)

@@ -5,13 +5,13 @@ use Rattle.std.specs.List.{IsDistinct}
 use Rattle.std.proofs.lemmas.List.{map-append}
 use Rattle.std.proofs.lemmas.Option.{none-some}
 use Rattle.vs_types.specs.declared.op.Action.{Action}
-use Rattle.nr_trace.proofs.LawsOfLists.{In, in_either, distinct_append, option_distinct}
+use Rattle.nr_trace.proofs.LawsOfLists.{In, in_either, distinct_append, option_distinct, in_map}
 use Rattle.nr_core.specs.State.{State, Thread, Replica, home, with_thread, with_replica}
 use Rattle.nr_core.specs.Steps.{with_update}
 use Rattle.nr_core.specs.declared.stage.Collected.{Collected}
 use Rattle.nr_core.specs.declared.stage.Stage.TheVariants.{Posted, Taken}
 use Rattle.nr_core.specs.inside.Reached.{At, shared_in, FitsStage, IsCollected, open_in, waiting_in, IsReached}
-use Rattle.nr_core.proofs.reached.Places.{at_set, in_map}
+use Rattle.nr_core.proofs.reached.Places.{at_set}
 use Rattle.nr_core.proofs.reached.Changes.{thread_changes, replica_changes, still_collected, collected_keep}
 use Rattle.nr_core.proofs.reached.Waiting.{waiting_not_collected}
 

@@ -1,5 +1,5 @@
 -- No fault of a dump.
-use Rattle.std.proofs.Common.{◌≡◌, ℕ, ◌<◌, ◌≤◌, List, length, take, slice_get, Option, Some, None, refl, ap, sym, ◌∙◌, subst, arith}
+use Rattle.std.proofs.Common.{◌≡◌, ℕ, List, take, slice_get, Option, Some, None, refl, ap, sym, ◌∙◌, subst, arith}
 use Rattle.std.proofs.lemmas.List.{length-map}
 use Rattle.std.specs.Prelude.{MatchOption, IsSomeAnd}
 use Rattle.std.specs.List.{AllZip}
@@ -44,11 +44,8 @@ pub none_past_log : (state : State) (version : Version) (dumps : List Image) (r 
 none_past_log state version dumps r reached are (dump, at, is_there, past) =
     let (replica, there, is) = the_replica state dumps r dump are at in
     let of_replica = reached.replicas r replica there in
-    beyond replica.applied replica.local is.applied of_replica.fetched of_replica.known reached.completed
-    (length-map state.log (λ (entry : LogEntry). entry.call)) past where
-      beyond : (applied local : ℕ) → dump.applied ≡ applied → applied ≤ local → local ≤ state.completed → state.completed ≤ length state.log
-          → length (calls_of state.log) ≡ length state.log → length (calls_of state.log) < dump.applied → ⊥
-      beyond applied local a b c d e f = omega arith
+    let long = length-map state.log (λ (entry : LogEntry). entry.call) in
+    omega (arith, is.applied, of_replica.fetched, of_replica.known, reached.completed, long, past)
 
 pub none_short : (state : State) (version : Version) (dumps : List Image) (r : ℕ) → IsReached state → AreDumps state dumps
     → HasFault (recording state version dumps) (PrefixShort r) → ⊥

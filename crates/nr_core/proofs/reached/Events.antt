@@ -1,5 +1,5 @@
 -- One event more.
-use Rattle.std.proofs.Common.{◌≡◌, ℕ, ◌<◌, ◌≤◌, ◌⊎◌, inl, inr, List, [], ◌∷◌, ◌++◌, length, slice_get, Option, Some, ap, sym, ◌∙◌, subst, arith}
+use Rattle.std.proofs.Common.{◌≡◌, ℕ, ◌<◌, ◌⊎◌, inl, inr, List, [], ◌∷◌, ◌++◌, length, slice_get, Option, Some, ap, sym, ◌∙◌, subst, arith}
 use Rattle.std.specs.Prelude.{slice_set}
 use Rattle.std.proofs.lemmas.Bool.{cases_eq}
 use Rattle.vs_types.specs.declared.log_entry.LogEntry.{LogEntry}
@@ -12,10 +12,10 @@ use Rattle.nr_core.specs.inside.Reached.{HasOpen, IsUnanswered, open_in}
 use Rattle.nr_core.specs.inside.Reached.{At, call_at, reply_at, RepliesTo, Behind, Shared, shared_in, FitsStage, IsRight, IsFresh, waiting_in, AreCalls}
 use Rattle.nr_core.specs.inside.Reached.{IsReached}
 use Rattle.nr_core.proofs.reached.Places.{each_set, at_front, at_last, at_end, at_other}
-use Rattle.nr_core.proofs.reached.Growth.{Longer, Grows, HaveCalls, then_parts, then_from, read_at, read_within, read_stays, read_stood, answer_stays}
-use Rattle.nr_core.proofs.reached.Growth.{answer_stood, replies_have_calls, behind_stays, right_stays}
+use Rattle.nr_core.proofs.reached.Growth.{Longer, Grows, then_parts, then_from, read_at, read_within, read_stays, read_stood, answer_stays}
+use Rattle.nr_core.proofs.reached.Growth.{answer_stood, behind_stays, right_stays}
 use Rattle.nr_core.proofs.reached.Growth.{stage_fits}
-use Rattle.nr_core.proofs.reached.Changes.{collected_stays, taken_keeps}
+use Rattle.nr_core.proofs.reached.Changes.{collected_stays, nothing_grows, taken_keeps}
 
 pub one_longer : (events : List Event) (event : Event) → Longer events (events ++ event ∷ [])
 one_longer events event = record {
@@ -122,17 +122,15 @@ event_recorded state t thread next event reached at not_taken calls right fits f
   calls = calls;
   replies = λ index reply e. each index reply (read_last reply_in state.events event index reply e);
   threads = each_set (λ u (x : Thread). FitsStage state.layout after u x.stage) state.threads t next fits
-      (λ u x out e. stage_fits state.layout (shared_in state) after u x.stage grows have reached.completed (reached.threads u x e));
+      (λ u x out e. stage_fits state.layout u x.stage grows (reached.threads u x e));
   waiting = λ u other call there is. each_set (λ v (x : Thread). waiting_in x.stage ≡ Some call → IsFresh state.log call) state.threads t next
       (λ e. fresh call e) (λ v x out e is. reached.waiting v x call e is) u other there is;
   entries = λ place entry e. entered place entry (reached.entries place entry e);
   distinct = reached.distinct;
   completed = reached.completed;
   replicas = reached.replicas;
-  collected = λ r replica update there i. collected_stays state.layout (shared_in state) after state.threads (slice_set state.threads t next) r
-      replica.placed replica.placed update grows have reached.completed
-      (taken_keeps state.threads t update.thread update.entry.call thread next at (λ _ f. absurd (not_taken update.entry.call f))) (λ h. h)
-      (reached.collected r replica update there i);
+  collected = λ r replica update there i. collected_stays grows (reached.collected r replica update there i)
+      (taken_keeps state.threads t update.thread update.entry.call thread next at (λ _ f. absurd (not_taken update.entry.call f))) (λ h. h);
   batches = reached.batches;
 } where
   later : List Event
@@ -145,31 +143,24 @@ event_recorded state t thread next event reached at not_taken calls right fits f
   after = shared_in (record state { events = later })
 
   grows : Grows (shared_in state) after
-  grows = record {
+  grows = let same = nothing_grows state reached in record {
+    have = same.have;
+    within = same.within;
     longer = longer;
-    entry_stays = λ i entry e. e;
-    rises = omega arith;
-    goes_on = λ r replica e. (replica, e, omega arith);
+    entry_stays = same.entry_stays;
+    rises = same.rises;
+    goes_on = same.goes_on;
   }
-
-  have : HaveCalls state.events
-  have = replies_have_calls state.layout (shared_in state) reached.replies
-
-  grown : (made : Invocation) (reply : Response) → call_at state.events reply.call ≡ Some made
-      → IsRight state.layout (shared_in state) made reply.call reply.at reply.answer
-      → IsRight state.layout after made reply.call reply.at reply.answer
-  grown made reply is h = right_stays state.layout (shared_in state) after made reply.call reply.at reply.answer grows have reached.completed
-      (read_within made_by state.events reply.call made is) h
 
   each : (index : ℕ) (reply : Response) → (reply_at state.events index ≡ Some reply) ⊎ ((index ≡ length state.events) × (reply_in event ≡ Some reply))
       → (made : Invocation) × (reply.call < index) × (call_at later reply.call ≡ Some made)
       × IsRight state.layout after made reply.call reply.at reply.answer
   each index reply (inl e) =
       let (made, before, is, h) = reached.replies index reply e in
-      (made, before, read_stays made_by state.events later reply.call made longer is, grown made reply is h)
+      (made, before, read_stays made_by state.events later reply.call made longer is, right_stays grows (read_within made_by state.events reply.call made is) h)
   each index reply (inr (l, e)) =
       let (made, before, is, h) = right reply e in
-      (made, subst (λ n. reply.call < n) (sym l) before, read_stays made_by state.events later reply.call made longer is, grown made reply is h)
+      (made, subst (λ n. reply.call < n) (sym l) before, read_stays made_by state.events later reply.call made longer is, right_stays grows before h)
 
   entered : (place : ℕ) (entry : LogEntry)
       → (made : Invocation) × (call_at state.events entry.call ≡ Some made) × (made.request ≡ Update entry.op) × Behind state.events entry.call place
@@ -178,7 +169,5 @@ event_recorded state t thread next event reached at not_taken calls right fits f
     made,
     read_stays made_by state.events later entry.call made longer is,
     asks,
-    behind_stays state.events later entry.call place longer have (weak (read_within made_by state.events entry.call made is)) behind,
-  ) where
-    weak : entry.call < length state.events → entry.call ≤ length state.events
-    weak h = omega arith
+    behind_stays state.events later entry.call place longer grows.have (omega (arith, read_within made_by state.events entry.call made is)) behind,
+  )

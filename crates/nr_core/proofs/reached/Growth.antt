@@ -15,7 +15,7 @@ use Rattle.nr_trace.specs.declared.event.Event.{Event}
 use Rattle.nr_core.specs.State.{Replica}
 use Rattle.nr_core.specs.declared.stage.Stage.{Stage}
 use Rattle.nr_core.specs.declared.stage.Stage.TheVariants.{Called, Posted, Ready, Looked, HasRead}
-use Rattle.nr_core.specs.inside.Reached.{At, call_at, reply_at, RepliesTo, made_of, reach, Behind, space_at, Shared, IsRight, FitsStage, AreReplies}
+use Rattle.nr_core.specs.inside.Reached.{At, call_at, reply_at, RepliesTo, reach, Behind, space_at, Shared, IsRight, FitsStage, AreReplies}
 use Rattle.nr_core.proofs.reached.Places.{same_front}
 
 -- ---- calls and replies by their events
@@ -94,6 +94,8 @@ pub at_within_reach : (request : Query) (n : ℕ) → n ≤ reach request n
 at_within_reach request n = at_of_reach (operation_in request) n
 
 pub record Grows (before after : Shared) : Type 0 where
+  pub have : HaveCalls before.events
+  pub within : before.completed ≤ length before.log
   pub longer : Longer before.events after.events
   pub entry_stays : (i : ℕ) (entry : LogEntry) → At before.log i entry → At after.log i entry
   pub rises : before.completed ≤ after.completed
@@ -105,67 +107,48 @@ space_stays layout log later n h l =
     ap (λ (entries : List LogEntry). after_all layout.depth layout.tables no_pages (map (λ (entry : LogEntry). entry.op) entries))
     (sym (same_front log later n h l))
 
-pub right_stays : (layout : Layout) (before after : Shared) (made : Invocation) (call n : ℕ) (answer : Answer) → Grows before after
-    → HaveCalls before.events → before.completed ≤ length before.log → call < length before.events
-    → IsRight layout before made call n answer → IsRight layout after made call n answer
-right_stays layout before after made call n answer grows have l within right = record {
-  placed = λ action e. placed_later (right.placed action e);
-  known = known_later right.known grows.rises;
-  here = λ replica at. here_later replica (grows.goes_on made.replica replica at);
-  answered = right.answered
-      ∙ ap (λ space. answer_in layout space made.request) (space_stays layout before.log after.log n grows.entry_stays (short right.known));
-  in_time = behind_stays before.events after.events call n grows.longer have (weak within) right.in_time;
-} where
-  placed_later : (entry : LogEntry) × At before.log n entry × (entry.call ≡ call) → (entry : LogEntry) × At after.log n entry × (entry.call ≡ call)
-  placed_later (entry, at, is) = (entry, grows.entry_stays n entry at, is)
-
-  known_later : reach made.request n ≤ before.completed → before.completed ≤ after.completed → reach made.request n ≤ after.completed
-  known_later h k = omega arith
-
-  weak : call < length before.events → call ≤ length before.events
-  weak h = omega arith
-
-  here_later : (replica : Replica) → (first : Replica) × At before.replicas made.replica first × (first.applied ≤ replica.applied)
-      → reach made.request n ≤ replica.applied
-  here_later replica (first, at, less) = let h = right.here first at in omega arith
-
-  short : reach made.request n ≤ before.completed → n ≤ length before.log
-  short h = let k = at_within_reach made.request n in omega arith
+pub right_stays : {layout : Layout} {before after : Shared} {made : Invocation} {call n : ℕ} {answer : Answer} → Grows before after
+    → call < length before.events → IsRight layout before made call n answer → IsRight layout after made call n answer
+right_stays {layout} {before} {after} {made} {call} {n} grows made_before right = record {
+  placed = λ action e. let (entry, at, is) = right.placed action e in (entry, grows.entry_stays n entry at, is);
+  known = omega (arith, right.known, grows.rises);
+  here = λ replica at. let (first, there, less) = grows.goes_on made.replica replica at in omega (arith, right.here first there, less);
+  answered = right.answered ∙ ap (λ space. answer_in layout space made.request) (space_stays layout before.log after.log n grows.entry_stays
+      (omega (arith, right.known, at_within_reach made.request n, grows.within)));
+  in_time = behind_stays before.events after.events call n grows.longer grows.have (omega (arith, made_before)) right.in_time;
+}
 
 -- ---- stages
 
-pub stage_fits : (layout : Layout) (before after : Shared) (t : ℕ) (stage : Stage) → Grows before after → HaveCalls before.events
-    → before.completed ≤ length before.log → FitsStage layout before t stage → FitsStage layout after t stage
-stage_fits layout before after t (Called call request) grows have l fits = read_stays made_by before.events after.events call _ grows.longer fits
-stage_fits layout before after t (Posted call action) grows have l fits = read_stays made_by before.events after.events call _ grows.longer fits
-stage_fits layout before after t (Ready a) grows have l (request, asks, right) = (
+pub stage_fits : (layout : Layout) {before after : Shared} (t : ℕ) (stage : Stage) → Grows before after → FitsStage layout before t stage
+    → FitsStage layout after t stage
+stage_fits layout {before} {after} t (Called call request) grows fits = read_stays made_by before.events after.events call _ grows.longer fits
+stage_fits layout {before} {after} t (Posted call action) grows fits = read_stays made_by before.events after.events call _ grows.longer fits
+stage_fits layout {before} {after} t (Ready a) grows (request, asks, right) = (
   request,
   read_stays made_by before.events after.events a.call _ grows.longer asks,
-  right_stays layout before after (made_of layout t request) a.call a.at a.answer grows have l (read_within made_by before.events a.call _ asks) right,
+  right_stays grows (read_within made_by before.events a.call _ asks) right,
 )
-stage_fits layout before after t (Looked call request noted) grows have l (asks, reads, behind) = (
+stage_fits layout {before} {after} t (Looked call request noted) grows (asks, reads, behind) = (
   read_stays made_by before.events after.events call _ grows.longer asks,
   reads,
-  behind_stays before.events after.events call noted grows.longer have (weak (read_within made_by before.events call _ asks)) behind,
-) where
-  weak : call < length before.events → call ≤ length before.events
-  weak h = omega arith
-stage_fits layout before after t (HasRead a) grows have l (request, asks, right) = (
+  behind_stays before.events after.events call noted grows.longer grows.have (omega (arith, read_within made_by before.events call _ asks)) behind,
+)
+stage_fits layout {before} {after} t (HasRead a) grows (request, asks, right) = (
   request,
   read_stays made_by before.events after.events a.call _ grows.longer asks,
-  right_stays layout before after (made_of layout t request) a.call a.at a.answer grows have l (read_within made_by before.events a.call _ asks) right,
+  right_stays grows (read_within made_by before.events a.call _ asks) right,
 )
-stage_fits layout before after t _ grows have l fits = fits
+stage_fits layout t _ grows fits = fits
 
 -- ---- replies
 
-pub replies_stay : (layout : Layout) (before after : Shared) → before.events ≡ after.events → Grows before after → before.completed ≤ length before.log
-    → AreReplies layout before → AreReplies layout after
-replies_stay layout before after same grows l replies index reply e =
+pub replies_stay : (layout : Layout) {before after : Shared} → before.events ≡ after.events → Grows before after → AreReplies layout before
+    → AreReplies layout after
+replies_stay layout {before} {after} same grows replies index reply e =
     let (made, earlier, is, right) = replies index reply (ap (λ events. reply_at events index) same ∙ e) in (
       made,
       earlier,
       read_stays made_by before.events after.events reply.call made grows.longer is,
-      right_stays layout before after made reply.call reply.at reply.answer grows (replies_have_calls layout before replies) l
-          (read_within made_by before.events reply.call made is) right,
+      right_stays grows (read_within made_by before.events reply.call made is) right,
     )

@@ -1,8 +1,8 @@
 -- No list of steps makes a fault.
-use Rattle.std.proofs.Common.{ℕ, List, subst}
+use Rattle.std.proofs.Common.{ℕ, List}
 use Rattle.vs_walk.specs.Dump.{Image}
 use Rattle.nr_trace.specs.Recording.{Recording}
-use Rattle.nr_trace.specs.Faults.{HasFault, IsFirstOf}
+use Rattle.nr_trace.specs.Faults.{IsFirstOf}
 use Rattle.nr_trace.specs.Laws.{HasCleanLog, IsFaultless}
 use Rattle.nr_trace.specs.Spelling.{Spells}
 use Rattle.nr_trace.specs.declared.fault.Fault.{Fault}
@@ -10,9 +10,7 @@ use Rattle.nr_trace.specs.declared.fault.Fault.TheVariants.{Format, ThreadOpen, 
 use Rattle.nr_trace.specs.declared.fault.Fault.TheVariants.{WrongAnswer, PrefixPastLog, PrefixShort, MissingFrame, SharedFrame, ReservedBit, StrayFrame}
 use Rattle.nr_trace.specs.declared.fault.Fault.TheVariants.{Differs}
 use Rattle.nr_trace.specs.declared.version.Version.{Version}
-use Rattle.nr_trace.proofs.LawsOfFormat.{no_fault}
-use Rattle.nr_trace.proofs.LawsOfSpelling.{one_trace}
-use Rattle.nr_trace.specs.declared.version.Form.TheVariants as forms
+use Rattle.nr_trace.proofs.LawsOfFaults.{none_of_faultless}
 use Rattle.nr_core.specs.State.{State}
 use Rattle.nr_core.specs.Faultless.{IsRecordingOfSteps}
 use Rattle.nr_core.specs.inside.Reached.{IsReached}
@@ -54,11 +52,5 @@ pub none_of_steps : (trace : Recording) → IsRecordingOfSteps trace → IsFault
 none_of_steps trace (state, reachable, is) =
     of_recording IsFaultless state trace is (λ version dumps are. faultless state version dumps (reached_by_steps state reachable) are)
 
--- no fault is the first of the bytes of such a recording
-none_of_spelled : (bytes : List ℕ) (trace : Recording) (fault : Fault) → Spells bytes trace → IsFaultless trace → IsFirstOf bytes fault → ⊥
-none_of_spelled bytes trace (Format fault) spells none first = no_fault forms.Trace bytes trace fault spells first
-none_of_spelled bytes trace fault spells none (other, also, first) =
-    none fault (subst (λ t. HasFault t fault) (one_trace bytes other trace also spells) first.holds)
-
 pub none_of_bytes : (trace : Recording) (bytes : List ℕ) (fault : Fault) → IsRecordingOfSteps trace → Spells bytes trace → IsFirstOf bytes fault → ⊥
-none_of_bytes trace bytes fault is spells first = none_of_spelled bytes trace fault spells (none_of_steps trace is) first
+none_of_bytes trace bytes fault is spells first = none_of_faultless bytes trace fault spells (none_of_steps trace is) first

@@ -75,13 +75,3 @@ found_in {X} p (y ∷ xs) x e = by_test (λ f. found_in p xs x f) (p y) refl e w
   by_test : (find p xs ≡ Some x → In x xs × (p x ≡ true)) → (b : Bool) → p y ≡ b → cond b (Some y) (find p xs) ≡ Some x → In x (y ∷ xs) × (p x ≡ true)
   by_test more true h f = let one : y ≡ x = same_Some y x f in (inl one, subst (λ (z : X). p z ≡ true) one h)
   by_test more false h f = let k = more f in (inr k.0, k.1)
-
-pub in_map : {X Y : Type 0} (f : X → Y) (xs : List X) (y : Y) → In y (map f xs) → (x : X) × In x xs × (f x ≡ y)
-in_map f [] y h = absurd h
-in_map f (x ∷ xs) y (inl e) = (x, inl refl, e)
-in_map f (x ∷ xs) y (inr h) = let (z, i, e) = in_map f xs y h in (z, inr i, e)
-
-pub in_mapped : {X Y : Type 0} (f : X → Y) (xs : List X) (x : X) → In x xs → In (f x) (map f xs)
-in_mapped f [] x i = i
-in_mapped f (y ∷ ys) x (inl e) = inl (ap f e)
-in_mapped f (y ∷ ys) x (inr i) = inr (in_mapped f ys x i)

@@ -39,15 +39,24 @@ marks_of replica = record { holder = replica.holder; placed = replica.placed; lo
 abbrev pub with_marks : Replica → Marks → Replica
 with_marks replica marks = record replica { holder = marks.holder; placed = marks.placed; local = marks.local; applied = marks.applied }
 
+-- a state as it is stored
+pub record Parts : Type 0 where
+  pub layout : Layout
+  pub events : List Event
+  pub log : List LogEntry
+  pub completed : ℕ
+  pub replicas : List ReplicaState
+  pub threads : List ThreadState
+
 -- the state of which these are the parts
-abbrev pub state_in : Layout → List Event → List LogEntry → ℕ → List ReplicaState → List ThreadState → State
-state_in layout events log completed replicas threads = record {
-  layout = layout;
-  events = events;
-  log = log;
-  completed = completed;
-  replicas = map replica_in replicas;
-  threads = map thread_in threads;
+abbrev pub state_in : Parts → State
+state_in parts = record {
+  layout = parts.layout;
+  events = parts.events;
+  log = parts.log;
+  completed = parts.completed;
+  replicas = map replica_in parts.replicas;
+  threads = map thread_in parts.threads;
 }
 
 -- a well-formed read
@@ -87,12 +96,12 @@ pub record IsReplica (layout : Layout) (r : ReplicaState) : Type 0 where
   pub batch : All (λ update. IsAction layout.depth update.entry.op) r.batch.items
 
 -- what holds of the parts of each state
-pub record AreParts (layout : Layout) (events : List Event) (log : List LogEntry) (replicas : List ReplicaState) (threads : List ThreadState) : Type 0 where
-  pub each_thread : All (IsThread layout.depth) threads
-  pub each_replica : All (IsReplica layout) replicas
-  pub one_replica_each : length replicas ≡ layout.replicas
-  pub one_thread_each : length threads ≡ layout.threads
-  pub entries : All (λ entry. IsAction layout.depth entry.op) log
-  pub few_entries : length log ≤ LOG_PLACES
-  pub recorded : All (IsEvent V2 layout) events
-  pub few_events : length events + sum_by events_left threads ≤ CALLS
+pub record AreParts (parts : Parts) : Type 0 where
+  pub each_thread : All (IsThread parts.layout.depth) parts.threads
+  pub each_replica : All (IsReplica parts.layout) parts.replicas
+  pub one_replica_each : length parts.replicas ≡ parts.layout.replicas
+  pub one_thread_each : length parts.threads ≡ parts.layout.threads
+  pub entries : All (λ entry. IsAction parts.layout.depth entry.op) parts.log
+  pub few_entries : length parts.log ≤ LOG_PLACES
+  pub recorded : All (IsEvent V2 parts.layout) parts.events
+  pub few_events : length parts.events + sum_by events_left parts.threads ≤ CALLS

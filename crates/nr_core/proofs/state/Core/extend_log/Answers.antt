@@ -8,7 +8,7 @@ use Rattle.vs_types.specs.declared.log_entry.LogEntry.{LogEntry}
 use Rattle.nr_trace.proofs.LawsOfCalls.{the_some}
 use Rattle.nr_core.specs.State.{Replica}
 use Rattle.nr_core.specs.declared.stage.Collected.{Collected}
-use Rattle.nr_core.proofs.Keeping.{replica_seen, with_entries, with_log}
+use Rattle.nr_core.proofs.Keeping.{replica_seen, with_entries}
 use Rattle.nr_core.proofs.state.Core.extend_log.Goals as goal
 use Rattle.nr_core.proofs.state.Core.extend_log.Goals.{in-Ok, in-Err}
 
@@ -27,10 +27,10 @@ invariant_of-self c =
           let items : c.push_entries.new.log.items ≡ c.self.inside.log.items ++ map (λ (u : Collected). u.entry) x.batch.items = search rules in
           let fit : All (λ (e : LogEntry). IsAction depth e.op) (map (λ (u : Collected). u.entry) x.batch.items) =
           All-map (λ (e : LogEntry). IsAction depth e.op) (λ (u : Collected). u.entry) x.batch.items one.good.batch in
-          with_log items (with_entries _ c.self.invariant fit (rw (length-map x.batch.items (λ (u : Collected). u.entry)) room))
+          rw items (with_entries _ c.self.invariant fit (rw (length-map x.batch.items (λ (u : Collected). u.entry)) room))
       | in-Err w ↦
           let items : c.push_entries.new.log.items ≡ c.self.inside.log.items = search rules in
-          with_log items c.self.invariant
+          rw items c.self.invariant
     ]
 
 pub returns-clause-extended : goal.returns-clause-extended

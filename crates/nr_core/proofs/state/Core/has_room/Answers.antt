@@ -1,11 +1,11 @@
 use Rattle.std.proofs.Common.{◌≡◌, ◌+◌, true, nat_le, length, sym, ◌∙◌, arith, rules}
 use Rattle.std.proofs.lemmas.Bool.Decides.{nat_tests}
+use Rattle.std.proofs.lemmas.List.Folds.{list_all-map}
 use Rattle.std.specs.List.{list_all}
 use Rattle.vs_types.specs.declared.limits.TheConstants.{LOG_PLACES}
 use Rattle.nr_core.specs.declared.parts.ReplicaState.{ReplicaState}
 use Rattle.nr_core.specs.State.{Replica}
 use Rattle.nr_core.specs.inside.Parts.{replica_in}
-use Rattle.nr_core.proofs.Lists.{list_all-map}
 use Rattle.nr_core.proofs.state.Core.has_room.Goals as goal
 
 pub returns-then-n-tail : goal.returns-then-n-tail
