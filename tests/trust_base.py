@@ -2,7 +2,8 @@
 """Compares the words that a reader has to believe with docs/DEFINITIONS.md, which has each of them in words; and the public calls
 of the libraries and their preconditions with the promises of their crates' READMEs. Part 1 of DEFINITIONS.md has to have just the words
 of the two headlines, and just the types and constants of the code of which these speak, with their variants, fields and values as the code
-declares them; and the crates of the audit depend on none of the replication. The tables of ARCHITECTURE.md list the crates of crates.txt.
+declares them; and the crates of the audit depend on none of the replication. The tables of ARCHITECTURE.md list the crates of crates.txt, in
+its order, each after those on which it depends.
 Each wrong body can be applied: what it replaces is once in its file (`rt ci` passes over one that can't be).
 
 A word of the trust base is a definition of some specs/ folder that a clause of a public call cites, or that such a word
@@ -225,13 +226,21 @@ def audit_alone():
 
 
 def listed():
-    """The crates of crates.txt that the tables of ARCHITECTURE.md lack, or have twice, and those that they have beside."""
-    crates = sorted(crates_and_uses()[1])
+    """The crates of crates.txt that come before one on which they depend, those that the tables of ARCHITECTURE.md lack, or have twice,
+    those that they have beside, and the first that they have in another order."""
+    uses, before = crates_and_uses()[1], set()
+    for crate, below in uses.items():
+        for other in (other for other in below if other in uses and other not in before):
+            yield f"crates.txt has {crate} before {other}, on which it depends"
+        before.add(crate)
+    crates = list(uses)
     section = (ROOT / "docs/ARCHITECTURE.md").read_text().partition("\n## Crates\n")[2].partition("\n## ")[0]
     rows = [line.split("|")[1] for line in section.splitlines() if line.startswith("| ")]
-    named = sorted(name for row in rows for name in re.findall(r"`(\w+)`", row))
-    if named != crates:
+    named = [name for row in rows for name in re.findall(r"`(\w+)`", row)]
+    if sorted(named) != sorted(crates):
         yield f"ARCHITECTURE.md has other crates than crates.txt: {' '.join(sorted(set(named) ^ set(crates))) or 'some twice'}"
+    elif named != crates:
+        yield "ARCHITECTURE.md has {} where crates.txt has {}".format(*next(pair for pair in zip(named, crates) if pair[0] != pair[1]))
 
 
 def public_calls():
