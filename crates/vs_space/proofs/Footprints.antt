@@ -34,7 +34,7 @@ place_or_not q j n i = ⊎_elim
     (λ (apart : q ≢ n). inr (λ here. absurd (apart here)))
     (cases_eq q n)
 
-word_here : (m : Memory) (n i w : ℕ) → AreWhole m → IsSome (finite.get m n) → i < 512 → word_at (with_word m n i w) n i ≡ Some w
+pub word_here : (m : Memory) (n i w : ℕ) → AreWhole m → IsSome (finite.get m n) → i < 512 → word_at (with_word m n i w) n i ≡ Some w
 word_here m n i w whole used low = word_of (with_word m n i w) n i _ (get_written m n i w)
     ∙ ap Some (get_or-set_same (unwrap_or (finite.get m n) []) i w 0 (omega (arith, whole n _ (words_in m n used))))
 

@@ -84,7 +84,7 @@ module _ {t : PageTable} (table : IsPageTable t) {page : Page} (good : IsPage t.
 
   pub leaf_overlaps : {phys : ℕ} {own : Rights} → IsDescent t.depth t.memory t.root page.base (level_of page.size) level path (entry.Leaf phys own)
       → {bytes : ℕ} → bytes ≡ bytes_of (size_at level) → IsTableStep t (Map page) (answers.Overlap (page.base - page.base % bytes)) t
-  leaf_overlaps descent {bytes} are = stays table (λ space of.
+  leaf_overlaps descent {bytes} are = stays table tt (λ space of.
       let leaf = page_here table of good.canonical (met descent) in
       let size : bytes_of leaf.0.size ≡ bytes = ap bytes_of leaf.1.size ∙ sym are in
       let offset : page.base % bytes_of leaf.0.size ≡ page.base % bytes = ap (λ n. page.base % n) size in
@@ -128,7 +128,7 @@ module _ {t : PageTable} (table : IsPageTable t) {page : Page} (good : IsPage t.
 
     pub table_overlaps : {base : ℕ} → IsLeastBase t.depth t.memory t.root page.base (level_of page.size - 1) base
         → IsTableStep t (Map page) (answers.Overlap base) t
-    table_overlaps {base} first = stays table (λ space of.
+    table_overlaps {base} first = stays table tt (λ space of.
         let inside = (path_covers t.depth page good base first.canonical (λ i from to. first.same_path i (omega (arith, from, not_lowest)) to)).0 in
         let leaf = leaf_page table.tree of base first.leaf.level first.leaf.number first.leaf.phys first.leaf.own first.canonical first.leaf.some
         first.leaf.reached first.leaf.found in
@@ -179,7 +179,7 @@ module _ {t : PageTable} (table : IsPageTable t) {page : Page} (good : IsPage t.
           omega (arith, added, of.counted)
 
     pub full_step : {need : ℕ} → need ≡ finite.len t.memory + (level - level_of page.size) → t.limit < need → IsTableStep t (Map page) (answers.Full need) t
-    full_step is_need above = stays table (λ space is.
+    full_step is_need above = stays table tt (λ space is.
         let of = space_of table is in
         map_is_full t.depth t.limit space page (none_overlapped of) (omega (arith, need_is of, is_need, above))
         ∙ ap (λ n. let s : Stepped = record { space = space; answer = answers.Full n } in s) (need_is of ∙ sym is_need))
@@ -281,6 +281,7 @@ module _ {t : PageTable} (table : IsPageTable t) {page : Page} (good : IsPage t.
               kept = more_then (extended.adds t.depth t.root is_open) (more_filled t.depth here zero_here w);
               plain = adds_then extended.plain
                   (adds_written m' number (index_at (level_of page.size) page.base) w whole (used_at here) (omega arith) plain_word);
+              cleared = tt;
               steps = λ space is. let of = space_of table is in (sym (answer_is room of), (space_is room of).is_of);
             },
           )

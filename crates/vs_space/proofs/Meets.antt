@@ -31,7 +31,7 @@ use Rattle.vs_space.specs.Invariant.{IsPageTable, table_in_store}
 use Rattle.vs_space.proofs.Paths.{words_found}
 use Rattle.vs_space.proofs.Regions.{IsLeafPage}
 use Rattle.vs_space.proofs.Plain.{adds_written, plain_leaf}
-use Rattle.vs_space.proofs.Footprints.{page_changed}
+use Rattle.vs_space.proofs.Footprints.{page_changed, word_here}
 use Rattle.vs_space.proofs.Protects.{IsMet, own_space, space_of, absent_none, never_reserved, page_here, unmap_none, protect_none, unmap_inside, protect_inside}
 use Rattle.vs_space.proofs.Protects.{stays, tree_at, answer_is, space_is, table_new}
 
@@ -116,10 +116,10 @@ module _ {t : PageTable} (table : IsPageTable t) {base level : ℕ} {path : List
   resolve_absent space of = let none = none_here of in rw none refl
 
   pub unmap_absent : IsTableStep t (Unmap base) answers.NotMapped t
-  unmap_absent = stays table (λ space of. unmap_none t.depth t.limit space base (none_here of))
+  unmap_absent = stays table tt (λ space of. unmap_none t.depth t.limit space base (none_here of))
 
   pub protect_absent : (rights : Rights) → IsTableStep t (Protect base rights) answers.NotMapped t
-  protect_absent rights = stays table (λ space of. protect_none t.depth t.limit space base rights (none_here of))
+  protect_absent rights = stays table tt (λ space of. protect_none t.depth t.limit space base rights (none_here of))
 
 -- ---- a leaf is met
 
@@ -178,12 +178,12 @@ module _ {t : PageTable} (table : IsPageTable t) {base level phys : ℕ} {path :
             ap (λ b. let s : Stepped = record { space = space; answer = answers.Inside b } in s) (omega (arith, leaf.base, offset_met leaf))
 
         pub unmap_in : IsTableStep t (Unmap base) (answers.Inside (base - base % bytes)) t
-        unmap_in = stays table (λ space of.
+        unmap_in = stays table tt (λ space of.
             let leaf = page_met of in
             unmap_inside t.depth t.limit space base leaf.0 leaf.1.here (apart_met leaf.1) ∙ inside_met leaf.1)
 
         pub protect_in : (rights : Rights) → IsTableStep t (Protect base rights) (answers.Inside (base - base % bytes)) t
-        protect_in rights = stays table (λ space of.
+        protect_in rights = stays table tt (λ space of.
             let leaf = page_met of in
             protect_inside t.depth t.limit space base rights leaf.0 leaf.1.here (apart_met leaf.1) ∙ inside_met leaf.1)
 
@@ -195,17 +195,30 @@ module _ {t : PageTable} (table : IsPageTable t) {base level phys : ℕ} {path :
       protected {rights} {w} {index} aligned leads is_word at begins =
           subst (λ i. IsPageTable (record t { memory = with_word t.memory (slice_index path level) i w })
           × IsTableStep t (Protect base rights) (answers.Changed own) (record t { memory = with_word t.memory (slice_index path level) i w })) (sym at) (
-            table_new table good met leads_here word_here begins_here,
+            table_new table good met leads_here written_here begins_here,
             record {
               some_space = own_space table;
               same = refl;
               unchanged = λ refused. absurd (cc);
               kept = page_changed t.depth (tree_at table met) descent.is w;
               plain = adds_written t.memory (slice_index path level) (index_at level base) w table.whole (used_met table descent refl) (omega arith)
-                  (plain_leaf level w phys rights descent.above leads_here word_here);
+                  (plain_leaf level w phys rights descent.above leads_here written_here);
+              cleared = record {
+                number = slice_index path level;
+                index = index_at level base;
+                page = record {
+                  at = record { level = level; reached = met.at; is = refl };
+                  phys = phys;
+                  own = own;
+                  page = descent.is;
+                };
+                word = w;
+                there = word_here t.memory (slice_index path level) (index_at level base) w table.whole (used_met table descent refl) (omega arith);
+                clear = plain_leaf level w phys rights descent.above leads_here written_here;
+              };
               steps = λ space is. let of = space_of table is in (
-                sym (answer_is table good met leads_here word_here begins_here of t.limit),
-                (space_is table good met leads_here word_here begins_here of t.limit).is_of,
+                sym (answer_is table good met leads_here written_here begins_here of t.limit),
+                (space_is table good met leads_here written_here begins_here of t.limit).is_of,
               );
             },
           )
@@ -216,8 +229,8 @@ module _ {t : PageTable} (table : IsPageTable t) {base level phys : ℕ} {path :
           leads_here : meaning level w ≡ entry.Leaf phys rights
           leads_here = ap (λ l. meaning l w) (sym leaf_again.0) ∙ leads
 
-          word_here : w ≡ leaf_word (size_at level) phys rights
-          word_here = is_word ∙ ap (λ z. leaf_word z phys rights) size_is
+          written_here : w ≡ leaf_word (size_at level) phys rights
+          written_here = is_word ∙ ap (λ z. leaf_word z phys rights) size_is
 
           begins_here : base % entry_bytes level ≡ 0
           begins_here = ap (λ l. base % entry_bytes l) (sym leaf_again.0) ∙ ap (λ n. base % n) (sym are) ∙ begins

@@ -19,6 +19,7 @@ use Rattle.vs_types.proofs.Steps.{protect_cases, unmap_cases, step_space}
 use Rattle.vs_types.proofs.Tables.{protect_tables}
 use Rattle.vs_walk.specs.declared.walk.Walk.TheVariants.{Reserved}
 use Rattle.vs_walk.proofs.LawsOfTranslations.{one_space, not_reserved}
+use Rattle.vs_space.specs.Footprint.{ClearsPage}
 use Rattle.vs_space.specs.Held.{with_word}
 use Rattle.vs_space.specs.Path.{found_at, table_at, table_in}
 use Rattle.vs_space.specs.Table.{PageTable, IsTableOf, IsTableStep}
@@ -101,13 +102,14 @@ protect_inside depth limit space base rights q here apart =
 
 -- a table that doesn't change makes a step whose space stays
 pub stays : {t : PageTable} {action : Action} {answer : Answer} → IsPageTable t
-    → ((space : Space) → IsTableOf t space → step t.depth t.limit space action ≡ record { space = space; answer = answer }) → IsTableStep t action answer t
-stays {t} {action} table says = record {
+    → ClearsPage t.depth t.root action answer t.memory t.memory → ((space : Space) → IsTableOf t space → step t.depth t.limit space action ≡ record { space = space; answer = answer }) → IsTableStep t action answer t
+stays {t} {action} table cleared says = record {
   some_space = own_space table;
   same = refl;
   unchanged = λ refused. refl;
   kept = keeps_none t.depth t.root action t.memory;
   plain = adds_none t.memory;
+  cleared = cleared;
   steps = λ space is.
       let e = says space is in
       (sym (ap (λ (s : Stepped). s.answer) e), subst (IsTableOf t) (sym (ap (λ (s : Stepped). s.space) e)) is);

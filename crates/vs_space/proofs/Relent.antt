@@ -35,5 +35,6 @@ module _ (lenders : Lenders) where
     unchanged = λ refused. ap lent_by (step.unchanged refused);
     kept = step.kept;
     plain = step.plain;
+    cleared = step.cleared;
     steps = λ space of. let done = step.steps space (relent_back of) in (done.0, relent_of done.1);
   }

@@ -151,6 +151,7 @@ module _ {t : PageTable} (table : IsPageTable t) {base level phys : ℕ} {path :
         unchanged = λ refused. absurd (cc);
         kept = more_then pruned.less (more_cleared t.depth here);
         plain = adds_then plain_cut pruned.plain;
+        cleared = tt;
         steps = λ space is. let of = space_of table is in (sym (answer_is of t.limit), after of t.limit);
       },
     )

@@ -6,8 +6,11 @@ use Rattle.vs_types.specs.declared.depth.Depth.{Depth}
 use Rattle.vs_types.specs.declared.op.Action.{Action}
 use Rattle.vs_types.specs.declared.op.Action.TheVariants.{Map, Unmap, Protect}
 use Rattle.vs_types.specs.declared.page.Rights.{Rights}
+use Rattle.vs_types.specs.declared.answer.Answer.{Answer}
+use Rattle.vs_types.specs.declared.answer.Answer.TheVariants as answers
 use Rattle.vs_types.specs.declared.entry.Meaning.TheVariants as entry
 use Rattle.vs_walk.specs.Memory.{Memory}
+use Rattle.vs_space.specs.Flags.{flags_in}
 use Rattle.vs_space.specs.Held.{word_at}
 use Rattle.vs_space.specs.Path.{found_at, table_at}
 
@@ -52,3 +55,17 @@ abbrev pub KeepsRest : Depth → ℕ → Action → Memory → Memory → Type 0
 KeepsRest depth root (Map page) old new = HasMoreOnPath depth root page.base old new
 KeepsRest depth root (Unmap base) old new = HasMoreOnPath depth root base new old
 KeepsRest depth root (Protect base rights) old new = ChangesPageOnPath depth root base old new
+
+-- the entry of the address's page has neither the accessed nor the dirty flag now
+pub record IsPageCleared (depth : Depth) (root address : ℕ) (old new : Memory) : Type 0 where
+  pub number : ℕ
+  pub index : ℕ
+  pub page : IsPageOnPath depth old root address number index
+  pub word : ℕ
+  pub there : word_at new number index ≡ Some word
+  pub clear : flags_in word ≡ 0
+
+-- a protect that gave its page other rights cleared the two flags of its entry
+abbrev pub ClearsPage : Depth → ℕ → Action → Answer → Memory → Memory → Type 0
+ClearsPage depth root (Protect base rights) (answers.Changed before) old new = IsPageCleared depth root base old new
+ClearsPage depth root action answer old new = Unit {0}

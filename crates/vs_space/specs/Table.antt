@@ -10,7 +10,7 @@ use Rattle.vs_arena.specs.Store.{Lenders}
 use Rattle.vs_walk.specs.Memory.{Memory}
 use Rattle.vs_walk.specs.Walk.{TranslatesAs}
 use Rattle.vs_space.specs.Flags.{AddsNoFlags}
-use Rattle.vs_space.specs.Footprint.{KeepsRest}
+use Rattle.vs_space.specs.Footprint.{ClearsPage, KeepsRest}
 
 -- the depth, the number of the store's first frame, how many tables there can be, the frame number of the root, the frames of the tables,
 -- and who lent the store its memory
@@ -28,12 +28,14 @@ pub record IsTableOf (table : PageTable) (space : Space) : Type 0 where
   pub translates : TranslatesAs table.depth table.memory table.root space
 
 -- one operation: the answer, and the space of the table after it, are those of a step; a refusal leaves each word as it was, every other
--- answer those off the path of its address and the entries of other pages, and no word is given an accessed flag or a dirty flag
+-- answer those off the path of its address and the entries of other pages; no word is given an accessed flag or a dirty flag, and a protect
+-- clears those of its page
 pub record IsTableStep (old : PageTable) (action : Action) (answer : Answer) (new : PageTable) : Type 0 where
   pub some_space : (space : Space) × IsTableOf old space
   pub same : new ≡ record old { memory = new.memory }
   pub unchanged : IsFalse (changes answer) → new ≡ old
   pub kept : KeepsRest old.depth old.root action old.memory new.memory
   pub plain : AddsNoFlags old.memory new.memory
+  pub cleared : ClearsPage old.depth old.root action answer old.memory new.memory
   pub steps : (space : Space) → IsTableOf old space
       → (answer ≡ (step old.depth old.limit space action).answer) × IsTableOf new (step old.depth old.limit space action).space

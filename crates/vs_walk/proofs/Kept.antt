@@ -1,213 +1,124 @@
--- Frames whose words lie one after the other in one list.
-use Rattle.std.proofs.Common.{◌≡◌, ℕ, ◌+◌, ◌-◌, ◌^◌, ◌<◌, ◌≤◌, List, [], ◌∷◌, ◌++◌, length, drop, map, sym, ap, subst, ◌∙◌, arith}
-use Rattle.std.specs.Prelude.{All, zip, replicate}
-use Rattle.std.specs.Global.{Vec}
-use Rattle.std.specs.Vec.{vec_len, vec_capacity}
+-- Frames of which parts of two lists are kept.
+use Rattle.std.proofs.Common.{◌≡◌, ℕ, ◌+◌, ◌^◌, ◌<◌, ◌≤◌, List, [], ◌∷◌, ◌++◌, length, take, drop, map, refl, sym, ap, subst, ◌∙◌, arith}
+use Rattle.std.specs.Prelude.{All, zip}
 use Rattle.std.specs.FinMap as finite
 use Rattle.std.specs.Ordering.{nat_cmp}
-use Rattle.std.proofs.lemmas.List.{drop-append-le, length-drop, length-append, drop_all, map-append}
-use Rattle.std.proofs.lemmas.List.Elements.{All-nil, All-push, All-append, All-replicate}
+use Rattle.std.proofs.lemmas.List.{take-append-le, drop-append-le, length-drop, length-take, length-append, length-map, map-append}
+use Rattle.std.proofs.lemmas.List.Elements.{All-head, All-tail, All-push, All-weaker}
 use Rattle.vs_types.specs.declared.frame.TheConstants.{FRAME_WORDS}
 use Rattle.vs_types.specs.declared.limits.TheConstants.{FRAMES}
 use Rattle.vs_types.specs.Frame.{IsFrame}
 use Rattle.vs_walk.specs.Dump.{AreParts}
 use Rattle.vs_walk.specs.declared.dump.Span.{Span}
-use Rattle.vs_walk.specs.inside.Kept.{among, spread, words_at, paired, kept, IsSpan, AreKept, AreOpen}
+use Rattle.vs_walk.specs.declared.dump.Span.TheVariants.{Whole, Nonzero}
+use Rattle.vs_walk.specs.inside.Kept.{IsKept, IsSpan, IsAdded, AreKept, filled, part, words_at, paired}
 use Rattle.vs_walk.proofs.Dumps.{pairs_push, parts_push, from_sorted_push}
-use Rattle.vs_walk.proofs.Spread.{spans_stay, spans_within, last_words, pushed_words, as_many_frames, all_come, length_among, first_comes, other_comes}
+use Rattle.vs_walk.proofs.Filled.{is_frame}
 
--- words after the frames leave these
-pub frames_stay : (end : ℕ) (numbers : List ℕ) (spans : List Span) (words more : List ℕ) → end ≤ length words → All (IsSpan end) spans
-    → paired numbers spans (words ++ more) ≡ paired numbers spans words
-frames_stay end numbers spans words more behind within = ap (λ frames. zip numbers frames) (spans_stay end words more spans behind within)
+-- ---- lists that grow leave the frames
 
--- one frame more
-pub frame_closed : (numbers : List ℕ) (spans : List Span) (words : List ℕ) (number : ℕ) (span : Span) (frame : List ℕ) → length numbers ≡ length spans
-    → words_at words span ≡ frame
-    → paired (numbers ++ number ∷ []) (spans ++ span ∷ []) words ≡ paired numbers spans words ++ (number, frame) ∷ []
-frame_closed numbers spans words number span frame as_many is =
-    ap (λ frames. zip (numbers ++ number ∷ []) frames) (map-append (words_at words) spans (span ∷ []))
-    ∙ pairs_push numbers (map (words_at words) spans) number (words_at words span) (as_many_frames numbers spans words as_many)
-    ∙ ap (λ one. paired numbers spans words ++ (number, one) ∷ []) is
+part_stays : (items more : List ℕ) (start len : ℕ) → start + len ≤ length items → part (items ++ more) start len ≡ part items start len
+part_stays items more start len within =
+    ap (take len) (drop-append-le start items more (omega (arith, within)))
+    ∙ take-append-le len (drop start items) more (omega (arith, within, length-drop start items))
 
--- a frame's words go after the others
-pub frame_pushed : {applied root : ℕ} (numbers : List ℕ) (spans : List Span) (words : List ℕ) (number : ℕ) (span : Span) (some : List ℕ)
-    → AreKept applied root numbers spans words → span.start ≡ length words → span.len ≡ length some
-    → paired (numbers ++ number ∷ []) (spans ++ span ∷ []) (words ++ some) ≡ paired numbers spans words ++ (number, spread span.before some) ∷ []
-frame_pushed numbers spans words number span some parts start len =
-    frame_closed numbers spans (words ++ some) number span (spread span.before some) parts.as_many (pushed_words words some span start len)
-    ∙ ap (λ es. es ++ (number, spread span.before some) ∷ [])
-    (frames_stay (length words) numbers spans words some (omega arith) parts.within)
-
-pub kept_pushed : {applied root : ℕ} (numbers : List ℕ) (spans : List Span) (words : List ℕ) (number : ℕ) (span : Span) (some : List ℕ)
-    → AreKept applied root numbers spans words → span.start ≡ length words → span.len ≡ length some → span.before + span.len ≤ FRAME_WORDS
-    → All (λ held. held < number) (map (λ e. e.0) (paired numbers spans words)) → number < 2 ^ 40 → length (paired numbers spans words) < FRAMES
-    → IsFrame (spread span.before some)
-    → AreKept applied root (numbers ++ number ∷ []) (spans ++ span ∷ []) (words ++ some)
-kept_pushed {applied} {root} numbers spans words number span some parts start len few above in_range room whole =
-    let count = length-append words some in
-    let more = length-append spans (span ∷ []) in
-    record {
-      as_many = omega (arith, length-append numbers (number ∷ []), more, parts.as_many);
-      within = All-push (IsSpan (length (words ++ some))) spans span
-          (spans_within (length words) (length (words ++ some)) spans (omega (arith, count)) parts.within)
-          (record { within = omega (arith, count, start, len); few = few });
-      parts = subst (AreParts applied root) (sym (frame_pushed numbers spans words number span some parts start len))
-          (parts_push (paired numbers spans words) number (spread span.before some) parts.parts above in_range room whole);
-    }
-
--- ---- a frame that comes word by word
-
--- with room for the frame
-pub frame_begins : {applied root : ℕ} (numbers : List ℕ) (spans : List Span) (words : List ℕ) (number : ℕ) (ns : Vec ℕ) (ss : Vec Span) (ws : Vec ℕ)
-    (start : ℕ) → start ≡ length words → AreKept applied root numbers spans words
-    → ns.items ≡ numbers → ss.items ≡ spans → ws.items ≡ words → All (λ held. held < number) (map (λ e. e.0) (paired numbers spans words))
-    → number < 2 ^ 40 → length (paired numbers spans words) < FRAMES → vec_len ns + 1 ≤ vec_capacity ns → vec_len ss + 1 ≤ vec_capacity ss
-    → vec_len ws + 512 ≤ vec_capacity ws → AreOpen applied root ns ss ws number start 0 0
-frame_begins {applied} {root} numbers spans words number ns ss ws start begins parts same_numbers same_spans same_words above in_range one_more room
-    room_for_span room_for_words =
-    let frames : paired ns.items ss.items ws.items ≡ paired numbers spans words =
-    ap (λ l. paired l ss.items ws.items) same_numbers ∙ ap (λ l. paired numbers l ws.items) same_spans ∙ ap (λ l. paired numbers spans l) same_words in
-    let all = ap length same_words in
-    let none = drop_all start ws.items (omega (arith, all, begins)) in
-    record {
-      as_many = ap length same_numbers ∙ parts.as_many ∙ sym (ap length same_spans);
-      within = subst (All (IsSpan start)) (sym same_spans) (subst (λ n. All (IsSpan n) spans) (sym begins) parts.within);
-      behind = omega (arith, all, begins);
-      few = omega (arith, all, begins);
-      parts = subst (AreParts applied root) (sym frames) parts.parts;
-      above = subst (λ es. All (λ held. held < number) (map (λ e. e.0) es)) (sym frames) above;
-      in_range = in_range;
-      one_more = subst (λ es. length es < FRAMES) (sym frames) one_more;
-      fit = subst (All (λ word. word < 2 ^ 64)) (sym none) (All-nil (λ word. word < 2 ^ 64));
-      room_for_number = omega (arith, room);
-      room_for_span = omega (arith, room_for_span);
-      room_for_words = omega (arith, room_for_words, ws.ok.0, all, begins);
-    }
-
--- words more, and the zeros around them
-pub words_come : {applied root : ℕ} {numbers : Vec ℕ} {spans : Vec Span} (words : Vec ℕ) {number start before zeros : ℕ} (more : Vec ℕ) (some : List ℕ)
-    (before_now zeros_now : ℕ) → AreOpen applied root numbers spans words number start before zeros → more.items ≡ words.items ++ some
-    → vec_capacity more ≡ vec_capacity words → All (λ word. word < 2 ^ 64) some
-    → before_now + (length words.items - start) + length some + zeros_now ≤ 512
-    → AreOpen applied root numbers spans more number start before_now zeros_now
-words_come {applied} {root} {numbers} {spans} words {number} {start} more some before_now zeros_now parts is same fits few =
-    let frames : paired numbers.items spans.items more.items ≡ paired numbers.items spans.items words.items =
-    ap (λ l. paired numbers.items spans.items l) is ∙ frames_stay start numbers.items spans.items words.items some parts.behind parts.within in
-    let count = ap length is ∙ length-append words.items some in
-    let come : drop start more.items ≡ drop start words.items ++ some =
-    ap (λ l. drop start l) is ∙ drop-append-le start words.items some parts.behind in
-    record {
-      as_many = parts.as_many;
-      within = parts.within;
-      behind = omega (arith, count, parts.behind);
-      few = omega (arith, count, few, parts.behind);
-      parts = subst (AreParts applied root) (sym frames) parts.parts;
-      above = subst (λ es. All (λ held. held < number) (map (λ e. e.0) es)) (sym frames) parts.above;
-      in_range = parts.in_range;
-      one_more = subst (λ es. length es < FRAMES) (sym frames) parts.one_more;
-      fit = subst (All (λ word. word < 2 ^ 64)) (sym come)
-          (All-append (λ word. word < 2 ^ 64) (drop start words.items) some parts.fit fits);
-      room_for_number = parts.room_for_number;
-      room_for_span = parts.room_for_span;
-      room_for_words = omega (arith, same, parts.room_for_words);
-    }
-
--- a zero more
-pub zero_more : {applied root : ℕ} {numbers : Vec ℕ} {spans : Vec Span} {words : Vec ℕ} {number start before zeros : ℕ}
-    → AreOpen applied root numbers spans words number start before zeros → before + (length words.items - start) + (zeros + 1) ≤ 512
-    → AreOpen applied root numbers spans words number start before (zeros + 1)
-zero_more parts few = record {
-  as_many = parts.as_many;
-  within = parts.within;
-  behind = parts.behind;
-  few = omega (arith, few);
-  parts = parts.parts;
-  above = parts.above;
-  in_range = parts.in_range;
-  one_more = parts.one_more;
-  fit = parts.fit;
-  room_for_number = parts.room_for_number;
-  room_for_span = parts.room_for_span;
-  room_for_words = parts.room_for_words;
+span_stays : (places words more_places more_words : List ℕ) (span : Span) → IsSpan places words span
+    → IsSpan (places ++ more_places) (words ++ more_words) span
+span_stays places words more_places more_words (Whole start) is = record {
+  within = omega (arith, is.within, length-append words more_words);
+  fit = subst (All (λ word. word < 2 ^ 64)) (sym (part_stays words more_words start FRAME_WORDS is.within)) is.fit;
+}
+span_stays places words more_places more_words (Nonzero start place len) is = record {
+  within = omega (arith, is.within, length-append words more_words);
+  within_places = omega (arith, is.within_places, length-append places more_places);
+  kept = subst (λ l. IsKept l (part (words ++ more_words) start len) FRAME_WORDS) (sym (part_stays places more_places place len is.within_places))
+      (subst (λ l. IsKept (part places place len) l FRAME_WORDS) (sym (part_stays words more_words start len is.within)) is.kept);
 }
 
--- ---- the words that have come
+words_stay : (places words more_places more_words : List ℕ) (span : Span) → IsSpan places words span
+    → words_at (places ++ more_places) (words ++ more_words) span ≡ words_at places words span
+words_stay places words more_places more_words (Whole start) is = part_stays words more_words start FRAME_WORDS is.within
+words_stay places words more_places more_words (Nonzero start place len) is =
+    ap (λ l. filled 0 l (part (words ++ more_words) start len) FRAME_WORDS) (part_stays places more_places place len is.within_places)
+    ∙ ap (λ l. filled 0 (part places place len) l FRAME_WORDS) (part_stays words more_words start len is.within)
 
-pub room_left : (before : ℕ) (words : List ℕ) (start zeros : ℕ) → length (among before (drop start words) zeros) < FRAME_WORDS
-    → before + (length words - start) + (zeros + 1) ≤ 512
-room_left before words start zeros few = omega (arith, few, length_among before (drop start words) zeros, length-drop start words)
+frames_stay : (places words more_places more_words : List ℕ) (spans : List Span) → All (IsSpan places words) spans
+    → map (words_at (places ++ more_places) (words ++ more_words)) spans ≡ map (words_at places words) spans
+frames_stay places words more_places more_words [] all = refl
+frames_stay places words more_places more_words (span ∷ spans) all =
+    ap (λ frame. frame ∷ map (words_at (places ++ more_places) (words ++ more_words)) spans)
+    (words_stay places words more_places more_words span (All-head (IsSpan places words) span spans all))
+    ∙ ap (λ frames. words_at places words span ∷ frames)
+    (frames_stay places words more_places more_words spans (All-tail (IsSpan places words) span spans all))
 
-pub dump_stays : (applied root : ℕ) (numbers : List ℕ) (spans : List Span) (words more some : List ℕ) (start : ℕ) → start ≤ length words
-    → All (IsSpan start) spans → more ≡ words ++ some → kept applied root numbers spans more ≡ kept applied root numbers spans words
-dump_stays applied root numbers spans words more some start behind within is =
-    ap (λ l. kept applied root numbers spans l) is
-    ∙ ap (λ (es : List (ℕ × List ℕ)). record { applied = applied; root = root; frames = finite.from_sorted {R = nat_cmp} es })
-    (frames_stay start numbers spans words some behind within)
+paired_stay : (numbers : List ℕ) (spans : List Span) (places words more_places more_words : List ℕ) → All (IsSpan places words) spans
+    → paired numbers spans (places ++ more_places) (words ++ more_words) ≡ paired numbers spans places words
+paired_stay numbers spans places words more_places more_words within =
+    ap (λ frames. zip numbers frames) (frames_stay places words more_places more_words spans within)
 
-pub coming_first : (before : ℕ) (words more : List ℕ) (start zeros word : ℕ) → length words ≡ start → more ≡ words ++ word ∷ []
-    → among (before + zeros) (drop start more) 0 ≡ among before (drop start words) zeros ++ word ∷ []
-coming_first before words more start zeros word ends is =
-    let none : drop start words ≡ [] = drop_all start words (omega (arith, ends)) in
-    let one : drop start more ≡ word ∷ [] = ap (λ l. drop start l) is ∙ drop-append-le start words (word ∷ []) (omega (arith, ends))
-    ∙ ap (λ l. l ++ word ∷ []) none in
-    ap (λ l. among (before + zeros) l 0) one ∙ first_comes before zeros word ∙ ap (λ l. among before l zeros ++ word ∷ []) (sym none)
+kept_grows : {applied root : ℕ} (numbers : List ℕ) (spans : List Span) (places words more_places more_words : List ℕ)
+    → AreKept applied root numbers spans places words → AreKept applied root numbers spans (places ++ more_places) (words ++ more_words)
+kept_grows {applied} {root} numbers spans places words more_places more_words is = record {
+  as_many = is.as_many;
+  within = All-weaker (IsSpan places words) (IsSpan (places ++ more_places) (words ++ more_words))
+      (λ span at. span_stays places words more_places more_words span at) spans is.within;
+  parts = subst (AreParts applied root) (sym (paired_stay numbers spans places words more_places more_words is.within)) is.parts;
+}
 
-pub coming_other : (before : ℕ) (words more : List ℕ) (start zeros word : ℕ) → start ≤ length words
-    → more ≡ words ++ (replicate zeros 0 ++ word ∷ []) → among before (drop start more) 0 ≡ among before (drop start words) zeros ++ word ∷ []
-coming_other before words more start zeros word behind is =
-    ap (λ l. among before (drop start l) 0) is
-    ∙ ap (λ l. among before l 0) (drop-append-le start words (replicate zeros 0 ++ word ∷ []) behind)
-    ∙ other_comes before (drop start words) zeros word
+pub added_kept : {applied root : ℕ} (numbers : List ℕ) (spans : List Span) (places words places_now words_now : List ℕ) {span : Span} {frame : List ℕ}
+    → AreKept applied root numbers spans places words → IsAdded places words places_now words_now span frame
+    → AreKept applied root numbers spans places_now words_now
+added_kept {applied} {root} numbers spans places words places_now words_now is added =
+    subst (λ l. AreKept applied root numbers spans l words_now) (sym added.more_places)
+    (subst (λ l. AreKept applied root numbers spans (places ++ added.places) l) (sym added.more_words)
+    (kept_grows numbers spans places words added.places added.words is))
 
-pub fit_more : (zeros word : ℕ) → word < 2 ^ 64 → All (λ w. w < 2 ^ 64) (replicate zeros 0 ++ word ∷ [])
-fit_more zeros word fits =
-    All-push (λ w. w < 2 ^ 64) (replicate zeros 0) word (All-replicate (λ w. w < 2 ^ 64) zeros 0 (omega arith)) fits
+pub added_frames : {applied root : ℕ} (numbers : List ℕ) (spans : List Span) (places words places_now words_now : List ℕ) {span : Span} {frame : List ℕ}
+    → AreKept applied root numbers spans places words → IsAdded places words places_now words_now span frame
+    → paired numbers spans places_now words_now ≡ paired numbers spans places words
+added_frames numbers spans places words places_now words_now is added =
+    ap (λ l. paired numbers spans l words_now) added.more_places ∙ ap (λ l. paired numbers spans (places ++ added.places) l) added.more_words
+    ∙ paired_stay numbers spans places words added.places added.words is.within
 
--- the frame has come whole
-closed_words : {applied root : ℕ} {numbers : Vec ℕ} {spans : Vec Span} (words : Vec ℕ) {number start before zeros : ℕ} (span : Span)
-    → AreOpen applied root numbers spans words number start before zeros → span.start ≡ start → span.before ≡ before
-    → span.len ≡ length words.items - start → length (among before (drop start words.items) zeros) ≡ FRAME_WORDS
-    → words_at words.items span ≡ among before (drop start words.items) zeros
-closed_words words {number} {start} {before} {zeros} span parts at front len whole =
-    last_words words.items span (omega (arith, at, len, length-drop span.start words.items))
-    ∙ ap (λ n. spread n (drop span.start words.items)) front ∙ ap (λ n. spread before (drop n words.items)) at
-    ∙ all_come before (drop start words.items) zeros whole
+-- ---- one frame more
 
-pub frame_ends : {applied root : ℕ} (numbers : Vec ℕ) (spans : Vec Span) (words : Vec ℕ) {number start before zeros : ℕ} (ns : List ℕ) (ss : List Span)
-    (span : Span) → AreOpen applied root numbers spans words number start before zeros → span.start ≡ start → span.before ≡ before
-    → span.len ≡ length words.items - start → length (among before (drop start words.items) zeros) ≡ FRAME_WORDS
-    → ns ≡ numbers.items ++ number ∷ [] → ss ≡ spans.items ++ span ∷ []
-    → paired ns ss words.items ≡ paired numbers.items spans.items words.items ++ (number, among before (drop start words.items) zeros) ∷ []
-frame_ends numbers spans words {number} {start} {before} {zeros} ns ss span parts at front len whole same_numbers same_spans =
-    ap (λ l. paired l ss words.items) same_numbers ∙ ap (λ l. paired (numbers.items ++ number ∷ []) l words.items) same_spans
-    ∙ frame_closed numbers.items spans.items words.items number span (among before (drop start words.items) zeros) parts.as_many
-    (closed_words words span parts at front len whole)
+pub as_many_frames : (numbers : List ℕ) (spans : List Span) (places words : List ℕ) → length numbers ≡ length spans
+    → length numbers ≡ length (map (words_at places words) spans)
+as_many_frames numbers spans places words as_many = as_many ∙ sym (length-map spans (words_at places words))
 
-pub kept_ended : {applied root : ℕ} (numbers : Vec ℕ) (spans : Vec Span) (words : Vec ℕ) {number start before zeros : ℕ} (ns : List ℕ) (ss : List Span)
-    (span : Span) → AreOpen applied root numbers spans words number start before zeros → span.start ≡ start → span.before ≡ before
-    → span.len ≡ length words.items - start → length (among before (drop start words.items) zeros) ≡ FRAME_WORDS
-    → IsFrame (among before (drop start words.items) zeros)
-    → ns ≡ numbers.items ++ number ∷ [] → ss ≡ spans.items ++ span ∷ [] → AreKept applied root ns ss words.items
-kept_ended {applied} {root} numbers spans words {number} {start} {before} {zeros} ns ss span parts at front len whole frame same_numbers same_spans =
-    let more = ap length same_spans ∙ length-append spans.items (span ∷ []) in
-    record {
-      as_many = omega (arith, ap length same_numbers, length-append numbers.items (number ∷ []), more, parts.as_many);
-      within = subst (All (IsSpan (length words.items))) (sym same_spans) (All-push (IsSpan (length words.items)) spans.items span
-          (spans_within start (length words.items) spans.items parts.behind parts.within)
-          (record { within = omega (arith, at, len, parts.behind); few = omega (arith, front, len, parts.few) }));
-      parts = subst (AreParts applied root)
-          (sym (frame_ends numbers spans words ns ss span parts at front len whole same_numbers same_spans))
-          (parts_push (paired numbers.items spans.items words.items) number (among before (drop start words.items) zeros) parts.parts parts.above
-          parts.in_range parts.one_more frame);
-    }
+pub frame_closed : (numbers : List ℕ) (spans : List Span) (places words : List ℕ) (number : ℕ) (span : Span) (frame : List ℕ)
+    → length numbers ≡ length spans → words_at places words span ≡ frame
+    → paired (numbers ++ number ∷ []) (spans ++ span ∷ []) places words ≡ paired numbers spans places words ++ (number, frame) ∷ []
+frame_closed numbers spans places words number span frame as_many is =
+    ap (λ frames. zip (numbers ++ number ∷ []) frames) (map-append (words_at places words) spans (span ∷ []))
+    ∙ pairs_push numbers (map (words_at places words) spans) number (words_at places words span) (as_many_frames numbers spans places words as_many)
+    ∙ ap (λ one. paired numbers spans places words ++ (number, one) ∷ []) is
 
-pub frames_end : {applied root : ℕ} (numbers : Vec ℕ) (spans : Vec Span) (words : Vec ℕ) {number start before zeros : ℕ} (ns : List ℕ) (ss : List Span)
-    (span : Span) → AreOpen applied root numbers spans words number start before zeros → span.start ≡ start → span.before ≡ before
-    → span.len ≡ length words.items - start → length (among before (drop start words.items) zeros) ≡ FRAME_WORDS
-    → ns ≡ numbers.items ++ number ∷ [] → ss ≡ spans.items ++ span ∷ []
-    → finite.from_sorted {R = nat_cmp} (paired ns ss words.items)
-    ≡ finite.insert (finite.from_sorted (paired numbers.items spans.items words.items)) number (among before (drop start words.items) zeros)
-frames_end numbers spans words {number} {start} {before} {zeros} ns ss span parts at front len whole same_numbers same_spans =
-    ap (λ es. finite.from_sorted es) (frame_ends numbers spans words ns ss span parts at front len whole same_numbers same_spans)
-    ∙ from_sorted_push _ _ _ parts.above parts.parts.rising
+frame_of_span : (places words : List ℕ) (span : Span) → IsSpan places words span → IsFrame (words_at places words span)
+frame_of_span places words (Whole start) is = record {
+  whole = omega (arith, is.within, length-take FRAME_WORDS (drop start words), length-drop start words);
+  fit = is.fit;
+}
+frame_of_span places words (Nonzero start place len) is = is_frame (part places place len) (part words start len) is.kept
+
+pub kept_closed : {applied root : ℕ} (numbers : List ℕ) (spans : List Span) (places words : List ℕ) (number : ℕ) (span : Span)
+    → AreKept applied root numbers spans places words → IsSpan places words span
+    → All (λ held. held < number) (map (λ e. e.0) (paired numbers spans places words)) → number < 2 ^ 40
+    → length (paired numbers spans places words) < FRAMES → AreKept applied root (numbers ++ number ∷ []) (spans ++ span ∷ []) places words
+kept_closed {applied} {root} numbers spans places words number span is last above in_range room = record {
+  as_many = omega (arith, length-append numbers (number ∷ []), length-append spans (span ∷ []), is.as_many);
+  within = All-push (IsSpan places words) spans span is.within last;
+  parts = subst (AreParts applied root) (sym (frame_closed numbers spans places words number span (words_at places words span) is.as_many refl))
+      (parts_push (paired numbers spans places words) number (words_at places words span) is.parts above in_range room
+      (frame_of_span places words span last));
+}
+
+-- the dump with the frame
+pub frames_closed : (numbers : List ℕ) (spans : List Span) (places words : List ℕ) (number : ℕ) (span : Span) (frame : List ℕ) {applied root : ℕ}
+    → AreKept applied root numbers spans places words → words_at places words span ≡ frame
+    → All (λ held. held < number) (map (λ e. e.0) (paired numbers spans places words))
+    → finite.from_sorted {R = nat_cmp} (paired (numbers ++ number ∷ []) (spans ++ span ∷ []) places words)
+    ≡ finite.insert (finite.from_sorted (paired numbers spans places words)) number frame
+frames_closed numbers spans places words number span frame is words_are above =
+    ap (λ es. finite.from_sorted es) (frame_closed numbers spans places words number span frame is.as_many words_are)
+    ∙ from_sorted_push _ _ _ above is.parts.rising

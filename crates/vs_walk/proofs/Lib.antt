@@ -1,5 +1,6 @@
 pub mod Dumps
-pub mod Spread
+pub mod Filled
+pub mod Added
 pub mod Kept
 pub mod Walks
 pub mod Gathered

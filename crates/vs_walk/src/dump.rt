@@ -1,10 +1,11 @@
 //! Dumps: the page table of a replica, frame by frame, and one to which a frame is coming.
-ghost use Rattle.std.specs.Prelude.{◌≡◌, ◌+◌, ◌<◌, ◌≤◌, ◌^◌, [], ◌∷◌, ◌++◌, length, replicate, All, IfOk, OnOk, OnErr, slice_index};
+ghost use Rattle.std.specs.Prelude.{◌≡◌, ◌+◌, ◌<◌, ◌≤◌, ◌^◌, [], ◌∷◌, ◌++◌, length, All, IfOk, OnOk, OnErr, slice_index};
 ghost use Rattle.std.specs.FinMap as finite;
 ghost use Rattle.std.specs.Vec.{vec_len, vec_capacity};
 ghost use Rattle.vs_types.specs.declared.frame.TheConstants.{FRAME_WORDS};
 ghost use Rattle.vs_types.specs.declared.limits.TheConstants.{FRAMES};
 ghost use Rattle.vs_walk.specs.Dump.{IsDump};
+ghost use Rattle.vs_walk.specs.inside.Kept.{AreAdded, IsAdded, IsSpan, words_at};
 
 use crate::frame_words::FrameWords;
 use crate::frames::Frames;
@@ -12,34 +13,32 @@ use std::alloc::Global;
 use std::marker::Model;
 use vs_types::{FRAME_WORDS, Memory};
 
-/// That words of this type are below 2^64. It does nothing: a call that reads the words shows it.
-fn are_words(words: &[u64])
-    ensures { All (λ word. word < 2 ^ 64) words.now }
-{
-    let _read = words.iter();
-}
+/// The most words that are not 0 of a frame that is kept without its zeros. Beyond that the whole frame takes fewer bytes.
+const MOST_NONZERO: usize = 409;
 
-/// Where the words of a frame lie in the list of a dump. All before these and all behind are 0.
+/// What a dump keeps of a frame, and where in its lists.
 #[derive(Clone, Copy, Debug)]
-struct Span {
-    /// The index of the first that is kept.
-    start: usize,
-    /// How many words come before it, 0 to 512.
-    before: usize,
-    /// How many are kept, 0 to 512.
-    len: usize,
+enum Span {
+    /// All 512 words, from this index of the list of words on.
+    Whole(usize),
+    /// The words that are not 0: where they begin in the list of words, where their indexes begin in the list of
+    /// indexes, and how many there are.
+    Nonzero(usize, usize, usize),
 }
 
-/// The page table of a replica as it was after some entries of the log. It keeps its frames by rising number: the numbers
-/// in one list, and the words of all frames in another, without the zeros with which a frame that came word by word begins
-/// and ends.
+/// The page table of a replica as it was after some entries of the log. It keeps its frames by rising number. The numbers
+/// are in one list, and the words of all frames in another. Of a frame with many zeros only the other words are kept, and
+/// the index of each in its frame.
 #[derive(Debug, Drop)]
 pub struct Dump {
     applied: u32,
     root: u64,
     numbers: Vec<u64>,
     spans: Vec<Span>,
+    places: Vec<u16>,
     words: Vec<u64>,
+    /// Room for the words of a frame that is coming.
+    coming: Vec<u64>,
 }
 
 impl Model for Dump {
@@ -50,9 +49,9 @@ impl Model for Dump {
 
     ghost coded = { image_code };
 
-    ghost view = { λ d. kept d.applied d.root d.numbers.items d.spans.items d.words.items };
+    ghost view = { λ d. kept d.applied d.root d.numbers.items d.spans.items d.places.items d.words.items };
 
-    ghost invariant = { λ d. AreKept d.applied d.root d.numbers.items d.spans.items d.words.items };
+    ghost invariant = { λ d. AreKept d.applied d.root d.numbers.items d.spans.items d.places.items d.words.items };
 }
 
 impl Dump {
@@ -68,7 +67,9 @@ impl Dump {
             root,
             numbers: Vec::new(alloc),
             spans: Vec::new(alloc),
+            places: Vec::new(alloc),
             words: Vec::new(alloc),
+            coming: Vec::new(alloc),
         }
     }
 
@@ -106,23 +107,18 @@ impl Dump {
         ensures count { OnOk result (finite.len self.new.frames ≡ finite.len self.old.frames + 1) }
         ensures err { OnErr result (self.new ≡ self.old) }
     {
-        let (before, some) = words.parts();
-        are_words(some);
-        let span = Span {
-            start: self.words.len(),
-            before,
-            len: some.len(),
-        };
         self.numbers.reserve(1)?;
         self.spans.reserve(1)?;
-        self.words.extend_from_slice(some)?;
+        self.places.reserve(FRAME_WORDS)?;
+        self.words.reserve(FRAME_WORDS)?;
+        let span = push_frame(&mut self.places, &mut self.words, words);
         self.numbers.push_reserved(number);
         self.spans.push_reserved(span);
         Ok(())
     }
 
-    /// Makes room for exactly so many more frames, where it has no room for one. It allocates memory for them: 4,128 bytes
-    /// for each.
+    /// Makes room for exactly so many more frames, where it has no room for one. It allocates memory for them: 5,160 bytes
+    /// for each, and 4,096 more in all.
     ///
     /// # Errors
     ///
@@ -130,11 +126,14 @@ impl Dump {
     pub fn make_room(&mut self, frames: usize) -> Result<(), Memory>
         ensures { self.new ≡ self.old }
     {
+        self.coming
+            .reserve_exact(FRAME_WORDS.saturating_sub(self.coming.len()))?;
         if self.words.capacity() - self.words.len() < FRAME_WORDS {
-            self.words
-                .reserve_exact(frames.saturating_mul(FRAME_WORDS))?;
+            let words = frames.saturating_mul(FRAME_WORDS);
             self.numbers.reserve_exact(frames)?;
             self.spans.reserve_exact(frames)?;
+            self.places.reserve_exact(words)?;
+            self.words.reserve_exact(words)?;
         }
         Ok(())
     }
@@ -158,22 +157,25 @@ impl Dump {
             root,
             mut numbers,
             mut spans,
+            mut places,
             mut words,
+            mut coming,
         } = self;
+        coming.clear();
+        coming.reserve(FRAME_WORDS)?;
         numbers.reserve(1)?;
         spans.reserve(1)?;
+        places.reserve(FRAME_WORDS)?;
         words.reserve(FRAME_WORDS)?;
-        let start = words.len();
         Ok(OpenDump {
             applied,
             root,
             numbers,
             spans,
+            places,
             words,
+            coming,
             number,
-            start,
-            before: 0,
-            zeros: 0,
         })
     }
 
@@ -208,67 +210,104 @@ impl Dump {
     }
 }
 
+/// The words of a frame of which this part of the lists is kept.
+fn frame_at<'a>(places: &'a [u16], words: &'a [u64], span: Span) -> FrameWords<'a>
+    requires { IsSpan places.now words.now span }
+    ensures { result ≡ words_at places.now words.now span }
+{
+    match span {
+        Span::Whole(start) => FrameWords::lent(&words[start..start + FRAME_WORDS]),
+        Span::Nonzero(start, place, len) => {
+            FrameWords::nonzero(&places[place..place + len], &words[start..start + len])
+        }
+    }
+}
+
 impl Frames for Dump {
     ghost memory = { λ d. d.frames };
 
     fn words(&self, number: u64) -> Option<FrameWords<'_>> {
         match self.numbers.binary_search(&number) {
-            Ok(k) => {
-                let span = self.spans[k];
-                let some = &self.words[span.start..span.start + span.len];
-                Some(FrameWords::among_zeros(span.before, some))
-            }
+            Ok(k) => Some(frame_at(&self.places, &self.words, self.spans[k])),
             Err(_) => None,
         }
     }
 }
 
-/// Adds so many zeros and a word. It allocates no memory.
-fn push_after_zeros(words: &mut Vec<u64>, zeros: usize, word: u64)
-    requires { vec_len words.old + zeros < vec_capacity words.old }
-    ensures items { words.new.items ≡ words.old.items ++ (replicate zeros 0 ++ word ∷ []) }
-    ensures capacity { vec_capacity words.new ≡ vec_capacity words.old }
+/// Adds the words of a frame that are not 0, and the index of each. It allocates no memory.
+fn push_nonzero(places: &mut Vec<u16>, words: &mut Vec<u64>, frame: &FrameWords<'_>)
+    requires places { vec_len places.old + FRAME_WORDS ≤ vec_capacity places.old }
+    requires words { vec_len words.old + FRAME_WORDS ≤ vec_capacity words.old }
+    ensures added { AreAdded places.old.items words.old.items places.new.items words.new.items frame.now }
+    ensures whole { length frame.now ≡ FRAME_WORDS }
+    ensures room_for_words { vec_capacity words.new ≡ vec_capacity words.old }
 {
-    for k in 0..zeros {
-        words.push_reserved(0);
+    let mut next = frame.next_nonzero(0);
+    while next < FRAME_WORDS {
+        places.push_reserved(next as u16);
+        words.push_reserved(frame.word(next));
+        next = frame.next_nonzero(next + 1);
     }
-    words.push_reserved(word);
 }
 
-/// A dump to which one frame more is coming, word by word. The words are written where they stay, after those of the
-/// frames that it has: from the first that is not 0 to the last one.
+/// Adds all words of a frame. It allocates no memory.
+fn push_all(words: &mut Vec<u64>, frame: &FrameWords<'_>)
+    requires { vec_len words.old + FRAME_WORDS ≤ vec_capacity words.old }
+    ensures all { words.new.items ≡ words.old.items ++ frame.now }
+    ensures fit { All (λ word. word < 2 ^ 64) frame.now }
+{
+    for index in 0..frame.len() {
+        words.push_reserved(frame.word(index));
+    }
+}
+
+/// Adds what is kept of a frame, and says where that lies. It allocates no memory.
+fn push_frame(places: &mut Vec<u16>, words: &mut Vec<u64>, frame: &FrameWords<'_>) -> Span
+    requires places { vec_len places.old + FRAME_WORDS ≤ vec_capacity places.old }
+    requires words { vec_len words.old + FRAME_WORDS ≤ vec_capacity words.old }
+    ensures { IsAdded places.old.items words.old.items places.new.items words.new.items result frame.now }
+{
+    let place = places.len();
+    let start = words.len();
+    push_nonzero(places, words, frame);
+    let len = words.len() - start;
+    if len <= MOST_NONZERO {
+        return Span::Nonzero(start, place, len);
+    }
+    places.truncate(place);
+    words.truncate(start);
+    push_all(words, frame);
+    Span::Whole(start)
+}
+
+/// A dump to which one frame more is coming, word by word.
 #[derive(Debug, Drop)]
 pub struct OpenDump {
     applied: u32,
     root: u64,
     numbers: Vec<u64>,
     spans: Vec<Span>,
+    places: Vec<u16>,
     words: Vec<u64>,
+    coming: Vec<u64>,
     number: u64,
-    /// Where its words begin in the list.
-    start: usize,
-    /// How many zeros came before these.
-    before: usize,
-    /// How many zeros have come after these.
-    zeros: usize,
 }
 
 impl Model for OpenDump {
-    ghost use Rattle.std.specs.Prelude.{drop};
     ghost use Rattle.vs_walk.specs.Dump.{OpenImage, open_image_code};
-    ghost use Rattle.vs_walk.specs.inside.Kept.{AreOpen, kept, among};
+    ghost use Rattle.vs_walk.specs.inside.Kept.{AreOpen, kept};
 
     ghost Value = { OpenImage };
 
     ghost coded = { open_image_code };
 
     ghost view = { λ d. record {
-      dump = kept d.applied d.root d.numbers.items d.spans.items d.words.items;
+      dump = kept d.applied d.root d.numbers.items d.spans.items d.places.items d.words.items;
       number = d.number;
-      coming = among d.before (drop d.start d.words.items) d.zeros;
+      coming = d.coming.items;
     } };
 
-    ghost invariant = { λ d. AreOpen d.applied d.root d.numbers d.spans d.words d.number d.start d.before d.zeros };
+    ghost invariant = { λ d. AreOpen d.applied d.root d.numbers d.spans d.places d.words d.coming d.number };
 }
 
 impl OpenDump {
@@ -284,7 +323,7 @@ impl OpenDump {
         ensures reads { result ≡ length self.now.coming }
         ensures few { result ≤ FRAME_WORDS }
     {
-        self.before + (self.words.len() - self.start) + self.zeros
+        self.coming.len()
     }
 
     /// Adds the next word of the frame. It allocates no memory.
@@ -292,21 +331,10 @@ impl OpenDump {
         requires { length self.old.coming < FRAME_WORDS }
         ensures { self.new ≡ record self.old { coming = self.old.coming ++ word ∷ [] } }
     {
-        if word == 0 {
-            self.zeros += 1;
-            return;
-        }
-        if self.words.len() == self.start {
-            self.before += self.zeros;
-            self.zeros = 0;
-            self.words.push_reserved(word);
-            return;
-        }
-        push_after_zeros(&mut self.words, self.zeros, word);
-        self.zeros = 0;
+        self.coming.push_reserved(word);
     }
 
-    /// The dump with the frame, whose words have all come. It allocates no memory and copies no word.
+    /// The dump with the frame, whose words have all come. It allocates no memory.
     pub fn end_frame(self) -> Dump
         requires { length self.coming ≡ FRAME_WORDS }
         ensures made { result
@@ -320,24 +348,22 @@ impl OpenDump {
             root,
             mut numbers,
             mut spans,
-            words,
+            mut places,
+            mut words,
+            coming,
             number,
-            start,
-            before,
-            zeros: _,
         } = self;
+        let span = push_frame(&mut places, &mut words, &FrameWords::lent(&coming));
         numbers.push_reserved(number);
-        spans.push_reserved(Span {
-            start,
-            before,
-            len: words.len() - start,
-        });
+        spans.push_reserved(span);
         Dump {
             applied,
             root,
             numbers,
             spans,
+            places,
             words,
+            coming,
         }
     }
 }

@@ -1,32 +1,118 @@
 //! The words of one frame.
-ghost use Rattle.std.specs.Prelude.{◌≡◌, ◌≢◌, ◌+◌, ◌≤◌, ◌<◌, ℕ, length, slice_index};
+ghost use Rattle.std.specs.Prelude.{◌≡◌, ◌≢◌, ◌≤◌, ◌<◌, ℕ, length, slice_index};
 ghost use Rattle.vs_types.specs.declared.frame.TheConstants.{FRAME_WORDS};
-ghost use Rattle.vs_walk.specs.inside.Kept.{spread};
+ghost use Rattle.vs_walk.specs.inside.Borrowed.{IsFrom, IsNext};
+ghost use Rattle.vs_walk.specs.inside.Kept.{IsKept, Rise, filled};
 
 use crate::zeros::next_word;
-use std::cmp::min;
 use std::marker::Model;
 use vs_types::FRAME_WORDS;
 
-/// The 512 words of a frame. Some of them, one after another, are borrowed; all before these and all behind are 0.
-/// Contracts see the list of all.
+/// What is borrowed of the words of a frame.
+#[derive(Clone, Copy)]
+enum Borrowed<'a> {
+    /// All 512.
+    Whole(&'a [u64]),
+    /// Those that are not 0: the index of each, by rising index, and the words.
+    Nonzero(&'a [u16], &'a [u64]),
+}
+
+/// The 512 words of a frame. They are borrowed: all of them, or those that are not 0, with the index of each. Contracts
+/// see the list of all.
 #[derive(Drop)]
 pub struct FrameWords<'a> {
-    /// How many words come before those that are borrowed.
-    before: usize,
-    some: &'a [u64],
+    borrowed: Borrowed<'a>,
 }
 
 impl<'a> Model for FrameWords<'a> {
-    ghost use Rattle.std.specs.Prelude.{ℕ, List, ◌+◌, ◌≤◌, length};
-    ghost use Rattle.vs_types.specs.declared.frame.TheConstants.{FRAME_WORDS};
-    ghost use Rattle.vs_walk.specs.inside.Kept.{spread};
+    ghost use Rattle.std.specs.Prelude.{ℕ, List};
+    ghost use Rattle.vs_walk.specs.inside.Borrowed.{AreBorrowed, all_words};
 
     ghost Value = { List ℕ };
 
-    ghost view = { λ f. spread f.before f.some.now };
+    ghost view = { λ f. all_words f.borrowed };
 
-    ghost invariant = { λ f. f.before + length f.some.now ≤ FRAME_WORDS };
+    ghost invariant = { λ f. AreBorrowed f.borrowed };
+}
+
+/// The first word from some index on that is not 0.
+#[derive(Clone, Copy)]
+pub(crate) struct NextWord {
+    /// Its index, or 512 where there is none.
+    pub(crate) index: usize,
+    /// The word, or 0 where there is none.
+    pub(crate) word: u64,
+    /// Where the one after it lies among those that are kept, if the frame is kept so.
+    pub(crate) next_place: usize,
+}
+
+/// Where the first of these places lies that is `start` or above. The search is over at once where that is `guess`.
+fn place_from(places: &[u16], start: usize, guess: usize) -> usize
+    requires start { start ≤ FRAME_WORDS }
+    requires rise { Rise 0 places.now FRAME_WORDS }
+    ensures { IsFrom places.now start result }
+{
+    if guess > 0
+        && guess < places.len()
+        && (places[guess - 1] as usize) < start
+        && places[guess] as usize >= start
+    {
+        return guess;
+    }
+    match places.binary_search(&(start as u16)) {
+        Ok(place) => place,
+        Err(place) => place,
+    }
+}
+
+/// The word at an index of a frame of which these words are kept, at these places.
+fn word_among(places: &[u16], words: &[u64], index: usize) -> u64
+    requires index { index < FRAME_WORDS }
+    requires kept { IsKept places.now words.now FRAME_WORDS }
+    ensures { result ≡ slice_index (filled 0 places.now words.now FRAME_WORDS) index }
+{
+    let place = place_from(places, index, index);
+    if place < places.len() && places[place] as usize == index {
+        words[place]
+    } else {
+        0
+    }
+}
+
+/// The first word from `start` on that is not 0, of a frame of which these words are kept, at these places.
+fn next_among(places: &[u16], words: &[u64], start: usize, guess: usize) -> NextWord
+    requires start { start ≤ FRAME_WORDS }
+    requires kept { IsKept places.now words.now FRAME_WORDS }
+    ensures { IsNext (filled 0 places.now words.now FRAME_WORDS) start result }
+{
+    let place = place_from(places, start, guess);
+    if place < places.len() {
+        NextWord {
+            index: places[place] as usize,
+            word: words[place],
+            next_place: place + 1,
+        }
+    } else {
+        NextWord {
+            index: FRAME_WORDS,
+            word: 0,
+            next_place: 0,
+        }
+    }
+}
+
+/// The first word from `start` on that is not 0, of a frame that lies whole in memory.
+fn next_of_all(words: &[u64], start: usize) -> NextWord
+    requires start { start ≤ FRAME_WORDS }
+    requires whole { length words.now ≡ FRAME_WORDS }
+    ensures { IsNext words.now start result }
+{
+    let index = next_word(words, start);
+    NextWord {
+        index,
+        word: if index < FRAME_WORDS { words[index] } else { 0 },
+        next_place: 0,
+    }
 }
 
 impl<'a> FrameWords<'a> {
@@ -35,32 +121,35 @@ impl<'a> FrameWords<'a> {
         ensures { result ≡ words.now }
     {
         FrameWords {
-            before: 0,
-            some: words,
+            borrowed: Borrowed::Whole(words),
         }
     }
 
-    /// So many zeros, these words, and zeros up to the end.
-    pub(crate) fn among_zeros(before: usize, some: &'a [u64]) -> FrameWords<'a>
-        requires { before + length some.now ≤ FRAME_WORDS }
-        ensures { result ≡ spread before some.now }
+    /// These words, which are those of a whole frame.
+    pub(crate) fn lent(words: &'a [u64]) -> FrameWords<'a>
+        requires { length words.now ≡ FRAME_WORDS }
+        ensures { result ≡ words.now }
     {
-        FrameWords { before, some }
+        FrameWords {
+            borrowed: Borrowed::Whole(words),
+        }
     }
 
-    /// How many words come before those that are borrowed, and these.
-    pub(crate) fn parts(&self) -> (usize, &[u64])
-        ensures parts { self.now ≡ spread result.0 result.1.now }
-        ensures within { result.0 + length result.1.now ≤ FRAME_WORDS }
+    /// These words at these places, and zeros at all others.
+    pub(crate) fn nonzero(places: &'a [u16], words: &'a [u64]) -> FrameWords<'a>
+        requires { IsKept places.now words.now FRAME_WORDS }
+        ensures { result ≡ filled 0 places.now words.now FRAME_WORDS }
     {
-        (self.before, self.some)
+        FrameWords {
+            borrowed: Borrowed::Nonzero(places, words),
+        }
     }
 
     /// That there are 512. It does nothing: a call that reads a field shows it.
     fn has_512(&self)
         ensures { length self.now ≡ FRAME_WORDS }
     {
-        let _before = self.before;
+        let _borrowed = &self.borrowed;
     }
 
     /// How many there are: 512.
@@ -76,14 +165,26 @@ impl<'a> FrameWords<'a> {
     pub fn word(&self, index: usize) -> u64
         ensures { result ≡ slice_index self.now index }
     {
-        if index < self.before {
+        self.has_512();
+        if index >= FRAME_WORDS {
             return 0;
         }
-        let place = index - self.before;
-        if place < self.some.len() {
-            self.some[place]
-        } else {
-            0
+        match self.borrowed {
+            Borrowed::Whole(words) => words[index],
+            Borrowed::Nonzero(places, words) => word_among(places, words, index),
+        }
+    }
+
+    /// The first word from `start` on that is not 0. It is found at once where it lies at `guess` among those that are kept.
+    pub(crate) fn next_word(&self, start: usize, guess: usize) -> NextWord
+        requires { start ≤ FRAME_WORDS }
+        ensures next { IsNext self.now start result }
+        ensures whole { length self.now ≡ FRAME_WORDS }
+    {
+        self.has_512();
+        match self.borrowed {
+            Borrowed::Whole(words) => next_of_all(words, start),
+            Borrowed::Nonzero(places, words) => next_among(places, words, start, guess),
         }
     }
 
@@ -96,12 +197,6 @@ impl<'a> FrameWords<'a> {
         ensures found { result < FRAME_WORDS → slice_index self.now result ≢ 0 }
         ensures whole { length self.now ≡ FRAME_WORDS }
     {
-        let from = min(start.saturating_sub(self.before), self.some.len());
-        let place = next_word(self.some, from);
-        if place < self.some.len() {
-            self.before + place
-        } else {
-            FRAME_WORDS
-        }
+        self.next_word(start, start).index
     }
 }

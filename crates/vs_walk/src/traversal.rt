@@ -121,9 +121,10 @@ fn go_through<F: Frames, V: PageVisitor>(
     if !marks.add(place.number)? {
         return Err(Fail::Refused(WalkFault::Shared(place.number)));
     }
-    let mut index = words.next_nonzero(0);
-    while index < FRAME_WORDS {
-        match Entry::new(words.word(index)).read(place.level) {
+    let mut next = words.next_word(0, 0);
+    while next.index < FRAME_WORDS {
+        let index = next.index;
+        match Entry::new(next.word).read(place.level) {
             Meaning::Absent => {}
             Meaning::Reserved => {
                 return Err(Fail::Refused(WalkFault::Reserved(place.number, index as u16)));
@@ -134,7 +135,7 @@ fn go_through<F: Frames, V: PageVisitor>(
                 go_through(frames, depth, below, marks, visitor)?;
             }
         }
-        index = words.next_nonzero(index + 1);
+        next = words.next_word(index + 1, next.next_place);
     }
     Ok(())
 }

@@ -30,15 +30,16 @@ returns-then-not-branch-clause-stops g t c =
     (stops_before memory c.args.marks.now (OfFrame c.args.place.number ∷ []) _ (Shared c.args.place.number)
     (shared_stops memory c.args.marks.now c.args.place.number words some held))
 
-pub loop-index-init : goal.loop-index-init
-loop-index-init g t c =
+pub loop-next-init : goal.loop-next-init
+loop-next-init g t c =
     let memory = g.F.Frames.memory c.args.frames.now in
     let words = c.in-Some.words in
     let some : finite.get memory c.args.place.number ≡ Some words = sym c.in-Some.ensures in
-    let passed = zeros_met c.args.depth memory c.args.place.level (table_at c.args.place) words 0 c.next_nonzero-index.result
-    c.next_nonzero-index.ensures.behind
-    (omega (arith, c.next_nonzero-index.ensures.within, c.next_nonzero-index.ensures.whole)) c.next_nonzero-index.ensures.zeros in
+    let passed = zeros_met c.args.depth memory c.args.place.level (table_at c.args.place) words 0 c.next_word-next.result.index
+    c.next_word-next.ensures.next.behind
+    (omega (arith, c.next_word-next.ensures.next.within, c.next_word-next.ensures.whole)) c.next_word-next.ensures.next.zeros in
     record {
+      word = c.next_word-next.ensures.next.word;
       goes_on = subst (GoesOn memory c.args.marks.now c.add.new.self) (sym passed)
           (new_on memory c.args.marks.now c.add.new.self c.in_ok-add.field-0 c.args.place.number words some c.in_ok-add.ensures.new c.if-not-branch.false
           c.in_ok-add.ensures.added);
@@ -52,15 +53,15 @@ returns-in-Reserved-clause-stops g t c =
     let words = c.in-Some.words in
     let table = table_at c.args.place in
     let some : finite.get memory c.args.place.number ≡ Some words = sym c.in-Some.ensures in
-    let is : meaning c.args.place.level (get_or words c.loop-index.index 0) ≡ entry.Reserved =
-    ap (meaning c.args.place.level) (sym (c.new.ensures ∙ c.word.ensures))
+    let is : meaning c.args.place.level (get_or words c.loop-next.next.index 0) ≡ entry.Reserved =
+    ap (meaning c.args.place.level) (sym (c.new.ensures ∙ c.loop-next.invariant.word))
     ∙ sym c.read.ensures ∙ c.in-Reserved.is in
-    stops_at_word c.args.depth memory c.args.place.level table words c.loop-index.index c.args.marks.now c.loop-index.marks _
-    (Reserved c.args.place.number c.loop-index.index)
-    c.requires.lowest some (omega (arith, c.loop-index-test.true, c.next_nonzero-index.ensures.whole))
-    (means c.args.depth memory c.args.place.level table c.loop-index.index (get_or words c.loop-index.index 0) entry.Reserved is)
-    c.loop-index.invariant.goes_on
-    (meets_stops memory c.loop-index.marks c.args.place.number c.loop-index.index)
+    stops_at_word c.args.depth memory c.args.place.level table words c.loop-next.next.index c.args.marks.now c.loop-next.marks _
+    (Reserved c.args.place.number c.loop-next.next.index)
+    c.requires.lowest some (omega (arith, c.loop-next-test.true, c.next_word-next.ensures.whole))
+    (means c.args.depth memory c.args.place.level table c.loop-next.next.index (get_or words c.loop-next.next.index 0) entry.Reserved is)
+    c.loop-next.invariant.goes_on
+    (meets_stops memory c.loop-next.marks c.args.place.number c.loop-next.next.index)
 
 pub go_through-requires : goal.go_through-requires
 go_through-requires g t c κs within = (
@@ -75,59 +76,62 @@ returns-in_err-go_through-in-Table-clause-stops g t c =
     let memory = g.F.Frames.memory c.args.frames.now in
     let words = c.in-Some.words in
     let table = table_at c.args.place in
-    let index = c.loop-index.index in
+    let index = c.loop-next.next.index in
     let some : finite.get memory c.args.place.number ≡ Some words = sym c.in-Some.ensures in
     let p = err_from_is_err_and c.from_residual-in_err-go_through-in-Table.result c.from_residual-in_err-go_through-in-Table.ensures.1 in
     rw (p.1, p.2)
     (refused_at c.in_err-go_through-in-Table.field-0.0 (λ fault stops.
-    stops_at_word c.args.depth memory c.args.place.level table words index c.args.marks.now c.loop-index.marks
+    stops_at_word c.args.depth memory c.args.place.level table words index c.args.marks.now c.loop-next.marks
     (table_visits c.args.depth memory c.below-below.result.level (table_at c.below-below.result)) fault
-    c.requires.lowest some (omega (arith, c.loop-index-test.true, c.next_nonzero-index.ensures.whole))
+    c.requires.lowest some (omega (arith, c.loop-next-test.true, c.next_word-next.ensures.whole))
     (leads_below c.args.depth memory c.args.place c.below-below.result index (get_or words index 0) c.in-Table.number c.in-Table.own
-    (ap (meaning c.args.place.level) (sym (c.new.ensures ∙ c.word.ensures)) ∙ sym c.in-Table.ensures) c.below-below.ensures.level c.below-below.ensures.stands)
-    c.loop-index.invariant.goes_on stops)
+    (ap (meaning c.args.place.level) (sym (c.new.ensures ∙ c.loop-next.invariant.word)) ∙ sym c.in-Table.ensures) c.below-below.ensures.level c.below-below.ensures.stands)
+    c.loop-next.invariant.goes_on stops)
     c.in_err-go_through-in-Table.ensures.stops)
 
-pub loop-index-preserved : goal.loop-index-preserved
-loop-index-preserved g t c =
+pub loop-next-preserved : goal.loop-next-preserved
+loop-next-preserved g t c =
     let memory = g.F.Frames.memory c.args.frames.now in
     let words = c.in-Some.words in
     let table = table_at c.args.place in
-    let index = c.loop-index.index in
-    let within : index < length words = omega (arith, c.loop-index-test.true, c.next_nonzero-index.ensures.whole) in
+    let index = c.loop-next.next.index in
+    let within : index < length words = omega (arith, c.loop-next-test.true, c.next_word-next.ensures.whole) in
     let read : meaning c.args.place.level (get_or words index 0) ≡ c.read.result =
-    ap (meaning c.args.place.level) (sym (c.new.ensures ∙ c.word.ensures)) ∙ sym c.read.ensures in
-    let next = c.next_nonzero-index-in-loop-index.result in
-    let passed = zeros_met c.args.depth memory c.args.place.level table words (index + 1) next c.next_nonzero-index-in-loop-index.ensures.behind
-    (omega (arith, c.next_nonzero-index-in-loop-index.ensures.within, c.next_nonzero-index.ensures.whole)) c.next_nonzero-index-in-loop-index.ensures.zeros in
-    let goes = goes_to_next c.args.depth memory c.args.place.level table words index next c.args.marks.now c.loop-index.marks in
-    let takes = takes_to_next g.V.PageVisitor.HasTaken c.args.depth memory c.args.place.level table words index next c.args.visitor.now c.loop-index.visitor in
+    ap (meaning c.args.place.level) (sym (c.new.ensures ∙ c.loop-next.invariant.word)) ∙ sym c.read.ensures in
+    let next = c.next_word-next-in-loop-next.result.index in
+    let passed = zeros_met c.args.depth memory c.args.place.level table words (index + 1) next c.next_word-next-in-loop-next.ensures.next.behind
+    (omega (arith, c.next_word-next-in-loop-next.ensures.next.within, c.next_word-next.ensures.whole)) c.next_word-next-in-loop-next.ensures.next.zeros in
+    let goes = goes_to_next c.args.depth memory c.args.place.level table words index next c.args.marks.now c.loop-next.marks in
+    let takes = takes_to_next g.V.PageVisitor.HasTaken c.args.depth memory c.args.place.level table words index next c.args.visitor.now c.loop-next.visitor in
     elim c.match-read.branch [
       | in-Absent w ↦
           let met = means c.args.depth memory c.args.place.level table index (get_or words index 0) entry.Absent (read ∙ w.in-Absent.is) in
           rw (w.marks-is, w.visitor-is) record {
-            goes_on = goes c.loop-index.marks [] within passed met c.loop-index.invariant.goes_on (none_on memory c.loop-index.marks);
-            takes = takes c.loop-index.visitor []
-                within passed met c.loop-index.invariant.takes (takes_none g.V.PageVisitor.HasTaken c.loop-index.visitor [] refl);
+            word = c.next_word-next-in-loop-next.ensures.next.word;
+            goes_on = goes c.loop-next.marks [] within passed met c.loop-next.invariant.goes_on (none_on memory c.loop-next.marks);
+            takes = takes c.loop-next.visitor []
+                within passed met c.loop-next.invariant.takes (takes_none g.V.PageVisitor.HasTaken c.loop-next.visitor [] refl);
           }
       | in-Leaf+in_ok-take-in-Leaf w ↦
           let met = means c.args.depth memory c.args.place.level table index (get_or words index 0) (entry.Leaf w.in-Leaf.phys w.in-Leaf.own)
           (read ∙ w.in-Leaf.is) ∙ ap (λ page. OfLeaf page ∷ []) (sym w.page.ensures) in
           rw (w.marks-is, w.visitor-is) record {
-            goes_on = goes c.loop-index.marks (OfLeaf w.page.result ∷ []) within passed met c.loop-index.invariant.goes_on
-                (finds_on memory c.loop-index.marks w.page.result);
-            takes = takes w.take.new.self (OfLeaf w.page.result ∷ []) within passed met c.loop-index.invariant.takes w.in_ok-take-in-Leaf.ensures;
+            word = c.next_word-next-in-loop-next.ensures.next.word;
+            goes_on = goes c.loop-next.marks (OfLeaf w.page.result ∷ []) within passed met c.loop-next.invariant.goes_on
+                (finds_on memory c.loop-next.marks w.page.result);
+            takes = takes w.take.new.self (OfLeaf w.page.result ∷ []) within passed met c.loop-next.invariant.takes w.in_ok-take-in-Leaf.ensures;
           }
       | in-Table+in_ok-go_through-in-Table w ↦
           let below = w.below-below.result in
           let met = leads_below c.args.depth memory c.args.place below index (get_or words index 0) w.in-Table.number w.in-Table.own
           (read ∙ w.in-Table.is) w.below-below.ensures.level w.below-below.ensures.stands in
           rw (w.marks-is, w.visitor-is) record {
+            word = c.next_word-next-in-loop-next.ensures.next.word;
             goes_on = goes w.go_through.new.marks (table_visits c.args.depth memory below.level (table_at below))
-                within passed met c.loop-index.invariant.goes_on
+                within passed met c.loop-next.invariant.goes_on
                 w.in_ok-go_through-in-Table.ensures.goes_on;
             takes = takes w.go_through.new.visitor (table_visits c.args.depth memory below.level (table_at below))
-                within passed met c.loop-index.invariant.takes
+                within passed met c.loop-next.invariant.takes
                 w.in_ok-go_through-in-Table.ensures.pages;
           }
     ]
@@ -137,17 +141,17 @@ returns-clause-pages g t c =
     let memory = g.F.Frames.memory c.args.frames.now in
     let words = c.in-Some.words in
     let some : finite.get memory c.args.place.number ≡ Some words = sym c.in-Some.ensures in
-    subst (TakesFound (g.V.PageVisitor.HasTaken c.args.visitor.now) (g.V.PageVisitor.HasTaken c.loop-index.visitor))
-    (sym (all_met c.args.depth memory c.args.place.level (table_at c.args.place) words c.loop-index.index c.requires.lowest some
-    (omega (arith, c.loop-index-test.false, c.next_nonzero-index.ensures.whole))))
-    c.loop-index.invariant.takes
+    subst (TakesFound (g.V.PageVisitor.HasTaken c.args.visitor.now) (g.V.PageVisitor.HasTaken c.loop-next.visitor))
+    (sym (all_met c.args.depth memory c.args.place.level (table_at c.args.place) words c.loop-next.next.index c.requires.lowest some
+    (omega (arith, c.loop-next-test.false, c.next_word-next.ensures.whole))))
+    c.loop-next.invariant.takes
 
 pub returns-clause-goes_on : goal.returns-clause-goes_on
 returns-clause-goes_on g t c =
     let memory = g.F.Frames.memory c.args.frames.now in
     let words = c.in-Some.words in
     let some : finite.get memory c.args.place.number ≡ Some words = sym c.in-Some.ensures in
-    subst (GoesOn memory c.args.marks.now c.loop-index.marks)
-    (sym (all_met c.args.depth memory c.args.place.level (table_at c.args.place) words c.loop-index.index c.requires.lowest some
-    (omega (arith, c.loop-index-test.false, c.next_nonzero-index.ensures.whole))))
-    c.loop-index.invariant.goes_on
+    subst (GoesOn memory c.args.marks.now c.loop-next.marks)
+    (sym (all_met c.args.depth memory c.args.place.level (table_at c.args.place) words c.loop-next.next.index c.requires.lowest some
+    (omega (arith, c.loop-next-test.false, c.next_word-next.ensures.whole))))
+    c.loop-next.invariant.goes_on

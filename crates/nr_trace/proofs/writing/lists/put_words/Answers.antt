@@ -10,12 +10,15 @@ loop-index-preserved c =
     let words = c.args.words.now in
     let index = c.loop-index.index in
     let within : index < length words = omega (arith, c.loop-index-test.true, c.len-index-end.ensures.reads) in
-    c.in_ok-put_u64.ensures ∙ ap (λ (l : List ℕ). l ++ to_be_bytes w64 c.word.result) c.loop-index.invariant
-    ∙ ap (λ (w : ℕ). (old ++ flat_map (to_be_bytes w64) (take index words)) ++ to_be_bytes w64 w) c.word.ensures
-    ∙ flat_map_more (to_be_bytes w64) old (take index words) (get_or words index 0)
-    ∙ ap (λ (ws : List ℕ). old ++ flat_map (to_be_bytes w64) ws) (sym (take_more words index 0 within))
+    record {
+      put = c.in_ok-next.ensures.put
+          ∙ ap (λ (l : List ℕ). l ++ to_be_bytes w64 (get_or words index 0)) c.loop-index.invariant.put
+          ∙ flat_map_more (to_be_bytes w64) old (take index words) (get_or words index 0)
+          ∙ ap (λ (ws : List ℕ). old ++ flat_map (to_be_bytes w64) ws) (sym (take_more words index 0 within));
+      zeros = c.in_ok-next.ensures.zeros;
+    }
 
 pub returns : goal.returns
 returns c =
-    c.loop-index.invariant ∙ ap (λ (ws : List ℕ). c.args.out.now.items ++ flat_map (to_be_bytes w64) ws)
+    c.loop-index.invariant.put ∙ ap (λ (ws : List ℕ). c.args.out.now.items ++ flat_map (to_be_bytes w64) ws)
     (take_all c.loop-index.index c.args.words.now (omega (arith, c.loop-index-test.false, c.len-index-end.ensures.reads)))
