@@ -1,10 +1,11 @@
 /* Plans for a page table of x86-64 that is the caller's own: what to store, in which order, what to flush, what may be freed.
  *
  * For a kernel whose frames come one at a time from an allocator and lie anywhere, whose other processors walk the tables while one changes
- * them, and whose roots have half of their tables in common. A call holds no memory and touches none but the plan and the words that it is
- * shown. It is asked for a change, asks for the words of one frame after another, then for empty frames, and ends with a plan. The caller,
- * under its own lock, finds the frames, carries the plan out by stores of its own (WRITE_ONCE, a compare-exchange, a hypercall), flushes,
- * and frees. tests/plans_c/loop.c has this as code:
+ * them, and whose roots have half of their tables in common. A call allocates nothing, writes only the plan, and reads only that, the
+ * target and the words that it is shown. It is asked for a change, asks for the words of one frame after another, then for empty frames,
+ * and ends with a plan. The caller, under its own lock, finds the frames, carries the plan out by compare-exchanges (or a hypercall),
+ * flushes, and frees.
+ * tests/plans_c/loop.c has this as code:
  *
  *     struct nrvs_plan plan;
  *     uint32_t step = nrvs_plan_map(&plan, &target, base, NRVS_4K, physical, NRVS_WRITE, 0);
@@ -15,14 +16,16 @@
  *     if (step != NRVS_PLANNED)
  *             return step;                                                     // a refusal: the request is not well formed
  *     if (plan.fills)
- *             fill(&plan);                                                     // word i of plan.fill.frame: first_word + i * step
+ *             fill(&plan);                                                     // word i of plan.fill.frame: first_word + i * step; in the
+ *                                                                              // gap 0
  *     for (i = 0; i < plan.store_count; i++)
  *             carry_out(&plan, i);                                             // below
  *     if (plan.flush != NRVS_FLUSH_NOTHING)
  *             shoot_down(plan.flush, plan.flush_base, plan.flush_size);        // on every processor that uses this table
  *     for (i = 0; i < plan.unlinked_count; i++)
  *             free_frame(plan.unlinked[i]);                                    // only now; and where no store is planned, those given.
- *                                                                              // By a join its words aren't 0: clear them first
+ *                                                                              // By a join, a collapse and a prune its words aren't 0:
+ *                                                                              // clear them
  *     return plan.reply.code == NRVS_DONE ? 0 : ..;
  *
  * Between the words that are shown and the store a processor may set flags of its own in the word (accessed and dirty, bits 5 and 6). So a
@@ -44,60 +47,90 @@
  *     with the table that was filled, translates every canonical address as before, and from it on as after the call [safe]. So a processor
  *     that walks at any moment finds the old translation or the new one, never a missing frame, a reserved bit, or a page that was in
  *     neither, whatever flags are set meanwhile [the law flags_keep_plans_safe];
- *   - a store writes the page's entry, clears a link to a table that is unlinked, or writes a word of a frame that was given; by a join it
- *     writes the page's entry in the place of such a link. No other present entry changes [meant], and each store changes its word
- *     [changing]. A protect keeps all bits of the page's entry but 1, 2 and 63; a map writes just the bits that it was given, and links to
- *     new tables that allow everything [written]. Where a protect or a remap of a page plans no store, its entry is already as it would be
- *     written [already]. The bits that are answered are those of the page's entry [`told`];
+ *   - a store writes the page's entry, clears a link to a table that is unlinked, or writes a word of a frame that was given; by a join and
+ *     a collapse it writes the page's entry in the place of such a link. No other present entry changes [meant], and each store changes its
+ *     word [changing]. A protect keeps all bits of the page's entry but 1, 2 and 63; a map writes just the bits that it was given
+ *     [written];
+ *   - a link that a plan writes is the frame's address and 7: it allows everything, and has no other bit [AreLinks; put: IsSplit];
+ *   - a map writes over words that are not present, whatever their other bits, as those of pages on disk [one_way]. Such a word is the
+ *     `old_word` of the store. An unmap clears the page's word and links alone [one_way, meant];
+ *   - where a protect or a remap of a page plans no store, its entry is already as it would be written; where a prune does, the table in
+ *     which the address's way ends has a present entry, is the root, or stays [already]. The bits that are answered are those of the page's
+ *     entry [`told`];
  *   - a remap is at most one store, which keeps all bits of the page's entry but its address and its rights. A split fills a frame that was
  *     given with the entries of 512 pages of the next smaller size, which have the page's rights, its flags and its other bits, and then
- *     links it by one store; no other plan fills a frame. A join is one store, of an entry with the address, the rights and the bits of the
- *     first page and with both flags set, so that no processor sets one that could be lost [put: IsRemapped, IsSplit, IsJoined];
- *   - no flag of a page is lost where a store is made again: it is in what is stored, or by a split in what the frame is filled with, and
- *     in the bits that are answered. A join's entry has both already, whatever flags were found, and the bits that it answers have those
- *     of the first page as it was shown. The flags of a link are dropped with it [the law flags_keep_plans_safe: protects, remaps, splits,
- *     joins, bits]. The plan is right then, in all that is said here, for the memory with the word that was found [the laws
- *     plans_are_made_again, plans_are_right_again];
+ *     links it by one store; an unmap of parts does so with 0 for these parts, and no other plan fills a frame. A join is one store, of an
+ *     entry with the address, the rights and the bits of the first page and with both flags set, so that no processor sets one that could
+ *     be lost. A collapse is one store of the same kind, of an entry with the address and the rights that were asked for. A prune is one
+ *     store, which clears the link to a table without a present entry [put: IsRemapped, IsSplit, IsJoined, IsCollapsed, IsCut];
+ *   - no flag of a page is lost where a store is made again: it is in what is stored, or by a split and an unmap of parts in what the frame
+ *     is filled with, and in the bits that are answered. A join's and a collapse's entry has both already, whatever flags were found, and
+ *     the bits that it answers have those of the first page as it was shown. The flags of a link are dropped with it [the law
+ *     flags_keep_plans_safe: protects, remaps, splits, joins, bits]. The plan is right then, in all that is said here, for the memory with
+ *     the word that was found [the laws plans_are_made_again, plans_are_right_again];
  *   - a processor that was up to date is so again after the flush that is named: it keeps nothing that leads elsewhere than a walk of the
  *     memory, and nothing that leads into an unlinked frame [flushed; the law flushes_of_right_plans_suffice], whatever flags are set
- *     meanwhile [the law flags_keep_processors_up_to_date]. An invlpg of the base does it, for NRVS_FLUSH_PAGE and
- *     NRVS_FLUSH_PAGE_AND_TABLES (SDM volume 3A, 4.10.4.1). NRVS_FLUSH_RANGE, after a split or a join, takes an invlpg for each of the 512
- *     smaller pages (read in the SDM), or a load of CR3. Pages that are global or of other PCIDs are the caller's;
- *   - an unlinked frame was a table on the way of the address, is none now, and is named once. Its words are all 0, but by a join, where
- *     they stay as they were, but for flags: clear them before the frame is given again [unlinked, named_once];
+ *     meanwhile [the law flags_keep_processors_up_to_date]. What it keeps is a frame or a table, with rights; dirty flags, G, keys and
+ *     memory types of what it keeps aren't in the law [Kept]. Who clears a flag flushes by himself;
+ *   - an unlinked frame was a table on the way of the address, is none now, and is named once. Its words are all 0, but by a join, a
+ *     collapse and a prune, where they stay as they were, but for flags: clear them before the frame is given again [unlinked, named_once].
+ *     After an unmap each table on the way that may be unlinked has a word that isn't 0 [pruned];
  *   - what the caller has to keep of the memory holds again after the stores, so that plans follow one another, from a root of zeros on
  *     [whole, own; the law premises_hold_again];
- *   - where other roots lead to tables that this root leads to, processors that walk from them find the old translation or the new one too,
- *     and the same flush suffices for them, unless the root's own entry for the address is in common and `pinned` is 0 [the law
- *     plans_are_right_beside_their_root]. What a plan through such a root asks of the memory holds again; but that the pages of both still
- *     make one address space, the caller has to know [the law roots_stay_beside];
- *   - the words of a frame are asked for once a level at most [nrvs_plan_see: fewer]; then by a map a frame once for each level below the
- *     root's at most, by a split once [IsSound], and no words any more [nrvs_plan_give, nrvs_plan_give_none: fewer, ends];
+ *   - where another root leads to tables that this root leads to, processors that walk from it find the old translation or the new one too,
+ *     and the same flush suffices for them [the law plans_are_right_beside_their_root], under three conditions [IsBeside]. For each address
+ *     the entries of both roots lead to one table and allow the same, or its way from the other root meets no table on the way of the base
+ *     [ways]. The other root is itself no table on that way [root]. Where both share the entry for the base, `pinned` is not 0 and at most
+ *     `levels` [pinned]. So these are outside: a table that is shared below different entries (page directories that Linux shares for
+ *     huge pages), and a copy of a root whose entries allow less (the kernel's view of user space with page-table isolation);
+ *   - what a plan through such a root asks of the memory holds again; but that the pages of both still make one address space, the caller
+ *     has to know [the law roots_stay_beside];
+ *   - the words of a frame are asked for once a level at most [nrvs_plan_see: fewer], within `phys_bits` [within, of AwaitsWords in
+ *     IsSound]; then by a map a frame once for each level below the root's at most, by a split or an unmap of parts once, and no words any
+ *     more [nrvs_plan_give, nrvs_plan_give_none: fewer, ends];
  *   - outside of what is listed below, where a reserved bit is set or the words shown are others, nothing is said of a plan but its size:
  *     at most NRVS_MOST_STORES stores and NRVS_MOST_UNLINKED frames [IsSound; named].
  *
  * What the caller has to keep, which no call can test:
- *   - pointers are not null, aligned as their types are; nobody else reads or writes the plan meanwhile; each call but the first is given
- *     the plan as the call before left it;
- *   - the words shown are the 512 of the frame asked for, and but for flags that processors set they stay so until the plan is carried out:
- *     one lock is held from the first call to the last store. (Flags that are set while nrvs_plan_see reads a frame: it reads each word
- *     that matters once, as compiled; no proof says so.)
- *   - from the root on, each canonical address is translated with no frame that is missing and no reserved bit, and no other way leads to
- *     the tables on the way of the page. Other addresses may share theirs, as a half that other roots have too [IsPremise]. So tables in
- *     common are changed through one root at a time, and `pinned` where the root's own entries are in common;
+ *   - pointers are not null, aligned as their types are, and to as many elements as is said; nobody else reads or writes the plan
+ *     meanwhile; each call but the first is given the plan as the call before left it [IsSound];
+ *   - the words shown are the 512 of the frame asked for, and but for flags that processors set they stay so until the plan is carried out.
+ *     Flags may be set while nrvs_plan_see reads a frame too: what it hands the frame to reads no word twice [once, of FrameWords::read],
+ *     so that what is known of a word is what one read gave. That nrvs_plan_see reads none itself was read in the code; that the archive
+ *     reads none twice is tested (tests/plans). Of the calls over frames both were read in the code;
+ *   - one lock is held from the first call until the flush is over on each processor. No other plan for this table, or for one that
+ *     shares tables with it, begins before that, whichever its address is, but by the holder of the lock. The law of a flush is of
+ *     processors that keep nothing but what walks of the memory find now [IsUpToDate, in Suffices]. One flush that is left out voids it
+ *     for every later plan. Several plans may go before one flush that drops all that theirs drop, where none writes into a frame that
+ *     one before it has unlinked: such a frame is free only after that flush [flushes_of_several_plans_suffice, of vs_range];
+ *   - from the root on, each canonical address is translated with no frame that is missing and no reserved bit, and each page that is there
+ *     lies below physical 2^51. That is asked of the whole address space: one such word anywhere, and nothing is said of any plan
+ *     [IsPremise: translates, is_space];
+ *   - no other way leads to the tables on the way of the address, the root among them [IsPremise: own]. So an entry that leads back to the
+ *     root or to a table above (a recursive slot) is outside. Other addresses may share their tables, as a half that other roots have too:
+ *     tables in common are changed through one root at a time, and with `pinned` where the root's own entries are in common;
  *   - a frame that is given has words that are all 0, no table leads to it, and it isn't given twice [IsSpareFor; given]. It has to be seen
  *     by the other processors as 0 before the stores, as it is where it was cleared by this processor;
- *   - the frame that is to be filled is filled before the stores, and again after an nrvs_plan_again; the stores are carried out in their
- *     order, each whole, as an aligned store of 64 bits of x86-64 is; then the flush, on each processor that may have used the table; then
- *     the unlinked frames may be freed, or given again;
+ *   - the frame that is to be filled is filled before the stores, and again after an nrvs_plan_again. The stores are compare-exchanges, in
+ *     their order, each of the whole word; then comes the flush, on each processor that may have used the table; then the unlinked frames
+ *     may be freed, or given again. A plain store (WRITE_ONCE) would lose flags that a processor sets meanwhile;
+ *   - an interrupt that asks other processors for the flush is sent after the last store is seen by all. By x2APIC an MFENCE and an LFENCE
+ *     come before the WRMSR of the interrupt command, which may overtake stores (SDM volume 3A, "MSR Access in x2APIC Mode");
+ *   - the flush: for NRVS_FLUSH_PAGE and NRVS_FLUSH_PAGE_AND_TABLES an invlpg of the base, which drops all entries of paging-structure
+ *     caches, or a load of CR3 (SDM volume 3A, 4.10.4.1). NRVS_FLUSH_RANGE, after a split, an unmap of parts, a join or a collapse, takes
+ *     an invlpg for each of the 512 smaller pages, or a load of CR3. EFER.TCE is 0: where it is 1, AMD's invlpg drops only the entries on
+ *     the way of its address; an INVPCID of one address (type 0) does no more, so it isn't enough after NRVS_FLUSH_PAGE_AND_TABLES and
+ *     NRVS_FLUSH_RANGE [IsDropped]. Pages that are global or of other PCIDs are the caller's;
  *   - the processor: CR0.WP and EFER.NXE are 1; where NXE is 0, bit 63 is reserved, so map with NRVS_EXEC. CR4.SMEP, SMAP, PKE and PKS are
  *     0, or it refuses more than the rights say. CR4.LA57 is 1 where there are five levels, and 0 where there are four. `phys_bits` is how
  *     many bits its physical addresses have (CPUID 80000008H). Attributes PWT, PCD and PAT, and memory types, are the caller's. Where it
- *     has no pages of 1 GiB (CPUID 80000001H, EDX bit 26 is 0), map none, and join no pages of 2 MiB: bit 7 is reserved there. Where a
- *     change of an executable page's size may raise a machine check (IA32_ARCH_CAPABILITIES, PSCHANGE_MC_NO is 0), split and join no such
- *     page: unmap, flush and map instead. Address bits that encrypt memory (AMD's C, TDX's shared) are left out: links have none;
- *   - the archive: XMM registers and linking are as in nrvs.h. The stack is aligned to 16 and has 4 KiB left: some 3 KiB are used, whatever
+ *     has no pages of 1 GiB (CPUID 80000001H, EDX bit 26 is 0), map none, and join and collapse no pages of 2 MiB: bit 7 is reserved there.
+ *     Where a change of an executable page's size may raise a machine check (IA32_ARCH_CAPABILITIES, PSCHANGE_MC_NO is 0), split, join and
+ *     collapse no such page, and unmap no parts of one: unmap, flush and map instead. Address bits that encrypt memory (AMD's C, TDX's
+ *     shared) are left out: links have none;
+ *   - the archive: XMM registers and linking are as in nrvs.h. The stack is aligned to 16 and has 5 KiB left: some 4 KiB are used, whatever
  *     is asked. No word is kept below RSP. There are jumps by tables and no calls by register; none is marked for CET, so CR4.CET is 0.
+ *
  */
 #ifndef NRVS_PLAN_H
 #define NRVS_PLAN_H
@@ -113,7 +146,9 @@ struct nrvs_target {
 	uint64_t root;      /* a frame number: CR3 is root * 4096 */
 	uint32_t levels;    /* 4 or 5 */
 	uint32_t phys_bits; /* how many bits a physical address has: 36 to 52 */
-	uint32_t pinned;    /* not 0: the tables to which the root leads stay linked, since other roots lead to them */
+	uint32_t pinned;    /* tables that entries of this level and above lead to stay linked, as where other roots lead to them; 0: none.
+			     * `levels`: those to which the root leads; 1: all [highest_link], and an unmap looks at no entry off the way
+			     * (read in the code) */
 };
 
 /* A word that is to be stored: word `index` of a frame is `old_word`, and becomes `new_word`. */
@@ -124,30 +159,36 @@ struct nrvs_store {
 	uint64_t new_word;
 };
 
-/* A table that is written before the stores: word i of a frame, 0 to 511, becomes `first_word` + i * `step`. */
+/* A table that is written before the stores: word i of a frame, 0 to 511, becomes `first_word` + i * `step`; but `gap_count` words from
+ * index `gap` on stay 0: none by a split.
+ */
 struct nrvs_fill {
 	uint64_t frame;
 	uint64_t first_word;
 	uint64_t step;
+	uint64_t gap;
+	uint64_t gap_count;
 };
 
 enum { NRVS_MOST_STORES = 5, NRVS_MOST_UNLINKED = 4 };
 
-/* A plan, and how far it is. */
+/* A plan, and how far it is. What most plans have, with one store, is in the first 128 bytes. */
 struct nrvs_plan {
 	uint64_t frame;           /* after NRVS_SEE: the frame whose words are to be shown */
 	struct nrvs_reply reply;  /* after NRVS_PLANNED: what the call answers; it and all that follows */
-	uint64_t bits;            /* of NRVS_REMOVED, NRVS_CHANGED, NRVS_MAPPED: the page's attributes, flags 5 and 6 among them */
-	uint64_t fills;           /* 1 where a frame is filled before the stores, else 0 */
-	struct nrvs_fill fill;    /* that frame, and its words */
-	uint64_t store_count;
-	struct nrvs_store stores[NRVS_MOST_STORES];
+	uint64_t bits;            /* of NRVS_REMOVED, NRVS_CHANGED, NRVS_MAPPED: the page's attributes, flags 5 and 6 among them [`told`];
+				   * of NRVS_EMPTY an address, of NRVS_RESERVED an index */
 	uint32_t flush;           /* NRVS_FLUSH_NOTHING .. */
 	uint32_t flush_size;      /* of the page, or of the range: NRVS_4K .. */
 	uint64_t flush_base;      /* its first address */
 	uint64_t unlinked_count;
+	uint64_t fills;           /* 1 where a frame is filled before the stores, else 0 */
+	uint64_t store_count;
+	uint64_t way[2];          /* the library's */
+	struct nrvs_store stores[NRVS_MOST_STORES];
 	uint64_t unlinked[NRVS_MOST_UNLINKED];
-	uint64_t own[20];         /* the library's */
+	struct nrvs_fill fill;    /* the frame that is filled, and its words; written only where `fills` is 1 */
+	uint64_t own[19];         /* the library's */
 };
 
 /* What comes next. Each call but nrvs_plan_again returns one of these, where it isn't refused, and the plan waits for just that [status;
@@ -159,43 +200,53 @@ enum {
 	NRVS_GIVE = 33    /* an empty frame is to be given: nrvs_plan_give, or nrvs_plan_give_none */
 };
 
-/* What a call is refused for, the first that holds [status, asked], beside what nrvs.h has: NRVS_BAD_LEVELS, NRVS_BAD_SIZE,
- * NRVS_BAD_RIGHTS, NRVS_NOT_CANONICAL, NRVS_UNALIGNED, NRVS_PHYS_UNALIGNED, and NRVS_PHYS_RANGE where the page doesn't lie below physical
- * 2^51 and 2^phys_bits. The plan is then as it was [refused].
+/* What a call is refused for [status, asked]; some are of nrvs.h. The first that holds is returned, in this order: NRVS_BAD_LEVELS;
+ * NRVS_PHYS_BITS above 52; NRVS_BAD_SIZE; NRVS_BAD_RIGHTS; NRVS_PHYS_BITS below 36; NRVS_BAD_ROOT; NRVS_NOT_CANONICAL; NRVS_UNALIGNED;
+ * NRVS_PHYS_UNALIGNED; NRVS_PHYS_RANGE, where the page doesn't lie below physical 2^51 and 2^phys_bits; NRVS_BAD_BITS; NRVS_BAD_PART. The
+ * plan is then as it was [refused]. That a page that is there lies within phys_bits is not looked at.
  */
 enum {
 	NRVS_PHYS_BITS = 14, /* `phys_bits` is none of 36 to 52 */
 	NRVS_BAD_BITS = 15,  /* a bit is set that is none of NRVS_ATTRIBUTES */
 	NRVS_BAD_ROOT = 16,  /* the root's frame lies beyond phys_bits */
-	NRVS_NOT_ASKED = 17  /* the plan doesn't ask for that; of nrvs_plan_again: no plan or no such store, or more than flags differ */
+	NRVS_NOT_ASKED = 17, /* the plan doesn't ask for that; of nrvs_plan_again: no plan or no such store, the old word's bit 0 is 0, or
+			      * more than flags differ */
+	NRVS_BAD_PART = 18   /* parts that are to be removed: none, all 512, or not all among 0 to 511 */
 };
 
-/* Codes of replies, beside those of nrvs.h. No store is planned then [nothing]. Each is given only where it holds [reply]; of 15 to 19 the
- * first that holds is given wherever one does, and nothing else then [due].
+/* Codes of replies, beside those of nrvs.h. No store is planned then [nothing]. Each is given only where it holds [reply]; of 15 to 19 one
+ * is given wherever one holds, and nothing else then, but NRVS_RESERVED for a link beyond phys_bits [due]. Where two hold it is the first:
+ * of a remap in the order 15, 16, of a join in the order 18, 19, 15, of a collapse in the order 18, 19, 15, 16 [phys_refusal, not_first,
+ * not_over].
  */
 enum {
 	NRVS_NO_FRAME = 10,    /* none was given; those that were are free */
 	NRVS_FRAME_RANGE = 11, /* number: a frame that was given, and lies beyond phys_bits; all that were given are free */
 	NRVS_NARROW = 12,      /* the entries that lead to the page's table allow less than the page is to allow [WantsMore] */
-	NRVS_EMPTY = 13,       /* number: the frame of a table with no present entry, where the page would be mapped [LiesOverEmpty]; behind
-				* it a page may be overlapped */
-	NRVS_RESERVED = 14,    /* number: the frame of a word with a reserved bit set; bits: the word's index. Never where the caller keeps
-				* what is listed above [reply]; else that no store is planned is as compiled */
+	NRVS_EMPTY = 13,       /* number: the frame of a table where the page would be mapped, none of whose entries is present; they may
+				* be other than 0, as of pages on disk. bits: an address on its way: nrvs_plan_prune of it unlinks the table,
+				* unless that stays by `pinned` [LiesOverEmpty, already]. Behind it a page may be overlapped */
+	NRVS_RESERVED = 14,    /* of each call below. number: the frame of a word; bits: its index. It links to a frame beyond phys_bits
+				* [LeadsBeyond], or has another reserved bit set: that never, where the caller keeps what is listed above
+				* [reply]. That a call over frames follows no such link was read in the code */
 	NRVS_MISPLACED = 15,   /* the physical address is no multiple of the size of the page that is there, or that is to be there: a remap's
-				* [remap_refusal], a join's [join_refusal] */
-	NRVS_BEYOND = 16,      /* the page would not lie below physical 2^51 and 2^phys_bits [remap_refusal] */
-	NRVS_SMALLEST = 17,    /* the page has 4 KiB: it can't be split [split_refusal] */
-	NRVS_LARGEST = 18,     /* the page has 1 GiB: it can't be joined with others [join_refusal] */
-	NRVS_NOT_FIRST = 19,   /* the base is no multiple of the next larger size than that of the page that begins there [join_refusal] */
-	NRVS_APART = 20        /* number: the least index, 0 to 511, of an entry of the table that is no page that follows on from the first
-				* [KeepsApart; what follows on: the law entries_follow_on_by_their_parts] */
+				* [remap_refusal], a join's [join_refusal], a collapse's [collapse_refusal] */
+	NRVS_BEYOND = 16,      /* the page would not lie below physical 2^51 and 2^phys_bits [remap_refusal, collapse_refusal] */
+	NRVS_SMALLEST = 17,    /* the page has 4 KiB: it can't be split, and has no parts [split_refusal] */
+	NRVS_LARGEST = 18,     /* the page has 1 GiB: it can't be joined with others, nor collapsed [join_refusal, collapse_refusal] */
+	NRVS_NOT_FIRST = 19,   /* the base is no multiple of the next larger size than that of the page that begins there [join_refusal,
+				* collapse_refusal] */
+	NRVS_APART = 20,       /* number: the least index, 0 to 511, of an entry of the table that is no page that follows on from the first
+				* [KeepsApart; what follows on: the law entries_follow_on_by_their_parts]; by a collapse of one that has
+				* other rights or attributes than the first, or is no page [IsUnlike] */
+	NRVS_PINNED = 21       /* the pages that are to be joined or collapsed lie in a table that stays, by `pinned` [KeepsTable] */
 };
 
 /* What the processors that use this table have to forget once the last store is carried out. */
 enum {
 	NRVS_FLUSH_NOTHING = 0,
 	NRVS_FLUSH_PAGE = 1,           /* the translations of a page */
-	NRVS_FLUSH_PAGE_AND_TABLES = 2, /* and what they keep of the tables on the way to it, some of which were unlinked */
+	NRVS_FLUSH_PAGE_AND_TABLES = 2, /* and what they keep of tables, some of which were unlinked */
 	NRVS_FLUSH_RANGE = 3           /* all translations from the base on for as many bytes as this size, and what they keep of tables */
 };
 
@@ -234,14 +285,58 @@ uint32_t nrvs_plan_split(struct nrvs_plan *plan, const struct nrvs_target *targe
 
 /* Puts one page in the place of 512, the first of which begins at an address, where they follow on from each other in memory and are alike
  * but for flags 5 and 6 [reply, due, put, fits; the law joins_keep_translations]: NRVS_CHANGED (with the rights, which stay), NRVS_INSIDE,
- * NRVS_NOT_MAPPED, NRVS_LARGEST, NRVS_NOT_FIRST, NRVS_MISPLACED, NRVS_APART.
+ * NRVS_NOT_MAPPED, NRVS_LARGEST, NRVS_NOT_FIRST, NRVS_MISPLACED, NRVS_PINNED, NRVS_APART.
  */
 uint32_t nrvs_plan_join(struct nrvs_plan *plan, const struct nrvs_target *target, uint64_t base);
+
+/* Unlinks the table in which the way of an address ends, where none of its entries is present [reply, put, already]: NRVS_DONE. The table
+ * is in `unlinked`; where there is none, it has a present entry, is the root, or stays by `pinned`. Any address on its way will do, as that
+ * in `bits` after NRVS_EMPTY. One table is unlinked at a time.
+ */
+uint32_t nrvs_plan_prune(struct nrvs_plan *plan, const struct nrvs_target *target, uint64_t address);
+
+/* Removes `count` of the 512 parts of the page of 2 MiB or 1 GiB that begins at an address, from number `first` on: the space is that after
+ * a split and an unmap of each of these parts [reply; stepped]. An empty frame is asked for, filled with the parts that stay, and linked by
+ * one store, so that each address is translated as before it or as after it [put, safe]: NRVS_CHANGED (with the rights, which stay),
+ * NRVS_INSIDE, NRVS_NOT_MAPPED, NRVS_SMALLEST, NRVS_NO_FRAME, NRVS_FRAME_RANGE. Refused with NRVS_BAD_PART after NRVS_UNALIGNED where there
+ * are no such parts, or all: unmap the page then.
+ */
+uint32_t nrvs_plan_unmap_part(struct nrvs_plan *plan, const struct nrvs_target *target, uint64_t base, uint64_t first, uint64_t count);
+
+/* Puts one page of the next larger size, at this physical address and with these rights, in the place of 512, the first of which
+ * begins at an address. They may lie anywhere, but have the same rights, and the same attributes but for flags 5 and 6 [reply, due,
+ * put]: NRVS_CHANGED (with the rights that the first had), NRVS_INSIDE, NRVS_NOT_MAPPED, NRVS_LARGEST, NRVS_NOT_FIRST, NRVS_MISPLACED,
+ * NRVS_BEYOND, NRVS_NARROW, NRVS_PINNED, NRVS_APART. What lies at the physical address is the caller's: that it has what the pages
+ * have, and that nobody writes to them from the copy until the flush is over, as where they were protected and flushed before.
+ */
+uint32_t nrvs_plan_collapse(struct nrvs_plan *plan, const struct nrvs_target *target, uint64_t base, uint64_t physical, uint32_t rights);
 
 /* Looks at an address: NRVS_MAPPED, with the physical address of this very address, or NRVS_NOT_MAPPED. No store is planned [reply,
  * nothing].
  */
 uint32_t nrvs_plan_ask(struct nrvs_plan *plan, const struct nrvs_target *target, uint64_t address);
+
+/* Five of these requests over frames that lie one after another, as in a direct map: frame number `first` + i has the words
+ * frames[i].word, for each i below `count`. Such a call begins the plan [refused] and shows it the frames that it asks for, as far as they
+ * lie there [seen]. So, where it isn't refused, it returns NRVS_PLANNED; NRVS_GIVE; or NRVS_SEE of a frame that lies elsewhere, after which
+ * nrvs_plan_see goes on [HasSeen: waits, elsewhere, kept]. The plan is right for each memory that has these frames [HasSeen: next].
+ *
+ * Where the way leads to a table of level 1 there, and no table is linked or unlinked, the plan is made by one way down, in some 220
+ * instructions. All else is planned as by the calls one by one; the words of the first way down are then read once more, and what they
+ * were is not used. That it is just the plan of the calls one by one is tested (tests/plans); that no frame is read but those on the way
+ * was read in the code. So only these have to stay as they are while the call runs, but for flags: others may change, as under other
+ * locks. A proof speaks of frames that all stay as they are: plan and target lie in none that is asked for.
+ */
+uint32_t nrvs_plan_map_in(struct nrvs_plan *plan, const struct nrvs_target *target, const struct nrvs_words *frames, size_t count,
+			  uint64_t first, uint64_t base, uint32_t size, uint64_t physical, uint32_t rights, uint64_t bits);
+uint32_t nrvs_plan_unmap_in(struct nrvs_plan *plan, const struct nrvs_target *target, const struct nrvs_words *frames, size_t count,
+			    uint64_t first, uint64_t base);
+uint32_t nrvs_plan_protect_in(struct nrvs_plan *plan, const struct nrvs_target *target, const struct nrvs_words *frames, size_t count,
+			      uint64_t first, uint64_t base, uint32_t rights);
+uint32_t nrvs_plan_remap_in(struct nrvs_plan *plan, const struct nrvs_target *target, const struct nrvs_words *frames, size_t count,
+			    uint64_t first, uint64_t base, uint64_t physical, uint32_t rights);
+uint32_t nrvs_plan_ask_in(struct nrvs_plan *plan, const struct nrvs_target *target, const struct nrvs_words *frames, size_t count,
+			  uint64_t first, uint64_t address);
 
 /* Shows the words of `plan->frame` [next]. NRVS_NOT_ASKED where no words are waited for [asked]. */
 uint32_t nrvs_plan_see(struct nrvs_plan *plan, const uint64_t words[512]);
@@ -250,8 +345,9 @@ uint32_t nrvs_plan_see(struct nrvs_plan *plan, const uint64_t words[512]);
 uint32_t nrvs_plan_give(struct nrvs_plan *plan, uint64_t frame);
 uint32_t nrvs_plan_give_none(struct nrvs_plan *plan);
 
-/* Store `index` finds `found` in place of `old_word`, which differs by flags that a processor set: NRVS_OK, and the plan has that word in
- * its place [flags, again]; wherever that is so [done], and only there [asked]. Where it fills a frame, that has to be filled again.
+/* Store `index` finds `found` in place of an `old_word` that is present (bit 0), from which it differs by flags 5 and 6 at most, set or
+ * cleared: NRVS_OK, and the plan has that word in its place [flags, again]; wherever that is so [done], and only there [asked, flags].
+ * Where it fills a frame, that has to be filled again.
  */
 uint32_t nrvs_plan_again(struct nrvs_plan *plan, uint64_t index, uint64_t found);
 

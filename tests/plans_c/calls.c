@@ -11,18 +11,18 @@
 
 const struct planner REFERENCE = {
 	reference_map, reference_unmap, reference_protect, reference_ask, reference_remap, reference_split, reference_join,
-	reference_see, reference_give, reference_give_none, reference_again,
+	reference_prune, reference_unmap_part, reference_collapse, reference_see, reference_give, reference_give_none, reference_again,
 };
 
 #ifdef REFERENCE_ALONE
 const struct planner LIBRARY = {
 	reference_map, reference_unmap, reference_protect, reference_ask, reference_remap, reference_split, reference_join,
-	reference_see, reference_give, reference_give_none, reference_again,
+	reference_prune, reference_unmap_part, reference_collapse, reference_see, reference_give, reference_give_none, reference_again,
 };
 #else
 const struct planner LIBRARY = {
 	nrvs_plan_map, nrvs_plan_unmap, nrvs_plan_protect, nrvs_plan_ask, nrvs_plan_remap, nrvs_plan_split, nrvs_plan_join,
-	nrvs_plan_see, nrvs_plan_give, nrvs_plan_give_none, nrvs_plan_again,
+	nrvs_plan_prune, nrvs_plan_unmap_part, nrvs_plan_collapse, nrvs_plan_see, nrvs_plan_give, nrvs_plan_give_none, nrvs_plan_again,
 };
 #endif
 
@@ -50,6 +50,15 @@ static void spoil(struct nrvs_plan *plan)
 	plan->fills = 0;
 #elif PLANT == 9 /* a new table is filled with the entries of other pages */
 	plan->fill.step <<= 1;
+#elif PLANT == 12 /* a prune leaves a word in the place of the link */
+	plan->stores[0].new_word |= plan->reply.code == NRVS_DONE && plan->unlinked_count ? 2 : 0;
+#elif PLANT == 13 /* one part too few is removed */
+	plan->fill.gap_count -= plan->fill.gap_count != 0;
+#elif PLANT == 14 /* the gap is one part further on */
+	plan->fill.gap += plan->fill.gap_count != 0;
+#elif PLANT == 15 /* a page in the place of others keeps their physical address */
+	if (plan->flush == NRVS_FLUSH_RANGE && !plan->fills)
+		plan->stores[0].new_word ^= UINT64_C(1) << 30;
 #elif PLANT == 10 /* pages are joined without their flags */
 	plan->stores[0].new_word &= plan->flush == NRVS_FLUSH_RANGE && !plan->fills ? ~UINT64_C(0x60) : UINT64_MAX;
 #else
@@ -71,6 +80,12 @@ uint32_t begin(const struct planner *planner, struct nrvs_plan *plan, const stru
 		return planner->split(plan, target, r.address);
 	if (r.kind == JOINS)
 		return planner->join(plan, target, r.address);
+	if (r.kind == PRUNES)
+		return planner->prune(plan, target, r.address);
+	if (r.kind == PART_UNMAPS)
+		return planner->unmap_part(plan, target, r.address, r.physical, r.bits);
+	if (r.kind == COLLAPSES)
+		return planner->collapse(plan, target, r.address, r.physical, r.rights);
 	return planner->ask(plan, target, r.address);
 }
 
@@ -102,7 +117,8 @@ int fill(const struct nrvs_plan *plan, const struct memory *memory)
 {
 	uint64_t *words = plan->fills ? memory_words(memory, plan->fill.frame) : NULL, i;
 	for (i = 0; words && i < 512; i++)
-		__atomic_store_n(&words[i], plan->fill.first_word + i * plan->fill.step, __ATOMIC_RELAXED);
+		__atomic_store_n(&words[i], i - plan->fill.gap < plan->fill.gap_count ? 0 : plan->fill.first_word + i * plan->fill.step,
+				 __ATOMIC_RELAXED);
 	return words || !plan->fills;
 }
 

@@ -5,11 +5,11 @@
 #include "memory.h"
 #include "nrvs_plan.h"
 
-enum { MAPS = 0, UNMAPS = 1, PROTECTS = 2, ASKS = 3, REMAPS = 4, SPLITS = 5, JOINS = 6 };
+enum { MAPS = 0, UNMAPS = 1, PROTECTS = 2, ASKS = 3, REMAPS = 4, SPLITS = 5, JOINS = 6, PRUNES = 7, PART_UNMAPS = 8, COLLAPSES = 9, MANY_KINDS = 10 };
 
 struct request {
 	unsigned kind, size, rights;
-	uint64_t address, physical, bits;
+	uint64_t address, physical, bits; /* of an unmap of parts: the number of the first, and how many */
 };
 
 struct planner {
@@ -20,6 +20,9 @@ struct planner {
 	uint32_t (*remap)(struct nrvs_plan *, const struct nrvs_target *, uint64_t, uint64_t, uint32_t);
 	uint32_t (*split)(struct nrvs_plan *, const struct nrvs_target *, uint64_t);
 	uint32_t (*join)(struct nrvs_plan *, const struct nrvs_target *, uint64_t);
+	uint32_t (*prune)(struct nrvs_plan *, const struct nrvs_target *, uint64_t);
+	uint32_t (*unmap_part)(struct nrvs_plan *, const struct nrvs_target *, uint64_t, uint64_t, uint64_t);
+	uint32_t (*collapse)(struct nrvs_plan *, const struct nrvs_target *, uint64_t, uint64_t, uint32_t);
 	uint32_t (*see)(struct nrvs_plan *, const uint64_t *);
 	uint32_t (*give)(struct nrvs_plan *, uint64_t);
 	uint32_t (*give_none)(struct nrvs_plan *);

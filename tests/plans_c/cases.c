@@ -33,7 +33,7 @@ static struct nrvs_plan planned(struct request r, struct stock stock)
 	CHECK(drive(&LIBRARY, &plan, step, &memory, &stock) == NRVS_PLANNED);
 	CHECK(drive(&REFERENCE, &second, step, &memory, &stock) == NRVS_PLANNED);
 	CHECK(same_plans(&plan, &second));
-	CHECK(plan.reply.code < NRVS_NO_FRAME || plan.store_count + plan.unlinked_count + plan.flush + plan.fills == 0);
+	CHECK(plan.reply.code <= NRVS_FAULT || plan.store_count + plan.unlinked_count + plan.flush + plan.fills == 0);
 	return plan;
 }
 
@@ -74,6 +74,14 @@ static void refusals(void)
 	CHECK(p->remap(&plan, &target, 1, 0, 0) == NRVS_UNALIGNED);
 	CHECK(p->split(&plan, &target, UINT64_C(1) << 47) == NRVS_NOT_CANONICAL);
 	CHECK(p->join(&plan, &target, 2048) == NRVS_UNALIGNED);
+	CHECK(p->prune(&plan, &target, UINT64_C(1) << 47) == NRVS_NOT_CANONICAL);
+	CHECK(p->unmap_part(&plan, &target, UINT64_C(1) << 47, 0, 0) == NRVS_NOT_CANONICAL);
+	CHECK(p->unmap_part(&plan, &target, 1, 0, 0) == NRVS_UNALIGNED);
+	CHECK(p->unmap_part(&plan, &target, 0, 0, 0) == NRVS_BAD_PART && p->unmap_part(&plan, &target, 0, 0, 512) == NRVS_BAD_PART);
+	CHECK(p->unmap_part(&plan, &target, 0, 511, 2) == NRVS_BAD_PART && p->unmap_part(&plan, &target, 0, 512, 1) == NRVS_BAD_PART);
+	CHECK(p->unmap_part(&plan, &target, 0, UINT64_MAX, 2) == NRVS_BAD_PART);
+	CHECK(p->unmap_part(&plan, &target, 0, 2, UINT64_MAX) == NRVS_BAD_PART);
+	CHECK(p->collapse(&plan, &target, 0, 0, 8) == NRVS_BAD_RIGHTS && p->collapse(&plan, &target, 1, 0, 0) == NRVS_UNALIGNED);
 	bad.levels = 3;
 	CHECK(p->ask(&plan, &bad, 0) == NRVS_BAD_LEVELS);
 	bad.levels = 4, bad.phys_bits = 35;
@@ -115,7 +123,11 @@ static void odd_tables(void)
 	struct nrvs_plan plan;
 	tables_for(0);
 	plan = maps(0, NRVS_2M, 0);
-	CHECK(plan.reply.code == NRVS_EMPTY && plan.reply.number == tables[3]);
+	CHECK(plan.reply.code == NRVS_EMPTY && plan.reply.number == tables[3] && plan.bits == 0);
+	*word(2, 0) = 0, *word(2, 3) = tables[3] << 12 | 7;
+	plan = maps(0, NRVS_1G, 0);
+	CHECK(plan.reply.code == NRVS_EMPTY && plan.reply.number == tables[3] && plan.bits == 0x600000);
+	*word(2, 3) = 0, *word(2, 0) = tables[3] << 12 | 7;
 	*word(1, 9) = 0x7000 | NX | 3;
 	plan = maps(0, NRVS_2M, 0);
 	CHECK(plan.reply.code == NRVS_OVERLAP && plan.reply.number == 0x9000);
@@ -226,6 +238,66 @@ static void joins(void)
 	CHECK(asked(JOINS, GIB + 0x1000, 0, 0).reply.code == NRVS_INSIDE);
 }
 
+static void check_collapse(uint64_t base, unsigned level, uint64_t physical, unsigned rights, uint64_t new_word)
+{
+	struct nrvs_plan plan = asked(COLLAPSES, base, physical, rights);
+	CHECK(plan.reply.code == NRVS_CHANGED);
+	CHECK(plan.store_count == 1 && plan.stores[0].frame == tables[4 - (level + 1)] && plan.stores[0].index == 0);
+	CHECK(plan.stores[0].old_word == *word(level + 1, 0) && plan.stores[0].new_word == new_word);
+	CHECK(plan.unlinked_count == 1 && plan.unlinked[0] == tables[4 - level] && !plan.fills);
+	CHECK(plan.flush == NRVS_FLUSH_RANGE && plan.flush_base == base && plan.flush_size == level);
+	CHECK(again(&LIBRARY, &plan, 0, plan.stores[0].old_word | 0x20) == NRVS_OK);
+	CHECK(plan.stores[0].new_word == new_word);
+}
+
+/* What a collapse asks of a table, and what it writes: PAT at its place, wherever the pages lie. */
+static void collapses(void)
+{
+	tables_for(0);
+	run_of(1, GIB | NX | 0x83);
+	*word(1, 9) = 0x7654000 | NX | 0xe3;
+	check_collapse(0, 1, 3 * GIB, 0, 3 * GIB | NX | 0x10e1);
+	check_collapse(0, 1, 0x200000, 7, 0x200000 | 0x10e7);
+	CHECK(asked(COLLAPSES, 0x1000, 0, 0).reply.code == NRVS_NOT_FIRST);
+	CHECK(asked(COLLAPSES, 0, 0x1000, 0).reply.code == NRVS_MISPLACED);
+	CHECK(asked(COLLAPSES, 0, UINT64_C(1) << 40, 0).reply.code == NRVS_BEYOND);
+	*word(2, 0) &= ~UINT64_C(2);
+	CHECK(asked(COLLAPSES, 0, 0, 1).reply.code == NRVS_NARROW);
+	*word(1, 7) ^= 2;
+	CHECK(asked(COLLAPSES, 0, 0, 0).reply.code == NRVS_APART && asked(COLLAPSES, 0, 0, 0).reply.number == 7);
+	*word(1, 7) = 0;
+	CHECK(asked(COLLAPSES, 0, 0, 0).reply.code == NRVS_APART && asked(COLLAPSES, 0, 0, 0).reply.number == 7);
+	run_of(2, GIB | 0x1107 | 0x80);
+	*word(2, 511) = 5 * GIB | 0x11a7;
+	check_collapse(0, 2, 4 * GIB, 7, 4 * GIB | 0x11e7);
+	*word(3, 1) = GIB | 0x83;
+	CHECK(asked(COLLAPSES, GIB, 0, 0).reply.code == NRVS_LARGEST);
+	CHECK(asked(COLLAPSES, 2 * GIB, 0, 0).reply.code == NRVS_NOT_MAPPED);
+}
+
+/* An unmap of parts: a split but for the gap. */
+static void parts(void)
+{
+	struct request r = {PART_UNMAPS, 0, 0, 0x200000, 500, 12};
+	struct stock one = {{77, 0, 0, 0}, 1, 0}, none = {{0, 0, 0, 0}, 0, 0};
+	struct nrvs_plan plan;
+	tables_for(0);
+	*word(1, 1) = 0x5003;
+	*word(2, 1) = GIB | NX | 0x1183;
+	plan = planned(r, one);
+	CHECK(plan.reply.code == NRVS_CHANGED && plan.store_count == 1 && plan.stores[0].new_word == (77 << 12 | 7) && plan.fills == 1);
+	CHECK(plan.fill.first_word == (GIB | NX | 0x183) && plan.fill.step == 4096 && plan.fill.gap == 500 && plan.fill.gap_count == 12);
+	CHECK(plan.flush == NRVS_FLUSH_RANGE && plan.flush_base == 0x200000 && plan.flush_size == NRVS_2M);
+	CHECK(again(&LIBRARY, &plan, 0, plan.stores[0].old_word | 0x60) == NRVS_OK && plan.fill.first_word == (GIB | NX | 0x1e3));
+	CHECK(planned(r, none).reply.code == NRVS_NO_FRAME);
+	r.address = 0x1000;
+	CHECK(planned(r, none).reply.code == NRVS_SMALLEST);
+	r.address = 0x201000;
+	CHECK(planned(r, none).reply.code == NRVS_INSIDE);
+	r.address = 0x400000;
+	CHECK(planned(r, none).reply.code == NRVS_NOT_MAPPED);
+}
+
 static void check_split(uint64_t base, unsigned level, uint64_t first_word)
 {
 	struct request r = {SPLITS, 0, 0, base, 0, 0};
@@ -272,6 +344,66 @@ static void splits_and_remaps(void)
 	CHECK(asked(REMAPS, 0x200000, 4 * GIB, NRVS_WRITE).reply.code == NRVS_NARROW);
 }
 
+/* Tables with no present entry are pruned, one after another, but the root and what is pinned. */
+static void prunes(void)
+{
+	struct nrvs_plan plan;
+	unsigned level;
+	tables_for(0x600000);
+	*word(1, 3) = 0x1234560; /* not present */
+	for (level = 1; level < 4; level++) {
+		target.pinned = level + 1;
+		CHECK(asked(PRUNES, 0x605123, 0, 0).store_count == 0 && asked(PRUNES, 0x605123, 0, 0).reply.code == NRVS_DONE);
+		target.pinned = level + 2;
+		plan = asked(PRUNES, 0x605123, 0, 0);
+		CHECK(plan.reply.code == NRVS_DONE && plan.store_count == 1 && plan.stores[0].new_word == 0 && plan.bits == 0);
+		CHECK(plan.stores[0].frame == tables[3 - level] && plan.unlinked_count == 1 && plan.unlinked[0] == tables[4 - level]);
+		CHECK(plan.flush == NRVS_FLUSH_PAGE_AND_TABLES && plan.flush_base == 0x605123 && plan.flush_size == NRVS_4K);
+		CHECK(again(&LIBRARY, &plan, 0, plan.stores[0].old_word | 0x20) == NRVS_OK);
+		CHECK(plan.stores[0].new_word == 0 && plan.bits == 0);
+		*word(level + 1, plan.stores[0].index) = 0;
+	}
+	target.pinned = 0;
+	CHECK(asked(PRUNES, 0x605123, 0, 0).store_count == 0);
+	tables_for(0x600000);
+	*word(1, 511) = 0x7001;
+	CHECK(asked(PRUNES, 0x605123, 0, 0).store_count == 0 && asked(PRUNES, 0x7ff000, 0, 0).store_count == 0);
+	*word(2, 5) = 0x200083;
+	CHECK(asked(PRUNES, 0xa00000, 0, 0).store_count == 0 && asked(PRUNES, 0x800000, 0, 0).store_count == 0);
+}
+
+/* Links beyond the physical addresses; tables that are pinned are joined with none. */
+static void links(void)
+{
+	static const unsigned EACH[] = {MAPS, UNMAPS, PROTECTS, ASKS, REMAPS, SPLITS, JOINS, PRUNES};
+	struct nrvs_plan plan;
+	unsigned i;
+	tables_for(0);
+	*word(3, 7) = UINT64_C(1) << 40 | 7;
+	for (i = 0; i < sizeof EACH / sizeof EACH[0]; i++) {
+		plan = asked(EACH[i], 7 * GIB, 0, 0);
+		CHECK(plan.reply.code == NRVS_RESERVED && plan.reply.number == tables[1] && plan.bits == 7);
+	}
+	plan = maps(7 * GIB, NRVS_1G, 0);
+	CHECK(plan.reply.code == NRVS_RESERVED && plan.reply.number == tables[1] && plan.bits == 7);
+	*word(2, 0) = 0, *word(2, 4) = UINT64_C(1) << 51 | 7;
+	plan = maps(0, NRVS_1G, 0);
+	CHECK(plan.reply.code == NRVS_RESERVED && plan.reply.number == tables[2] && plan.bits == 4);
+	*word(3, 7) = ((UINT64_C(1) << 40) - 4096) | 7;
+	CHECK(begin(&LIBRARY, &plan, &target, (struct request){ASKS, 0, 0, 7 * GIB, 0, 0}) == NRVS_SEE);
+	CHECK(LIBRARY.see(&plan, memory_words(&memory, tables[0])) == NRVS_SEE);
+	CHECK(LIBRARY.see(&plan, memory_words(&memory, tables[1])) == NRVS_SEE && plan.frame == (UINT64_C(1) << 28) - 1);
+	tables_for(0);
+	run_of(1, GIB | 3);
+	target.pinned = 2;
+	CHECK(asked(JOINS, 0, 0, 0).reply.code == NRVS_PINNED && asked(JOINS, 0x1000, 0, 0).reply.code == NRVS_NOT_FIRST);
+	target.pinned = 3;
+	CHECK(asked(JOINS, 0, 0, 0).reply.code == NRVS_CHANGED);
+	target.pinned = UINT32_MAX;
+	CHECK(asked(JOINS, 0, 0, 0).reply.code == NRVS_CHANGED);
+	target.pinned = 0;
+}
+
 int main(void)
 {
 	memory_begin(&memory, 40, 3);
@@ -281,7 +413,11 @@ int main(void)
 	odd_tables();
 	attributes();
 	joins();
+	collapses();
+	parts();
 	splits_and_remaps();
+	prunes();
+	links();
 	memory_end(&memory);
 	return counts();
 }

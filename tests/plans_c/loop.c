@@ -12,7 +12,7 @@ static void fill(const struct nrvs_plan *plan)
 {
 	uint64_t i;
 	for (i = 0; plan->fills && i < 512; i++)
-		words_of(plan->fill.frame)[i] = plan->fill.first_word + i * plan->fill.step;
+		words_of(plan->fill.frame)[i] = i - plan->fill.gap < plan->fill.gap_count ? 0 : plan->fill.first_word + i * plan->fill.step;
 }
 
 /* Carries out store number i; 0 where somebody else wrote the word. */

@@ -3,7 +3,7 @@
 
 #include <string.h>
 
-enum { MAP = 1, UNMAP = 2, PROTECT = 3, ASK = 4, REMAP = 5, SPLIT = 6, JOIN = 7 };
+enum { MAP = 1, UNMAP = 2, PROTECT = 3, ASK = 4, REMAP = 5, SPLIT = 6, JOIN = 7, PRUNE = 8, UNMAP_PART = 9, COLLAPSE = 10 };
 #define PRESENT UINT64_C(1)
 #define WRITE UINT64_C(2)
 #define USER UINT64_C(4)
@@ -24,7 +24,7 @@ struct kept {
 	struct shown shown[5];
 };
 
-/* In `own` of the plan: small numbers by bytes, then the others. */
+/* In `own` of the plan: small numbers by bytes, then the others; one is in `way`. */
 static struct kept load(const struct nrvs_plan *plan)
 {
 	const uint64_t *own = plan->own;
@@ -33,12 +33,12 @@ static struct kept load(const struct nrvs_plan *plan)
 	k.kind = own[0] & 255, k.levels = own[0] >> 8 & 255, k.phys_bits = own[0] >> 16 & 255, k.pinned = own[0] >> 24 & 255;
 	k.size = own[0] >> 32 & 255, k.rights = own[0] >> 40 & 255, k.step = own[0] >> 48 & 255, k.level = own[0] >> 56;
 	k.searching = own[1] & 255, k.missing = own[1] >> 8 & 255, k.given_count = own[1] >> 16 & 255;
-	k.address = own[2], k.physical = own[3], k.bits = own[4], k.base = own[5];
+	k.address = own[2], k.physical = own[3], k.bits = own[4], k.base = plan->way[0];
 	for (i = 0; i < 4; i++)
-		k.given[i] = own[6 + i];
+		k.given[i] = own[5 + i];
 	for (i = 0; i < 5; i++) {
-		k.shown[i].frame = own[10 + i];
-		k.shown[i].word = own[15 + i];
+		k.shown[i].frame = own[9 + i];
+		k.shown[i].word = own[14 + i];
 		k.shown[i].alone = own[1] >> (24 + i) & 1;
 	}
 	return k;
@@ -51,12 +51,12 @@ static uint32_t keep(struct nrvs_plan *plan, const struct kept *k)
 	own[0] = k->kind | k->levels << 8 | k->phys_bits << 16 | k->pinned << 24 | k->size << 32 | k->rights << 40 | k->step << 48 |
 		 k->level << 56;
 	own[1] = k->searching | k->missing << 8 | k->given_count << 16;
-	own[2] = k->address, own[3] = k->physical, own[4] = k->bits, own[5] = k->base;
+	own[2] = k->address, own[3] = k->physical, own[4] = k->bits, plan->way[0] = k->base;
 	for (i = 0; i < 4; i++)
-		own[6 + i] = k->given[i];
+		own[5 + i] = k->given[i];
 	for (i = 0; i < 5; i++) {
-		own[10 + i] = k->shown[i].frame;
-		own[15 + i] = k->shown[i].word;
+		own[9 + i] = k->shown[i].frame;
+		own[14 + i] = k->shown[i].word;
 		own[1] |= k->shown[i].alone << (24 + i);
 	}
 	return (uint32_t)k->step;
@@ -141,7 +141,7 @@ static uint32_t begin(struct nrvs_plan *plan, const struct nrvs_target *target, 
 	memset(plan, 0, sizeof *plan);
 	k.levels = k.level = target->levels;
 	k.phys_bits = target->phys_bits;
-	k.pinned = target->pinned != 0;
+	k.pinned = target->pinned > target->levels ? 0 : target->pinned;
 	plan->frame = target->root;
 	k.step = NRVS_SEE;
 	return keep(plan, &k);
@@ -217,6 +217,32 @@ uint32_t reference_join(struct nrvs_plan *plan, const struct nrvs_target *target
 	return begin_at(plan, target, k);
 }
 
+uint32_t reference_prune(struct nrvs_plan *plan, const struct nrvs_target *target, uint64_t address)
+{
+	struct kept k = {.kind = PRUNE, .address = address};
+	uint32_t status = levels_fault(target);
+	if (status == NRVS_OK)
+		status = base_fault(target, address, 1);
+	return status != NRVS_OK ? status : begin(plan, target, k);
+}
+
+uint32_t reference_unmap_part(struct nrvs_plan *plan, const struct nrvs_target *target, uint64_t base, uint64_t first, uint64_t count)
+{
+	struct kept k = {.kind = UNMAP_PART, .address = base, .physical = first, .bits = count};
+	uint32_t status = levels_fault(target);
+	if (status == NRVS_OK)
+		status = base_fault(target, base, 4096);
+	if (status == NRVS_OK && (count - 1 > 510 || first > 511 || first + count > 512))
+		status = NRVS_BAD_PART;
+	return status != NRVS_OK ? status : begin(plan, target, k);
+}
+
+uint32_t reference_collapse(struct nrvs_plan *plan, const struct nrvs_target *target, uint64_t base, uint64_t physical, uint32_t rights)
+{
+	struct kept k = {.kind = COLLAPSE, .address = base, .physical = physical, .rights = rights};
+	return begin_at(plan, target, k);
+}
+
 /* The end: an answer without a page. */
 static uint32_t answers(struct nrvs_plan *plan, struct kept *k, unsigned code, uint64_t number)
 {
@@ -251,12 +277,18 @@ static void flushes(struct nrvs_plan *plan, uint32_t what, uint64_t level, uint6
 	plan->flush_base = base;
 }
 
+/* Whether a table of this level stays: the root does, and those to which entries lead of the level that is pinned, or above. */
+static int stays(const struct kept *k, uint64_t level)
+{
+	return level == k->levels || (k->pinned && level + 1 >= k->pinned);
+}
+
 /* The page is removed, and tables that have nothing else are unlinked, from below. */
 static void removes(struct nrvs_plan *plan, const struct kept *k)
 {
 	uint64_t level = k->level;
 	stores(plan, k->shown[level - 1].frame, index_at(level, k->address), k->shown[level - 1].word, 0);
-	while (level < k->levels && k->shown[level - 1].alone && !(k->pinned && level == k->levels - 1)) {
+	while (level < k->levels && k->shown[level - 1].alone && !stays(k, level)) {
 		plan->unlinked[plan->unlinked_count++] = k->shown[level - 1].frame;
 		level++;
 		stores(plan, k->shown[level - 1].frame, index_at(level, k->address), k->shown[level - 1].word, 0);
@@ -264,19 +296,21 @@ static void removes(struct nrvs_plan *plan, const struct kept *k)
 	flushes(plan, plan->unlinked_count ? NRVS_FLUSH_PAGE_AND_TABLES : NRVS_FLUSH_PAGE, k->level, k->address);
 }
 
-/* Why the page can't be remapped, split or joined, whatever the entries are; 0: it can. */
+/* Why the page can't be remapped, divided, joined or replaced, whatever the entries are; 0: it can. */
 static unsigned refusal(const struct kept *k, uint64_t word)
 {
 	uint64_t bytes = bytes_of(k->level), end = UINT64_C(1) << (k->phys_bits > 51 ? 51 : k->phys_bits);
 	if (k->kind == REMAP)
 		return k->physical % bytes ? NRVS_MISPLACED : k->physical > end - bytes ? NRVS_BEYOND : 0;
-	if (k->kind == SPLIT)
+	if (k->kind == SPLIT || k->kind == UNMAP_PART)
 		return k->level == 1 ? NRVS_SMALLEST : 0;
-	if (k->kind != JOIN)
+	if (k->kind != JOIN && k->kind != COLLAPSE)
 		return 0;
 	if (k->level == 3)
 		return NRVS_LARGEST;
 	bytes = bytes_of(k->level + 1);
+	if (k->kind == COLLAPSE)
+		return k->address % bytes ? NRVS_NOT_FIRST : k->physical % bytes ? NRVS_MISPLACED : k->physical > end - bytes ? NRVS_BEYOND : 0;
 	return k->address % bytes ? NRVS_NOT_FIRST : physical_of(k->level, word) % bytes ? NRVS_MISPLACED : 0;
 }
 
@@ -293,7 +327,7 @@ static uint32_t changes(struct nrvs_plan *plan, struct kept *k, uint64_t word)
 	return answers(plan, k, NRVS_CHANGED, 0);
 }
 
-/* A split that has its frame: the entries of the parts, then the link. */
+/* A split or an unmap of parts that has its frame: the entries of the parts that stay, then the link. */
 static uint32_t splits(struct nrvs_plan *plan, struct kept *k, uint64_t frame)
 {
 	const struct shown *at = &k->shown[k->level - 1];
@@ -303,6 +337,8 @@ static uint32_t splits(struct nrvs_plan *plan, struct kept *k, uint64_t frame)
 	plan->fill.first_word = physical_of(k->level, at->word) | PRESENT | bits_of_rights(rights_of(at->word)) |
 				placed(low, attributes(k->level, at->word));
 	plan->fill.step = bytes_of(low);
+	plan->fill.gap = k->kind == UNMAP_PART ? k->physical : 0;
+	plan->fill.gap_count = k->kind == UNMAP_PART ? k->bits : 0;
 	plan->bits = attributes(k->level, at->word);
 	plan->reply.rights = (uint8_t)rights_down_to(k, k->level);
 	stores(plan, at->frame, index_at(k->level, k->address), at->word, frame << 12 | PRESENT | WRITE | USER);
@@ -327,6 +363,39 @@ static uint32_t joins(struct nrvs_plan *plan, struct kept *k, const uint64_t wor
 	return answers(plan, k, NRVS_CHANGED, 0);
 }
 
+/* One page is put in the place of those of a table, where each has the rights and the attributes of the first one. */
+static uint32_t collapses(struct nrvs_plan *plan, struct kept *k, const uint64_t words[512])
+{
+	const struct shown *at = &k->shown[k->level - 1], *above = &k->shown[k->level];
+	uint64_t i, other = FLAGS | (ADDRESS & ~(bytes_of(k->level) - 1));
+	for (i = 0; i < 512; i++)
+		if ((words[i] ^ at->word) & ~other)
+			return answers(plan, k, NRVS_APART, i);
+	plan->bits = attributes(k->level, at->word);
+	plan->reply.rights = (uint8_t)rights_down_to(k, k->level);
+	stores(plan, above->frame, index_at(k->level + 1, k->address), above->word,
+	       k->physical | PRESENT | bits_of_rights(k->rights) | placed(k->level + 1, plan->bits | FLAGS));
+	plan->unlinked[plan->unlinked_count++] = at->frame;
+	flushes(plan, NRVS_FLUSH_RANGE, k->level + 1, k->address);
+	return answers(plan, k, NRVS_CHANGED, 0);
+}
+
+/* The table in which the way ends is unlinked, where it may be and nothing is present in it. */
+static uint32_t prunes(struct nrvs_plan *plan, struct kept *k, const uint64_t words[512])
+{
+	const struct shown *at = &k->shown[k->level - 1], *above = at + 1;
+	unsigned i;
+	for (i = 0; i < 512; i++)
+		if (words[i] & PRESENT)
+			return answers(plan, k, NRVS_DONE, 0);
+	if (stays(k, k->level))
+		return answers(plan, k, NRVS_DONE, 0);
+	stores(plan, above->frame, index_at(k->level + 1, k->address), above->word, 0);
+	plan->unlinked[plan->unlinked_count++] = at->frame;
+	flushes(plan, NRVS_FLUSH_PAGE_AND_TABLES, 1, k->address);
+	return answers(plan, k, NRVS_DONE, 0);
+}
+
 /* The page's entry was found on the way of all but a map. */
 static uint32_t found(struct nrvs_plan *plan, struct kept *k, const uint64_t words[512])
 {
@@ -336,7 +405,7 @@ static uint32_t found(struct nrvs_plan *plan, struct kept *k, const uint64_t wor
 		return answers(plan, k, NRVS_INSIDE, base);
 	if (refusal(k, at->word))
 		return answers(plan, k, refusal(k, at->word), 0);
-	if ((k->kind == PROTECT || k->kind == REMAP) && k->rights & ~rights_down_to(k, k->level + 1))
+	if ((k->kind == PROTECT || k->kind == REMAP || k->kind == COLLAPSE) && k->rights & ~rights_down_to(k, k->level + 1))
 		return answers(plan, k, NRVS_NARROW, 0);
 	word = (at->word & ~(WRITE | USER | NX)) | bits_of_rights(k->rights);
 	if (k->kind == PROTECT)
@@ -344,8 +413,10 @@ static uint32_t found(struct nrvs_plan *plan, struct kept *k, const uint64_t wor
 	if (k->kind == REMAP)
 		return changes(plan, k, (word & ~(ADDRESS & ~(bytes - 1))) | k->physical);
 	if (k->kind == JOIN)
-		return joins(plan, k, words);
-	if (k->kind == SPLIT) {
+		return stays(k, k->level) ? answers(plan, k, NRVS_PINNED, 0) : joins(plan, k, words);
+	if (k->kind == COLLAPSE)
+		return stays(k, k->level) ? answers(plan, k, NRVS_PINNED, 0) : collapses(plan, k, words);
+	if (k->kind == SPLIT || k->kind == UNMAP_PART) {
 		k->step = NRVS_GIVE;
 		return keep(plan, k);
 	}
@@ -384,9 +455,18 @@ static uint32_t absent(struct nrvs_plan *plan, struct kept *k)
 	return keep(plan, k);
 }
 
-/* Goes down by a link. */
-static uint32_t down(struct nrvs_plan *plan, struct kept *k, uint64_t word)
+/* An entry can't be used. */
+static uint32_t reserved(struct nrvs_plan *plan, struct kept *k, uint64_t index)
 {
+	plan->bits = index;
+	return answers(plan, k, NRVS_RESERVED, plan->frame);
+}
+
+/* Goes down by the link at an index. */
+static uint32_t down(struct nrvs_plan *plan, struct kept *k, uint64_t word, uint64_t index)
+{
+	if ((word & ADDRESS) >> k->phys_bits)
+		return reserved(plan, k, index);
 	plan->frame = (word & ADDRESS) >> 12;
 	k->level--;
 	return keep(plan, k);
@@ -398,15 +478,15 @@ static uint32_t searches(struct nrvs_plan *plan, struct kept *k, const uint64_t 
 	uint64_t index = 0, word;
 	while (index < 512 && !(words[index] & PRESENT))
 		index++;
-	if (index == 512)
+	if (index == 512) {
+		plan->bits = k->base;
 		return answers(plan, k, NRVS_EMPTY, plan->frame);
-	word = words[index];
-	if (has_reserved(k->level, word)) {
-		plan->bits = index;
-		return answers(plan, k, NRVS_RESERVED, plan->frame);
 	}
+	word = words[index];
+	if (has_reserved(k->level, word))
+		return reserved(plan, k, index);
 	k->base += index * bytes_of(k->level);
-	return is_leaf(k->level, word) ? answers(plan, k, NRVS_OVERLAP, k->base) : down(plan, k, word);
+	return is_leaf(k->level, word) ? answers(plan, k, NRVS_OVERLAP, k->base) : down(plan, k, word, index);
 }
 
 static int alone(const uint64_t words[512], uint64_t index)
@@ -429,19 +509,19 @@ uint32_t reference_see(struct nrvs_plan *plan, const uint64_t words[512])
 	k.shown[k.level - 1].frame = plan->frame;
 	k.shown[k.level - 1].word = word;
 	k.shown[k.level - 1].alone = k.kind == UNMAP && k.level < k.levels && alone(words, index);
+	if (k.kind == PRUNE && (!(word & PRESENT) || has_reserved(k.level, word) || is_leaf(k.level, word)))
+		return prunes(plan, &k, words);
 	if (!(word & PRESENT))
 		return k.kind == MAP ? absent(plan, &k) : answers(plan, &k, NRVS_NOT_MAPPED, 0);
-	if (has_reserved(k.level, word)) {
-		plan->bits = index;
-		return answers(plan, &k, NRVS_RESERVED, plan->frame);
-	}
+	if (has_reserved(k.level, word))
+		return reserved(plan, &k, index);
 	if (is_leaf(k.level, word))
 		return k.kind == MAP ? answers(plan, &k, NRVS_OVERLAP, k.address & ~(bytes_of(k.level) - 1)) : found(plan, &k, words);
 	if (k.kind == MAP && k.level == k.size + 1) {
 		k.searching = 1;
 		k.base = k.address;
 	}
-	return down(plan, &k, word);
+	return down(plan, &k, word, index);
 }
 
 uint32_t reference_give(struct nrvs_plan *plan, uint64_t frame)
@@ -451,7 +531,7 @@ uint32_t reference_give(struct nrvs_plan *plan, uint64_t frame)
 		return NRVS_NOT_ASKED;
 	if (frame >> (k.phys_bits - 12))
 		return answers(plan, &k, NRVS_FRAME_RANGE, frame);
-	if (k.kind == SPLIT)
+	if (k.kind == SPLIT || k.kind == UNMAP_PART)
 		return splits(plan, &k, frame);
 	k.given[k.given_count++] = frame;
 	return k.given_count == k.missing - (k.size + 1) ? maps(plan, &k) : keep(plan, &k);
@@ -475,9 +555,9 @@ uint32_t reference_again(struct nrvs_plan *plan, uint64_t index, uint64_t now)
 	store->old_word = now;
 	if (k.kind == PROTECT || k.kind == REMAP)
 		store->new_word = (store->new_word & ~FLAGS) | (now & FLAGS);
-	if (k.kind == SPLIT)
+	if (k.kind == SPLIT || k.kind == UNMAP_PART)
 		plan->fill.first_word = (plan->fill.first_word & ~FLAGS) | (now & FLAGS);
-	if (index == 0 && k.kind != MAP && k.kind != JOIN)
+	if (index == 0 && k.kind != MAP && k.kind != JOIN && k.kind != PRUNE && k.kind != COLLAPSE)
 		plan->bits = (plan->bits & ~FLAGS) | (now & FLAGS);
 	return NRVS_OK;
 }

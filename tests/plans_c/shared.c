@@ -66,7 +66,7 @@ static void one_call(void)
 	struct stock stock = {{0, 0, 0, 0}, 4, 0};
 	struct answered a;
 	struct page page;
-	target.pinned = (uint32_t)high;
+	target.pinned = high ? target.levels : 0;
 	r.physical = draw(&seed, 1 << 10) * bytes;
 	if (r.kind == MAPS || r.kind == SPLITS)
 		r.address &= ~(bytes - 1);

@@ -204,6 +204,60 @@ struct answered space_join(struct space *space, uint64_t base)
 	return a;
 }
 
+/* A split, and then an unmap of each of these parts. */
+struct answered space_unmap_part(struct space *space, uint64_t base, uint64_t first, uint64_t count)
+{
+	struct answered a = space_split(space, base);
+	uint64_t k, bytes;
+	if (a.reply.code != NRVS_CHANGED)
+		return a;
+	bytes = bytes_of(space_page(space, base)->size);
+	for (k = first; k < first + count; k++)
+		space_unmap(space, base + k * bytes);
+	return a;
+}
+
+/* The number of the first page that isn't there or isn't like the first, but for its physical address and flags; PARTS where all are. */
+static unsigned first_unlike(const struct space *space, unsigned at, struct page whole)
+{
+	unsigned k;
+	for (k = 0; k < PARTS && at + k < space->count; k++) {
+		struct page part = part_of(whole, k), page = space->pages[at + k];
+		if (page.base != part.base || page.size != part.size || page.rights != part.rights || ((page.bits ^ part.bits) & ~(uint64_t)FLAGS))
+			return k;
+	}
+	return k;
+}
+
+struct answered space_collapse(struct space *space, uint64_t base, uint64_t physical, unsigned rights, unsigned phys_bits)
+{
+	struct answered a;
+	struct page page;
+	unsigned at, unlike;
+	uint64_t bytes, end = UINT64_C(1) << (phys_bits > 51 ? 51 : phys_bits);
+	if (!find(space, base, &at, &a))
+		return a;
+	page = space->pages[at];
+	if (page.size == NRVS_1G)
+		return of_code(NRVS_LARGEST, 0);
+	page.size++;
+	bytes = bytes_of(page.size);
+	if (page.base % bytes)
+		return of_code(NRVS_NOT_FIRST, 0);
+	if (physical % bytes)
+		return of_code(NRVS_MISPLACED, 0);
+	if (physical > end - bytes)
+		return of_code(NRVS_BEYOND, 0);
+	unlike = first_unlike(space, at, page);
+	if (unlike < PARTS)
+		return of_code(NRVS_APART, unlike);
+	page.bits |= FLAGS;
+	page.physical = physical;
+	page.rights = rights;
+	*make_room(space, at, 1 - PARTS) = page;
+	return a;
+}
+
 struct answered space_ask(const struct space *space, uint64_t address)
 {
 	const struct page *page = space_page(space, address);

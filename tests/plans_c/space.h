@@ -32,6 +32,11 @@ struct answered space_protect(struct space *space, uint64_t base, unsigned right
 struct answered space_remap(struct space *space, uint64_t base, uint64_t physical, unsigned rights, unsigned phys_bits);
 struct answered space_split(struct space *space, uint64_t base);
 struct answered space_join(struct space *space, uint64_t base);
+/* So many of its 512 parts are removed, from this one on; one page is in the place of 512, where these have the same rights and attributes
+ * but for the flags.
+ */
+struct answered space_unmap_part(struct space *space, uint64_t base, uint64_t first, uint64_t count);
+struct answered space_collapse(struct space *space, uint64_t base, uint64_t physical, unsigned rights, unsigned phys_bits);
 
 struct answered space_ask(const struct space *space, uint64_t address);
 

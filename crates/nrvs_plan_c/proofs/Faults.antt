@@ -1,5 +1,5 @@
 -- A well-formed request has no fault.
-use Rattle.std.proofs.Common.{◌≡◌, ℕ, ◌+◌, ◌%◌, ◌^◌, ◌<◌, ◌≤◌, min, Bool, true, false, not, Option, Some, None, ⊎_elim, refl, sym, ap, subst, ◌∙◌, arith}
+use Rattle.std.proofs.Common.{◌≡◌, ℕ, ◌+◌, ◌-◌, ◌%◌, ◌^◌, ◌<◌, ◌≤◌, min, Bool, true, false, not, Option, Some, None, ⊎_elim, refl, sym, ap, subst, ◌∙◌, arith}
 use Rattle.std.specs.Prelude.{◌&&◌, ◌||◌, ◌==◌, nat_lt, if◌then◌else◌}
 use Rattle.std.proofs.lemmas.Bool.{le-ltb, lt-ltb, cases_lt}
 use Rattle.vs_types.specs.Depth.{is_canonical}
@@ -7,10 +7,10 @@ use Rattle.vs_types.specs.Page.{bytes_of}
 use Rattle.vs_types.specs.declared.page.Page.{Page}
 use Rattle.vs_plan.specs.declared.request.BadRequest.{BadRequest}
 use Rattle.vs_plan.specs.declared.request.Request.{Request}
-use Rattle.vs_plan.specs.declared.request.Request.TheVariants.{Map, Ask}
+use Rattle.vs_plan.specs.declared.request.Request.TheVariants.{Map, Ask, Prune, UnmapPart}
 use Rattle.vs_plan.specs.declared.target.Target.{Target}
 use Rattle.vs_plan.specs.Bits.{AreBits}
-use Rattle.vs_plan.specs.Request.{IsRequest, IsMapped, IsWhole, address_of, are_bits, request_fault, page_fault, base_fault, whole_fault}
+use Rattle.vs_plan.specs.Request.{ArePartsOf, IsRequest, IsMapped, IsWhole, address_of, are_bits, request_fault, page_fault, base_fault, part_fault, whole_fault}
 use Rattle.vs_plan.specs.Target.{frames_end}
 
 -- a test that finds no fault, and those after it
@@ -49,9 +49,20 @@ no_page_fault target page bits is =
 no_base_fault : (base : ℕ) → base % 4096 ≡ 0 → base_fault base ≡ None
 no_base_fault base is = ends (base % 4096 == 0) _ (ap (λ (n : ℕ). n == 0) is)
 
+no_part_fault : (base first count : ℕ) → (base % 4096 ≡ 0) × ArePartsOf first count → part_fault base first count ≡ None
+no_part_fault base first count is =
+    let parts = is.1 in
+    passes (not (base % 4096 == 0)) _ _ (no_rest (base % 4096) is.0)
+    (passes (nat_lt count 1 || nat_lt 511 count || nat_lt (512 - count) first) _ _
+    (ap (λ (b : Bool). b || nat_lt 511 count || nat_lt (512 - count) first) (le-ltb count 1 parts.some)
+    ∙ ap (λ (b : Bool). b || nat_lt (512 - count) first) (le-ltb 511 count (omega (arith, parts.few)))
+    ∙ le-ltb (512 - count) first (omega (arith, parts.few, parts.within))) refl)
+
 no_whole_fault : (target : Target) (request : Request) → IsWhole target request → whole_fault target request ≡ None
 no_whole_fault target (Map page bits) is = no_page_fault target page bits is
 no_whole_fault target (Ask address) is = refl
+no_whole_fault target (Prune address) is = refl
+no_whole_fault target (UnmapPart base first count) is = no_part_fault base first count is
 no_whole_fault target request is = no_base_fault (address_of request) is
 
 pub no_fault : (target : Target) (request : Request) → IsRequest target request → request_fault target request ≡ None

@@ -70,4 +70,7 @@ address_in call =
     (address_if (nat_eq call.kind 2) _ _ call.address refl
     (address_if (nat_eq call.kind 3) _ _ call.address refl
     (address_if (nat_eq call.kind 4) _ _ call.address refl
-    (address_if (nat_eq call.kind 5) _ _ call.address refl refl)))))
+    (address_if (nat_eq call.kind 5) _ _ call.address refl
+    (address_if (nat_eq call.kind 6) _ _ call.address refl
+    (address_if (nat_eq call.kind 7) _ _ call.address refl
+    (address_if (nat_eq call.kind 8) _ _ call.address refl refl))))))))

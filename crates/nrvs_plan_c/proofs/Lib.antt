@@ -1,3 +1,9 @@
 mod Keeping
 mod Faults
 mod MadeAgain
+mod Ends
+mod EndsRight
+mod EndsTold
+mod AllowedBits
+mod Walking
+mod AtOnce

@@ -4,19 +4,22 @@ use Rattle.std.specs.Prelude.{◌&&◌, ◌||◌, not, nat_eq, slice_index_or, s
 use Rattle.std.proofs.Math.Seq.{take-set-lt}
 use Rattle.std.proofs.lemmas.Bool.{ne_eqb}
 use Rattle.std.proofs.lemmas.List.{get_or-take, get_or_default, length-set}
+use Rattle.vs_types.specs.declared.answer.Answer.TheVariants as answers
 use Rattle.vs_plan.specs.declared.plan.Fill.{Fill}
 use Rattle.vs_plan.specs.declared.plan.Plan as plans
 use Rattle.vs_plan.specs.declared.plan.Reply as outcomes
 use Rattle.vs_plan.specs.declared.plan.Reply.TheVariants as replies
 use Rattle.vs_plan.specs.declared.plan.Store.{Store}
-use Rattle.vs_plan.specs.Again.{HasFlagsSet, IsPlanAgain, flags_into, new_again, with_flags_of, bits_again as bits_made, fill_again as fill_made}
+use Rattle.vs_plan.specs.Again.{HasFlagsSet, IsPlanAgain, flags_into, new_again, told_again, with_flags_of, bits_again as bits_made, fill_again as fill_made}
 use Rattle.vs_plan.specs.Right.{Changes}
 use Rattle.nrvs_plan_c.specs.declared.kept.Plan.{Plan}
-use Rattle.nrvs_plan_c.specs.Told.{IsTold, bits_told, fill_numbers, plan_again, store_again, store_at}
+use Rattle.nrvs_plan_c.specs.declared.told.Reply.{Reply}
+use Rattle.nrvs_plan_c.specs.Told.{IsFillTold, IsTold, bits_told, plan_again, reply_numbers, store_again, store_at}
 
 -- the bits of a plan with a store are said as they are
 plain_bits : (reply : outcomes.Reply) (stores : List Store) → 0 < length stores → ((Changes reply → ⊥) → stores ≡ []) → (bits : ℕ) → bits_told reply bits ≡ bits
 plain_bits (replies.Reserved number index) stores some nothing bits = absurd (omega (arith, some, ap length (nothing (λ none. none))))
+plain_bits (replies.Empty number address) stores some nothing bits = absurd (omega (arith, some, ap length (nothing (λ none. none))))
 plain_bits _ stores some nothing bits = refl
 
 -- a list that isn't empty has no length of 0
@@ -34,16 +37,32 @@ bits_same (suc index) count unlinked found new bits is =
     subst (λ b. (if b && (nat_eq count 0 || nat_eq new 0) then flags_into found bits else bits) ≡ bits)
     (sym (ne_eqb (suc index) 0 (λ none. omega (arith, none)))) refl
 
-fill_same : (fills found : ℕ) (fill : Fill) (made : Option Fill) → (fills, fill) ≡ fill_numbers made
-    → (fills, if nat_eq fills 0 then fill else record fill { first = flags_into found fill.first }) ≡ fill_numbers (fill_made found made)
-fill_same fills found fill None is =
-    subst (λ (x : ℕ × Fill). (x.0, if nat_eq x.0 0 then x.1 else record x.1 { first = flags_into found x.1.first })
-    ≡ fill_numbers (fill_made found None)) (sym is) refl
-fill_same fills found fill (Some table) is =
-    subst (λ (x : ℕ × Fill). (x.0, if nat_eq x.0 0 then x.1 else record x.1 { first = flags_into found x.1.first })
-    ≡ fill_numbers (fill_made found (Some table))) (sym is) refl
+-- the bits that stay where it is only done
+done_same : (made : outcomes.Reply) (reply : Reply) (found bits : ℕ) → reply ≡ reply_numbers made
+    → (if nat_eq reply.code 0 then bits else found) ≡ told_again made found bits
+done_same (replies.Answer answers.Done) reply found bits is = ap (λ (r : Reply). if nat_eq r.code 0 then bits else found) is
+done_same (replies.Answer answer) reply found bits is = ap (λ (r : Reply). if nat_eq r.code 0 then bits else found) is
+done_same _ reply found bits is = ap (λ (r : Reply). if nat_eq r.code 0 then bits else found) is
 
-new_same : (fills count : ℕ) (made : Option Fill) (unlinked : List ℕ) (found new : ℕ) → fills ≡ (fill_numbers made).0 → count ≡ length unlinked
+fill_same : (fills found : ℕ) (fill : Fill) (made : Option Fill) → IsFillTold fills fill made
+    → IsFillTold fills (if nat_eq fills 0 then fill else record fill { first = flags_into found fill.first }) (fill_made found made)
+fill_same fills found fill None is = is
+fill_same fills found fill (Some table) is = (
+  is.0,
+  ap (λ n. if nat_eq n 0 then fill else record fill { first = flags_into found fill.first }) is.0
+      ∙ ap (λ (f : Fill). record f { first = flags_into found f.first }) is.1,
+)
+
+-- whether a frame is filled, as a number
+abbrev filling : Option Fill → ℕ
+filling None = 0
+filling (Some fill) = 1
+
+filling_is : (fills : ℕ) (fill : Fill) (made : Option Fill) → IsFillTold fills fill made → fills ≡ filling made
+filling_is fills fill None is = is
+filling_is fills fill (Some table) is = is.0
+
+new_same : (fills count : ℕ) (made : Option Fill) (unlinked : List ℕ) (found new : ℕ) → fills ≡ filling made → count ≡ length unlinked
     → (if not (nat_eq fills 0) || not (nat_eq count 0) then new else with_flags_of found new) ≡ new_again made unlinked found new
 new_same fills count None [] found new a b =
     subst (λ m. (if not (nat_eq m 0) || not (nat_eq count 0) then new else with_flags_of found new) ≡ with_flags_of found new) (sym a)
@@ -65,7 +84,7 @@ module _ (plan : Plan) (index found : ℕ) (within : index < plan.store_count) (
       items = slice_set made.stores.items index (record store { old = found; new = new_again made.fill made.unlinked.items found store.new });
     };
     fill = fill_made found made.fill;
-    bits = bits_made index made.unlinked.items found store.new made.bits;
+    bits = told_again made.reply (bits_made index made.unlinked.items found store.new made.bits) made.bits;
   }
 
   low : index < length made.stores.items
@@ -81,7 +100,8 @@ module _ (plan : Plan) (index found : ℕ) (within : index < plan.store_count) (
   plain = plain_bits made.reply made.stores.items (omega (arith, low)) nothing
 
   new_is : (store_again plan store found).new ≡ new_again made.fill made.unlinked.items found store.new
-  new_is = new_same plan.fills plan.unlinked_count made.fill made.unlinked.items found store.new (ap (λ (x : ℕ × Fill). x.0) is.fill) is.unlinked_count
+  new_is = new_same plan.fills plan.unlinked_count made.fill made.unlinked.items found store.new (filling_is plan.fills plan.fill made.fill is.fill)
+      is.unlinked_count
 
   pub made_again : (next : plans.Plan) × IsPlanAgain made index found next × IsTold (plan_again plan index found) next
   made_again = (
@@ -100,9 +120,11 @@ module _ (plan : Plan) (index found : ℕ) (within : index < plan.store_count) (
     },
     record {
       reply = is.reply;
-      bits = bits_same index plan.unlinked_count made.unlinked.items found store.new plan.bits is.unlinked_count
-          ∙ ap (bits_made index made.unlinked.items found store.new) (is.bits ∙ plain made.bits)
-          ∙ sym (plain (bits_made index made.unlinked.items found store.new made.bits));
+      bits = ap (λ b. if nat_eq plan.reply.code 0 then plan.bits else b)
+          (bits_same index plan.unlinked_count made.unlinked.items found store.new plan.bits is.unlinked_count)
+          ∙ done_same made.reply plan.reply (bits_made index made.unlinked.items found store.new plan.bits) plan.bits is.reply
+          ∙ ap (λ b. told_again made.reply (bits_made index made.unlinked.items found store.new b) b) (is.bits ∙ plain made.bits)
+          ∙ sym (plain (told_again made.reply (bits_made index made.unlinked.items found store.new made.bits) made.bits));
       fill = fill_same plan.fills found plan.fill made.fill is.fill;
       store_count = is.store_count
           ∙ sym (length-set made.stores.items index (record store { old = found; new = new_again made.fill made.unlinked.items found store.new }));

@@ -1,5 +1,6 @@
 -- The planner that is kept in C's struct between two calls.
-use Rattle.std.specs.Prelude.{ℕ, ◌/◌, ◌%◌, ◌≤◌, ◌||◌, Bool, nat_eq, not, take, if◌then◌else◌}
+use Rattle.std.specs.Prelude.{ℕ, ◌==◌, ◌/◌, ◌%◌, ◌≤◌, ◌||◌, Bool, min, nat_eq, take, if◌then◌else◌}
+use Rattle.std.specs.Int.{bit_at}
 use Rattle.vs_types.specs.declared.depth.Depth.{Depth}
 use Rattle.vs_types.specs.declared.depth.Depth.TheVariants.{Four, Five}
 use Rattle.vs_types.specs.declared.page.Page.{Page}
@@ -11,7 +12,7 @@ use Rattle.vs_plan.specs.declared.planner.Phase.{Phase}
 use Rattle.vs_plan.specs.declared.planner.Phase.TheVariants.{Descent, Search, Growth, Division, Ended}
 use Rattle.vs_plan.specs.declared.planner.Planner.{Planner}
 use Rattle.vs_plan.specs.declared.request.Request.{Request}
-use Rattle.vs_plan.specs.declared.request.Request.TheVariants.{Map, Unmap, Protect, Ask, Remap, Split, Join}
+use Rattle.vs_plan.specs.declared.request.Request.TheVariants.{Map, Unmap, Protect, Ask, Remap, Split, Join, Prune, UnmapPart, Collapse}
 use Rattle.vs_plan.specs.declared.target.Target as targets
 use Rattle.vs_plan.specs.Planner.{AwaitsWords, AwaitsFrame}
 use Rattle.nrvs_plan_c.specs.declared.kept.Call.{Call}
@@ -30,6 +31,10 @@ size_in code = if nat_eq code 0 then K4 else if nat_eq code 1 then M2 else G1
 abbrev pub rights_in : ℕ → Rights
 rights_in code = record { write = nat_eq (code % 2) 1; user = nat_eq (code / 2 % 2) 1; exec = nat_eq (code / 4 % 2) 1 }
 
+-- the rights that bits 1 for writes, 2 for user accesses and 63 for fetches allow
+abbrev pub rights_at : ℕ → Rights
+rights_at bits = record { write = bit_at bits 1 == 1; user = bit_at bits 2 == 1; exec = bit_at bits 63 == 1 }
+
 -- how far a planner is, by its code
 abbrev pub phase_in : ℕ → Phase
 phase_in code =
@@ -43,14 +48,14 @@ phase_in code =
 abbrev pub takes_frame : ℕ → Bool
 takes_frame code = nat_eq code 2 || nat_eq code 3
 
--- the page table of C's target
+-- the page table of C's target, in which no level is above 5
 abbrev pub target_of : Target → targets.Target
 target_of target =
-    record { depth = depth_in target.levels; pinned = not (nat_eq target.pinned 0); phys_bits = target.phys_bits; root = target.root }
+    record { depth = depth_in target.levels; pinned = min target.pinned 6; phys_bits = target.phys_bits; root = target.root }
 
 -- the page table that a plan is for
 abbrev pub target_in : Call → targets.Target
-target_in call = record { depth = depth_in call.levels; pinned = nat_eq call.pinned 1; phys_bits = call.phys_bits; root = call.root }
+target_in call = record { depth = depth_in call.levels; pinned = call.pinned; phys_bits = call.phys_bits; root = call.root }
 
 -- a page of these numbers
 abbrev pub page_in : ℕ → ℕ → ℕ → ℕ → Page
@@ -65,7 +70,10 @@ request_in call =
     else if nat_eq call.kind 3 then Ask call.address
     else if nat_eq call.kind 4 then Remap call.address call.physical (rights_in call.rights)
     else if nat_eq call.kind 5 then Split call.address
-    else Join call.address
+    else if nat_eq call.kind 6 then Join call.address
+    else if nat_eq call.kind 7 then Prune call.address
+    else if nat_eq call.kind 8 then UnmapPart call.address call.physical call.bits
+    else Collapse call.address call.physical (rights_in call.rights)
 
 -- the planner
 abbrev pub planner_in : Plan → Planner
@@ -75,13 +83,13 @@ planner_in plan = record {
   phase = phase_in plan.way.phase;
   level = plan.way.level;
   number = plan.frame;
-  rights = rights_in plan.way.allowed;
-  numbers = plan.way.numbers;
-  words = plan.way.words;
+  rights = rights_at plan.way.allowed;
+  numbers = plan.met.numbers;
+  words = plan.met.words;
   stop = plan.way.stop;
-  base = plan.way.base;
+  base = plan.met.base;
   height = plan.way.height;
-  below = plan.way.below;
+  below = plan.met.below;
   stores = record { items = take plan.store_count plan.stores };
 }
 

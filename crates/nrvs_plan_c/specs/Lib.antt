@@ -2,3 +2,5 @@ pub mod Status
 pub mod Kept
 pub mod Told
 pub mod Next
+pub mod Direct
+pub mod inside

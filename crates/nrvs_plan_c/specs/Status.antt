@@ -1,7 +1,7 @@
 -- The numbers of a call's status.
 use Rattle.std.specs.Prelude.{ℕ, nat_eq, nat_lt, Option, Some, None, ◌||◌, if◌then◌else◌}
 use Rattle.vs_plan.specs.declared.request.BadRequest.{BadRequest}
-use Rattle.vs_plan.specs.declared.request.BadRequest.TheVariants.{PhysBits, RootRange, NotCanonical, Unaligned, PhysUnaligned, PhysRange, Bits}
+use Rattle.vs_plan.specs.declared.request.BadRequest.TheVariants.{PhysBits, RootRange, NotCanonical, Unaligned, PhysUnaligned, PhysRange, Bits, Part}
 
 -- that of each thing that can be wrong with a request
 abbrev pub status_of : BadRequest → ℕ
@@ -12,6 +12,7 @@ status_of Unaligned = 11
 status_of PhysUnaligned = 12
 status_of PhysRange = 13
 status_of Bits = 15
+status_of Part = 18
 
 -- that of the first fault; where there is none, the words of a frame are to be shown
 abbrev pub begun_status : Option BadRequest → ℕ

@@ -37,7 +37,7 @@ reply_numbers (replies.Answer answer) = answer_numbers answer
 reply_numbers replies.NoFrame = numbered 10 0
 reply_numbers (replies.FrameRange number) = numbered 11 number
 reply_numbers replies.Rights = numbered 12 0
-reply_numbers (replies.Empty number) = numbered 13 number
+reply_numbers (replies.Empty number address) = numbered 13 number
 reply_numbers (replies.Reserved number index) = numbered 14 number
 reply_numbers replies.PhysUnaligned = numbered 15 0
 reply_numbers replies.PhysRange = numbered 16 0
@@ -45,9 +45,11 @@ reply_numbers replies.Smallest = numbered 17 0
 reply_numbers replies.Largest = numbered 18 0
 reply_numbers replies.Unaligned = numbered 19 0
 reply_numbers (replies.Apart index) = numbered 20 index
+reply_numbers replies.Pinned = numbered 21 0
 
--- the bits of the page's entry; or the index of the word with a reserved bit
+-- the bits of the page's entry; or an address on whose way the empty table is; or the index of the word with a reserved bit
 abbrev pub bits_told : outcomes.Reply → ℕ → ℕ
+bits_told (replies.Empty number address) bits = address
 bits_told (replies.Reserved number index) bits = index
 bits_told reply bits = bits
 
@@ -58,16 +60,16 @@ flush_numbers (flushes.Page base size) = (1, base, size_code size)
 flush_numbers (flushes.PageAndTables base size) = (2, base, size_code size)
 flush_numbers (flushes.Range base size) = (3, base, size_code size)
 
--- whether a frame is filled, and how
-abbrev pub fill_numbers : Option Fill → ℕ × Fill
-fill_numbers None = (0, record { frame = 0; first = 0; step = 0 })
-fill_numbers (Some fill) = (1, fill)
+-- whether a frame is filled, and where it is, how
+abbrev pub IsFillTold : ℕ → Fill → Option Fill → Type 0
+IsFillTold fills fill None = fills ≡ 0
+IsFillTold fills fill (Some made) = (fills ≡ 1) × (fill ≡ made)
 
 -- the numbers of the plan are those of this one
 pub record IsTold (plan : Plan) (made : plans.Plan) : Type 0 where
   pub reply : plan.reply ≡ reply_numbers made.reply
   pub bits : plan.bits ≡ bits_told made.reply made.bits
-  pub fill : (plan.fills, plan.fill) ≡ fill_numbers made.fill
+  pub fill : IsFillTold plan.fills plan.fill made.fill
   pub store_count : plan.store_count ≡ length made.stores.items
   pub stores : take plan.store_count plan.stores ≡ made.stores.items
   pub flush : (plan.flush, plan.flush_base, plan.flush_size) ≡ flush_numbers made.flush
@@ -91,10 +93,12 @@ store_again plan store found = record store { old = found; new = if is_linking p
 abbrev pub fill_again : Plan → ℕ → Fill
 fill_again plan found = if nat_eq plan.fills 0 then plan.fill else record plan.fill { first = flags_into found plan.fill.first }
 
--- the bits that are said of the page's entry, which the first store changes, but not where it writes an entry in the place of a link
+-- the bits that are said of the page's entry, which the first store changes, but not where it writes an entry in the place of a link, or
+-- where what is done names no page
 abbrev pub bits_again : Plan → ℕ → Store → ℕ → ℕ
 bits_again plan index store found =
-    if nat_eq index 0 && (nat_eq plan.unlinked_count 0 || nat_eq store.new 0) then flags_into found plan.bits
+    if nat_eq plan.reply.code 0 then plan.bits
+    else if nat_eq index 0 && (nat_eq plan.unlinked_count 0 || nat_eq store.new 0) then flags_into found plan.bits
     else plan.bits
 
 -- the numbers after a store at an index found a word with other flags

@@ -9,6 +9,9 @@ use crate::kept::{Call, Plan, Target, keep};
 use crate::status::{BAD_LEVELS, PHYS_BITS, SEE, status_of};
 use vs_plan::Planner;
 
+/// A level above that of each root.
+const ABOVE_ROOTS: u32 = 6;
+
 /// The numbers of a call of this kind, with nothing else.
 ///
 /// # Errors
@@ -36,7 +39,7 @@ pub(crate) fn call_of(target: &Target, kind: u8, address: u64) -> Result<Call, u
         bits: 0,
         levels: target.levels as u8,
         phys_bits: target.phys_bits as u8,
-        pinned: u8::from(target.pinned != 0),
+        pinned: target.pinned.min(ABOVE_ROOTS) as u8,
         kind,
         size: 0,
         rights: 0,

@@ -14,6 +14,9 @@ pub(crate) const SEARCH: u8 = 1;
 /// The code of the phase in which the plan is there.
 pub(crate) const ENDED: u8 = 4;
 
+/// The code of the answer that something is done, which names no page.
+pub(crate) const DONE: u8 = 0;
+
 /// Whether a frame is waited for in the phase of a code.
 pub(crate) fn takes_frame(code: u8) -> bool
     ensures { result ≡ takes_frame code }

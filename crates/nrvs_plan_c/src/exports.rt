@@ -1,6 +1,8 @@
 //! The calls for C.
-ghost use Rattle.std.specs.Prelude.{◌≡◌, ◌≢◌, ◌↔◌, ◌<◌, ◌-◌, ◌⊎◌, ◌≤◌, [], ◌∷◌, ◌++◌, Some, None, IfSome, IsFalse, nat_lt, if◌then◌else◌};
+ghost use Rattle.std.specs.Prelude.{◌≡◌, ◌≢◌, ◌↔◌, ◌<◌, ◌-◌, ◌⊎◌, ◌≤◌, [], ◌∷◌, ◌++◌, ℕ, Some, None, IfSome, IsFalse, nat_lt, slice_index, if◌then◌else◌};
 ghost use Rattle.std.specs.FinMap as finite;
+ghost use Rattle.vs_types.specs.Depth.{index_at};
+ghost use Rattle.vs_types.specs.declared.frame.TheConstants.{FRAME_WORDS};
 ghost use Rattle.vs_walk.specs.Memory.{Memory};
 ghost use Rattle.vs_plan.specs.declared.request.Request.{Request};
 ghost use Rattle.vs_plan.specs.declared.plan.TheConstants.{MOST_UNLINKED};
@@ -8,7 +10,7 @@ ghost use Rattle.vs_plan.specs.Again.{HasFlagsSet};
 ghost use Rattle.vs_plan.specs.Planner.{IsSpareFor, frames_given};
 ghost use Rattle.vs_plan.specs.Request.{request_fault};
 ghost use Rattle.vs_plan.specs.Shown.{IsShown};
-ghost use Rattle.nrvs_plan_c.specs.declared.codes.TheConstants.{ENDED, SEARCH};
+ghost use Rattle.nrvs_plan_c.specs.declared.codes.TheConstants.{DESCENT, ENDED, SEARCH};
 ghost use Rattle.nrvs_plan_c.specs.Kept.{IsSound, page_in, phase_in, planner_in, request_in, rights_in, takes_frame, target_in, target_of};
 ghost use Rattle.nrvs_plan_c.specs.Next.{HasBegun, IsNextOf, status_in};
 ghost use Rattle.nrvs_plan_c.specs.Told.{plan_again, store_at};
@@ -21,6 +23,8 @@ use crate::kept::{Call, Plan, Target, Words, open};
 use crate::next::go_on;
 use crate::status::{BAD_RIGHTS, BAD_SIZE, NOT_ASKED, PLANNED, SEE};
 use crate::told::{bits_again, is_linking};
+use vs_plan::FrameWords;
+use vs_types::index_at;
 
 /// Begins the plan of a map.
 #[unsafe(no_mangle)]
@@ -186,6 +190,22 @@ pub extern "C" fn nrvs_plan_ask(plan: &mut Plan, target: &Target, address: u64) 
     }
 }
 
+/// Begins the plan of a prune.
+#[unsafe(no_mangle)]
+pub extern "C" fn nrvs_plan_prune(plan: &mut Plan, target: &Target, address: u64) -> u32
+    ensures status { result ≡ target_status target.now.levels target.now.phys_bits
+        (begun_status (request_fault (target_of target.now) (Request.Prune address))) }
+    ensures target { result ≡ 32 → target_in plan.new.call ≡ target_of target.now }
+    ensures request { result ≡ 32 → request_in plan.new.call ≡ Request.Prune address }
+    ensures begun { result ≡ 32 → HasBegun plan.new }
+    ensures refused { result ≢ 32 → plan.new ≡ plan.old }
+{
+    match call_of(target, 7, address) {
+        Ok(call) => begin(plan, call),
+        Err(status) => status,
+    }
+}
+
 /// Takes the words of the frame that is asked for: `Planner::see`.
 #[unsafe(no_mangle)]
 pub extern "C" fn nrvs_plan_see(plan: &mut Plan, words: &Words) -> u32
@@ -206,10 +226,8 @@ pub extern "C" fn nrvs_plan_see(plan: &mut Plan, words: &Words) -> u32
     if plan.way.phase > SEARCH {
         return NOT_ASKED;
     }
-    if plan.way.phase == DESCENT && go_down(plan, words) {
-        return SEE;
-    }
-    see(plan, words)
+    let mut words = vs_plan::PlainWords(&words.word);
+    see_each_once(plan, &mut words)
 }
 
 /// Takes a frame whose words are all 0: `Planner::give`.
@@ -285,10 +303,11 @@ pub extern "C" fn nrvs_plan_again(plan: &mut Plan, index: usize, found: u64) -> 
     PLANNED
 }
 
-/// Takes the words of the frame that is asked for, by the planner that is kept.
-fn see(plan: &mut Plan, words: &Words) -> u32
+/// Takes the words of the frame that is asked for, and reads none of them twice.
+pub(crate) fn see_each_once<W: FrameWords>(plan: &mut Plan, words: &mut W) -> u32
     requires sound { IsSound plan.old }
     requires waits { plan.old.way.phase ≤ SEARCH }
+    requires unread { (i : ℕ) → i < FRAME_WORDS → W.is_unread words.old i }
     ensures asked { result ≢ 17 }
     ensures status { result ≡ status_in (phase_in plan.new.way.phase) }
     ensures ended { result ≡ 0 → plan.new.way.phase ≡ ENDED }
@@ -298,11 +317,63 @@ fn see(plan: &mut Plan, words: &Words) -> u32
     ensures fewer { result ≡ 32 → plan.new.way.level < plan.old.way.level }
     ensures given { result ≡ 33 → frames_given (planner_in plan.new) ≡ [] }
     ensures next { (memory : Memory) → IsShown memory (planner_in plan.old)
-        → finite.get memory plan.old.frame ≡ Some words.now.word
+        → finite.get memory plan.old.frame ≡ Some (W.words words.old)
+        → IsNextOf memory plan.new [] result }
+{
+    if plan.way.phase != DESCENT {
+        return see(plan, words);
+    }
+    let word = words.read(index_at(plan.way.level, plan.call.address));
+    if go_down(plan, words, word) {
+        return SEE;
+    }
+    follow(plan, words, word)
+}
+
+/// Takes the words of the frame that is asked for, by the planner that is kept.
+fn see<W: FrameWords>(plan: &mut Plan, words: &mut W) -> u32
+    requires sound { IsSound plan.old }
+    requires waits { plan.old.way.phase ≤ SEARCH }
+    requires unread { (i : ℕ) → i < FRAME_WORDS → W.is_unread words.old i }
+    ensures asked { result ≢ 17 }
+    ensures status { result ≡ status_in (phase_in plan.new.way.phase) }
+    ensures ended { result ≡ 0 → plan.new.way.phase ≡ ENDED }
+    ensures named { result ≡ 0 → plan.new.unlinked_count ≤ MOST_UNLINKED }
+    ensures sound { IsSound plan.new }
+    ensures call { plan.new.call ≡ plan.old.call }
+    ensures fewer { result ≡ 32 → plan.new.way.level < plan.old.way.level }
+    ensures given { result ≡ 33 → frames_given (planner_in plan.new) ≡ [] }
+    ensures next { (memory : Memory) → IsShown memory (planner_in plan.old)
+        → finite.get memory plan.old.frame ≡ Some (W.words words.old)
         → IsNextOf memory plan.new [] result }
 {
     let mut planner = open(plan);
-    let step = planner.see(&words.word);
+    let step = planner.see(words);
+    go_on(plan, &planner, &step)
+}
+
+/// Takes the words of the frame that is asked for on the way down, by the word of its entry, which was read, by the planner that is kept.
+fn follow<W: FrameWords>(plan: &mut Plan, words: &mut W, word: u64) -> u32
+    requires sound { IsSound plan.old }
+    requires descent { plan.old.way.phase ≡ DESCENT }
+    requires read { word ≡ slice_index (W.words words.old)
+        (index_at plan.old.way.level plan.old.call.address) }
+    requires unread { (i : ℕ) → i < FRAME_WORDS
+        → i ≢ index_at plan.old.way.level plan.old.call.address → W.is_unread words.old i }
+    ensures asked { result ≢ 17 }
+    ensures status { result ≡ status_in (phase_in plan.new.way.phase) }
+    ensures ended { result ≡ 0 → plan.new.way.phase ≡ ENDED }
+    ensures named { result ≡ 0 → plan.new.unlinked_count ≤ MOST_UNLINKED }
+    ensures sound { IsSound plan.new }
+    ensures call { plan.new.call ≡ plan.old.call }
+    ensures fewer { result ≡ 32 → plan.new.way.level < plan.old.way.level }
+    ensures given { result ≡ 33 → frames_given (planner_in plan.new) ≡ [] }
+    ensures next { (memory : Memory) → IsShown memory (planner_in plan.old)
+        → finite.get memory plan.old.frame ≡ Some (W.words words.old)
+        → IsNextOf memory plan.new [] result }
+{
+    let mut planner = open(plan);
+    let step = planner.follow(word, words);
     go_on(plan, &planner, &step)
 }
 

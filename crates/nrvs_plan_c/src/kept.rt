@@ -3,6 +3,7 @@ ghost use Rattle.std.specs.Prelude.{◌≡◌, ◌≤◌};
 ghost use Rattle.vs_plan.specs.declared.plan.TheConstants.{MOST_STORES};
 ghost use Rattle.nrvs_plan_c.specs.Kept.{planner_in, request_in, target_in};
 
+use crate::allowed::{allowed_of, rights_at};
 use crate::codes::{code_of, depth_in, phase_in, rights_in, size_in};
 use crate::told::Reply;
 use arrayvec::ArrayVec;
@@ -19,7 +20,7 @@ pub struct Target {
     pub levels: u32,
     /// How many bits a physical address has.
     pub phys_bits: u32,
-    /// Not 0 where the tables that the root leads to stay linked.
+    /// Tables to which entries of this level and above lead stay linked; 0: there are none.
     pub pinned: u32,
 }
 
@@ -38,42 +39,49 @@ pub struct Call {
     pub root: u64,
     /// The address.
     pub address: u64,
-    /// Of a map and a remap: the physical address.
+    /// Of a map, a remap and a collapse: the physical address. Of an unmap of parts: the number of the first.
     pub physical: u64,
-    /// Of a map: the bits of the page's entry beside its address and its rights.
+    /// Of a map: the bits of the page's entry beside its address and its rights. Of an unmap of parts: how many.
     pub bits: u64,
     /// 4 or 5.
     pub levels: u8,
     /// How many bits a physical address has.
     pub phys_bits: u8,
-    /// 1 where the tables that the root leads to stay linked.
+    /// Tables to which entries of this level and above lead stay linked; 0, and above the root's level: there are none.
     pub pinned: u8,
-    /// 0 a map, 1 an unmap, 2 a protect, 3 what only asks, 4 a remap, 5 a split, 6 a join.
+    /// 0 a map, 1 an unmap, 2 a protect, 3 what only asks, 4 a remap, 5 a split, 6 a join, 7 a prune, 8 an unmap of parts, 9 a
+    /// collapse.
     pub kind: u8,
     /// Of a map: the code of the size.
     pub size: u8,
-    /// Of a map, a protect and a remap: the code of the rights.
+    /// Of a map, a protect, a remap and a collapse: the code of the rights.
     pub rights: u8,
+}
+
+/// Where the way is, as a planner has it.
+#[repr(C)]
+#[derive(Clone, Copy, Debug, PartialEq, Eq)]
+pub struct Way {
+    /// What the entries on the way allow, at the places that these bits have in an entry; bit 63 is set where instructions may be fetched.
+    pub allowed: u64,
+    /// 0 and 1: words are waited for; 2 and 3: a frame; 4: nothing, since the plan is there.
+    pub phase: u8,
+    pub level: u8,
+    pub stop: u8,
+    pub height: u8,
 }
 
 /// What was met on the way, as a planner has it.
 #[repr(C)]
 #[derive(Clone, Copy, Debug, PartialEq, Eq)]
-pub struct Way {
+pub struct Met {
     pub base: u64,
     pub below: u64,
     pub numbers: [u64; 6],
     pub words: [u64; 6],
-    /// 0 and 1: words are waited for; 2 and 3: a frame; 4: nothing, since the plan is there.
-    pub phase: u8,
-    pub level: u8,
-    /// The code of the rights that the entries on the way allow.
-    pub allowed: u8,
-    pub stop: u8,
-    pub height: u8,
 }
 
-/// A plan, and how far it is.
+/// A plan, and how far it is. What most plans have comes first, in two lines of a cache.
 #[repr(C)]
 #[derive(Clone, Copy, Debug)]
 pub struct Plan {
@@ -81,15 +89,9 @@ pub struct Plan {
     pub frame: u64,
     /// What came out.
     pub reply: Reply,
-    /// The bits of the page's entry beside its address and its rights; of a reserved bit the index of the word.
+    /// The bits of the page's entry beside its address and its rights; of an empty table an address on whose way it is; of a reserved
+    /// bit the index of the word.
     pub bits: u64,
-    /// 1 where a frame is filled before the stores, else 0.
-    pub fills: u64,
-    /// That frame, and its words.
-    pub fill: Fill,
-    /// How many stores there are.
-    pub store_count: usize,
-    pub stores: [Store; MOST_STORES],
     /// 0 nothing, 1 the page, 2 the page and the tables of its range, 3 all that is kept of a range.
     pub flush: u32,
     /// The code of the size of the page, or of the range.
@@ -98,11 +100,20 @@ pub struct Plan {
     pub flush_base: u64,
     /// How many tables are unlinked.
     pub unlinked_count: usize,
+    /// 1 where a frame is filled before the stores, else 0.
+    pub fills: u64,
+    /// How many stores there are.
+    pub store_count: usize,
+    /// The library's own.
+    pub way: Way,
+    pub stores: [Store; MOST_STORES],
     pub unlinked: [u64; MOST_UNLINKED],
+    /// The frame that is filled, and its words; what it was where none is.
+    pub fill: Fill,
     /// The library's own.
     pub call: Call,
     /// The library's own.
-    pub way: Way,
+    pub met: Met,
 }
 
 impl Call {
@@ -112,7 +123,7 @@ impl Call {
     {
         vs_plan::Target {
             depth: depth_in(self.levels),
-            pinned: self.pinned == 1,
+            pinned: self.pinned,
             phys_bits: self.phys_bits,
             root: self.root,
         }
@@ -137,7 +148,10 @@ impl Call {
             3 => Request::Ask(self.address),
             4 => Request::Remap(self.address, self.physical, rights_in(self.rights)),
             5 => Request::Split(self.address),
-            _ => Request::Join(self.address),
+            6 => Request::Join(self.address),
+            7 => Request::Prune(self.address),
+            8 => Request::UnmapPart(self.address, self.physical, self.bits),
+            _ => Request::Collapse(self.address, self.physical, rights_in(self.rights)),
         }
     }
 }
@@ -157,13 +171,13 @@ pub(crate) fn open(plan: &Plan) -> Planner
         phase: phase_in(plan.way.phase),
         level: plan.way.level,
         number: plan.frame,
-        rights: rights_in(plan.way.allowed),
-        numbers: plan.way.numbers,
-        words: plan.way.words,
+        rights: rights_at(plan.way.allowed),
+        numbers: plan.met.numbers,
+        words: plan.met.words,
         stop: plan.way.stop,
-        base: plan.way.base,
+        base: plan.met.base,
         height: plan.way.height,
-        below: plan.way.below,
+        below: plan.met.below,
         stores,
     }
 }
@@ -177,13 +191,13 @@ pub(crate) fn keep(plan: &mut Plan, planner: &Planner)
     ensures count { plan.new.store_count ≤ MOST_STORES }
 {
     plan.frame = planner.number;
-    plan.way.base = planner.base;
-    plan.way.below = planner.below;
-    plan.way.numbers = planner.numbers;
-    plan.way.words = planner.words;
+    plan.met.base = planner.base;
+    plan.met.below = planner.below;
+    plan.met.numbers = planner.numbers;
+    plan.met.words = planner.words;
     plan.way.phase = code_of(planner.phase);
     plan.way.level = planner.level;
-    plan.way.allowed = planner.rights.code();
+    plan.way.allowed = allowed_of(planner.rights);
     plan.way.stop = planner.stop;
     plan.way.height = planner.height;
     let count = planner.stores.len();

@@ -4,15 +4,23 @@
 //! A call allocates nothing, and keeps no pointer once it has returned.
 #![tactic(auto)]
 
+mod allowed;
+mod at_once;
 mod begin;
 mod codes;
+mod direct;
 mod down;
+mod end;
 mod exports;
+mod in_steps;
 mod kept;
 pub mod laws;
 mod next;
+mod parts;
 mod status;
 mod told;
+mod walk;
+mod written;
 
-pub use kept::{Call, Plan, Target, Way, Words};
+pub use kept::{Call, Met, Plan, Target, Way, Words};
 pub use told::Reply;

@@ -43,6 +43,9 @@ pub(crate) const NOT_ASKED: u32 = 17;
 /// The words of a frame are to be shown.
 pub(crate) const SEE: u32 = 32;
 
+/// Parts that are to be removed are none, all, or not all among 512.
+pub(crate) const BAD_PART: u32 = 18;
+
 /// A frame is to be given.
 pub(crate) const GIVE: u32 = 33;
 
@@ -58,5 +61,6 @@ pub(crate) fn status_of(fault: BadRequest) -> u32
         BadRequest::PhysUnaligned => PHYS_UNALIGNED,
         BadRequest::PhysRange => PHYS_RANGE,
         BadRequest::Bits => BAD_BITS,
+        BadRequest::Part => BAD_PART,
     }
 }

@@ -1,8 +1,9 @@
 //! A plan in numbers.
 ghost use Rattle.std.specs.Prelude.{◌≡◌, ◌≤◌};
 ghost use Rattle.vs_plan.specs.declared.plan.TheConstants.{MOST_STORES, MOST_UNLINKED};
-ghost use Rattle.nrvs_plan_c.specs.Told.{IsTold, answer_numbers, bits_again, bits_told, fill_numbers, flush_numbers, is_linking, reply_numbers};
+ghost use Rattle.nrvs_plan_c.specs.Told.{IsFillTold, IsTold, answer_numbers, bits_again, bits_told, flush_numbers, is_linking, reply_numbers};
 
+use crate::codes::DONE;
 use crate::kept::Plan;
 use vs_plan::{ABOVE_FLAGS, BELOW_FLAGS, Fill, Flush, Reply as Outcome, Store};
 use vs_types::Answer;
@@ -12,7 +13,8 @@ use vs_types::Answer;
 #[derive(Clone, Copy, Debug, PartialEq, Eq)]
 pub struct Reply {
     /// 0 to 9 as an answer; 10 no frame, 11 a frame out of range, 12 too few rights, 13 an empty table, 14 a reserved bit, 15 a physical
-    /// address that isn't aligned, 16 one out of range, 17 the smallest page, 18 the largest, 19 no first page, 20 an entry apart.
+    /// address that isn't aligned, 16 one out of range, 17 the smallest page, 18 the largest, 19 no first page, 20 an entry apart, 21 a table that
+    /// stays.
     pub code: u8,
     /// The code of a page's size.
     pub size: u8,
@@ -32,7 +34,7 @@ impl Reply {
             Outcome::NoFrame => Reply::with(10, 0),
             Outcome::FrameRange(number) => Reply::with(11, number),
             Outcome::Rights => Reply::with(12, 0),
-            Outcome::Empty(number) => Reply::with(13, number),
+            Outcome::Empty(number, _) => Reply::with(13, number),
             Outcome::Reserved(number, _) => Reply::with(14, number),
             Outcome::PhysUnaligned => Reply::with(15, 0),
             Outcome::PhysRange => Reply::with(16, 0),
@@ -40,6 +42,7 @@ impl Reply {
             Outcome::Largest => Reply::with(18, 0),
             Outcome::Unaligned => Reply::with(19, 0),
             Outcome::Apart(index) => Reply::with(20, index as u64),
+            Outcome::Pinned => Reply::with(21, 0),
         }
     }
 
@@ -66,7 +69,7 @@ impl Reply {
         }
     }
 
-    fn with(code: u8, number: u64) -> Reply
+    pub(crate) fn with(code: u8, number: u64) -> Reply
         ensures { result ≡ record { code = code; size = 0; rights = 0; number = number } }
     {
         Reply {
@@ -78,11 +81,12 @@ impl Reply {
     }
 }
 
-/// The bits of the page's entry; or the index of the word with a reserved bit.
+/// The bits of the page's entry; or an address on whose way the empty table is; or the index of the word with a reserved bit.
 fn bits_told(outcome: Outcome, bits: u64) -> u64
     ensures { result ≡ bits_told outcome bits }
 {
     match outcome {
+        Outcome::Empty(_, address) => address,
         Outcome::Reserved(_, index) => index as u64,
         _ => bits,
     }
@@ -100,13 +104,17 @@ fn flush_numbers(flush: Flush) -> (u32, u64, u32)
     }
 }
 
-/// Whether a frame is filled, as a number, and how.
-fn fill_numbers(fill: Option<Fill>) -> (u64, Fill)
-    ensures { result ≡ fill_numbers fill }
+/// Writes whether a frame is filled, and where it is, how.
+fn write_fill(plan: &mut Plan, fill: Option<Fill>)
+    ensures says { IsFillTold plan.new.fills plan.new.fill fill }
+    ensures rest { plan.new ≡ record plan.old { fills = plan.new.fills; fill = plan.new.fill } }
 {
     match fill {
-        Some(fill) => (1, fill),
-        None => (0, Fill::default()),
+        Some(fill) => {
+            plan.fills = 1;
+            plan.fill = fill;
+        }
+        None => plan.fills = 0,
     }
 }
 
@@ -120,7 +128,7 @@ pub(crate) fn write(plan: &mut Plan, made: &vs_plan::Plan)
 {
     plan.reply = Reply::of(made.reply);
     plan.bits = bits_told(made.reply, made.bits);
-    (plan.fills, plan.fill) = fill_numbers(made.fill);
+    write_fill(plan, made.fill);
     plan.store_count = made.stores.len();
     plan.stores[..made.stores.len()].copy_from_slice(made.stores.as_slice());
     (plan.flush, plan.flush_base, plan.flush_size) = flush_numbers(made.flush);
@@ -139,7 +147,7 @@ pub(crate) fn is_linking(plan: &Plan) -> bool
 pub(crate) fn bits_again(plan: &Plan, index: usize, store: Store, found: u64) -> u64
     ensures { result ≡ bits_again plan.now index store found }
 {
-    if index != 0 || (plan.unlinked_count != 0 && store.new != 0) {
+    if plan.reply.code == DONE || index != 0 || (plan.unlinked_count != 0 && store.new != 0) {
         return plan.bits;
     }
     plan.bits % BELOW_FLAGS

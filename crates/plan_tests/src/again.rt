@@ -42,6 +42,7 @@ fn stores_again(rt: HostRuntime) {
         frame: 7,
         first: 0x600003,
         step: 0x1000,
+        ..Fill::default()
     };
     let flagged = Fill {
         first: 0x600063,
@@ -78,6 +79,7 @@ fn plans_again(rt: HostRuntime) {
         frame: C,
         first: 0x8000_0000_0060_0023,
         step: 0x1000,
+        ..Fill::default()
     };
     assert!(rt; plan.fill == Some(fill));
     memory.write(&rt, A, 1, word + 0x20);

@@ -4,13 +4,13 @@ ghost use Rattle.vs_plan.specs.Planner.{AwaitsWords};
 
 use crate::memory::{FIRST, Memory};
 use std::process::Abort;
-use vs_plan::{Plan, Planner, Request, Step, Target};
+use vs_plan::{PlainWords, Plan, Planner, Request, Step, Target};
 use vs_types::Depth;
 
 /// The page table whose root is the first frame, where physical addresses have 40 bits.
 pub const TARGET: Target = Target {
     depth: Depth::Four,
-    pinned: false,
+    pinned: 0,
     phys_bits: 40,
     root: FIRST,
 };
@@ -26,7 +26,7 @@ fn planned(rt: &impl Abort, memory: &mut Memory, mut planner: Planner) -> Plan
     for _ in 0..MOST_STEPS {
         match step {
             Step::See(number) => {
-                step = planner.see(memory.words(rt, number));
+                step = planner.see(&mut PlainWords(memory.words(rt, number)));
             }
             Step::Give => {
                 step = planner.give(memory.take());

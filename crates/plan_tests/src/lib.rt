@@ -11,6 +11,10 @@ mod drawn;
 #[cfg(test)]
 mod memory;
 #[cfg(test)]
+mod pruned;
+#[cfg(test)]
+mod ranges;
+#[cfg(test)]
 mod refused;
 #[cfg(test)]
 mod resized;

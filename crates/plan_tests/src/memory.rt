@@ -32,6 +32,14 @@ impl Memory {
         Memory { frames, free }
     }
 
+    /// Whether there is a frame of this number.
+    pub fn has(&self, number: u64) -> bool {
+        match number.checked_sub(FIRST) {
+            Some(place) => place < self.frames.len() as u64,
+            None => false,
+        }
+    }
+
     /// The words of a frame.
     pub fn words(&self, rt: &impl Abort, number: u64) -> &[u64; FRAME_WORDS] {
         let place = place(rt, number);
@@ -86,12 +94,14 @@ impl Memory {
         self.write(rt, store.frame, store.index, store.new);
     }
 
-    /// Fills a table, whose words must be 0.
+    /// Fills a table, whose words must be 0, but for its gap.
     pub fn fill(&mut self, rt: &impl Abort, fill: Fill) {
         let mut word = fill.first;
         for index in 0..FRAME_WORDS {
             assert!(rt; self.word(rt, fill.frame, index) == 0);
-            self.write(rt, fill.frame, index, word);
+            if (index as u64).wrapping_sub(fill.gap) >= fill.gap_count {
+                self.write(rt, fill.frame, index, word);
+            }
             word = word.wrapping_add(fill.step);
         }
     }

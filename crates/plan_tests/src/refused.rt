@@ -7,7 +7,7 @@ use crate::memory::Memory;
 use crate::worked::{A, B, Said, WRITE, is_so, page};
 use std::alloc::Global;
 use std::process::Abort;
-use vs_plan::{Asks, BadRequest, Flush, Planner, Reply, Request, Target};
+use vs_plan::{Asks, BadRequest, Flush, PlainWords, Planner, Reply, Request, Step, Target};
 use vs_types::{Answer, Page, Rights, Size};
 
 const ALL: Rights = Rights::ALL;
@@ -59,7 +59,7 @@ const FAR_ROOT: Target = Target {
 };
 
 /// Each reason for which there is no plan.
-static REFUSED: [Refused; 8] = [
+static REFUSED: [Refused; 9] = [
     (
         FEW_BITS,
         Request::Ask(0),
@@ -107,6 +107,12 @@ static REFUSED: [Refused; 8] = [
         Request::Map(PAGE, 1),
         BadRequest::Bits,
         "a bit is set that no map may set",
+    ),
+    (
+        TARGET,
+        Request::UnmapPart(0x200000, 511, 2),
+        BadRequest::Part,
+        "the parts are none, all, or not among 512",
     ),
 ];
 
@@ -169,10 +175,58 @@ fn replies_by_what_is_there(rt: HostRuntime) {
     let narrow = Rights { user: false, ..ALL };
     assert!(rt; plan.reply == Reply::Answer(Answer::Changed(narrow)));
     memory.write(&rt, A, 0, 0);
-    answers(&rt, &mut memory, TARGET, MAP_OVER_IT, Reply::Empty(A));
+    let empty = Reply::Empty(A, 0x400000);
+    answers(&rt, &mut memory, TARGET, MAP_OVER_IT, empty);
     memory.write(&rt, B, 3, 0x2083);
     let reserved = Reply::Reserved(B, 3);
     answers(&rt, &mut memory, TARGET, Request::Ask(0x600000), reserved);
+}
+
+// A link beyond the physical addresses: on the way, where the page is to lie, and under it.
+#[test]
+fn links_beyond(rt: HostRuntime) {
+    let mut memory = with_page(&rt, rt.alloc());
+    let last = 0xFF_FFFF_F007;
+    memory.write(&rt, B, 3, last + 0x1000);
+    let reserved = Reply::Reserved(B, 3);
+    let large = Page {
+        base: 0x600000,
+        ..LARGE
+    };
+    for request in [
+        Request::Ask(0x601000),
+        Request::Unmap(0x600000),
+        Request::Protect(0x600000, WRITE),
+        MAP_ELSEWHERE,
+        Request::Map(large, 0),
+        Request::Prune(0x600000),
+    ] {
+        answers(&rt, &mut memory, TARGET, request, reserved);
+    }
+    memory.write(&rt, B, 2, last + 0x1000);
+    let gigabyte = Request::Map(page(0, Size::G1, 0, ALL), 0);
+    answers(&rt, &mut memory, TARGET, gigabyte, Reply::Reserved(B, 2));
+    memory.write(&rt, B, 3, last);
+    let planner = planner_for(&rt, TARGET, Request::Ask(0x601000));
+    let asked = asked_last(&rt, &memory, planner);
+    assert!(rt; asked == Some((1 << 28) - 1));
+}
+
+/// The first frame that a planner asks for which the memory doesn't have.
+fn asked_last(rt: &impl Abort, memory: &Memory, mut planner: Planner) -> Option<u64>
+    requires { AwaitsWords planner }
+{
+    let mut number = planner.number;
+    for _ in 0..4u8 {
+        if !memory.has(number) {
+            return Some(number);
+        }
+        match planner.see(&mut PlainWords(memory.words(rt, number))) {
+            Step::See(next) => number = next,
+            _ => return None,
+        }
+    }
+    None
 }
 
 fn planner_for(rt: &impl Abort, target: Target, request: Request) -> Planner
@@ -187,9 +241,9 @@ fn asks(rt: HostRuntime) {
     let memory = Memory::new(&rt, rt.alloc(), 4);
     let mut planner = planner_for(&rt, TARGET, MAP);
     assert!(rt; planner.asks() == Asks::Words(TARGET.root));
-    let _step = planner.see(memory.words(&rt, TARGET.root));
+    let _step = planner.see(&mut PlainWords(memory.words(&rt, TARGET.root)));
     assert!(rt; planner.asks() == Asks::Frame);
     let mut planner = planner_for(&rt, TARGET, Request::Ask(0));
-    let _step = planner.see(memory.words(&rt, TARGET.root));
+    let _step = planner.see(&mut PlainWords(memory.words(&rt, TARGET.root)));
     assert!(rt; planner.asks() == Asks::Nothing);
 }

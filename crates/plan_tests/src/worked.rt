@@ -2,6 +2,7 @@
 
 use crate::carried::{TARGET, carried};
 use crate::memory::{FIRST, Memory};
+use std::alloc::Global;
 use std::process::Abort;
 use vs_plan::{Flush, Plan, Reply, Request, Store, Target};
 use vs_types::{Answer, Depth, Page, Rights, Size};
@@ -118,27 +119,45 @@ fn one_page(rt: HostRuntime) {
     assert!(rt; memory.free() == 7);
 }
 
-// The table that the root leads to stays where it is pinned.
-#[test]
-fn pinned_table(rt: HostRuntime) {
-    let mut memory = Memory::new(&rt, rt.alloc(), 8);
-    let target = Target {
-        pinned: true,
-        ..TARGET
-    };
-    let base = 0x400000;
-    let map = Request::Map(page(base, Size::K4, 0x1000, ALL), 0);
-    let _plan = carried(&rt, &mut memory, target, map);
-    let plan = carried(&rt, &mut memory, target, Request::Unmap(base));
+/// What an unmap of the first page says where tables are pinned from this level on: so many of the stores, and one unlinked frame less.
+fn unmapped(rt: &impl Abort, alloc: Global, pinned: u8, count: usize, flush: Flush) {
+    let mut memory = Memory::new(rt, alloc, 8);
+    let target = Target { pinned, ..TARGET };
+    let map = Request::Map(page(0x400000, Size::K4, 0x1000, ALL), 0);
+    let _plan = carried(rt, &mut memory, target, map);
+    let plan = carried(rt, &mut memory, target, Request::Unmap(0x400000));
     let removed = Reply::Answer(Answer::Removed(0x1000, Size::K4, ALL));
-    let flush = Flush::PageAndTables(base, Size::K4);
     let rows = [
         Row(A, 0, 0x1007, 0),
         Row(B, 2, 0x1_0000_1007, 0),
         Row(C, 0, 0x1_0000_2007, 0),
+        Row(FIRST, 0, 0x1_0000_3007, 0),
     ];
-    assert!(rt; is_so(&plan, Said(removed, 0, flush, &rows, &[A, B])));
-    assert!(rt; memory.word(&rt, FIRST, 0) == 0x1_0000_3007);
+    let rows = rows.get(..count).expect(rt, "at most four stores");
+    let gone = UNLINKED.get(..rows.len().saturating_sub(1));
+    let gone = gone.expect(rt, "at most three frames");
+    assert!(rt;
+        is_so(&plan, Said(removed, 0, flush, rows, gone)),
+        "pinned {pinned}"
+    );
+}
+
+// Tables to which entries of a level and above lead stay where that is pinned: of the root's level, of each below it, of none.
+#[test]
+fn pinned_tables(rt: HostRuntime) {
+    let tables = Flush::PageAndTables(0x400000, Size::K4);
+    let page = Flush::Page(0x400000, Size::K4);
+    for (pinned, count, flush) in [
+        (0, 4, tables),
+        (1, 1, page),
+        (2, 1, page),
+        (3, 2, tables),
+        (4, 3, tables),
+        (5, 4, tables),
+        (255, 4, tables),
+    ] {
+        unmapped(&rt, rt.alloc(), pinned, count, flush);
+    }
 }
 
 // At five levels: the first page of the high half, under index 256 of the root; and a page of 1 GiB takes two tables.

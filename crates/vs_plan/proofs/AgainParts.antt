@@ -9,6 +9,7 @@ use Rattle.vs_types.specs.Entry.{meaning, leaf_word, size_at, table_word}
 use Rattle.vs_types.specs.Laws.{changes}
 use Rattle.vs_types.specs.Page.{level_of, bytes_of, intersection}
 use Rattle.vs_types.specs.Space.{Space}
+use Rattle.vs_types.specs.declared.answer.Answer.TheVariants as answers
 use Rattle.vs_types.specs.declared.page.Page.{Page}
 use Rattle.vs_types.specs.declared.page.Rights.{Rights}
 use Rattle.vs_types.specs.declared.page.Size.{Size}
@@ -22,16 +23,17 @@ use Rattle.vs_plan.specs.declared.plan.Fill.{Fill}
 use Rattle.vs_plan.specs.declared.plan.Flush.{Flush}
 use Rattle.vs_plan.specs.declared.plan.Plan.{Plan}
 use Rattle.vs_plan.specs.declared.plan.Reply.{Reply}
+use Rattle.vs_plan.specs.declared.plan.Reply.TheVariants as replies
 use Rattle.vs_plan.specs.declared.plan.Store.{Store}
 use Rattle.vs_plan.specs.declared.request.Request.{Request}
-use Rattle.vs_plan.specs.declared.request.Request.TheVariants.{Map, Unmap, Protect, Ask, Remap, Split, Join}
+use Rattle.vs_plan.specs.declared.request.Request.TheVariants.{Map, Unmap, Protect, Ask, Remap, Split, Join, Prune, UnmapPart, Collapse}
 use Rattle.vs_plan.specs.declared.target.Target.{Target}
-use Rattle.vs_plan.specs.Again.{HasFlagsSet, IsPlanAgain, bits_again, fill_again, flags_into, new_again, with_flags_of}
+use Rattle.vs_plan.specs.Again.{HasFlagsSet, IsPlanAgain, TakesTable, bits_again, fill_again, flags_into, new_again, told_again, with_flags_of}
 use Rattle.vs_plan.specs.Bits.{bits_in, flagged, placed, with_address, with_rights}
 use Rattle.vs_plan.specs.Changes.{larger, smaller}
 use Rattle.vs_plan.specs.Premise.{IsPremise}
 use Rattle.vs_plan.specs.Request.{address_of, refusal, stepped}
-use Rattle.vs_plan.specs.Right.{IsEntryOf, IsPut, IsReply, IsRight, IsTold, IsWritten, begun, refusal_in}
+use Rattle.vs_plan.specs.Right.{IsDue, IsEntryOf, IsPut, IsReply, IsRight, IsSplit, IsTold, IsWritten, begun}
 use Rattle.vs_plan.specs.Stores.{filled, FindTheirWords}
 use Rattle.vs_plan.proofs.FillsAgain.{same_fills, split_again}
 use Rattle.vs_plan.proofs.FlaggedEntries.{ArePaired, alike_zero, place_stays, rights_stay, same_store, same_stores, same_word, alike_back, zip_both}
@@ -40,10 +42,10 @@ use Rattle.vs_plan.proofs.OtherFlags.{flags_kept, flags_set, protect_again, rema
 use Rattle.vs_plan.proofs.Parts.{Parts, right_as}
 use Rattle.vs_plan.proofs.PlansSuffice.{some_level, some_stores}
 use Rattle.vs_plan.proofs.WrittenFrames.{again_frames}
-use Rattle.vs_plan.proofs.PutAgain.{IsRewritten, filled_alike, put_moved, rewritten_same}
+use Rattle.vs_plan.proofs.PutAgain.{IsRefilled, IsRewritten, filled_alike, put_moved, rewritten_same}
 use Rattle.vs_plan.proofs.RightAgain.{parts_moved, remap_low}
 use Rattle.vs_plan.proofs.Splitting.{are_bits_in}
-use Rattle.vs_plan.proofs.ToldAgain.{bits_moved, never_done, told_moved}
+use Rattle.vs_plan.proofs.ToldAgain.{bits_moved, never_done, told_moved, told_stays}
 use Rattle.vs_plan.proofs.Addresses.{cond_most}
 use Rattle.vs_plan.proofs.Words.{times, times_not}
 
@@ -72,6 +74,10 @@ part_odd _ phys rights bits at low = omega (arith, at, low, times rights.write (
 part_step : (size : Size) → bytes_of (smaller size) % 2 ^ 7 ≡ 0
 part_step K4 = refl
 part_step _ = refl
+
+whole_aligned : (size : Size) (phys : ℕ) → phys % bytes_of (larger size) ≡ 0 → phys % 2 ^ 12 ≡ 0
+whole_aligned K4 phys at = omega (arith, at)
+whole_aligned _ phys at = omega (arith, at)
 
 never_smallest : (size : Size) → larger size ≢ K4
 never_smallest K4 e = cc
@@ -150,7 +156,7 @@ module _ (target : Target) {old new : Memory} (same : AreSameButFlags old new) (
       → IsChanged (Remap base phys rights) (s ∷ []) (again_of fill unlinked word s ∷ [])
   remap_changed base phys rights s is was =
       let answer = changed_answer reply (s ∷ []) was.nothing (some_stores s) in
-      let due : refusal target space (Remap base phys rights) ≡ None = was.due ∙ ap refusal_in answer.1 in
+      let due : refusal target space (Remap base phys rights) ≡ None = subst (IsDue target space (Remap base phys rights)) answer.1 was.due in
       let said = subst (IsReply target (Remap base phys rights) old space offered) answer.1 was.reply in
       let low = remap_low target space base phys rights due (ap changes (sym said) ∙ answer.2) in
       let writes : (size : Size) → s.new ≡ with_rights (with_address size s.old phys) rights
@@ -164,13 +170,19 @@ module _ (target : Target) {old new : Memory} (same : AreSameButFlags old new) (
             (place_stays was.put.1.size s.old word phys rights low (flags_back s.old word is) (e ∙ writes was.put.1.size was.put.1.new) ∙ sym was.put.1.new));
       }
 
-  split_changed : (base : ℕ) (s : Store) → HasFlagsSet s.old word → Was (Split base) (s ∷ [])
-      → IsChanged (Split base) (s ∷ []) (again_of fill unlinked word s ∷ [])
-  split_changed base s is was =
-      let table = was.put.0 in
-      let split = was.put.2 in
+  -- where a table of parts is filled and linked
+  record IsDividedAgain (s : Store) : Type 0 where
+    begins : AreSameButFlags (filled old fill) (filled new other)
+    writes : IsRefilled fill other s (again_of fill unlinked word s)
+    changing : All (λ (t : Store). t.old ≢ t.new) (again_of fill unlinked word s ∷ [])
+
+  divided_again : {gap count : ℕ} (base : ℕ) (s : Store) → HasFlagsSet s.old word
+      → (table : Fill) × (fill ≡ Some table) × IsSplit target old base gap count offered table s × (unlinked ≡ []) → IsDividedAgain s
+  divided_again base s is put =
+      let table = put.0 in
+      let split = put.2 in
       let phys_low = leaf_aligned (level_of split.size) s.old split.phys split.own (omega (arith, second_level split.size split.large)) split.says in
-      let stays : new_again fill unlinked word s.new ≡ s.new = ap (λ f. new_again f unlinked word s.new) was.put.1 in
+      let stays : new_again fill unlinked word s.new ≡ s.new = ap (λ f. new_again f unlinked word s.new) put.1 in
       let odd : table.first % 2 ≡ 1 = ap (λ n. n % 2) split.first
       ∙ part_odd (smaller split.size) split.phys split.own (bits_in split.size s.old) phys_low (are_bits_in split.size s.old).above in
       let even : table.step % 2 ^ 7 ≡ 0 = ap (λ n. n % 2 ^ 7) split.step ∙ part_step split.size in
@@ -178,7 +190,7 @@ module _ (target : Target) {old new : Memory} (same : AreSameButFlags old new) (
       flagged_meaning (flags_set s.old word is) (level_of split.size) (omega (arith, second_level split.size split.large)) ∙ split.says in
       record {
         begins =
-            subst (λ (f : Option Fill). AreSameButFlags (filled old f) (filled new (fill_again word f))) (sym was.put.1)
+            subst (λ (f : Option Fill). AreSameButFlags (filled old f) (filled new (fill_again word f))) (sym put.1)
             (same_fills same table word odd even);
         writes = (
           stays,
@@ -188,11 +200,40 @@ module _ (target : Target) {old new : Memory} (same : AreSameButFlags old new) (
             λ page size at wrote. ap (flags_into word) wrote ∙ split_again page size s.old word at is,
           ),
         );
-        written = refl;
         changing = one_again s (λ e.
             let one = large_leaf (level_of split.size) word split.phys split.own (second_level split.size split.large) leaf in
             let none : bit_at word 7 ≡ 0 = ap (λ n. bit_at n 7) (e ∙ stays ∙ split.link) ∙ link_small table.frame in
             omega (arith, one, none));
+      }
+
+  split_changed : (base : ℕ) (s : Store) → HasFlagsSet s.old word → Was (Split base) (s ∷ [])
+      → IsChanged (Split base) (s ∷ []) (again_of fill unlinked word s ∷ [])
+  split_changed base s is was = let now = divided_again base s is was.put in
+      record { begins = now.begins; writes = now.writes; written = refl; changing = now.changing }
+
+  part_changed : (base first count : ℕ) (s : Store) → HasFlagsSet s.old word → Was (UnmapPart base first count) (s ∷ [])
+      → IsChanged (UnmapPart base first count) (s ∷ []) (again_of fill unlinked word s ∷ [])
+  part_changed base first count s is was = let now = divided_again base s is was.put in
+      record { begins = now.begins; writes = now.writes; written = refl; changing = now.changing }
+
+  collapse_changed : (base phys : ℕ) (rights : Rights) (s : Store) → HasFlagsSet s.old word → Was (Collapse base phys rights) (s ∷ [])
+      → IsChanged (Collapse base phys rights) (s ∷ []) (again_of fill unlinked word s ∷ [])
+  collapse_changed base phys rights s is was =
+      let join = was.put.1 in
+      let stays : new_again fill unlinked word s.new ≡ s.new =
+      ap (λ f. new_again f unlinked word s.new) was.put.0 ∙ ap (λ u. new_again None u word s.new) join.unlinked_is in
+      let leads : meaning (suc join.level) word ≡ entry.Table join.number join.allowed =
+      flagged_meaning (flags_set s.old word is) (suc join.level) (omega arith) ∙ join.leads in
+      let bits_low = (are_bits_in (size_at join.level) join.first).above in
+      record {
+        begins = begins_none was.put.0;
+        writes = (none_again word fill was.put.0, stays);
+        written = refl;
+        changing = one_again s (λ e. table_small (suc join.level) word join.number join.allowed (omega (arith, join.few)) leads
+            (ap (λ n. bit_at n 7) (e ∙ stays ∙ join.new)
+            ∙ whole_large (larger (size_at join.level)) phys rights (flagged (bits_in (size_at join.level) join.first))
+            (never_smallest (size_at join.level)) (whole_aligned (size_at join.level) phys join.phys_aligned)
+            (omega (arith, bits_low))));
       }
 
   join_changed : (base : ℕ) (s : Store) → HasFlagsSet s.old word → Was (Join base) (s ∷ [])
@@ -214,6 +255,22 @@ module _ (target : Target) {old new : Memory} (same : AreSameButFlags old new) (
             ∙ whole_large (larger (size_at join.level)) join.phys (intersection join.allowed join.own) (flagged (bits_in (size_at join.level) join.first))
             (never_smallest (size_at join.level)) (leaf_aligned join.level join.first join.phys join.own some join.says)
             (omega (arith, bits_low))));
+      }
+
+  prune_changed : (address : ℕ) (s : Store) → HasFlagsSet s.old word → Was (Prune address) (s ∷ [])
+      → IsChanged (Prune address) (s ∷ []) (again_of fill unlinked word s ∷ [])
+  prune_changed address s is was =
+      let cut = was.put.1 in
+      let none : s.new ≡ 0 = All-head (λ (x : Store). x.new ≡ 0) s [] was.one_way in
+      let stays : new_again fill unlinked word s.new ≡ s.new =
+      ap (λ f. new_again f unlinked word s.new) was.put.0 ∙ ap (λ u. new_again None u word s.new) cut.unlinked_is in
+      record {
+        begins = begins_none was.put.0;
+        writes = none_again word fill was.put.0;
+        written = refl;
+        changing = one_again s (λ e.
+            let clear : word ≡ 0 = e ∙ stays ∙ none in
+            omega (arith, is.present, is.below, clear));
       }
 
   -- ---- by the request
@@ -263,24 +320,42 @@ module _ (target : Target) {old new : Memory} (same : AreSameButFlags old new) (
       one_store (Split base) s index store within there is was (λ flags. split_changed base s flags was)
   changed_by (Join base) (s ∷ []) index store within there is was =
       one_store (Join base) s index store within there is was (λ flags. join_changed base s flags was)
+  changed_by (UnmapPart base first count) (s ∷ []) index store within there is was =
+      one_store (UnmapPart base first count) s index store within there is was (λ flags. part_changed base first count s flags was)
+  changed_by (Collapse base phys rights) (s ∷ []) index store within there is was =
+      one_store (Collapse base phys rights) s index store within there is was (λ flags. collapse_changed base phys rights s flags was)
+  changed_by (Prune address) (s ∷ []) index store within there is was =
+      one_store (Prune address) s index store within there is was (λ flags. prune_changed address s flags was)
   changed_by _ (s ∷ (x ∷ xs)) index store within there is was = let alone = was.written in absurd (cc)
   changed_by _ [] index store within there is was = absurd (omega arith)
 
   -- ---- the bits that are answered
 
   tell : (request : Request) (base : ℕ) (xs : List Store) {first second : Size} {before now next : ℕ} → (xs ≡ [] → ⊥)
-      → ((page : Page) (word : ℕ) → request ≢ Map page word) → Was request xs → IsTold target old base bits reply → IsEntryOf target old base first before
-      → IsEntryOf target new base second now → ((z : Size) → bits ≡ bits_in z before → next ≡ bits_in z now) → IsTold target new base next reply
-  tell request base xs {next = next} some no_map was told before now moves =
+      → ((page : Page) (word : ℕ) → request ≢ Map page word) → ((address : ℕ) → request ≢ Prune address) → Was request xs
+      → IsTold target old base bits reply → IsEntryOf target old base first before
+      → IsEntryOf target new base second now → ((z : Size) → bits ≡ bits_in z before → next ≡ bits_in z now)
+      → IsTold target new base (told_again reply next bits) reply
+  tell request base xs {next = next} some no_map no_prune was told before now moves =
       let answer = changed_answer reply xs was.nothing some in
       let said : answer.0 ≡ (stepped target.depth space request).answer = subst (IsReply target request old space offered) answer.1 was.reply in
-      subst (IsTold target new base next) (sym answer.1)
-      (told_moved target same base answer.0 answer.2
-      (λ done. never_done target space request no_map (sym said ∙ done)) before now moves
-      (subst (IsTold target old base bits) answer.1 told))
+      let other : answer.0 ≡ answers.Done → ⊥ = λ done. never_done target space request no_map no_prune (sym said ∙ done) in
+      subst (λ (r : Reply). IsTold target new base (told_again r next bits) r) (sym answer.1)
+      (subst (λ n. IsTold target new base n (replies.Answer answer.0)) (sym (told_stays answer.0 other next bits))
+      (told_moved target same base answer.0 answer.2 other before now moves
+      (subst (IsTold target old base bits) answer.1 told)))
+
+  -- a prune answers no bits
+  prune_told : (address : ℕ) (xs : List Store) (next : ℕ) → (xs ≡ [] → ⊥) → Was (Prune address) xs → IsTold target new address (told_again reply next bits) reply
+  prune_told address xs next some was =
+      let answer = changed_answer reply xs was.nothing some in
+      let done : reply ≡ replies.Answer answers.Done = answer.1
+      ∙ ap replies.Answer (subst (IsReply target (Prune address) old space offered) answer.1 was.reply) in
+      subst (λ (r : Reply). IsTold target new address (told_again r next bits) r) (sym done)
+      (subst (IsTold target old address bits) done was.told)
 
   abbrev next_bits : ℕ → Store → ℕ
-  next_bits index store = bits_again index unlinked word store.new bits
+  next_bits index store = told_again reply (bits_again index unlinked word store.new bits) bits
 
   found_first : (s store : Store) → store ≡ s → HasFlagsSet store.old word → HasFlagsSet s.old word
   found_first s store there is = subst (λ (x : Store). HasFlagsSet x.old word) there is
@@ -288,7 +363,7 @@ module _ (target : Target) {old new : Memory} (same : AreSameButFlags old new) (
   told_by : (request : Request) (xs : List Store) (index : ℕ) (store : Store) → index < length xs → store ≡ slice_index_or xs index store
       → HasFlagsSet store.old word → Was request xs
       → IsPut target request new offered other (slice_set xs index (again_of fill unlinked word store)) unlinked
-      → ((base : ℕ) → request ≡ Join base → IsTold target new base (next_bits index store) reply)
+      → (TakesTable request → IsTold target new (address_of request) (next_bits index store) reply)
       → IsTold target new (address_of request) (next_bits index store) reply
   told_by (Map page bits) xs index store within there is was put joins =
       let even = All-get_or (λ (s : Store). s.old % 2 ≡ 0) xs index store within was.one_way in
@@ -296,25 +371,30 @@ module _ (target : Target) {old new : Memory} (same : AreSameButFlags old new) (
       absurd (omega (arith, none, is.present))
   told_by (Unmap base) (s ∷ xs) zero store within there is was put joins =
       let none : store.new ≡ 0 = ap (λ (x : Store). x.new) there ∙ All-head (λ (x : Store). x.new ≡ 0) s xs was.one_way in
-      tell (Unmap base) base (s ∷ xs) (λ e. cc) (λ page w e. cc) was was.told was.put.1.entry_is put.1.entry_is
+      tell (Unmap base) base (s ∷ xs) (λ e. cc) (λ page w e. cc) (λ a e. cc) was was.told was.put.1.entry_is put.1.entry_is
       (bits_moved zero unlinked word store.new bits s.old word (inr none) (λ e. (refl, found_first s store there is)) (λ no. absurd (no refl)))
   told_by (Unmap base) (s ∷ xs) (suc index) store within there is was put joins =
       let none : store.new ≡ 0 = ap (λ (x : Store). x.new) there
       ∙ All-get_or (λ (x : Store). x.new ≡ 0) (s ∷ xs) (suc index) store within was.one_way in
-      tell (Unmap base) base (s ∷ xs) (λ e. cc) (λ page w e. cc) was was.told was.put.1.entry_is put.1.entry_is
+      tell (Unmap base) base (s ∷ xs) (λ e. cc) (λ page w e. cc) (λ a e. cc) was was.told was.put.1.entry_is put.1.entry_is
       (bits_moved (suc index) unlinked word store.new bits s.old s.old (inr none) (λ e. absurd (omega arith)) (λ no. refl))
   told_by (Protect base rights) (s ∷ xs) zero store within there is was put joins =
-      tell (Protect base rights) base (s ∷ xs) (λ e. cc) (λ page w e. cc) was was.told was.put.1.entry_is put.1.entry_is
+      tell (Protect base rights) base (s ∷ xs) (λ e. cc) (λ page w e. cc) (λ a e. cc) was was.told was.put.1.entry_is put.1.entry_is
       (bits_moved zero unlinked word store.new bits s.old word (inl was.put.2) (λ e. (refl, found_first s store there is)) (λ no. absurd (no refl)))
   told_by (Protect base rights) (s ∷ (x ∷ xs)) (suc index) store within there is was put joins = let alone = was.written.1 in absurd (cc)
   told_by (Ask address) (s ∷ xs) index store within there is was put joins = absurd was.flushed
   told_by (Remap base phys rights) (s ∷ xs) zero store within there is was put joins =
-      tell (Remap base phys rights) base (s ∷ xs) (λ e. cc) (λ page w e. cc) was was.told was.put.1.entry_is put.1.entry_is
+      tell (Remap base phys rights) base (s ∷ xs) (λ e. cc) (λ page w e. cc) (λ a e. cc) was was.told was.put.1.entry_is put.1.entry_is
       (bits_moved zero unlinked word store.new bits s.old word (inl was.put.2) (λ e. (refl, found_first s store there is)) (λ no. absurd (no refl)))
   told_by (Split base) (s ∷ xs) zero store within there is was put joins =
-      tell (Split base) base (s ∷ xs) (λ e. cc) (λ page w e. cc) was was.told was.put.2.entry_is put.2.entry_is
+      tell (Split base) base (s ∷ xs) (λ e. cc) (λ page w e. cc) (λ a e. cc) was was.told was.put.2.entry_is put.2.entry_is
       (bits_moved zero unlinked word store.new bits s.old word (inl was.put.3) (λ e. (refl, found_first s store there is)) (λ no. absurd (no refl)))
-  told_by (Join base) xs index store within there is was put joins = joins base refl
+  told_by (UnmapPart base first count) (s ∷ xs) zero store within there is was put joins =
+      tell (UnmapPart base first count) base (s ∷ xs) (λ e. cc) (λ page w e. cc) (λ a e. cc) was was.told was.put.2.entry_is put.2.entry_is
+      (bits_moved zero unlinked word store.new bits s.old word (inl was.put.3) (λ e. (refl, found_first s store there is)) (λ no. absurd (no refl)))
+  told_by (Join base) xs index store within there is was put joins = joins tt
+  told_by (Collapse base phys rights) xs index store within there is was put joins = joins tt
+  told_by (Prune address) (s ∷ xs) index store within there is was put joins = prune_told address (s ∷ xs) _ (λ e. cc) was
   told_by _ (s ∷ (x ∷ xs)) (suc index) store within there is was put joins = let alone = was.written in absurd (cc)
   told_by _ _ _ store within there is was put joins = absurd (omega arith)
 
@@ -342,7 +422,8 @@ module _ {target : Target} {request : Request} {memory : Memory} {space : Space}
 
   pub right_again : (now : Memory) (plan again : Plan) (index word : ℕ) → IsPremise target.depth memory target.root (address_of request) space
       → IsRight target request memory space offered plan → IsPlanAgain plan index word again → AreSameButFlags memory now
-      → FindTheirWords (begun now again) again.stores.items → ((base : ℕ) → request ≡ Join base → IsTold target now base again.bits again.reply)
+      → FindTheirWords (begun now again) again.stores.items
+      → (TakesTable request → IsTold target now (address_of request) again.bits again.reply)
       → IsRight target request now space offered again
   right_again now plan again index word premise right is same found told =
       let xs = plan.stores.items in
@@ -358,7 +439,8 @@ module _ {target : Target} {request : Request} {memory : Memory} {space : Space}
       (subst (λ (ss : List Store). FindTheirWords (filled now again.fill) ss) is.stores found) in
       let put = put_moved target same offered fill other unlinked request xs ys pairs finds changed.writes right.put in
       right_as again is.reply is.bits is.fill is.stores is.flush (ap (λ u. u.items) is.unlinked)
-      (parts_moved target memory now space offered plan.reply (bits_again index unlinked word is.store.new plan.bits) plan.bits fill other
+      (parts_moved target memory now space offered plan.reply (told_again plan.reply (bits_again index unlinked word is.store.new plan.bits) plan.bits)
+      plan.bits fill other
       unlinked plan.flush request xs ys right (record {
         same = same;
         begins = changed.begins;
@@ -370,6 +452,6 @@ module _ {target : Target} {request : Request} {memory : Memory} {space : Space}
         written = changed.written;
         changing = changed.changing;
         told = told_by target same space offered plan.reply plan.bits fill plan.flush unlinked word request xs index is.store is.within is.there is.flags right
-            put (λ base joins. subst (IsTold target now base (bits_again index unlinked word is.store.new plan.bits)) is.reply
-            (subst (λ b. IsTold target now base b again.reply) is.bits (told base joins)));
+            put (λ takes. subst (IsTold target now (address_of request) (told_again plan.reply (bits_again index unlinked word is.store.new plan.bits) plan.bits)) is.reply
+            (subst (λ b. IsTold target now (address_of request) b again.reply) is.bits (told takes)));
       }))

@@ -24,7 +24,7 @@ use Rattle.vs_plan.specs.declared.plan.Plan.{Plan}
 use Rattle.vs_plan.specs.declared.plan.Reply.TheVariants as replies
 use Rattle.vs_plan.specs.declared.planner.Planner.{Planner}
 use Rattle.vs_plan.specs.declared.request.Request.{Request}
-use Rattle.vs_plan.specs.declared.request.Request.TheVariants.{Map, Unmap, Protect, Ask, Remap, Split, Join}
+use Rattle.vs_plan.specs.declared.request.Request.TheVariants.{Map, Unmap, Protect, Ask, Remap, Split, Join, Prune, UnmapPart, Collapse}
 use Rattle.vs_plan.specs.declared.target.Target.{Target}
 use Rattle.vs_plan.specs.Bits.{bits_in}
 use Rattle.vs_plan.specs.Premise.{IsPremise}
@@ -50,6 +50,7 @@ stepped_none target space (Map page bits) no_map none = absurd no_map
 stepped_none target space (Unmap base) no_map none = unmap_none target.depth 0 space base none
 stepped_none target space (Protect base rights) no_map none = protect_none target.depth 0 space base rights none
 stepped_none target space (Ask address) no_map none = ap (λ a. let s : Stepped = record { space = space; answer = a } in s) (look_of_none space address none)
+stepped_none target space (Prune address) no_map none = absurd no_map
 stepped_none target space request no_map none = change_none space (address_of request) _ none
 
 -- no refusal is due where no page begins at the address
@@ -58,12 +59,15 @@ pub no_refusal : (target : Target) (space : Space) (request : Request)
 no_refusal target space (Remap base phys rights) begins = why_none base _ (page_at space base) begins
 no_refusal target space (Split base) begins = why_none base _ (page_at space base) begins
 no_refusal target space (Join base) begins = why_none base _ (page_at space base) begins
+no_refusal target space (UnmapPart base first count) begins = why_none base _ (page_at space base) begins
+no_refusal target space (Collapse base phys rights) begins = why_none base _ (page_at space base) begins
 no_refusal target space _ begins = refl
 
 -- a request that changes a page that is there
 abbrev pub IsOfPage : Request → Type 0
 IsOfPage (Map page bits) = ⊥
 IsOfPage (Ask address) = ⊥
+IsOfPage (Prune address) = ⊥
 IsOfPage _ = Unit {0}
 
 -- which begins elsewhere
@@ -73,6 +77,7 @@ stepped_inside target space (Map page bits) of_page q here apart = absurd of_pag
 stepped_inside target space (Unmap base) of_page q here apart = unmap_inside target.depth 0 space base q here apart
 stepped_inside target space (Protect base rights) of_page q here apart = protect_inside target.depth 0 space base rights q here apart
 stepped_inside target space (Ask address) of_page q here apart = absurd of_page
+stepped_inside target space (Prune address) of_page q here apart = absurd of_page
 stepped_inside target space request of_page q here apart = change_inside space (address_of request) _ q here apart
 
 lowest_no_map : (request : Request) → IsNoMap request → lowest_of request ≡ 1

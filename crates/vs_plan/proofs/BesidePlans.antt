@@ -1,13 +1,11 @@
 -- A right plan, for a root beside its own.
-use Rattle.std.proofs.Common.{◌≡◌, ℕ, ◌-◌, ◌≤◌, List, Contains, Option, Some, None, true, ◌⊎◌, inl, inr, ⊎_elim, refl, sym, ap, ◌∙◌, arith}
-use Rattle.std.specs.Prelude.{if◌then◌else◌}
+use Rattle.std.proofs.Common.{◌≡◌, ℕ, ◌-◌, ◌≤◌, List, Contains, Option, Some, None, ◌⊎◌, inl, inr, ⊎_elim, refl, sym, ap, ◌∙◌, arith}
 use Rattle.std.proofs.lemmas.List.Elements.{All-contains}
 use Rattle.vs_types.specs.Depth.{levels}
 use Rattle.vs_types.specs.Entry.{meaning}
 use Rattle.vs_types.specs.Space.{Space}
 use Rattle.vs_types.specs.declared.depth.Depth.{Depth}
 use Rattle.vs_types.specs.declared.entry.Meaning.TheVariants as entry
-use Rattle.vs_types.proofs.Pages.{three_levels}
 use Rattle.vs_walk.specs.Memory.{Memory}
 use Rattle.vs_space.specs.Path.{found_at, table_in, table_at}
 use Rattle.vs_space.proofs.Paths.{table_first, table_below}
@@ -16,14 +14,14 @@ use Rattle.vs_plan.specs.declared.plan.Fill.{Fill}
 use Rattle.vs_plan.specs.declared.plan.Plan.{Plan}
 use Rattle.vs_plan.specs.declared.plan.Store.{Store}
 use Rattle.vs_plan.specs.declared.request.Request.{Request}
-use Rattle.vs_plan.specs.declared.request.Request.TheVariants.{Join}
+use Rattle.vs_plan.specs.declared.request.Request.TheVariants.{Join, Collapse}
 use Rattle.vs_plan.specs.declared.target.Target.{Target}
 use Rattle.vs_plan.specs.Other.{HasSameTables, IsShared, MeetsNone, IsBeside, IsRightBeside}
 use Rattle.vs_plan.specs.Premise.{IsPremise}
 use Rattle.vs_plan.specs.Request.{address_of}
 use Rattle.vs_plan.specs.Right.{IsRight, IsMeant, OfPage, OfLink, OfSpare, IsMeantBy, IsOnWay, IsUnlinkedBy, begun}
 use Rattle.vs_plan.specs.Stores.{stored_all, filled}
-use Rattle.vs_plan.specs.Target.{highest_link}
+use Rattle.vs_plan.specs.Target.{PinsRoot, highest_link}
 use Rattle.vs_plan.proofs.Forms.{form_suffices}
 use Rattle.vs_plan.proofs.Given.{WasUnlinked, parts_of, was_unlinked}
 use Rattle.vs_plan.proofs.OtherRoots.{one_less, IsStore, OnWay, OffWays, AreMeant, IsOther, shared_walk, shared_stays, apart_walk, other_switched, other_freed}
@@ -33,20 +31,14 @@ use Rattle.vs_plan.proofs.Filled.{own_as, insert_same, table_as, walk_as}
 
 -- ---- the stores of a right plan
 
-pinned_highest : (target : Target) → target.pinned ≡ true → highest_link target ≡ levels target.depth - 1
-pinned_highest target pinned = ap (λ b. if b then levels target.depth - 1 else levels target.depth) pinned
-
 -- a link of a pinned root isn't changed
-no_link : (target : Target) (level : ℕ) (word : ℕ) → target.pinned ≡ true → level ≤ highest_link target → level ≡ levels target.depth
+no_link : (target : Target) (level : ℕ) (word : ℕ) → PinsRoot target → level ≤ highest_link target → level ≡ levels target.depth
     → table_in (Some (meaning level word)) ≡ None
-no_link target level word pinned may top =
-    let highest = pinned_highest target pinned in
-    let three = three_levels target.depth in
-    absurd (omega arith)
+no_link target level word pinned may top = absurd (omega (arith, pinned, may, top))
 
 -- the root is pinned, or its entry for the base isn't shared
 abbrev Keeps : Target → Memory → ℕ → ℕ → Type 0
-Keeps target memory base other = (target.pinned ≡ true) ⊎ (IsShared target.depth memory target.root other base → ⊥)
+Keeps target memory base other = PinsRoot target ⊎ (IsShared target.depth memory target.root other base → ⊥)
 
 -- a store into a link on the way
 link_store : {target : Target} {memory : Memory} {base : ℕ} (other : ℕ) {s : Store} → Keeps target memory base other → (on : IsOnWay target memory base s)
@@ -65,6 +57,7 @@ store_of other keeps (OfSpare spare low) = OffWays spare.unreached
 store_by : (target : Target) (memory : Memory) (request : Request) (unlinked : List ℕ) (other : ℕ) (s : Store)
     → Keeps target memory (address_of request) other → IsMeantBy target memory request unlinked s → IsStore target memory (address_of request) other s
 store_by target memory (Join base) unlinked other s keeps meant = link_store other keeps meant.on meant.may
+store_by target memory (Collapse base phys rights) unlinked other s keeps meant = link_store other keeps meant.on meant.may
 store_by target memory _ unlinked other s keeps meant = store_of other keeps meant
 
 -- an address whose way from the other root meets no table on its own way from the root isn't shared

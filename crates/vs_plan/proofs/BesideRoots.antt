@@ -1,5 +1,5 @@
 -- Roots that have only tables in common that are the same from both stay so, and keep what plans ask of them.
-use Rattle.std.proofs.Common.{◌≡◌, ◌≢◌, ℕ, List, Contains, Option, Some, None, true, ◌⊎◌, inl, inr, ⊎_elim, refl, sym, ap, subst, ◌∙◌, arith, All}
+use Rattle.std.proofs.Common.{◌≡◌, ◌≢◌, ℕ, List, Contains, Option, Some, None, ◌⊎◌, inl, inr, ⊎_elim, refl, sym, ap, subst, ◌∙◌, arith, All}
 use Rattle.std.proofs.lemmas.Bool.{cases_eq}
 use Rattle.std.proofs.lemmas.Option.{same_Some}
 use Rattle.vs_types.specs.Depth.{levels, IsCanonical}
@@ -21,6 +21,7 @@ use Rattle.vs_plan.specs.Premise.{IsPremise, HasOwnWay}
 use Rattle.vs_plan.specs.Request.{address_of}
 use Rattle.vs_plan.specs.Right.{IsRight, IsNewTable, written_frames, space_after, begun, ended}
 use Rattle.vs_plan.specs.Shown.{frames_of}
+use Rattle.vs_plan.specs.Target.{PinsRoot}
 use Rattle.vs_plan.proofs.BesidePlans.{meets_unshared, other_table, begins_shared, begins_none, filled_other, filled_root, are, is_other}
 use Rattle.vs_plan.proofs.Growing.{frame_among}
 use Rattle.vs_plan.proofs.OtherRoots.{shared_alike, shared_after, shared_table, shared_walk, table_after, apart_after}
@@ -42,7 +43,7 @@ not_shared depth memory root other address apart =
 
 -- what a plan asks of a root beside its own
 pub beside_of : (target : Target) (memory : Memory) (base : ℕ) (plan : Plan) (other : ℕ) → AreBeside target.depth memory target.root other
-    → (IsShared target.depth memory target.root other base → target.pinned ≡ true)
+    → (IsShared target.depth memory target.root other base → PinsRoot target)
     → All (λ (store : Store). LeadsNotTo target.depth memory target.root store.frame → LeadsNotTo target.depth memory other store.frame) plan.stores.items
     → ((fill : Fill) → plan.fill ≡ Some fill → LeadsNotTo target.depth memory other fill.frame) → IsBeside target memory base plan other
 beside_of target memory base plan other roots pinned spare fill = record {

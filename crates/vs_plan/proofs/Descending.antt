@@ -18,32 +18,34 @@ use Rattle.vs_plan.specs.declared.planner.Planner.{Planner}
 use Rattle.vs_plan.specs.declared.request.Request.TheVariants.{Unmap}
 use Rattle.vs_plan.specs.Request.{address_of, lowest_of}
 use Rattle.vs_plan.specs.Shown.{IsTableMet, HasOneWord, HasOtherWord, HasMet, IsDescended, IsShown, IsShownIn}
-use Rattle.vs_plan.specs.Target.{highest_link}
+use Rattle.vs_plan.specs.Right.{LeadsBeyond}
+use Rattle.vs_plan.specs.Target.{frames_end, highest_link}
 use Rattle.vs_plan.specs.Way.{IsWay}
 use Rattle.vs_plan.specs.inside.Ended.{HasEnded}
+use Rattle.vs_plan.proofs.Parts.{leads_beyond}
 use Rattle.vs_plan.proofs.Stored.{found_word}
 use Rattle.vs_plan.proofs.Ways.{way_on}
 
-module _ {memory : Memory} {p : Planner} {words : List ℕ} {index stop : ℕ} (met : HasMet memory p (p.level + 1))
+module _ {memory : Memory} {p : Planner} {words : List ℕ} {index stop taken : ℕ} (read : taken ≡ slice_index words index) (met : HasMet memory p (p.level + 1))
     (way : IsWay p.target.depth memory p.target.root (address_of p.request) p.level p.number p.rights) (there : finite.get memory p.number ≡ Some words)
     (is_index : index ≡ index_at p.level (address_of p.request)) (at_most : stop ≤ p.stop)
     (alone : ((stop ≡ p.level) × ((base : ℕ) → p.request ≡ Unmap base → p.level < p.stop → (i : ℕ) × (i ≢ index) × (slice_index words i ≢ 0)))
-    ⊎ ((stop ≡ p.stop) × (p.level < p.stop → (i : ℕ) → i ≢ index → slice_index words i ≡ 0)))
+    ⊎ ((stop ≡ p.stop) × (p.level < p.stop → (i : ℕ) → i < 512 → i ≢ index → slice_index words i ≡ 0)))
     (numbers_room : p.level < length p.numbers) (words_room : p.level < length p.words) where
   abbrev after : Planner
-  after = record p { numbers = slice_set p.numbers p.level p.number; words = slice_set p.words p.level (slice_index words index); stop = stop }
+  after = record p { numbers = slice_set p.numbers p.level p.number; words = slice_set p.words p.level taken; stop = stop }
 
   number_here : slice_index after.numbers p.level ≡ p.number
   number_here = get_or-set_same p.numbers p.level p.number 0 numbers_room
 
   word_here : slice_index after.words p.level ≡ slice_index words index
-  word_here = get_or-set_same p.words p.level (slice_index words index) 0 words_room
+  word_here = get_or-set_same p.words p.level taken 0 words_room ∙ read
 
   number_above : (j : ℕ) → j ≢ p.level → slice_index after.numbers j ≡ slice_index p.numbers j
   number_above j other = get_or-set_other p.numbers p.level j p.number 0 other
 
   word_above : (j : ℕ) → j ≢ p.level → slice_index after.words j ≡ slice_index p.words j
-  word_above j other = get_or-set_other p.words p.level j (slice_index words index) 0 other
+  word_above j other = get_or-set_other p.words p.level j taken 0 other
 
   abbrev Met : ℕ → ℕ → ℕ → Type 0
   Met level number word = IsTableMet p.target.depth memory p.target.root (address_of p.request) level number word
@@ -88,7 +90,7 @@ module _ {memory : Memory} {p : Planner} {words : List ℕ} {index stop : ℕ} (
         (λ (same : level ≡ p.level). subst (λ l. HasOneWord memory (slice_index after.numbers l) (index_at l (address_of p.request))) (sym same)
         (subst (λ n. HasOneWord memory n (index_at p.level (address_of p.request))) (sym number_here)
         (λ i lt other. word_in memory p.number i words there
-        ∙ ap Some (still.1 (omega (arith, still.0, low, same)) i (λ e. other (e ∙ is_index))))))
+        ∙ ap Some (still.1 (omega (arith, still.0, low, same)) i lt (λ e. other (e ∙ is_index))))))
         (λ (other : level ≢ p.level).
         subst (λ n. HasOneWord memory n (index_at level (address_of p.request))) (sym (number_above level other))
         (met.alone level (omega arith) (omega (arith, still.0, low))))
@@ -114,25 +116,28 @@ module _ {memory : Memory} {p : Planner} {words : List ℕ} {index stop : ℕ} (
 
   -- ---- the way goes on, or ends
 
-  abbrev word : ℕ
-  word = slice_index words index
+  word_there : word_at memory p.number (index_at p.level (address_of p.request)) ≡ Some taken
+  word_there = met_here.word_is ∙ ap Some (sym read)
 
-  word_there : word_at memory p.number (index_at p.level (address_of p.request)) ≡ Some word
-  word_there = met_here.word_is
-
-  pub goes_on : {next : ℕ} {own rights : Rights} → 1 ≤ p.level → meaning p.level word ≡ entry.Table next own → rights ≡ intersection p.rights own
+  pub goes_on : {next : ℕ} {own rights : Rights} → 1 ≤ p.level → meaning p.level taken ≡ entry.Table next own → rights ≡ intersection p.rights own
       → IsDescended memory (record after { level = p.level - 1; number = next; rights = rights })
   goes_on {next} {own} {rights} some says are = record {
     way = subst (IsWay p.target.depth memory p.target.root (address_of p.request) (p.level - 1) next) (sym are)
-        (way_on way some (found_word p.level memory p.number (address_of p.request) word word_there ∙ ap Some says));
+        (way_on way some (found_word p.level memory p.number (address_of p.request) taken word_there ∙ ap Some says));
     met = subst (HasMet memory (record after { level = p.level - 1; number = next; rights = rights })) (let e : p.level ≡ p.level - 1 + 1 = omega arith in e)
         (record { tables = met_more.tables; alone = met_more.alone; stop = met_more.stop; busy = met_more.busy });
   }
 
-  pub shown_on : {next : ℕ} {own rights : Rights} → 1 ≤ p.level → meaning p.level word ≡ entry.Table next own → rights ≡ intersection p.rights own
+  pub shown_on : {next : ℕ} {own rights : Rights} → 1 ≤ p.level → meaning p.level taken ≡ entry.Table next own → rights ≡ intersection p.rights own
       → p.phase ≡ phases.Descent → IsShown memory (record after { level = p.level - 1; number = next; rights = rights })
   shown_on {next} {own} {rights} some says are is =
       subst (λ phase. IsShownIn phase memory (record after { level = p.level - 1; number = next; rights = rights })) (sym is) (goes_on some says are)
 
-  pub ends_at : (lowest_of p.request < p.level → table_in (Some (meaning p.level word)) ≡ None) → HasEnded memory after word
-  ends_at ends = record { way = way; word_is = word_there; last = word_here; ends = ends; met = met_more }
+  pub ends_at : (lowest_of p.request < p.level → table_in (Some (meaning p.level taken)) ≡ None) → HasEnded memory after taken
+  ends_at ends = record { way = way; word_is = word_there; last = word_here ∙ sym read; ends = ends; met = met_more }
+
+  -- the word links to a frame beyond the physical addresses
+  pub goes_beyond : {next : ℕ} {own : Rights} → 1 ≤ p.level → meaning p.level taken ≡ entry.Table next own → frames_end p.target ≤ next
+      → LeadsBeyond p.target memory p.number index
+  goes_beyond {next} {own} some says far = leads_beyond p.target (address_of p.request) p.level p.number p.rights some way
+      (found_word p.level memory p.number (address_of p.request) taken word_there ∙ ap Some says) is_index far

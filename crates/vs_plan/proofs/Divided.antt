@@ -1,5 +1,5 @@
 -- The split of a page, as the code has it.
-use Rattle.std.proofs.Common.{◌≡◌, ℕ, zero, suc, ◌-◌, ◌%◌, ◌^◌, ◌<◌, ◌≤◌, [], ◌∷◌, Option, Some, None, refl, sym, ap, subst, ◌∙◌, arith}
+use Rattle.std.proofs.Common.{◌≡◌, ℕ, zero, suc, ◌+◌, ◌-◌, ◌%◌, ◌^◌, ◌<◌, ◌≤◌, [], ◌∷◌, Option, Some, None, refl, sym, ap, subst, ◌∙◌, arith}
 use lib.Pow.{pow_mono}
 use Rattle.std.specs.Prelude.{slice_index}
 use Rattle.arrayvec.specs.ArrayVec.{ArrayVec}
@@ -21,39 +21,49 @@ use Rattle.vs_plan.specs.declared.plan.Reply.TheVariants as replies
 use Rattle.vs_plan.specs.declared.plan.Store.{Store}
 use Rattle.vs_plan.specs.declared.planner.Planner.{Planner}
 use Rattle.vs_plan.specs.declared.planner.Phase.TheVariants as phases
-use Rattle.vs_plan.specs.declared.request.Request.TheVariants.{Split}
+use Rattle.vs_plan.specs.declared.request.Request.{Request}
+use Rattle.vs_plan.specs.declared.request.Request.TheVariants.{Split, UnmapPart}
 use Rattle.vs_plan.specs.declared.target.Target.{Target}
 use Rattle.vs_plan.specs.Bits.{bits_in}
-use Rattle.vs_plan.specs.Changes.{smaller, smallest}
+use Rattle.vs_plan.specs.Changes.{smaller, smallest, split_refusal}
+use Rattle.vs_plan.specs.Planner.{Divides}
 use Rattle.vs_plan.specs.Premise.{IsPremise, IsSpare}
 use Rattle.vs_plan.specs.Request.{IsRequest, address_of, refusal}
 use Rattle.vs_plan.specs.Right.{IsRight}
 use Rattle.vs_plan.specs.Shown.{IsDivided}
 use Rattle.vs_plan.specs.Target.{frames_end, HasPhysBits}
 use Rattle.vs_plan.specs.Way.{IsWay}
-use Rattle.vs_plan.specs.inside.Ended.{IsAtEnd, HasEnded, IsRightAt, ChangesNothing}
-use Rattle.vs_plan.proofs.Asking.{page_met, offset_met}
+use Rattle.vs_plan.specs.inside.Ended.{IsAtEnd, IsNoMap, HasEnded, IsRightAt, ChangesNothing}
+use Rattle.vs_plan.proofs.Asking.{IsOfPage, page_met, offset_met}
 use Rattle.vs_plan.proofs.Dividing.{never_refused, parts_fill, split_parts}
+use Rattle.vs_plan.proofs.Gaps.{unmapped_parts}
 use Rattle.vs_plan.proofs.PartSpaces.{refused_there}
 use Rattle.vs_plan.proofs.Parts.{right_as, nothing_right, store_at, EndAt}
 
-one_base : (base other : ℕ) → Split base ≡ Split other → base ≡ other
-one_base base other e = cc
+-- what refuses a request that divides a page
+divides_due : (target : Target) (space : Space) (request : Request) → Divides request → refusal target space request ≡ split_refusal space (address_of request)
+divides_due target space (Split base) divides = refl
+divides_due target space (UnmapPart base first count) divides = refl
+divides_due target space _ divides = absurd divides
+
+pub divides_page : (request : Request) → Divides request → IsNoMap request × IsOfPage request
+divides_page (Split base) divides = (tt, tt)
+divides_page (UnmapPart base first count) divides = (tt, tt)
+divides_page _ divides = absurd divides
 
 module _ {p : Planner} {word : ℕ} (end : IsAtEnd p) {phys : ℕ} {own : Rights} (says : meaning p.level word ≡ entry.Leaf phys own) {base : ℕ}
-    (is : p.request ≡ Split base) where
+    (divides : Divides p.request) (place : address_of p.request ≡ base) where
   -- a page of 4 KiB has no parts
   pub smallest_right : base % bytes_of (size_at p.level) ≡ 0 → p.level ≡ 1 → (plan : Plan) → ChangesNothing replies.Smallest 0 plan → IsRightAt p word plan
   smallest_right aligned low plan none memory ended space premise =
       let here = page_met end says ended premise in
       let q = here.0 in
-      let place : address_of p.request ≡ base = ap address_of is in
       let offset = offset_met end says ended premise in
       let begins : q.base ≡ base =
       omega (arith, here.1.base, offset, place, ap (λ a. a % bytes_of (size_at p.level)) place, aligned) in
       let small : smallest q.size ≡ Some replies.Smallest = ap smallest (here.1.size ∙ ap size_at low) in
       let due : refusal p.target space p.request ≡ Some replies.Smallest =
-      ap (refusal p.target space) is
+      divides_due p.target space p.request divides ∙ ap (split_refusal space) place
       ∙ refused_there space base q (subst (λ a. page_at space a ≡ Some q) place here.1.here) begins ∙ small in
       nothing_right premise due plan none tt due premise.translates refl
 
@@ -63,9 +73,10 @@ module _ {p : Planner} {word : ℕ} (end : IsAtEnd p) {phys : ℕ} {own : Rights
       → IsDivided memory (record p { phase = phases.Division; height = height; stores = stores })
   division_begins aligned large {memory} ended height stores = record {
     base = base;
-    request = is;
-    way = subst (λ a. IsWay p.target.depth memory p.target.root a p.level p.number p.rights) (ap address_of is) ended.way;
-    word_is = subst (λ a. word_at memory p.number (index_at p.level a) ≡ Some (slice_index p.words p.level)) (ap address_of is)
+    place = place;
+    divides = divides;
+    way = subst (λ a. IsWay p.target.depth memory p.target.root a p.level p.number p.rights) place ended.way;
+    word_is = subst (λ a. word_at memory p.number (index_at p.level a) ≡ Some (slice_index p.words p.level)) place
         (ended.word_is ∙ ap Some (sym ended.last));
     page = (phys, own, ap (meaning p.level) ended.last ∙ says);
     aligned = aligned;
@@ -90,23 +101,24 @@ frame_few target bits number within =
     let most : 2 ^ (target.phys_bits - 12) ≤ 2 ^ 40 = pow_mono {j = 40} le in
     omega (arith, within, most)
 
-pub fill_as : (frame : ℕ) {first step first' step' : ℕ} → first ≡ first' → step ≡ step'
-    → ◌≡◌ {A = Option Fill} (Some (record { frame = frame; first = first; step = step })) (Some (record { frame = frame; first = first'; step = step' }))
-fill_as frame is alike = rw (is, alike) refl
+pub fill_as : (frame gap count : ℕ) {first step first' step' : ℕ} → first ≡ first' → step ≡ step'
+    → ◌≡◌ {A = Option Fill} (Some (record { frame = frame; first = first; step = step; gap = gap; gap_count = count }))
+    (Some (record { frame = frame; first = first'; step = step'; gap = gap; gap_count = count }))
+fill_as frame gap count is alike = rw (is, alike) refl
 
 module _ {memory : Memory} {p : Planner} (divided : IsDivided memory p) (request : IsRequest p.target p.request) {space : Space}
     (premise : IsPremise p.target.depth memory p.target.root (address_of p.request) space) where
   divided_end : EndAt p.target memory space p.level p.number p.rights (slice_index p.words p.level) divided.base
   divided_end = record {
-    premise = subst (λ a. IsPremise p.target.depth memory p.target.root a space) (ap address_of divided.request) premise;
+    premise = subst (λ a. IsPremise p.target.depth memory p.target.root a space) divided.place premise;
     way = divided.way;
     word_is = divided.word_is;
-    canonical = subst (IsCanonical p.target.depth) (ap address_of divided.request) request.canonical;
+    canonical = subst (IsCanonical p.target.depth) divided.place request.canonical;
   }
 
   -- a page that has parts is refused nothing
   pub division_due : refusal p.target space p.request ≡ None
-  division_due = ap (refusal p.target space) divided.request ∙ never_refused p.target p.level divided_end divided.large divided.page.2 divided.aligned
+  division_due = divides_due p.target space p.request divided.divides ∙ ap (split_refusal space) divided.place ∙ never_refused p.target p.level divided_end divided.large divided.page.2 divided.aligned
 
   pub divided_right : {base number phys : ℕ} {own : Rights} → p.request ≡ Split base → meaning p.level (slice_index p.words p.level) ≡ entry.Leaf phys own
       → number < frames_end p.target → IsSpare p.target.depth memory p.target.root number
@@ -117,9 +129,26 @@ module _ {memory : Memory} {p : Planner} (divided : IsDivided memory p) (request
       → plan.flush ≡ flushes.Range base (size_at p.level) → plan.unlinked.items ≡ []
       → IsRight p.target p.request memory space (Some number ∷ []) plan
   divided_right {base} {number} {phys} {own} is says within spare leads {plan} reply told fill stores flush unlinked =
-      let same : divided.base ≡ base = one_base divided.base base (sym divided.request ∙ is) in
+      let same : divided.base ≡ base = sym divided.place ∙ ap address_of is in
       subst (λ r. IsRight p.target r memory space (Some number ∷ []) plan) (sym is)
       (right_as plan reply told fill stores flush unlinked
       (split_parts p.target p.level (subst (EndAt p.target memory space p.level p.number p.rights (slice_index p.words p.level)) same divided_end)
       divided.large says
       (subst (λ b. b % bytes_of (size_at p.level) ≡ 0) same divided.aligned) number within spare leads))
+
+  pub unmapped_right : {base first count number phys : ℕ} {own : Rights} → p.request ≡ UnmapPart base first count
+      → meaning p.level (slice_index p.words p.level) ≡ entry.Leaf phys own → first + count ≤ 512
+      → number < frames_end p.target → IsSpare p.target.depth memory p.target.root number
+      → meaning p.level (table_word number) ≡ entry.Table number all_rights → {plan : Plan}
+      → plan.reply ≡ replies.Answer (answers.Changed (intersection p.rights own)) → plan.bits ≡ bits_in (size_at p.level) (slice_index p.words p.level)
+      → plan.fill ≡ Some (record (parts_fill number base p.level (slice_index p.words p.level) phys own) { gap = first; gap_count = count })
+      → plan.stores.items ≡ store_at p.number (index_at p.level base) (slice_index p.words p.level) (table_word number) ∷ []
+      → plan.flush ≡ flushes.Range base (size_at p.level) → plan.unlinked.items ≡ []
+      → IsRight p.target p.request memory space (Some number ∷ []) plan
+  unmapped_right {base} {first} {count} {number} {phys} {own} is says fits within spare leads {plan} reply told fill stores flush unlinked =
+      let same : divided.base ≡ base = sym divided.place ∙ ap address_of is in
+      subst (λ r. IsRight p.target r memory space (Some number ∷ []) plan) (sym is)
+      (right_as plan reply told fill stores flush unlinked
+      (unmapped_parts p.target p.level (subst (EndAt p.target memory space p.level p.number p.rights (slice_index p.words p.level)) same divided_end)
+      divided.large says
+      (subst (λ b. b % bytes_of (size_at p.level) ≡ 0) same divided.aligned) number within spare leads first count fits))

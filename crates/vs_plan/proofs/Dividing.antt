@@ -1,5 +1,5 @@
 -- A plan that splits a page.
-use Rattle.std.proofs.Common.{◌≡◌, ◌≢◌, ℕ, zero, suc, ◌+◌, ◌%◌, ◌^◌, ◌<◌, ◌≤◌, List, [], ◌∷◌, Some, None, inl, inr, ⊎_elim, refl, sym, ap, subst, ◌∙◌, arith}
+use Rattle.std.proofs.Common.{◌≡◌, ◌≢◌, ℕ, zero, suc, ◌+◌, ◌%◌, ◌^◌, ◌<◌, ◌≤◌, List, [], ◌∷◌, length, Some, None, inl, inr, ⊎_elim, refl, sym, ap, subst, ◌∙◌, arith}
 use Rattle.std.proofs.lemmas.List.Elements.{All-nil, All-cons}
 use Rattle.vs_types.specs.Depth.{levels, entry_bytes, index_at}
 use Rattle.vs_types.specs.Entry.{meaning, size_at, table_word, all_rights}
@@ -30,7 +30,7 @@ use Rattle.vs_plan.specs.Bits.{bits_in, page_word}
 use Rattle.vs_plan.specs.Changes.{smaller, smallest, split_refusal}
 use Rattle.vs_plan.specs.Premise.{IsSpare}
 use Rattle.vs_plan.specs.Right.{IsEntryOf, IsMeantBy, OfPage, IsNewTable}
-use Rattle.vs_plan.specs.Stores.{stepping, filled, stored}
+use Rattle.vs_plan.specs.Stores.{stepping, fill_words, filled, stored, with_gap}
 use Rattle.vs_plan.specs.Target.{frames_end}
 use Rattle.vs_plan.proofs.Asking.{entry_of}
 use Rattle.vs_plan.proofs.EntryStores.{IsOwnTable, walk_off, whole_store}
@@ -52,6 +52,8 @@ parts_fill frame base level word phys own = record {
   frame = frame;
   first = page_word (record { base = base; size = smaller (size_at level); rights = own; phys = phys }) (bits_in (size_at level) word);
   step = bytes_of (smaller (size_at level));
+  gap = 0;
+  gap_count = 0;
 }
 
 -- at the entry of a page of 2 MiB or 1 GiB, the parts of which have entries of the level below
@@ -95,7 +97,12 @@ module _ (target : Target) {memory : Memory} {space : Space} {base low number wo
     fill = parts_fill frame base (suc low) word phys own
 
     abbrev words : List ℕ
-    words = stepping fill.first fill.step 512
+    words = fill_words fill
+
+    -- it has no gap
+    all_words : words ≡ stepping fill.first fill.step 512
+    unfolding with_gap
+    all_words = refl
 
     abbrev m : Memory
     m = filled memory (Some fill)
@@ -121,7 +128,7 @@ module _ (target : Target) {memory : Memory} {space : Space} {base low number wo
     here : IsOwnTable target.depth m target.root (suc low) base number
     here = record {
       own = own_as target.depth target.root memory m same base end.premise.own;
-      whole = whole-insert memory frame words (stepping_long fill.first fill.step 512) end.premise.whole;
+      whole = whole-insert memory frame words (ap (λ (ws : List ℕ). length ws) all_words ∙ stepping_long fill.first fill.step 512) end.premise.whole;
       used = used_word m number (index_at (suc low) base) word word_is;
       at = table_as target.depth target.root memory m same (suc low) base ∙ reached;
     }
@@ -129,7 +136,7 @@ module _ (target : Target) {memory : Memory} {space : Space} {base low number wo
     run : IsRun m low frame phys own
     run = run_filled m low frame base phys (bits_in (size_at (suc low)) word) fill.first own lies (are_bits_in (size_at (suc low)) word)
         (ap (λ z. page_word (record { base = base; size = z; rights = own; phys = phys }) (bits_in (size_at (suc low)) word)) (smaller_at low some few))
-        (get-insert_same memory frame words ∙ ap (λ st. Some (stepping fill.first st 512)) step_is)
+        (get-insert_same memory frame words ∙ ap Some all_words ∙ ap (λ st. Some (stepping fill.first st 512)) step_is)
 
     entry_here : IsEntryOf target memory base (size_at (suc low)) word
     entry_here = entry_of end.way end.word_is says
@@ -159,6 +166,8 @@ module _ (target : Target) {memory : Memory} {space : Space} {base low number wo
           spare = spare;
           first = refl;
           step = refl;
+          gap_is = refl;
+          count_is = refl;
           link = refl;
         },
         refl,

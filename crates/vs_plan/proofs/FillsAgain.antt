@@ -1,5 +1,5 @@
 -- A fill that is made again with the flags of a word that was found.
-use Rattle.std.proofs.Common.{◌≡◌, ◌≢◌, ℕ, zero, suc, ◌+◌, ◌%◌, ◌^◌, ◌<◌, List, Some, ⊎_elim, sym, ap, subst, ◌∙◌, arith}
+use Rattle.std.proofs.Common.{◌≡◌, ◌≢◌, ℕ, zero, suc, ◌+◌, ◌%◌, ◌^◌, ◌<◌, List, [], ◌∷◌, Some, ⊎_elim, refl, sym, ap, subst, ◌∙◌, arith}
 use Rattle.std.specs.Prelude.{is_some}
 use Rattle.std.specs.FinMap as finite
 use Rattle.std.specs.Int.{bit_at}
@@ -17,7 +17,7 @@ use Rattle.vs_types.proofs.Maps.{get-insert_same, get-insert_other}
 use Rattle.vs_plan.specs.declared.plan.Fill.{Fill}
 use Rattle.vs_plan.specs.Again.{HasFlagsSet, fill_again, flags_into}
 use Rattle.vs_plan.specs.Bits.{bits_in, flagged, page_word, placed}
-use Rattle.vs_plan.specs.Stores.{filled, stepping}
+use Rattle.vs_plan.specs.Stores.{fill_words, filled, stepping, with_gap}
 use Rattle.vs_plan.proofs.OtherFlags.{bits_after, flags_set}
 use Rattle.vs_plan.proofs.Splitting.{are_bits_in}
 use Rattle.vs_plan.proofs.Addresses.{cond_most}
@@ -37,6 +37,20 @@ zip_steps first other step (suc count) is even = (
     above = omega (arith, is.below, is.above, even);
   }) even,
 )
+
+-- and with a gap
+pub zip_gap : (gap count : ℕ) (xs ys : List ℕ) → AllZip IsSameButFlags xs ys → AllZip IsSameButFlags (with_gap gap count xs) (with_gap gap count ys)
+unfolding with_gap
+zip_gap zero zero xs ys zipped = zipped
+zip_gap zero (suc count) [] [] zipped = tt
+zip_gap zero (suc count) [] (y ∷ ys) zipped = absurd zipped
+zip_gap zero (suc count) (x ∷ xs) [] zipped = absurd zipped
+zip_gap zero (suc count) (x ∷ xs) (y ∷ ys) zipped =
+    (record { absent = λ none. refl; bits = λ bit apart other. refl }, zip_gap zero count xs ys zipped.1)
+zip_gap (suc gap) count [] [] zipped = tt
+zip_gap (suc gap) count [] (y ∷ ys) zipped = absurd zipped
+zip_gap (suc gap) count (x ∷ xs) [] zipped = absurd zipped
+zip_gap (suc gap) count (x ∷ xs) (y ∷ ys) zipped = (zipped.0, zip_gap gap count xs ys zipped.1)
 
 -- memories that differ in flags alone still do once a frame has words that do
 pub same_filled : {old new : Memory} → AreSameButFlags old new → (n : ℕ) (xs ys : List ℕ) → AllZip IsSameButFlags xs ys
@@ -60,8 +74,9 @@ same_filled {old} {new} is n xs ys zipped = record {
 pub same_fills : {old new : Memory} → AreSameButFlags old new → (fill : Fill) (word : ℕ) → fill.first % 2 ≡ 1 → fill.step % 2 ^ 7 ≡ 0
     → AreSameButFlags (filled old (Some fill)) (filled new (fill_again word (Some fill)))
 same_fills is fill word odd even =
-    same_filled is fill.frame (stepping fill.first fill.step 512) (stepping (flags_into word fill.first) fill.step 512)
-    (zip_steps fill.first (flags_into word fill.first) fill.step 512 (record { present = odd; below = omega arith; above = omega arith }) even)
+    same_filled is fill.frame (fill_words fill) (fill_words (record fill { first = flags_into word fill.first }))
+    (zip_gap fill.gap fill.gap_count (stepping fill.first fill.step 512) (stepping (flags_into word fill.first) fill.step 512)
+    (zip_steps fill.first (flags_into word fill.first) fill.step 512 (record { present = odd; below = omega arith; above = omega arith }) even))
 
 -- ---- the first word
 

@@ -22,17 +22,19 @@ use Rattle.vs_plan.specs.declared.plan.Plan.{Plan}
 use Rattle.vs_plan.specs.declared.plan.Reply.{Reply}
 use Rattle.vs_plan.specs.declared.plan.Reply.TheVariants as replies
 use Rattle.vs_plan.specs.declared.request.Request.{Request}
-use Rattle.vs_plan.specs.declared.request.Request.TheVariants.{Map, Unmap, Protect, Ask, Remap, Split, Join}
+use Rattle.vs_plan.specs.declared.request.Request.TheVariants.{Map, Unmap, Protect, Ask, Remap, Split, Join, Prune, UnmapPart, Collapse}
 use Rattle.vs_plan.specs.declared.plan.Store.{Store}
 use Rattle.vs_plan.specs.declared.target.Target.{Target}
 use Rattle.vs_plan.specs.Premise.{IsPremise, HasOwnWay}
 use Rattle.vs_plan.specs.Request.{IsRequest, address_of, stepped, refusal}
 use Rattle.vs_plan.specs.Changes.{join, join_refusal}
-use Rattle.vs_plan.specs.Right.{IsRight, IsPut, Fits, space_after, refusal_in, begun, ended}
+use Rattle.vs_plan.specs.Right.{IsRight, IsPut, Fits, IsDue, space_after, begun, ended}
 use Rattle.vs_plan.specs.Stores.{stored_all, filled}
 use Rattle.vs_plan.proofs.Changing.{change_here, change_cases}
 use Rattle.vs_plan.proofs.Given.{change_begins}
+use Rattle.vs_plan.proofs.CollapsedSpace.{collapse_stays_space}
 use Rattle.vs_plan.proofs.JoinedParts.{join_stays_space}
+use Rattle.vs_plan.proofs.PartsUnmapped.{unmap_part_stays_space}
 use Rattle.vs_plan.proofs.PartSpaces.{split_stays_space}
 use Rattle.vs_plan.proofs.Remapping.{remap_space}
 use Rattle.vs_plan.proofs.UnstoredJoins.{not_unstored}
@@ -92,14 +94,17 @@ module _ {target : Target} {space : Space} (is : IsSpace target.depth space) whe
   stepped_space (Protect base rights) stores good due fits made = protect_cases (λ s. IsSpace target.depth s.space) target.depth 0 space base rights
       (λ e. is) (λ page e same. protect_space is page rights ((page_at_means is base page).0 e).0) (λ page e other. is)
   stepped_space (Ask address) stores good due fits made = is
+  stepped_space (Prune address) stores good due fits made = is
   stepped_space (Remap base phys rights) stores good due fits made = remap_space is base phys target.phys_bits rights due
   stepped_space (Split base) stores good due fits made = split_stays_space is base due
+  stepped_space (UnmapPart base first count) stores good due fits made = unmap_part_stays_space is base first count due
+  stepped_space (Collapse base phys rights) stores good due fits made = collapse_stays_space is base phys rights target.phys_bits due
   stepped_space (Join base) [] good due fits made = subst (IsSpace target.depth) (sym (joined_nothing space base (made refl base refl))) is
   stepped_space (Join base) (s ∷ later) good due fits made =
       subst (λ b. join_refusal space b ≡ None → IsSpace target.depth (join space b).space) fits.1
       (λ allowed. join_stays_space is fits.0 fits.2 fits.3 allowed) due
 
-  pub space_again : (request : Request) (reply : Reply) (stores : List Store) → IsRequest target request → refusal target space request ≡ refusal_in reply
+  pub space_again : (request : Request) (reply : Reply) (stores : List Store) → IsRequest target request → IsDue target space request reply
       → Fits request space stores
       → (stores ≡ [] → (base : ℕ) → request ≡ Join base → refusal target space request ≡ None
       → space_after target request space reply ≡ (stepped target.depth space request).space → changes (join space base).answer ≡ true → ⊥)

@@ -16,6 +16,7 @@ use Rattle.vs_types.specs.declared.depth.Depth.{Depth}
 use Rattle.vs_types.specs.declared.frame.TheConstants.{FRAME_WORDS}
 use Rattle.vs_types.specs.declared.page.Rights.{Rights}
 use Rattle.vs_types.specs.declared.page.Size.{Size}
+use Rattle.vs_types.specs.declared.page.Size.TheVariants.{K4, M2, G1}
 use Rattle.vs_types.specs.declared.entry.Meaning.TheVariants as entry
 use Rattle.vs_arena.specs.Store.{zeros}
 use Rattle.vs_walk.specs.Memory.{Memory}
@@ -30,7 +31,7 @@ use Rattle.vs_plan.specs.declared.target.Target.{Target}
 use Rattle.vs_plan.specs.Again.{HasFlagsSet, flags_into, with_flags_of}
 use Rattle.vs_plan.specs.Bits.{with_address, with_rights, unflagged}
 use Rattle.vs_plan.specs.Premise.{IsSpare, HasOwnWay}
-use Rattle.vs_plan.specs.Right.{FollowBelow, IsEntryOf, HasWord}
+use Rattle.vs_plan.specs.Right.{AreLikeBelow, FollowBelow, IsEntryOf, HasWord}
 use Rattle.vs_plan.specs.Stores.{stored, stored_all, FindTheirWords}
 use Rattle.vs_plan.specs.Way.{IsWay}
 use Rattle.vs_plan.proofs.FlagsKept.{flags_table}
@@ -67,6 +68,11 @@ module _ {old new : ℕ} (is : IsSameButFlags old new) where
 
   pub alike_unflagged : unflagged new ≡ unflagged old
   alike_unflagged = omega (arith, alike_low, alike_high)
+
+  pub alike_like : (size : Size) → unflagged (with_address size new 0) ≡ unflagged (with_address size old 0)
+  alike_like K4 = omega (arith, alike_low, alike_high)
+  alike_like M2 = omega (arith, alike_low, alike_high)
+  alike_like G1 = omega (arith, alike_low, alike_high)
 
   pub alike_even : old % 2 ≡ 0 → new ≡ old
   alike_even even = is.absent (omega (arith, even))
@@ -185,6 +191,15 @@ module _ {old new : Memory} (is : AreSameButFlags old new) where
       let was = follow i low in
       let word = word_flags number i was.0 was.1 in
       (word.0, word.1, alike_unflagged word.2 ∙ was.2 ∙ ap (λ n. n + i * bytes_of size) (sym (alike_unflagged alike)))
+
+  -- ---- entries that are like the first one
+
+  pub like_flags : (number : ℕ) (size : Size) (first now index : ℕ) → IsSameButFlags first now → AreLikeBelow old number size first index
+      → AreLikeBelow new number size now index
+  like_flags number size first now index alike like i low =
+      let was = like i low in
+      let word = word_flags number i was.0 was.1 in
+      (word.0, word.1, alike_like word.2 size ∙ was.2 ∙ sym (alike_like alike size))
 
 -- ---- stores
 

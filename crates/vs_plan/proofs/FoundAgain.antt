@@ -7,7 +7,7 @@ use Rattle.std.proofs.Math.Seq.{take-length}
 use Rattle.vs_plan.specs.declared.plan.Fill.{Fill}
 use Rattle.vs_plan.specs.declared.plan.Plan.{Plan}
 use Rattle.vs_plan.specs.declared.plan.Store.{Store}
-use Rattle.vs_plan.specs.Again.{HasFlagsSet, IsPlanAgain, bits_again, fill_again, new_again}
+use Rattle.vs_plan.specs.Again.{HasFlagsSet, IsPlanAgain, bits_again, fill_again, new_again, told_again}
 
 -- stores written back whole
 written_back : (xs ws : List Store) → length ws ≡ length xs → refill (length xs) xs ws ≡ ws
@@ -20,7 +20,7 @@ module _ (plan : Plan) (index word : ℕ) (d : Store) (seen back : List Store) (
   old = get_or seen index d
 
   pub plan_again : (new bits : ℕ) (fill : Option Fill) → new ≡ new_again plan.fill plan.unlinked.items word old.new
-      → bits ≡ bits_again index plan.unlinked.items word old.new plan.bits → fill ≡ fill_again word plan.fill
+      → bits ≡ told_again plan.reply (bits_again index plan.unlinked.items word old.new plan.bits) plan.bits → fill ≡ fill_again word plan.fill
       → IsPlanAgain plan index word (record plan {
         bits = bits;
         fill = fill;

@@ -19,7 +19,7 @@ use Rattle.vs_plan.specs.declared.plan.Reply.{Reply}
 use Rattle.vs_plan.specs.declared.plan.Reply.TheVariants as replies
 use Rattle.vs_plan.specs.declared.plan.Store.{Store}
 use Rattle.vs_plan.specs.declared.request.Request.{Request}
-use Rattle.vs_plan.specs.declared.request.Request.TheVariants.{Map, Ask, Remap, Split, Join}
+use Rattle.vs_plan.specs.declared.request.Request.TheVariants.{Map, Ask, Remap, Split, Join, UnmapPart, Collapse}
 use Rattle.vs_plan.specs.declared.target.Target.{Target}
 use Rattle.vs_plan.specs.Changes.{change_page}
 use Rattle.vs_plan.specs.Other.{HasSameTables}
@@ -63,6 +63,9 @@ filled_same target request memory offered (Some fill) stores unlinked put =
       by (Map page bits) (s ∷ later) none = absurd (cc)
       by (Ask address) (s ∷ later) none = absurd (cc)
       by (Split base) (s ∷ later) put =
+          let same : put.0 ≡ fill = one_fill put.0 fill put.1 in
+          subst (λ (f : Fill). (level b : ℕ) → table_at (levels target.depth) memory target.root level b ≢ Some f.frame) same put.2.spare.unreached
+      by (UnmapPart base first count) (s ∷ later) put =
           let same : put.0 ≡ fill = one_fill put.0 fill put.1 in
           subst (λ (f : Fill). (level b : ℕ) → table_at (levels target.depth) memory target.root level b ≢ Some f.frame) same put.2.spare.unreached
       by _ (s ∷ later) put = let none = put.0 in absurd (cc)
@@ -139,6 +142,8 @@ abbrev pub IsChange : Request → ℕ → Type 0
 IsChange (Remap at phys rights) base = at ≡ base
 IsChange (Split at) base = at ≡ base
 IsChange (Join at) base = at ≡ base
+IsChange (UnmapPart at first count) base = at ≡ base
+IsChange (Collapse at phys rights) base = at ≡ base
 IsChange _ base = ⊥
 
 pub change_begins : (depth : Depth) (space : Space) (request : Request) → IsChange request (address_of request)
@@ -146,6 +151,8 @@ pub change_begins : (depth : Depth) (space : Space) (request : Request) → IsCh
 change_begins depth space (Remap base phys rights) is changed = change_begins_at space base _ (page_at space base) refl changed
 change_begins depth space (Split base) is changed = change_begins_at space base _ (page_at space base) refl changed
 change_begins depth space (Join base) is changed = change_begins_at space base _ (page_at space base) refl changed
+change_begins depth space (UnmapPart base first count) is changed = change_begins_at space base _ (page_at space base) refl changed
+change_begins depth space (Collapse base phys rights) is changed = change_begins_at space base _ (page_at space base) refl changed
 change_begins depth space _ is changed = absurd is
 
 pub change_canonical : {target : Target} {request : Request} {memory start : Memory} {space : Space} {offered : List (Option ℕ)} {reply : Reply}

@@ -1,13 +1,13 @@
 -- What a planner that waits for a frame has found.
-use Rattle.std.proofs.Common.{◌≡◌, ℕ, None, refl, sym, subst, ◌∙◌}
+use Rattle.std.proofs.Common.{◌≡◌, ℕ, None, refl, subst}
 use Rattle.vs_types.specs.Space.{Space}
 use Rattle.vs_types.specs.declared.page.Page.{Page}
 use Rattle.vs_walk.specs.Memory.{Memory}
 use Rattle.vs_plan.specs.declared.planner.Phase.{Phase}
 use Rattle.vs_plan.specs.declared.planner.Phase.TheVariants as phases
 use Rattle.vs_plan.specs.declared.planner.Planner.{Planner}
-use Rattle.vs_plan.specs.declared.request.Request.TheVariants.{Map, Split}
-use Rattle.vs_plan.specs.Planner.{AwaitsFrame, AwaitsFrameIn, AwaitsGrowth, AwaitsDivision}
+use Rattle.vs_plan.specs.declared.request.Request.TheVariants.{Map}
+use Rattle.vs_plan.specs.Planner.{AwaitsFrame, AwaitsFrameIn, AwaitsGrowth, AwaitsDivision, Divides}
 use Rattle.vs_plan.specs.Premise.{IsPremise}
 use Rattle.vs_plan.specs.Request.{address_of, refusal}
 use Rattle.vs_plan.specs.Shown.{IsShown, IsShownIn, IsGrown, IsDivided}
@@ -23,18 +23,18 @@ give_due {memory} p awaits shown space premise = by p.phase awaits shown where
   by phases.Division awaits shown = division_due shown awaits.request premise
   by _ awaits shown = absurd awaits
 
--- the planner of a map fills new tables, that of a split one
+-- the planner of a map fills new tables, that of a split or an unmap of parts one
 pub waits_growth : (p : Planner) → AwaitsFrame p → {page : Page} {bits : ℕ} → p.request ≡ Map page bits → AwaitsGrowth p
 waits_growth p awaits {page} {bits} is = by p.phase awaits where
   by : (phase : Phase) → AwaitsFrameIn phase p → AwaitsGrowth p
   by phases.Growth awaits = awaits
-  by phases.Division awaits = let both : Split awaits.is_split.0 ≡ Map page bits = sym awaits.is_split.1 ∙ is in absurd (cc)
+  by phases.Division awaits = absurd (subst Divides is awaits.divides)
   by _ awaits = absurd awaits
 
-pub waits_division : (p : Planner) → AwaitsFrame p → {base : ℕ} → p.request ≡ Split base → AwaitsDivision p
-waits_division p awaits {base} is = by p.phase awaits where
+pub waits_division : (p : Planner) → AwaitsFrame p → Divides p.request → AwaitsDivision p
+waits_division p awaits divides = by p.phase awaits where
   by : (phase : Phase) → AwaitsFrameIn phase p → AwaitsDivision p
-  by phases.Growth awaits = let both : Map awaits.is_map.0 awaits.is_map.1 ≡ Split base = sym awaits.is_map.2 ∙ is in absurd (cc)
+  by phases.Growth awaits = absurd (subst Divides awaits.is_map.2 divides)
   by phases.Division awaits = awaits
   by _ awaits = absurd awaits
 

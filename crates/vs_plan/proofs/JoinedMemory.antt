@@ -1,5 +1,5 @@
 -- What a memory is like after one store that writes the entry of a large page in the place of the link to a table of smaller pages.
-use Rattle.std.proofs.Common.{◌≡◌, ◌≢◌, ℕ, suc, ◌+◌, ◌%◌, ◌<◌, ◌≤◌, Some, refl, sym, ap, ◌∙◌, arith}
+use Rattle.std.proofs.Common.{◌≡◌, ◌≢◌, ℕ, suc, ◌+◌, ◌%◌, ◌<◌, ◌≤◌, Some, None, refl, sym, ap, ◌∙◌, arith}
 use Rattle.std.specs.Prelude.{Bool, true, false, ◌&&◌}
 use Rattle.vs_types.specs.Depth.{levels, entry_bytes}
 use Rattle.vs_types.specs.Entry.{meaning, size_at}
@@ -49,6 +49,16 @@ pub walk_run : {depth : Depth} {m : Memory} {root base level number : ℕ} {righ
 walk_run {m = m} {level = level} {number} {rights} way some phys own run b same =
     way_walk level number rights way b same ∙ run_walk m level number phys own some run rights b
 
+-- ---- where what is written in the place of the link leads to no table, no way leads to the table any more
+
+pub unlinked_by : (new : ℕ) {depth : Depth} {m : Memory} {root base level number above_number : ℕ} {rights : Rights}
+    (here : IsOwnTable depth m root (suc level) base above_number) → IsWay depth m root base level number rights
+    → table_in (Some (meaning (suc level) new)) ≡ None → (j b : ℕ) → table_at (levels depth) (after_store here new) root j b ≢ Some number
+unlinked_by new {level = level} {number} {rights = rights} here way ends j b reached =
+    let at = here.own.once level number j b (way_table level number rights way) (fewer here new ends b j number reached) in
+    let none = none_here here new ends b j (omega (arith, at.0)) at.1 in
+    cc
+
 -- ---- the entry of one page is written in the place of the link
 
 module _ (own : Rights) (new : ℕ) {depth : Depth} {m : Memory} {root base level number above_number phys : ℕ} {rights above given : Rights}
@@ -65,8 +75,4 @@ module _ (own : Rights) (new : ℕ) {depth : Depth} {m : Memory} {root base leve
 
   -- no way leads to the table any more
   pub unreached : (j b : ℕ) → table_at (levels depth) (after_store here new) root j b ≢ Some number
-  unreached j b reached =
-      let ends = ap (λ e. table_in (Some e)) says in
-      let at = here.own.once level number j b (way_table level number rights way) (fewer here new ends b j number reached) in
-      let none = none_here here new ends b j (omega (arith, at.0)) at.1 in
-      cc
+  unreached j b reached = unlinked_by new here way (ap (λ e. table_in (Some e)) says) j b reached

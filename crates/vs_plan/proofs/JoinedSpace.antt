@@ -92,10 +92,10 @@ module _ (space : Space) (page : Page) where
     by true covered is = absurd (cc)
     by false uncovered is = (uncovered, is)
 
-  off_kept : (base : ℕ) → covers page base ≡ false → finite.get (without_parts space page) base ≡ finite.get space base
+  pub off_kept : (base : ℕ) → covers page base ≡ false → finite.get (without_parts space page) base ≡ finite.get space base
   off_kept base uncovered = get_off base ∙ ap (λ c. cond (not c) (finite.get space base) None) uncovered
 
-  off_space : {depth : Depth} → IsSpace depth space → IsSpace depth (without_parts space page)
+  pub off_space : {depth : Depth} → IsSpace depth space → IsSpace depth (without_parts space page)
   off_space is = record {
     under_base = λ base q got. is.under_base base q (off_held base q got).1;
     well_formed = λ q held. is.well_formed q (off_held q.base q held).1;
@@ -117,7 +117,7 @@ pub record IsSmallAt (space : Space) (level phys : ℕ) (given : Rights) (b : �
 abbrev pub large : ℕ → ℕ → ℕ → Rights → Page
 large level base phys given = record { base = base; size = size_at (suc level); phys = phys; rights = given }
 
-bytes_large : (level : ℕ) → level ≤ 2 → bytes_of (size_at (suc level)) ≡ entry_bytes (suc level)
+pub bytes_large : (level : ℕ) → level ≤ 2 → bytes_of (size_at (suc level)) ≡ entry_bytes (suc level)
 bytes_large level few = ap entry_bytes (level_back (suc level) (omega arith) (omega (arith, few)))
 
 bytes_small : (level : ℕ) → 1 ≤ level → level ≤ 2 → (q : Page) → q.size ≡ size_at level → bytes_of q.size ≡ entry_bytes level

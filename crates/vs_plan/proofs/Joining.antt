@@ -1,5 +1,5 @@
 -- A plan that joins the pages of a table.
-use Rattle.std.proofs.Common.{◌≡◌, ◌≢◌, Bool, true, false, ℕ, zero, suc, ◌+◌, ◌-◌, ◌*◌, ◌%◌, ◌<◌, ◌≤◌, List, [], ◌∷◌, Option, Some, None, inl, ⊎_elim, cond}
+use Rattle.std.proofs.Common.{◌≡◌, ◌≢◌, ℕ, zero, suc, ◌+◌, ◌*◌, ◌%◌, ◌<◌, ◌≤◌, List, [], ◌∷◌, Option, Some, None, inl, ⊎_elim}
 use Rattle.std.proofs.Common.{refl, sym, ap, subst, ◌∙◌, arith}
 use Rattle.std.proofs.lemmas.Bool.{cases_eq, eq-eqb, ne_eqb}
 use Rattle.std.proofs.lemmas.List.Elements.{All-nil, All-cons}
@@ -38,13 +38,14 @@ use Rattle.vs_plan.specs.declared.plan.Store.{Store}
 use Rattle.vs_plan.specs.declared.planner.Planner.{Planner}
 use Rattle.vs_plan.specs.declared.request.Request.TheVariants.{Join}
 use Rattle.vs_plan.specs.declared.target.Target.{Target}
-use Rattle.vs_plan.specs.Bits.{bits_in, page_word, flagged}
+use Rattle.vs_plan.specs.Bits.{bits_in, page_word, flagged, unflagged}
 use Rattle.vs_plan.specs.Changes.{larger, join, join_refusal, not_first, unaligned}
 use Rattle.vs_plan.specs.Premise.{IsPremise}
 use Rattle.vs_plan.specs.Request.{address_of, stepped, refusal}
-use Rattle.vs_plan.specs.Right.{Follows, IsEntryOf, IsMeantBy, IsUnlinkedBy, KeepsApart, IsRight}
+use Rattle.vs_plan.specs.Right.{Follows, IsEntryOf, IsMeantBy, IsUnlinkedBy, KeepsApart, KeepsTable, IsRight}
 use Rattle.vs_plan.specs.Shown.{IsTableMet}
 use Rattle.vs_plan.specs.Stores.{stored}
+use Rattle.vs_plan.specs.Target.{highest_link}
 use Rattle.vs_plan.specs.inside.Ended.{IsAtEnd, IsFirstApart, IsRightAt, IsRightWith, IsWholeStore, HasEnded, ChangesNothing}
 use Rattle.vs_plan.proofs.Asking.{entry_of}
 use Rattle.vs_plan.proofs.Changing.{change_here, why_here}
@@ -82,6 +83,14 @@ larger_bytes level some few = ap bytes_of (larger_at level some few) ∙ ap entr
 pub small_level : (level : ℕ) → size_at level ≢ G1 → level ≤ 2
 small_level (suc (suc (suc level))) small = absurd (small refl)
 small_level _ small = omega arith
+
+-- the first entry follows on from itself
+follow_all : (size : Size) (first : ℕ) (words : List ℕ) → slice_index words 0 ≡ first → (i : ℕ)
+    → (1 ≤ i → Follows size first i (slice_index words i)) → Follows size first i (slice_index words i)
+follow_all size first words same zero later =
+    let alike : unflagged (slice_index words 0) ≡ unflagged first = ap unflagged same in
+    omega (arith, alike)
+follow_all size first words same (suc i) later = later (omega arith)
 
 four_levels : (depth : Depth) → 4 ≤ levels depth
 four_levels Four = omega arith
@@ -245,10 +254,10 @@ module _ (target : Target) {memory : Memory} {space : Space} {base level number 
         entry_here : IsEntryOf target memory base (size_at level) word
         entry_here = entry_of end.way end.word_is says
 
-        pub join_parts : Parts target (Join base) memory space [] (replies.Answer (answers.Changed (intersection given own)))
+        pub join_parts : suc level ≤ highest_link target → Parts target (Join base) memory space [] (replies.Answer (answers.Changed (intersection given own)))
             (bits_in (size_at level) word) None
             (s ∷ []) (flushes.Range base (larger (size_at level))) (number ∷ [])
-        join_parts = record {
+        join_parts high = record {
           reply = sym (ap (λ (t : Stepped). t.answer) join_at);
           due = not_refused;
           put = (
@@ -291,7 +300,7 @@ module _ (target : Target) {memory : Memory} {space : Space} {base level number 
             below = number;
             leads = ap (λ e. table_in (Some e)) leads;
             named = Contains-head number [];
-            may = highest target.pinned;
+            may = high;
           }) (All-nil _);
           nothing = λ none. absurd (none (λ e. cc));
           written = refl;
@@ -313,10 +322,7 @@ module _ (target : Target) {memory : Memory} {space : Space} {base level number 
           whole = whole_store above_table entry_new;
           own = own_after above_table entry_new ends;
           reaches = λ l b q at. inl (fewer above_table entry_new ends b l q at);
-        } where
-          highest : (pinned : Bool) → suc level ≤ cond pinned (levels target.depth - 1) (levels target.depth)
-          highest true = omega (arith, few, four_levels target.depth)
-          highest false = omega (arith, few, four_levels target.depth)
+        }
 
 -- ---- as the code has it
 
@@ -352,8 +358,26 @@ module _ {p : Planner} {word : ℕ} (end : IsAtEnd p) {phys : ℕ} {own : Rights
           (sym (word_in memory p.number 0 words there) ∙ ap (word_at memory p.number) (sym (index_first_of p.level base phys end.some first))
           ∙ subst (λ r. word_at memory p.number (index_at p.level (address_of r)) ≡ Some word) is ended.word_is)
 
+      -- the table stays
+      pub pinned_right : highest_link p.target ≤ p.level → (plan : Plan) → ChangesNothing replies.Pinned 0 plan → IsRightAt p word plan
+      pinned_right stays plan none memory ended space premise =
+          let here = end_at end ended premise (ap address_of is) in
+          nothing_right premise {reply = replies.Pinned} (due_by ended premise ∙ first) plan none tt (
+            subst (λ r. KeepsTable p.target memory r) (sym is) (record {
+              level = p.level;
+              number = p.number;
+              first = word;
+              reached = way_table p.level p.number p.rights here.way;
+              first_is = here.word_is;
+              leaf = (phys, own, says);
+              stays = stays;
+            }),
+            ap (λ r. changes (stepped p.target.depth space r).answer) is ∙ ap changes (would_join p.target here end.some says starts),
+          )
+          premise.translates refl
+
       -- an entry doesn't follow on
-      pub apart_right : (words : List ℕ) (index : ℕ) → IsFirstApart words (size_at p.level) index → (plan : Plan)
+      pub apart_right : (words : List ℕ) (index : ℕ) → IsFirstApart word words (size_at p.level) index → (plan : Plan)
           → ChangesNothing (replies.Apart index) 0 plan → IsRightWith p word words plan
       apart_right words index found plan none memory ended there space premise =
           let place : address_of p.request ≡ base = ap address_of is in
@@ -370,11 +394,11 @@ module _ {p : Planner} {word : ℕ} (end : IsAtEnd p) {phys : ℕ} {own : Rights
               leaf = (phys, own, says);
               within = found.within;
               word_is = word_in memory p.number index words there;
-              apart = subst (λ w. Follows (size_at p.level) w index (slice_index words index) → ⊥) one found.apart;
+              apart = found.apart;
               before = λ i low. (
                 slice_index words i,
                 word_in memory p.number i words there,
-                subst (λ w. Follows (size_at p.level) w i (slice_index words i)) one (found.before i low),
+                follow_all (size_at p.level) word words one i (λ later. found.before i later low),
               );
             }),
             ap (λ r. changes (stepped p.target.depth space r).answer) is ∙ ap changes (would_join p.target here end.some says starts),
@@ -382,19 +406,20 @@ module _ {p : Planner} {word : ℕ} (end : IsAtEnd p) {phys : ℕ} {own : Rights
           premise.translates refl
 
       -- each entry follows on
-      pub join_right : (words : List ℕ) → ((i : ℕ) → i < 512 → Follows (size_at p.level) (slice_index words 0) i (slice_index words i))
+      pub join_right : p.level < highest_link p.target → (words : List ℕ)
+          → ((i : ℕ) → 1 ≤ i → i < 512 → Follows (size_at p.level) word i (slice_index words i))
           → {answer : Rights} → answer ≡ intersection p.rights own → {bits : ℕ} → bits ≡ bits_in (size_at p.level) word
           → {store : Store} → IsWholeStore p base phys own word store → {plan : Plan} → plan.reply ≡ replies.Answer (answers.Changed answer) → plan.bits ≡ bits
           → plan.fill ≡ None → plan.stores.items ≡ store ∷ [] → plan.flush ≡ flushes.Range base (larger (size_at p.level)) → plan.unlinked.items ≡ p.number ∷ []
           → IsRightWith p word words plan
-      join_right words follow answer_is bits_are {store} whole {plan} reply bits fill stores flush unlinked memory ended there space premise =
+      join_right low words follow answer_is bits_are {store} whole {plan} reply bits fill stores flush unlinked memory ended there space premise =
           let here = end_at end ended premise (ap address_of is) in
           let one = is_first ended there in
           let met = ended.met.tables (suc p.level) (omega arith) (omega (arith, few_of p.level base phys first, four_levels p.target.depth)) in
           let met_here = subst (λ a. IsTableMet p.target.depth memory p.target.root a (suc p.level) (slice_index p.numbers (suc p.level))
           (slice_index p.words (suc p.level))) (ap address_of is) met in
           let follow_here : (i : ℕ) → i < 512 → Follows (size_at p.level) word i (slice_index words i) =
-          λ i low. subst (λ w. Follows (size_at p.level) w i (slice_index words i)) one (follow i low) in
+          λ i few. follow_all (size_at p.level) word words one i (λ later. follow i later few) in
           let up : p.level + 1 ≡ suc p.level = omega arith in
           let may = may_join base phys (size_at p.level) first in
           let link = last p.target here end.some says starts may there follow_here met_here in
@@ -404,7 +429,7 @@ module _ {p : Planner} {word : ℕ} (end : IsAtEnd p) {phys : ℕ} {own : Rights
           subst (λ r. IsRight p.target r memory space [] plan) (sym is)
           (right_as plan (reply ∙ ap (λ r. replies.Answer (answers.Changed r)) answer_is) (bits ∙ bits_are) fill
           (stores ∙ ap (λ (s : Store). s ∷ []) (whole.store_is ∙ store_as up rights)) flush unlinked
-          (join_parts p.target here end.some says starts may there follow_here met_here))
+          (join_parts p.target here end.some says starts may there follow_here met_here (omega (arith, low))))
         where
           store_as : {above : ℕ} → above ≡ suc p.level → {a b : Rights} → a ≡ b
               → store_at (slice_index p.numbers above) (index_at above base) (slice_index p.words above)

@@ -58,5 +58,10 @@ pub mod JoinedMemory
 pub mod JoinedSpace
 pub mod Joining
 pub mod JoinedParts
+pub mod Pruning
 pub mod FollowParts
 mod WrittenFrames
+pub mod CollapsedSpace
+pub mod Collapsing
+pub mod PartsUnmapped
+pub mod Gaps

@@ -6,9 +6,11 @@ use Rattle.std.proofs.lemmas.List.Elements.{All-nil}
 use Rattle.std.proofs.Math.Seq.{take-length}
 use Rattle.vs_types.specs.Depth.{index_at, IsCanonical}
 use Rattle.vs_types.specs.Entry.{meaning}
+use Rattle.vs_types.specs.declared.entry.Meaning.TheVariants as entry
 use Rattle.vs_types.specs.Space.{Space}
 use Rattle.vs_types.specs.declared.page.Rights.{Rights}
 use Rattle.vs_space.specs.Held.{word_at}
+use Rattle.vs_space.specs.Path.{found_at}
 use Rattle.vs_types.specs.declared.depth.Depth.{Depth}
 use Rattle.vs_walk.specs.Memory.{Memory}
 use Rattle.vs_walk.specs.Walk.{TranslatesAs}
@@ -23,11 +25,13 @@ use Rattle.vs_plan.specs.declared.plan.Step.TheVariants as steps
 use Rattle.vs_plan.specs.declared.plan.Store.{Store}
 use Rattle.vs_plan.specs.Shown.{IsNext}
 use Rattle.vs_plan.specs.declared.request.Request.{Request}
-use Rattle.vs_plan.specs.declared.request.Request.TheVariants.{Map, Unmap}
+use Rattle.vs_plan.specs.declared.request.Request.TheVariants.{Map, Unmap, Prune}
 use Rattle.vs_plan.specs.declared.target.Target.{Target}
 use Rattle.vs_plan.specs.Premise.{IsPremise}
 use Rattle.vs_plan.specs.Request.{address_of, refusal, stepped}
 use Rattle.vs_plan.specs.Right.{IsReply, refusal_in, space_after, IsWritten, IsOneWay, IsTold, IsPut, IsAlready, IsFlushed, IsRight, AllowsLess, WantsMore}
+use Rattle.vs_plan.specs.Right.{IsDue, LeadsBeyond}
+use Rattle.vs_plan.specs.Target.{frames_end}
 use Rattle.vs_plan.specs.Stores.{stored, stored_all, AreSafe}
 use Rattle.vs_plan.specs.Way.{IsWay}
 use Rattle.vs_plan.specs.declared.planner.Planner.{Planner}
@@ -119,13 +123,17 @@ module _ {depth : Depth} {m : Memory} {root : ℕ} {before after : Space} where
 
 -- ---- a plan that changes nothing
 
+pub due_of : (target : Target) (space : Space) (request : Request) (reply : Reply) → refusal target space request ≡ refusal_in reply
+    → IsDue target space request reply
+due_of target space request (replies.Reserved number index) due = tt
+due_of target space request _ due = due
+
 module _ {target : Target} {request : Request} {memory : Memory} {space : Space} {offered : List (Option ℕ)}
-    (premise : IsPremise target.depth memory target.root (address_of request) space) {reply : Reply} {bits : ℕ}
-    (due : refusal target space request ≡ refusal_in reply) where
-  pub nothing_parts : IsAlready target memory request reply [] → IsReply target request memory space offered reply
+    (premise : IsPremise target.depth memory target.root (address_of request) space) {reply : Reply} {bits : ℕ} where
+  pub nothing_parts : IsDue target space request reply → IsAlready target memory request reply [] → IsReply target request memory space offered reply
       → TranslatesAs target.depth memory target.root (space_after target request space reply)
       → IsTold target memory (address_of request) bits reply → Parts target request memory space offered reply bits None [] flushes.Nothing []
-  nothing_parts already is then told = record {
+  nothing_parts due already is then told = record {
     reply = is;
     due = due;
     put = put_none request;
@@ -156,17 +164,46 @@ module _ {target : Target} {request : Request} {memory : Memory} {space : Space}
     one_way_none : (request : Request) → IsOneWay request []
     one_way_none (Map page bits) = All-nil _
     one_way_none (Unmap base) = All-nil _
+    one_way_none (Prune address) = All-nil _
     one_way_none _ = tt
 
     flushed_none : (request : Request) → IsFlushed target memory request [] [] flushes.Nothing
     flushed_none request = refl
 
-  pub nothing_right : (plan : Plan) → ChangesNothing reply bits plan → IsAlready target memory request reply []
+  pub nothing_right : refusal target space request ≡ refusal_in reply → (plan : Plan) → ChangesNothing reply bits plan
+      → IsAlready target memory request reply []
       → IsReply target request memory space offered reply
       → TranslatesAs target.depth memory target.root (space_after target request space reply)
       → IsTold target memory (address_of request) bits reply → IsRight target request memory space offered plan
-  nothing_right plan none already is then told =
-      right_as plan none.reply_is none.bits_are none.fill none.stores none.flush none.unlinked (nothing_parts already is then told)
+  nothing_right due plan none already is then told =
+      right_as plan none.reply_is none.bits_are none.fill none.stores none.flush none.unlinked
+      (nothing_parts (due_of target space request reply due) already is then told)
+
+-- a link leads beyond the physical addresses
+pub beyond_right : {target : Target} {request : Request} {memory : Memory} {space : Space} {offered : List (Option ℕ)}
+    → IsPremise target.depth memory target.root (address_of request) space → (plan : Plan) {number index : ℕ}
+    → ChangesNothing (replies.Reserved number index) 0 plan → LeadsBeyond target memory number index → IsRight target request memory space offered plan
+beyond_right premise plan none beyond =
+    right_as plan none.reply_is none.bits_are none.fill none.stores none.flush none.unlinked
+    (nothing_parts premise tt tt beyond premise.translates refl)
+
+-- a link on a way leads beyond the physical addresses
+pub leads_beyond : (target : Target) {memory : Memory} (address level number : ℕ) (rights : Rights) → 1 ≤ level
+    → IsWay target.depth memory target.root address level number rights → {next : ℕ} {own : Rights}
+    → found_at level memory number address ≡ Some (entry.Table next own) → {index : ℕ} → index ≡ index_at level address → frames_end target ≤ next
+    → LeadsBeyond target memory number index
+leads_beyond target address zero number rights some way found at far = absurd (omega (arith, some))
+leads_beyond target address (suc level) number rights some way {next} {own} found at far = record {
+  level = level;
+  address = address;
+  rights = rights;
+  next = next;
+  own = own;
+  way = way;
+  index_is = at;
+  link = found;
+  beyond = far;
+}
 
 -- ---- one store
 

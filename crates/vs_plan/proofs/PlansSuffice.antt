@@ -11,6 +11,7 @@ use Rattle.vs_types.specs.Space.{Space}
 use Rattle.vs_types.specs.declared.depth.Depth.{Depth}
 use Rattle.vs_types.specs.declared.page.Rights.{Rights}
 use Rattle.vs_types.specs.declared.page.Size.{Size}
+use Rattle.vs_types.specs.declared.page.Size.TheVariants.{K4}
 use Rattle.vs_types.specs.declared.entry.Meaning.TheVariants as entry
 use Rattle.vs_walk.specs.Memory.{Memory}
 use Rattle.vs_walk.proofs.Walks.{leaf_level}
@@ -28,13 +29,13 @@ use Rattle.vs_plan.specs.declared.plan.Reply.{Reply}
 use Rattle.vs_plan.specs.declared.plan.Reply.TheVariants as replies
 use Rattle.vs_plan.specs.declared.plan.Store.{Store}
 use Rattle.vs_plan.specs.declared.request.Request.{Request}
-use Rattle.vs_plan.specs.declared.request.Request.TheVariants.{Map, Unmap, Protect, Ask, Remap, Split, Join}
+use Rattle.vs_plan.specs.declared.request.Request.TheVariants.{Map, Unmap, Protect, Ask, Remap, Split, Join, Prune, UnmapPart, Collapse}
 use Rattle.vs_plan.specs.declared.target.Target.{Target}
 use Rattle.vs_plan.specs.Bits.{with_rights}
 use Rattle.vs_plan.specs.Changes.{larger}
 use Rattle.vs_plan.specs.Premise.{IsPremise, HasOwnWay}
 use Rattle.vs_plan.specs.Request.{address_of, stepped}
-use Rattle.vs_plan.specs.Right.{IsRight, IsMeant, OfPage, OfLink, OfSpare, IsEntryOf, space_after, begun}
+use Rattle.vs_plan.specs.Right.{IsRight, IsMeant, OfPage, OfLink, OfSpare, IsEntryOf, IsSplit, space_after, begun}
 use Rattle.vs_plan.specs.Stores.{stored, stored_all, FindTheirWords}
 use Rattle.vs_plan.specs.Flushed.{Suffices}
 use Rattle.vs_plan.proofs.Orders.{AllAdd}
@@ -117,7 +118,7 @@ some_level depth m root zero base number at =
 some_level depth m root (suc level) base number at = omega arith
 
 -- two entries of pages on one way are of one level
-not_below : (depth : Depth) (m : Memory) (root base low number other level : ℕ) → table_at (levels depth) m root (suc low) base ≡ Some number
+pub not_below : (depth : Depth) (m : Memory) (root base low number other level : ℕ) → table_at (levels depth) m root (suc low) base ≡ Some number
     → table_in (found_at (suc low) m number base) ≡ None → table_at (levels depth) m root level base ≡ Some other → suc low ≤ level
 not_below depth m root base low number other level at ends there = ⊎_elim
     (λ (below : level < suc low).
@@ -183,6 +184,12 @@ module _ (target : Target) (memory start : Memory) (space : Space) (offered : Li
   form_of (Remap base phys rights) (s ∷ []) unlinked flush given = subst (Starts (s ∷ [])) (sym given.flushed.2) (Replaces s base given.flushed.0 given.found)
   form_of (Split base) (s ∷ []) unlinked flush given = subst (Starts (s ∷ [])) (sym given.flushed.2) (Resizes s base given.flushed.0 given.found)
   form_of (Join base) (s ∷ []) unlinked flush given = subst (Starts (s ∷ [])) (sym given.flushed.3) (Resizes s base (larger given.flushed.0) given.found)
+  form_of (UnmapPart base first count) (s ∷ []) unlinked flush given =
+      subst (Starts (s ∷ [])) (sym given.flushed.2) (Resizes s base given.flushed.0 given.found)
+  form_of (Collapse base phys rights) (s ∷ []) unlinked flush given =
+      subst (Starts (s ∷ [])) (sym given.flushed.3) (Resizes s base (larger given.flushed.0) given.found)
+  form_of (Prune address) (s ∷ []) unlinked flush given = subst (Starts (s ∷ [])) (sym given.flushed)
+      (Unlinks (s ∷ []) address K4 given.found given.one_way)
   form_of _ (s ∷ (t ∷ later)) unlinked flush given = let alone = given.written in absurd (cc)
   form_of _ [] unlinked flush given = form_of_none flush given.flushed
 
@@ -282,15 +289,39 @@ module _ (target : Target) (memory start : Memory) (space : Space) (offered : Li
             (All-nil (IsEndFor target.depth start target.root)),
       )
 
-  split_for : (base : ℕ) (s : Store) (unlinked : List ℕ) (flush : Flush) (size : Size) (word : ℕ) → IsEntryOf target memory base size word
-      → Says (Split base) (s ∷ []) unlinked flush → ForRoot (s ∷ []) (Range base size)
-  split_for base s unlinked flush size word other given =
-      let put = given.put.2 in
+  split_for : {request : Request} {gap count : ℕ} {table : Fill} (base : ℕ) (s : Store) (unlinked : List ℕ) (flush : Flush) (size : Size) (word : ℕ)
+      → address_of request ≡ base → IsEntryOf target memory base size word → IsSplit target memory base gap count offered table s
+      → IsCanonical target.depth (address_of request) → Says request (s ∷ []) unlinked flush → ForRoot (s ∷ []) (Range base size)
+  split_for {request} base s unlinked flush size word place other put canonical given =
       let is = entry_at s put.entry_is put.frame put.at in
-      let at = at_level is.low given (change_canonical given refl (some_stores s)) (entry_reached is) (entry_index is) in
+      let at = subst (λ a. IsAt target.depth start target.root a is.low s) place
+      (at_level is.low given canonical
+      (subst (λ a. table_at (levels target.depth) memory target.root (suc is.low) a ≡ Some s.frame) (sym place) (entry_reached is))
+      (subst (λ a. s.index ≡ index_at (suc is.low) a) (sym place) (entry_index is))) in
       let same : size ≡ put.size = entry_sizes target memory base size put.size word s.old other put.entry_is in
       subst (λ z. ForRoot (s ∷ []) (Range base z)) (sym same) (
         range_alone at put.size (entry_size is) put.aligned,
+        All-cons (IsOnceFor target.depth start target.root) s [] (at_once at) (All-nil (IsOnceFor target.depth start target.root)),
+      )
+
+  collapse_for : (base phys : ℕ) (rights : Rights) (s : Store) (unlinked : List ℕ) (flush : Flush) (size : Size) (word : ℕ)
+      → IsEntryOf target memory base size word → Says (Collapse base phys rights) (s ∷ []) unlinked flush
+      → ForRoot (s ∷ []) (Range base (larger size))
+  collapse_for base phys rights s unlinked flush size word other given =
+      let put = given.put.1 in
+      let at = at_level put.level given (change_canonical given refl (some_stores s)) put.above put.index_is in
+      let small : IsEntryOf target memory base (size_at put.level) put.first = record {
+        level = put.level;
+        number = put.number;
+        reached = put.reached;
+        word_is = put.first_is;
+        leaf = (put.place, put.own, put.says);
+        size_is = refl;
+      } in
+      let same : size ≡ size_at put.level = entry_sizes target memory base size (size_at put.level) word put.first other small in
+      let some = some_level target.depth memory target.root put.level base put.number put.reached in
+      subst (λ z. ForRoot (s ∷ []) (Range base (larger z))) (sym same) (
+        range_alone at (larger (size_at put.level)) (larger_level put.level some put.few) put.aligned,
         All-cons (IsOnceFor target.depth start target.root) s [] (at_once at) (All-nil (IsOnceFor target.depth start target.root)),
       )
 
@@ -333,9 +364,15 @@ module _ (target : Target) (memory start : Memory) (space : Space) (offered : Li
   are_for (Remap base phys rights) (s ∷ []) unlinked flush given = subst (ForRoot (s ∷ [])) (sym given.flushed.2)
       (remap_for base phys rights s unlinked flush given.flushed.0 given)
   are_for (Split base) (s ∷ []) unlinked flush given = subst (ForRoot (s ∷ [])) (sym given.flushed.2)
-      (split_for base s unlinked flush given.flushed.0 s.old given.flushed.1 given)
+      (split_for base s unlinked flush given.flushed.0 s.old refl given.flushed.1 given.put.2 (change_canonical given refl (some_stores s)) given)
+  are_for (UnmapPart base first count) (s ∷ []) unlinked flush given = subst (ForRoot (s ∷ [])) (sym given.flushed.2)
+      (split_for base s unlinked flush given.flushed.0 s.old refl given.flushed.1 given.put.2 (change_canonical given refl (some_stores s)) given)
+  are_for (Collapse base phys rights) (s ∷ []) unlinked flush given = subst (ForRoot (s ∷ [])) (sym given.flushed.3)
+      (collapse_for base phys rights s unlinked flush given.flushed.0 given.flushed.1 given.flushed.2 given)
   are_for (Join base) (s ∷ []) unlinked flush given = subst (ForRoot (s ∷ [])) (sym given.flushed.3)
       (join_for base s unlinked flush given.flushed.0 given.flushed.1 given.flushed.2 given)
+  are_for (Prune address) (s ∷ []) unlinked flush given = subst (ForRoot (s ∷ [])) (sym given.flushed)
+      (step_alone address given (λ b page at. inl refl))
   are_for _ [] unlinked flush given = for_none flush given.flushed
   are_for _ (s ∷ (t ∷ later)) unlinked flush given = let alone = given.written in absurd (cc)
 

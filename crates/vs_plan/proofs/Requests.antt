@@ -1,5 +1,5 @@
 -- A request with which nothing is wrong is well formed.
-use Rattle.std.proofs.Common.{◌≡◌, ℕ, ◌+◌, ◌%◌, ◌^◌, ◌≤◌, min, Bool, true, false, not, Option, Some, None, eqb-true, refl, arith}
+use Rattle.std.proofs.Common.{◌≡◌, ℕ, ◌+◌, ◌-◌, ◌%◌, ◌^◌, ◌≤◌, min, Bool, true, false, not, Option, Some, None, eqb-true, refl, arith}
 use Rattle.std.specs.Prelude.{◌&&◌, ◌||◌, ◌==◌, nat_lt, if◌then◌else◌}
 use lib.Pow.{pow_mono}
 use Rattle.std.proofs.lemmas.Bool.{ltb-true, ltb-false}
@@ -9,10 +9,10 @@ use Rattle.vs_types.specs.declared.page.Page.{Page}
 use Rattle.vs_types.proofs.Pages.{level_at_most}
 use Rattle.vs_plan.specs.declared.request.BadRequest.{BadRequest}
 use Rattle.vs_plan.specs.declared.request.Request.{Request}
-use Rattle.vs_plan.specs.declared.request.Request.TheVariants.{Map, Ask}
+use Rattle.vs_plan.specs.declared.request.Request.TheVariants.{Map, Ask, Prune, UnmapPart}
 use Rattle.vs_plan.specs.declared.target.Target.{Target}
 use Rattle.vs_plan.specs.Bits.{AreBits}
-use Rattle.vs_plan.specs.Request.{IsRequest, IsMapped, IsWhole, address_of, lowest_of, are_bits, request_fault, page_fault, base_fault, whole_fault}
+use Rattle.vs_plan.specs.Request.{ArePartsOf, IsRequest, IsMapped, IsWhole, address_of, lowest_of, are_bits, request_fault, page_fault, base_fault, part_fault, whole_fault}
 use Rattle.vs_plan.specs.Target.{frames_end}
 
 -- a test that finds no fault, and those after it
@@ -71,9 +71,23 @@ page_good target page bits canonical is =
 base_good : (base : ℕ) → base_fault base ≡ None → base % 4096 ≡ 0
 base_good base is = eqb-true (base % 4096) 0 (passes (base % 4096 == 0) _ is)
 
+part_good : (base first count : ℕ) → part_fault base first count ≡ None → (base % 4096 ≡ 0) × ArePartsOf first count
+part_good base first count is =
+    let outer = passed (not (base % 4096 == 0)) _ _ is in
+    let inner = passed (nat_lt count 1 || nat_lt 511 count || nat_lt (512 - count) first) _ _ outer.1 in
+    let last = neither (nat_lt count 1 || nat_lt 511 count) (nat_lt (512 - count) first) inner.0 in
+    let both_ends = neither (nat_lt count 1) (nat_lt 511 count) last.0 in
+    let few : count ≤ 511 = ltb-false 511 count both_ends.1 in
+    let low : first ≤ 512 - count = ltb-false (512 - count) first last.1 in (
+      eqb-true (base % 4096) 0 (not_false (base % 4096 == 0) outer.0),
+      record { some = ltb-false count 1 both_ends.0; few = omega (arith, few); within = omega (arith, few, low) },
+    )
+
 whole_good : (target : Target) (request : Request) → IsCanonical target.depth (address_of request) → whole_fault target request ≡ None → IsWhole target request
 whole_good target (Map page bits) canonical is = page_good target page bits canonical is
 whole_good target (Ask address) canonical is = tt
+whole_good target (Prune address) canonical is = tt
+whole_good target (UnmapPart base first count) canonical is = part_good base first count is
 whole_good target request canonical is = base_good (address_of request) is
 
 pub request_good : (target : Target) (request : Request) → request_fault target request ≡ None → IsRequest target request

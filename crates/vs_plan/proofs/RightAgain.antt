@@ -17,6 +17,7 @@ use Rattle.vs_types.specs.declared.page.Size.TheVariants.{K4}
 use Rattle.vs_walk.specs.Memory.{Memory}
 use Rattle.vs_space.specs.Flags.{AreSameButFlags}
 use Rattle.vs_space.specs.Path.{table_in, table_at}
+use Rattle.vs_space.proofs.Flagged.{flagged_found}
 use Rattle.vs_space.proofs.FlaggedWords.{flagged_meaning}
 use Rattle.vs_space.proofs.Writes.{get_written_other}
 use Rattle.vs_plan.specs.declared.plan.Fill.{Fill}
@@ -26,19 +27,19 @@ use Rattle.vs_plan.specs.declared.plan.Reply.{Reply}
 use Rattle.vs_plan.specs.declared.plan.Reply.TheVariants as replies
 use Rattle.vs_plan.specs.declared.plan.Store.{Store}
 use Rattle.vs_plan.specs.declared.request.Request.{Request}
-use Rattle.vs_plan.specs.declared.request.Request.TheVariants.{Map, Unmap, Protect, Remap, Split, Join}
+use Rattle.vs_plan.specs.declared.request.Request.TheVariants.{Map, Unmap, Protect, Remap, Split, Join, Prune, UnmapPart, Collapse}
 use Rattle.vs_plan.specs.declared.target.Target.{Target}
 use Rattle.vs_plan.specs.Changes.{phys_refusal}
 use Rattle.vs_plan.specs.Premise.{HasOwnWay, IsSpare}
 use Rattle.vs_plan.specs.Request.{address_of, stepped, refusal}
-use Rattle.vs_plan.specs.Right.{IsReply, refusal_in, space_after, LiesOverEmpty, AllowsLess, WantsMore, KeepsApart, IsOnWay, IsMeant, OfPage, OfLink, OfSpare}
-use Rattle.vs_plan.specs.Right.{IsMeantBy, IsUnlinked, IsLeft, IsUnlinkedBy, IsPruned, IsOneWay, IsTold, IsEntryOf, IsJoined, IsPut, Fits, IsSoAlready}
-use Rattle.vs_plan.specs.Right.{IsAlready, IsFlushed, IsWritten, written_frames}
+use Rattle.vs_plan.specs.Right.{IsReply, IsDue, space_after, LiesOverEmpty, AllowsLess, WantsMore, KeepsApart, IsOnWay, IsMeant, OfPage, OfLink, OfSpare}
+use Rattle.vs_plan.specs.Right.{IsMeantBy, IsUnlinked, IsLeft, IsUnlinkedBy, IsPruned, IsOneWay, IsTold, IsEntryOf, IsPut, Fits, IsSoAlready}
+use Rattle.vs_plan.specs.Right.{IsAlready, IsFlushed, IsMeantByJoin, IsWritten, written_frames, HasNoneToPrune, KeepsTable, LeadsBeyond, LiesInPinned}
 use Rattle.vs_plan.specs.Target.{frames_end}
 use Rattle.vs_plan.specs.Stores.{stored, stored_all, filled, FindTheirWords}
 use Rattle.vs_plan.proofs.Changing.{why_here}
-use Rattle.vs_plan.proofs.FlaggedEntries.{ArePaired, absent_flags, alike_even, alike_unflagged, alike_zero, all_stored, at_before, at_flags, entry_flags}
-use Rattle.vs_plan.proofs.FlaggedEntries.{follow_flags, has_word, leaf_odd, own_before, place_stays, rights_stay, set_flags, some_stored, spare_flags}
+use Rattle.vs_plan.proofs.FlaggedEntries.{ArePaired, absent_flags, alike_even, alike_like, alike_low, alike_unflagged, alike_zero, all_stored, at_before, at_flags, entry_flags}
+use Rattle.vs_plan.proofs.FlaggedEntries.{follow_flags, has_word, like_flags, leaf_odd, own_before, place_stays, rights_stay, set_flags, some_stored, spare_flags}
 use Rattle.vs_plan.proofs.FlaggedEntries.{way_flags, word_flags, zeros_flags, zip_all, zip_length, zip_none}
 use Rattle.vs_plan.proofs.FlagsKept.{flags_own, flags_whole}
 use Rattle.vs_plan.proofs.Given.{change_begins}
@@ -79,20 +80,57 @@ module _ (target : Target) {old new : Memory} (is : AreSameButFlags old new) whe
   wants_flags (Map page bits) more = less_flags page.base page.rights more
   wants_flags (Protect base rights) more = less_flags base rights more
   wants_flags (Remap base phys rights) more = less_flags base rights more
+  wants_flags (Collapse base phys rights) more = less_flags base rights more
   wants_flags _ more = absurd more
 
-  over_flags : (request : Request) (number : ℕ) → LiesOverEmpty target old request number → LiesOverEmpty target new request number
-  over_flags (Map page bits) number over = record {
+  over_flags : (request : Request) (number address : ℕ) → LiesOverEmpty target old request number address
+      → LiesOverEmpty target new request number address
+  over_flags (Map page bits) number address over = record {
     level = over.level;
-    address = over.address;
     rights = over.rights;
     below = over.below;
     covered = over.covered;
-    way = way_flags is target.depth target.root over.address over.level number over.rights over.way;
+    way = way_flags is target.depth target.root address over.level number over.rights over.way;
     empty = λ index low. absent_flags is over.level number index
-        (some_level target.depth old target.root over.level over.address number (way_table over.level number over.rights over.way)) (over.empty index low);
+        (some_level target.depth old target.root over.level address number (way_table over.level number over.rights over.way)) (over.empty index low);
   }
-  over_flags _ number over = absurd over
+  over_flags _ number address over = absurd over
+
+  beyond_flags : (number index : ℕ) → LeadsBeyond target old number index → LeadsBeyond target new number index
+  beyond_flags number index beyond = record {
+    level = beyond.level;
+    address = beyond.address;
+    rights = beyond.rights;
+    next = beyond.next;
+    own = beyond.own;
+    way = way_flags is target.depth target.root beyond.address (suc beyond.level) number beyond.rights beyond.way;
+    index_is = beyond.index_is;
+    link = flagged_found is (suc beyond.level) number beyond.address (omega arith) ∙ beyond.link;
+    beyond = beyond.beyond;
+  }
+
+  pinned_flags : (base : ℕ) → LiesInPinned target old base → LiesInPinned target new base
+  pinned_flags base keeps =
+      let first = word_flags is keeps.number (index_at keeps.level base) keeps.first keeps.first_is in
+      record {
+        level = keeps.level;
+        number = keeps.number;
+        first = first.0;
+        reached = at_flags is target.depth target.root keeps.level base keeps.number keeps.reached;
+        first_is = first.1;
+        leaf = (
+          keeps.leaf.0,
+          keeps.leaf.1,
+          flagged_meaning first.2 keeps.level
+              (some_level target.depth old target.root keeps.level base keeps.number keeps.reached) ∙ keeps.leaf.2,
+        );
+        stays = keeps.stays;
+      }
+
+  table_flags : (request : Request) → KeepsTable target old request → KeepsTable target new request
+  table_flags (Join base) keeps = pinned_flags base keeps
+  table_flags (Collapse base phys rights) keeps = pinned_flags base keeps
+  table_flags _ keeps = absurd keeps
 
   apart_flags : (request : Request) (index : ℕ) → KeepsApart target old request index → KeepsApart target new request index
   apart_flags (Join base) index apart =
@@ -118,12 +156,36 @@ module _ (target : Target) {old new : Memory} (is : AreSameButFlags old new) whe
             ∙ ap (λ n. n + index * bytes_of (size_at apart.level)) (alike_unflagged first.2));
         before = follow_flags is apart.number (size_at apart.level) apart.first first.0 index first.2 apart.before;
       }
+  apart_flags (Collapse base phys rights) index apart =
+      let first = word_flags is apart.number (index_at apart.level base) apart.first apart.first_is in
+      let word = word_flags is apart.number index apart.word apart.word_is in
+      record {
+        level = apart.level;
+        number = apart.number;
+        first = first.0;
+        word = word.0;
+        reached = at_flags is target.depth target.root apart.level base apart.number apart.reached;
+        first_is = first.1;
+        leaf = (
+          apart.leaf.0,
+          apart.leaf.1,
+          flagged_meaning first.2 apart.level
+              (some_level target.depth old target.root apart.level base apart.number apart.reached) ∙ apart.leaf.2,
+        );
+        within = apart.within;
+        word_is = word.1;
+        unlike =
+            λ like. apart.unlike (sym (alike_like word.2 (size_at apart.level)) ∙ like ∙ alike_like first.2 (size_at apart.level));
+        before = like_flags is apart.number (size_at apart.level) apart.first first.0 index first.2 apart.before;
+      }
   apart_flags _ index apart = absurd apart
 
   reply_flags : (request : Request) (space : Space) (offered : List (Option ℕ)) (reply : Reply) → IsReply target request old space offered reply
       → IsReply target request new space offered reply
   reply_flags request space offered replies.Rights said = (wants_flags request said.0, said.1)
-  reply_flags request space offered (replies.Empty number) said = over_flags request number said
+  reply_flags request space offered (replies.Empty number address) said = over_flags request number address said
+  reply_flags request space offered (replies.Reserved number index) said = beyond_flags number index said
+  reply_flags request space offered replies.Pinned said = (table_flags request said.0, said.1)
   reply_flags request space offered (replies.Apart index) said = (apart_flags request index said.0, said.1)
   reply_flags request space offered _ said = said
 
@@ -149,15 +211,20 @@ module _ (target : Target) {old new : Memory} (is : AreSameButFlags old new) whe
       (subst (λ n. IsSpare target.depth new target.root n) (sym pair.frame) (spare_flags is target.depth target.root s.frame spare))
       (subst (λ n. n < frames_end target) (sym pair.frame) within)
 
-  meant_by : (request : Request) (unlinked : List ℕ) (s t : Store) → ArePaired s t → IsMeantBy target old request unlinked s
-      → IsMeantBy target new request unlinked t
-  meant_by (Join base) unlinked s t pair meant = record {
+  over_meant : {base : ℕ} {unlinked : List ℕ} {s t : Store} → ArePaired s t → IsMeantByJoin target old base unlinked s
+      → IsMeantByJoin target new base unlinked t
+  over_meant pair meant = record {
     on = on_flags pair meant.on;
     below = meant.below;
     leads = leads_flags pair meant.on ∙ meant.leads;
     named = meant.named;
     may = meant.may;
   }
+
+  meant_by : (request : Request) (unlinked : List ℕ) (s t : Store) → ArePaired s t → IsMeantBy target old request unlinked s
+      → IsMeantBy target new request unlinked t
+  meant_by (Join base) unlinked s t pair meant = over_meant pair meant
+  meant_by (Collapse base phys rights) unlinked s t pair meant = over_meant pair meant
   meant_by _ unlinked s t pair meant = meant_flags pair meant
 
   -- ---- where there is no store
@@ -177,9 +244,20 @@ module _ (target : Target) {old new : Memory} (is : AreSameButFlags old new) whe
       )
   so_flags _ space due changed so = tt
 
-  already_none : (request : Request) (space : Space) (offered : List (Option ℕ)) (reply : Reply) → refusal target space request ≡ refusal_in reply
+  -- a table that had a present entry has one
+  none_flags : (request : Request) → HasNoneToPrune target old request → HasNoneToPrune target new request
+  none_flags (Prune address) none = λ level number at ends low.
+      let before = at_before is target.depth target.root level address number at in
+      let has = none level number before
+      (ap table_in (sym (flagged_found is level number address (some_level target.depth old target.root level address number before))) ∙ ends) low in
+      let now = word_flags is number has.index has.word has.there in
+      record { index = has.index; word = now.0; within = has.within; there = now.1; present = omega (arith, has.present, alike_low now.2) }
+  none_flags _ none = tt
+
+  already_none : (request : Request) (space : Space) (offered : List (Option ℕ)) (reply : Reply) → IsDue target space request reply
       → IsReply target request old space offered reply → IsAlready target old request reply [] → IsAlready target new request reply []
   already_none request space offered (replies.Answer (answers.Changed rights)) due said so = so_flags request space due (ap changes (sym said)) so
+  already_none request space offered (replies.Answer answers.Done) due said so = none_flags request so
   already_none request space offered _ due said so = tt
 
 -- ---- a plan of the same stores, but for flags
@@ -226,6 +304,8 @@ module _ (target : Target) (old new : Memory) (space : Space) (offered : List (O
       (λ s t pair even. ap (λ n. n % 2) (alike_even pair.old even) ∙ even) xs ys pairs one_way
   one_way_moved (Unmap base) xs ys pairs one_way =
       zip_all (λ (s : Store). s.new ≡ 0) (λ (s : Store). s.new ≡ 0) (λ s t pair none. alike_zero pair.new none) xs ys pairs one_way
+  one_way_moved (Prune address) xs ys pairs one_way =
+      zip_all (λ (s : Store). s.new ≡ 0) (λ (s : Store). s.new ≡ 0) (λ s t pair none. alike_zero pair.new none) xs ys pairs one_way
   one_way_moved _ xs ys pairs one_way = tt
 
   pruned_moved : (request : Request) (xs ys : List Store) → Was request xs → Moves request xs ys
@@ -262,6 +342,11 @@ module _ (target : Target) (old new : Memory) (space : Space) (offered : List (O
   flushed_moved (Join base) (s ∷ xs) (t ∷ ys) unlinked same pairs put flushed =
       let now = entry_flags same target base flushed.1 flushed.0 flushed.2 in
       (flushed.0, now.0, now.1, flushed.3)
+  flushed_moved (UnmapPart base first count) (s ∷ xs) (t ∷ ys) unlinked same pairs put flushed =
+      (put.2.size, put.2.entry_is, flushed.2 ∙ ap (flushes.Range base) (flushed_size same flushed.1 put.2.entry_is))
+  flushed_moved (Collapse base phys rights) (s ∷ xs) (t ∷ ys) unlinked same pairs put flushed =
+      let now = entry_flags same target base flushed.1 flushed.0 flushed.2 in
+      (flushed.0, now.0, now.1, flushed.3)
   flushed_moved _ _ _ unlinked same pairs put flushed = flushed
 
   -- ---- which tables are unlinked
@@ -276,56 +361,70 @@ module _ (target : Target) (old new : Memory) (space : Space) (offered : List (O
     unreached = λ level b at. gone.unreached level b (at_before (ends_alike was moves) target.depth target.root level b number at);
   }
 
-  -- a join's one store is into another frame than the table that it unlinks
-  left_moved : {base number : ℕ} {s t : Store} {xs ys : List Store} → Was (Join base) (s ∷ xs) → Moves (Join base) (s ∷ xs) (t ∷ ys)
-      → IsLeft target old (stored_all (filled old fill) (s ∷ xs)) base number → unlinked ≡ number ∷ []
+  -- the one store of a join or a prune is into another frame than the table that it unlinks
+  left_moved : {request : Request} {base number : ℕ} {s t : Store} {xs ys : List Store} (level : ℕ) → Was request (s ∷ xs) → Moves request (s ∷ xs) (t ∷ ys)
+      → address_of request ≡ base → ys ≡ [] → other ≡ None → table_at (levels target.depth) new target.root level base ≡ Some number
+      → table_at (levels target.depth) new target.root (suc level) base ≡ Some t.frame
+      → IsLeft target old (stored_all (filled old fill) (s ∷ xs)) base number
       → IsLeft target new (stored_all (filled new other) (t ∷ ys)) base number
-  left_moved {base} {number} {s} {t} {xs} {ys} was moves left named = record {
+  left_moved {request} {base} {number} {s} {t} {xs} {ys} lower was moves place alone clear reached above left = record {
     level = left.level;
     was = at_flags moves.same target.depth target.root left.level base number left.was;
     lower = left.lower;
-    same = subst (λ (later : List Store). finite.get (stored_all (filled new other) (t ∷ later)) number ≡ finite.get new number) (sym moves.written)
-        (subst (λ (o : Option Fill). finite.get (stored (filled new o) t) number ≡ finite.get new number) (sym moves.put.0)
+    same = subst (λ (later : List Store). finite.get (stored_all (filled new other) (t ∷ later)) number ≡ finite.get new number) (sym alone)
+        (subst (λ (o : Option Fill). finite.get (stored (filled new o) t) number ≡ finite.get new number) (sym clear)
         (get_written_other new t.frame t.index t.new number apart));
     unreached = λ level b at. left.unreached level b (at_before (ends_alike was moves) target.depth target.root level b number at);
   } where
-    put : IsJoined target new base unlinked t
-    put = moves.put.1
-
-    one_number : (x y : ℕ) → x ∷ [] ≡ y ∷ [] → x ≡ y
-    one_number x y e = cc
-
-    same_number : put.number ≡ number
-    same_number = one_number put.number number (sym put.unlinked_is ∙ named)
-
-    below : table_at (levels target.depth) old target.root put.level base ≡ Some number
-    below = at_before moves.same target.depth target.root put.level base put.number put.reached ∙ ap Some same_number
+    own : HasOwnWay target.depth old target.root base
+    own = subst (HasOwnWay target.depth old target.root) place moves.own
 
     apart : number ≢ t.frame
     apart same =
-        let above : table_at (levels target.depth) old target.root (suc put.level) base ≡ Some number =
-        at_before moves.same target.depth target.root (suc put.level) base t.frame put.above ∙ ap Some (sym same) in
-        let levels_same = (moves.own.once put.level number (suc put.level) base below above).0 in
+        let below = at_before moves.same target.depth target.root lower base number reached in
+        let up = at_before moves.same target.depth target.root (suc lower) base t.frame above ∙ ap Some (sym same) in
+        let levels_same = (own.once lower number (suc lower) base below up).0 in
         omega (arith, levels_same)
 
-  unlinked_moved : (request : Request) (xs ys : List Store) → Was request xs → Moves request xs ys
-      → All (IsUnlinkedBy target new (stored_all (filled new other) ys) request) unlinked
-  unlinked_moved (Join base) [] [] was moves = λ k d lt. let left = was.unlinked k d lt in record {
+  -- nothing was stored
+  left_none : {request : Request} {base : ℕ} → Was request [] → Moves request [] [] → other ≡ None
+      → All (IsLeft target old (stored_all (filled old fill) []) base) unlinked → All (IsLeft target new (stored_all (filled new other) []) base) unlinked
+  left_none {request} {base} was moves clear all = λ k d lt. let left = all k d lt in record {
     level = left.level;
     was = at_flags moves.same target.depth target.root left.level base _ left.was;
     lower = left.lower;
-    same = ap (λ (o : Option Fill). finite.get (filled new o) (get_or unlinked k d)) moves.put;
+    same = ap (λ (o : Option Fill). finite.get (filled new o) (get_or unlinked k d)) clear;
     unreached = λ level b at. left.unreached level b (at_before moves.begins target.depth target.root level b _ at);
   }
-  unlinked_moved (Join base) (s ∷ xs) (t ∷ ys) was moves =
-      let number = moves.put.1.number in
-      let named : unlinked ≡ number ∷ [] = moves.put.1.unlinked_is in
+
+  -- one table was unlinked
+  left_one : {request : Request} {base number : ℕ} {s t : Store} {xs ys : List Store} (level : ℕ) → Was request (s ∷ xs) → Moves request (s ∷ xs) (t ∷ ys)
+      → address_of request ≡ base → ys ≡ [] → other ≡ None → table_at (levels target.depth) new target.root level base ≡ Some number
+      → table_at (levels target.depth) new target.root (suc level) base ≡ Some t.frame → unlinked ≡ number ∷ []
+      → All (IsLeft target old (stored_all (filled old fill) (s ∷ xs)) base) unlinked
+      → All (IsLeft target new (stored_all (filled new other) (t ∷ ys)) base) unlinked
+  left_one {request} {base} {number} {s} {t} {xs} {ys} lower was moves place alone clear reached above named all =
       subst (All (IsLeft target new (stored_all (filled new other) (t ∷ ys)) base)) (sym named)
       (All-cons (IsLeft target new (stored_all (filled new other) (t ∷ ys)) base) number []
-      (left_moved was moves (All-head (IsLeft target old (stored_all (filled old fill) (s ∷ xs)) base) number []
-      (subst (All (IsLeft target old (stored_all (filled old fill) (s ∷ xs)) base)) named was.unlinked)) named)
+      (left_moved lower was moves place alone clear reached above
+      (All-head (IsLeft target old (stored_all (filled old fill) (s ∷ xs)) base) number []
+      (subst (All (IsLeft target old (stored_all (filled old fill) (s ∷ xs)) base)) named all)))
       (All-nil (IsLeft target new (stored_all (filled new other) (t ∷ ys)) base)))
+
+  unlinked_moved : (request : Request) (xs ys : List Store) → Was request xs → Moves request xs ys
+      → All (IsUnlinkedBy target new (stored_all (filled new other) ys) request) unlinked
+  unlinked_moved (Join base) [] [] was moves = left_none was moves moves.put was.unlinked
+  unlinked_moved (Join base) (s ∷ xs) (t ∷ ys) was moves = let put = moves.put.1 in
+      left_one put.level was moves refl moves.written moves.put.0 put.reached put.above put.unlinked_is was.unlinked
   unlinked_moved (Join base) _ _ was moves = absurd moves.pairs
+  unlinked_moved (Prune address) [] [] was moves = left_none was moves moves.put was.unlinked
+  unlinked_moved (Prune address) (s ∷ xs) (t ∷ ys) was moves = let put = moves.put.1 in
+      left_one put.level was moves refl moves.written moves.put.0 put.reached put.above put.unlinked_is was.unlinked
+  unlinked_moved (Prune address) _ _ was moves = absurd moves.pairs
+  unlinked_moved (Collapse base phys rights) [] [] was moves = left_none was moves moves.put was.unlinked
+  unlinked_moved (Collapse base phys rights) (s ∷ xs) (t ∷ ys) was moves = let put = moves.put.1 in
+      left_one put.level was moves refl moves.written moves.put.0 put.reached put.above put.unlinked_is was.unlinked
+  unlinked_moved (Collapse base phys rights) _ _ was moves = absurd moves.pairs
   unlinked_moved request xs ys was moves = λ k d lt. gone_moved was moves (address_of request) _ (was.unlinked k d lt)
 
   pub parts_moved : (request : Request) (xs ys : List Store) → Was request xs → Moves request xs ys

@@ -32,11 +32,12 @@ use Rattle.vs_plan.specs.Premise.{IsPremise}
 use Rattle.vs_plan.specs.Request.{IsRequest, IsMapped, IsWhole, address_of, lowest_of, stepped}
 use Rattle.vs_plan.specs.Right.{IsRight, LiesOverEmpty}
 use Rattle.vs_plan.specs.Shown.{IsSearched, IsShown, IsShownIn}
+use Rattle.vs_plan.specs.Target.{frames_end}
 use Rattle.vs_plan.specs.Way.{IsWay}
 use Rattle.vs_plan.specs.declared.planner.Phase.TheVariants as phases
 use Rattle.vs_plan.specs.inside.Ended.{IsAtEnd, HasEnded, IsFirstPresent, ChangesNothing}
 use Rattle.vs_plan.proofs.Pages.{reserved_never, page_here, premise_table}
-use Rattle.vs_plan.proofs.Parts.{nothing_right, due_as}
+use Rattle.vs_plan.proofs.Parts.{beyond_right, leads_beyond, nothing_right, due_as}
 use Rattle.vs_space.proofs.Maps.{map_overlaps}
 use Rattle.vs_space.proofs.Stretches.{next_index, next_path, next_canonical, next_aligned, earlier}
 use Rattle.vs_plan.proofs.Ways.{way_shared, way_walk, walk_level, way_on}
@@ -70,13 +71,12 @@ module _ {memory : Memory} {p : Planner} {words : List ℕ} (request : IsRequest
 
   -- ---- no entry is present
 
-  pub empty_right : ((i : ℕ) → i < 512 → slice_index words i % 2 ≡ 0) → (plan : Plan) → ChangesNothing (replies.Empty p.number) 0 plan → (space : Space)
+  pub empty_right : ((i : ℕ) → i < 512 → slice_index words i % 2 ≡ 0) → (plan : Plan) → ChangesNothing (replies.Empty p.number p.base) 0 plan → (space : Space)
       → IsPremise p.target.depth memory p.target.root (address_of p.request) space → IsRight p.target p.request memory space [] plan
   empty_right none plan is space premise =
       nothing_right premise (due_as p.target space searched.request refl) plan is tt
-      (subst (λ r. LiesOverEmpty p.target memory r p.number) (sym searched.request) (record {
+      (subst (λ r. LiesOverEmpty p.target memory r p.number p.base) (sym searched.request) (record {
         level = p.level;
-        address = p.base;
         rights = searched.rights;
         below = searched.below;
         covered = (path_covers p.target.depth page good p.base searched.canonical searched.same_path).0;
@@ -174,6 +174,13 @@ module _ {memory : Memory} {p : Planner} {words : List ℕ} (request : IsRequest
           ∙ map_overlaps p.target.depth (table_count p.target.depth (finite.insert space page.base page)) space page next (least ∙ ap Some begins) in
           nothing_right premise (due_as p.target space searched.request refl) plan is tt (sym (ap (λ (s : Stepped). s.answer) stays))
           (subst (λ (s : Space). TranslatesAs p.target.depth memory p.target.root s) (sym (ap (λ (s : Stepped). s.space) stays)) premise.translates) refl
+
+      -- it leads to a frame beyond the physical addresses
+      pub search_beyond : {found : ℕ} {own : Rights} → meaning p.level word ≡ entry.Table found own → frames_end p.target ≤ found
+          → ChangesNothing (replies.Reserved p.number index) 0 plan → IsRight p.target p.request memory space [] plan
+      search_beyond {found} {own} says far is =
+          beyond_right premise plan is (leads_beyond p.target next p.level p.number searched.rights some way
+          (found_word p.level memory p.number next word word_is ∙ ap Some says) (sym at_index) far)
 
       pub search_reserved : meaning p.level word ≡ entry.Reserved → IsRight p.target p.request memory space [] plan
       search_reserved says = absurd (reserved_never way some word_is premise canonical says)

@@ -17,9 +17,9 @@ use Rattle.vs_space.specs.Held.{word_at}
 use Rattle.vs_space.specs.Path.{table_at}
 use Rattle.vs_plan.specs.declared.plan.Reply.TheVariants as replies
 use Rattle.vs_plan.specs.declared.request.Request.{Request}
-use Rattle.vs_plan.specs.declared.request.Request.TheVariants.{Map, Unmap, Protect, Ask}
+use Rattle.vs_plan.specs.declared.request.Request.TheVariants.{Map, Unmap, Protect, Ask, Prune}
 use Rattle.vs_plan.specs.declared.target.Target.{Target}
-use Rattle.vs_plan.specs.Again.{HasFlagsSet, bits_again, flags_into}
+use Rattle.vs_plan.specs.Again.{HasFlagsSet, bits_again, flags_into, told_again}
 use Rattle.vs_plan.specs.Bits.{bits_in}
 use Rattle.vs_plan.specs.Request.{stepped, address_of}
 use Rattle.vs_plan.specs.Right.{IsEntryOf, IsTold}
@@ -83,15 +83,21 @@ bits_moved zero (number ∷ numbers) word new bits before now plain here past z 
     ∙ ap (flags_into word) is ∙ bits_after z word before at.1 ∙ ap (bits_in z) (sym at.0)
 bits_moved (suc index) unlinked word new bits before now plain here past z is = is ∙ ap (bits_in z) (sym (past (λ e. omega arith)))
 
--- ---- no request but a map is answered that it is done
+-- where it isn't answered that it is done, the bits are those that were found
+pub told_stays : (answer : Answer) → (answer ≡ answers.Done → ⊥) → (found bits : ℕ) → told_again (replies.Answer answer) found bits ≡ found
+told_stays answers.Done other found bits = absurd (other refl)
+told_stays _ other found bits = refl
+
+-- ---- no request but a map and a prune is answered that it is done
 
 pub never_done : (target : Target) (space : Space) (request : Request) → ((page : Page) (bits : ℕ) → request ≢ Map page bits)
-    → (stepped target.depth space request).answer ≡ answers.Done → ⊥
-never_done target space (Map page bits) other done = other page bits refl
-never_done target space (Unmap base) other done =
+    → ((address : ℕ) → request ≢ Prune address) → (stepped target.depth space request).answer ≡ answers.Done → ⊥
+never_done target space (Map page bits) other no_prune done = other page bits refl
+never_done target space (Unmap base) other no_prune done =
     unmap_cases (λ (s : Stepped). s.answer ≡ answers.Done → ⊥) target.depth 0 space base (λ e d. cc) (λ page e same d. cc) (λ page e apart d. cc) done
-never_done target space (Protect base rights) other done =
+never_done target space (Protect base rights) other no_prune done =
     protect_cases (λ (s : Stepped). s.answer ≡ answers.Done → ⊥) target.depth 0 space base rights (λ e d. cc) (λ page e same d. cc) (λ page e apart d. cc) done
-never_done target space (Ask address) other done =
+never_done target space (Ask address) other no_prune done =
     elim (page_at space address) as (λ o. look_in_page address o ≡ answers.Done → ⊥) [ None ↦ λ d. cc | Some page ↦ λ d. cc ] done
-never_done target space request other done = change_not_done space (address_of request) _ (page_at space (address_of request)) done
+never_done target space (Prune address) other no_prune done = no_prune address refl
+never_done target space request other no_prune done = change_not_done space (address_of request) _ (page_at space (address_of request)) done

@@ -1,7 +1,7 @@
 -- The plan of an unmap is right: the page's entry becomes 0, and then the links to tables that are emptied, from the lowest up.
 use Rattle.std.proofs.Common.{◌≡◌, ◌≢◌, ℕ, true, false, le_trans, zero, suc, ◌+◌, ◌-◌, ◌%◌, ◌<◌, ◌≤◌, [], ◌∷◌, take, All, Some, inl, ⊎_elim, refl, sym, ap}
 use Rattle.std.proofs.Common.{subst, ◌∙◌, arith, None}
-use Rattle.std.specs.Prelude.{slice_index, if◌then◌else◌}
+use Rattle.std.specs.Prelude.{slice_index, if◌then◌else◌, Bool, min, nat_eq}
 use Rattle.std.proofs.lemmas.List.Elements.{All-cons, All-contains}
 use Rattle.std.proofs.lemmas.Bool.{cases_eq, cases_lt}
 use Rattle.std.specs.FinMap as finite
@@ -61,11 +61,11 @@ flush_more from level base size le =
     let one : level + 1 - from ≡ suc (level - from) = omega arith in
     ap (λ n. flush_of n base size) (sym one)
 
-highest_least : (target : Target) → highest_link target ≤ levels target.depth
-highest_least target = elim target.pinned as (λ b. (if b then levels target.depth - 1 else levels target.depth) ≤ levels target.depth) [
-  | true ↦ omega arith
-  | false ↦ omega arith
-]
+pub highest_least : (target : Target) → highest_link target ≤ levels target.depth
+highest_least target = by (nat_eq target.pinned 0) where
+  by : (b : Bool) → (if b then levels target.depth else min (levels target.depth) (target.pinned - 1)) ≤ levels target.depth
+  by true = omega arith
+  by false = omega arith
 
 -- what was met on the way of a page that begins at the base
 pub record IsFoundPage (target : Target) (memory : Memory) (space : Space) (base level number word stop phys : ℕ) (rights own : Rights)

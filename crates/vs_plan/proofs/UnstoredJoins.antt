@@ -1,7 +1,6 @@
 -- A join that changes something stores something: else its space would have a page of another size at the base than the memory.
 use Rattle.std.proofs.Common.{◌≡◌, ℕ, ◌+◌, ◌-◌, true, false, Some, None, ⊎_elim, refl, sym, ap, ◌∙◌}
 use Rattle.std.specs.FinMap as finite
-use Rattle.std.specs.FinMap.Entries as entries
 use Rattle.vs_types.specs.Depth.{IsCanonical}
 use Rattle.vs_types.specs.Page.{covers}
 use Rattle.vs_types.specs.Space.{Space, IsSpace, Holds, pages, page_at}

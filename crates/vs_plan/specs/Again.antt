@@ -2,10 +2,15 @@
 -- SDM volume 3A, chapter "Paging": accessed and dirty flags).
 use Rattle.std.specs.Prelude.{◌≡◌, ℕ, zero, suc, ◌+◌, ◌*◌, ◌/◌, ◌%◌, ◌^◌, ◌<◌, List, [], ◌∷◌, length, slice_index_or, slice_set, Option, Some, None, nat_eq}
 use Rattle.std.specs.Prelude.{if◌then◌else◌}
+use Rattle.vs_types.specs.declared.answer.Answer.TheVariants as answers
 use Rattle.vs_space.specs.Flags.{IsSameButFlags}
 use Rattle.vs_plan.specs.declared.plan.Fill.{Fill}
 use Rattle.vs_plan.specs.declared.plan.Plan.{Plan}
+use Rattle.vs_plan.specs.declared.plan.Reply.{Reply}
+use Rattle.vs_plan.specs.declared.plan.Reply.TheVariants as replies
 use Rattle.vs_plan.specs.declared.plan.Store.{Store}
+use Rattle.vs_plan.specs.declared.request.Request.{Request}
+use Rattle.vs_plan.specs.declared.request.Request.TheVariants.{Map, Unmap, Protect, Ask, Remap, Split, Join, Prune, UnmapPart, Collapse}
 
 -- the word was an entry that is present, and but for the two flags it is as it was
 pub record HasFlagsSet (old new : ℕ) : Type 0 where
@@ -48,6 +53,24 @@ bits_again zero [] word new bits = flags_into word bits
 bits_again zero (number ∷ numbers) word new bits = if nat_eq new 0 then flags_into word bits else bits
 bits_again (suc index) unlinked word new bits = bits
 
+-- the bits that are answered then: where the reply is only that it is done, none are
+abbrev pub told_again : Reply → ℕ → ℕ → ℕ
+told_again (replies.Answer answers.Done) found bits = bits
+told_again reply found bits = found
+
+-- the requests whose store writes a page's entry in the place of the link to a table
+abbrev pub TakesTable : Request → Type 0
+TakesTable (Map page bits) = ⊥
+TakesTable (Unmap base) = ⊥
+TakesTable (Protect base rights) = ⊥
+TakesTable (Ask address) = ⊥
+TakesTable (Remap base phys rights) = ⊥
+TakesTable (Split base) = ⊥
+TakesTable (Join base) = Unit {0}
+TakesTable (Prune address) = ⊥
+TakesTable (UnmapPart base first count) = ⊥
+TakesTable (Collapse base phys rights) = Unit {0}
+
 -- a plan whose store at an index found this word, which differs from the one that was shown in flags alone
 pub record IsPlanAgain (plan : Plan) (index word : ℕ) (again : Plan) : Type 0 where
   pub store : Store
@@ -57,7 +80,7 @@ pub record IsPlanAgain (plan : Plan) (index word : ℕ) (again : Plan) : Type 0 
   pub stores : again.stores.items ≡ slice_set plan.stores.items index
       (record store { old = word; new = new_again plan.fill plan.unlinked.items word store.new })
   pub fill : again.fill ≡ fill_again word plan.fill
-  pub bits : again.bits ≡ bits_again index plan.unlinked.items word store.new plan.bits
+  pub bits : again.bits ≡ told_again plan.reply (bits_again index plan.unlinked.items word store.new plan.bits) plan.bits
   pub reply : again.reply ≡ plan.reply
   pub flush : again.flush ≡ plan.flush
   pub unlinked : again.unlinked ≡ plan.unlinked

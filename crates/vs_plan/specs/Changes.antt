@@ -1,9 +1,11 @@
--- Remap, split and join: what they do to a space, beside `step`, and why a page can't be changed so.
+-- Remap, split, join, an unmap of parts and a collapse: what they do to a space, beside `step`, and why a page can't be changed so.
 use Rattle.std.specs.Prelude.{ℕ, zero, suc, ◌+◌, ◌*◌, ◌%◌, ◌^◌, ◌<◌, not, ◌==◌, nat_lt, min, Option, Some, None, if◌then◌else◌}
 use Rattle.std.specs.FinMap as finite
 use Rattle.vs_types.specs.Page.{bytes_of, covers}
 use Rattle.vs_types.specs.Space.{Space, Holds, page_at}
-use Rattle.vs_types.specs.Step.{Stepped}
+use Rattle.vs_types.specs.Step.{Stepped, step}
+use Rattle.vs_types.specs.declared.depth.Depth.{Depth}
+use Rattle.vs_types.specs.declared.op.Action.TheVariants as actions
 use Rattle.vs_types.specs.declared.page.Page.{Page}
 use Rattle.vs_types.specs.declared.page.Rights.{Rights}
 use Rattle.vs_types.specs.declared.page.Size.{Size}
@@ -74,6 +76,23 @@ abbrev pub join : Space → ℕ → Stepped
 join space base =
     change_page space base (λ page. finite.insert (without_parts space (whole_of page)) page.base (whole_of page)) (page_at space base)
 
+-- the space after an unmap of each of these parts of a page: so many, from this one on
+unfoldable pub unmap_each : Depth → Space → Page → ℕ → ℕ → Space
+unmap_each depth space page first zero = space
+unmap_each depth space page first (suc n) =
+    (step depth 0 (unmap_each depth space page first n) (actions.Unmap (part page (first + n)).base)).space
+
+-- its parts are in the place of the page, as after a split, and then each of some of them is unmapped
+abbrev pub unmap_part : Depth → Space → ℕ → ℕ → ℕ → Stepped
+unmap_part depth space base first count =
+    change_page space base (λ page. unmap_each depth (with_parts (finite.remove space page.base) page 512) page first count) (page_at space base)
+
+-- a page of the next larger size with this physical address and these rights is in the place of the pages that begin in it
+abbrev pub collapse : Space → ℕ → ℕ → Rights → Stepped
+collapse space base phys rights =
+    change_page space base (λ page. finite.insert (without_parts space (whole_of page)) page.base
+    (record page { size = larger page.size; phys = phys; rights = rights })) (page_at space base)
+
 -- ---- why the page that begins at the base can't be changed so, whatever the tables: the first reason that holds
 
 abbrev pub why_not : ℕ → (Page → Option Reply) → Option Page → Option Reply
@@ -113,6 +132,19 @@ not_first base phys G1 = Some replies.Largest
 
 abbrev pub join_refusal : Space → ℕ → Option Reply
 join_refusal space base = why_not base (λ page. not_first page.base page.phys page.size) (page_at space base)
+
+-- a page of this size at this base and this physical address would not be aligned, or not within the physical addresses, or below 2^51
+abbrev pub misplaced : ℕ → ℕ → ℕ → Size → Option Reply
+misplaced base phys phys_bits size = if not (base % bytes_of size == 0) then Some replies.Unaligned else phys_refusal phys phys_bits size
+
+-- the same of a page of the next larger size; there is none above 1 GiB
+abbrev pub not_over : ℕ → ℕ → ℕ → Size → Option Reply
+not_over base phys phys_bits K4 = misplaced base phys phys_bits M2
+not_over base phys phys_bits M2 = misplaced base phys phys_bits G1
+not_over base phys phys_bits G1 = Some replies.Largest
+
+abbrev pub collapse_refusal : Space → ℕ → ℕ → ℕ → Option Reply
+collapse_refusal space base phys phys_bits = why_not base (λ page. not_over page.base phys phys_bits page.size) (page_at space base)
 
 -- ---- what stays
 

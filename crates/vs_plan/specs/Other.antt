@@ -1,6 +1,6 @@
 -- Another root of the same depth in the same memory, which may share tables with the root of a plan: what has to hold of it before the plan
 -- is carried out, and what holds of it then.
-use Rattle.std.specs.Prelude.{◌≡◌, ◌≢◌, ◌⊎◌, ℕ, ◌≤◌, All, Contains, Some, length, take, true}
+use Rattle.std.specs.Prelude.{◌≡◌, ◌≢◌, ◌⊎◌, ℕ, ◌≤◌, All, Contains, Some, length, take}
 use Rattle.std.specs.FinMap as finite
 use Rattle.vs_types.specs.Depth.{levels}
 use Rattle.vs_types.specs.declared.depth.Depth.{Depth}
@@ -15,6 +15,7 @@ use Rattle.vs_plan.specs.declared.target.Target.{Target}
 use Rattle.vs_plan.specs.Flushed.{Suffices}
 use Rattle.vs_plan.specs.Right.{begun, ended}
 use Rattle.vs_plan.specs.Stores.{stored_all}
+use Rattle.vs_plan.specs.Target.{PinsRoot}
 
 -- all tables to which a root's ways lead are the same in both memories
 abbrev pub HasSameTables : Depth → ℕ → Memory → Memory → Type 0
@@ -55,7 +56,7 @@ pub record IsBeside (target : Target) (memory : Memory) (base : ℕ) (plan : Pla
   -- below the roots each address has the same way from both, or meets no table on the base's way
   pub ways : (address : ℕ) → IsShared target.depth memory target.root other address ⊎ MeetsNone target.depth memory target.root other base address
   -- where the base's own is the same from both, the tables that the root leads to stay
-  pub pinned : IsShared target.depth memory target.root other base → target.pinned ≡ true
+  pub pinned : IsShared target.depth memory target.root other base → PinsRoot target
   -- and neither leads to the spare frames that are stored into or filled
   pub spare : All (λ store. LeadsNotTo target.depth memory target.root store.frame → LeadsNotTo target.depth memory other store.frame) plan.stores.items
   pub fill : (fill : Fill) → plan.fill ≡ Some fill → LeadsNotTo target.depth memory other fill.frame

@@ -11,9 +11,11 @@ use Rattle.vs_plan.specs.declared.planner.Phase.{Phase}
 use Rattle.vs_plan.specs.declared.planner.Phase.TheVariants as phases
 use Rattle.vs_plan.specs.declared.planner.Planner.{Planner}
 use Rattle.vs_types.specs.declared.page.Page.{Page}
-use Rattle.vs_plan.specs.declared.request.Request.TheVariants.{Map, Split}
+use Rattle.vs_plan.specs.declared.request.Request.{Request}
+use Rattle.vs_plan.specs.declared.request.Request.TheVariants.{Map, Unmap, Protect, Ask, Remap, Split, Join, Prune, UnmapPart, Collapse}
 use Rattle.vs_plan.specs.Request.{IsRequest, lowest_of}
 use Rattle.vs_plan.specs.Premise.{IsSpare}
+use Rattle.vs_plan.specs.Target.{frames_end}
 
 -- in which phases words are waited for
 abbrev pub Sees : Phase → Type 0
@@ -23,13 +25,14 @@ Sees phases.Growth = ⊥
 Sees phases.Division = ⊥
 Sees phases.Ended = ⊥
 
--- the planner waits for the words of its frame
+-- the planner waits for the words of its frame, which lies within the physical addresses
 pub record AwaitsWords (planner : Planner) : Type 0 where
   pub request : IsRequest planner.target planner.request
   pub phase : Sees planner.phase
   pub some : 1 ≤ planner.level
   pub few : planner.level ≤ levels planner.target.depth
   pub lowest : planner.phase ≡ phases.Descent → lowest_of planner.request ≤ planner.level
+  pub within : planner.number < frames_end planner.target
   pub stop : planner.stop ≤ levels planner.target.depth
 
 -- the planner of a map waits for the frame of a new table
@@ -43,14 +46,27 @@ pub record AwaitsGrowth (planner : Planner) : Type 0 where
   pub below : planner.below < 2 ^ 40
   pub is_map : (page : Page) × (bits : ℕ) × (planner.request ≡ Map page bits)
 
--- the planner of a split waits for the frame of the table of the page's parts
+-- the requests that put parts in the place of a page
+abbrev pub Divides : Request → Type 0
+Divides (Map page bits) = ⊥
+Divides (Unmap base) = ⊥
+Divides (Protect base rights) = ⊥
+Divides (Ask address) = ⊥
+Divides (Remap base phys rights) = ⊥
+Divides (Split base) = Unit {0}
+Divides (Join base) = ⊥
+Divides (Prune address) = ⊥
+Divides (UnmapPart base first count) = Unit {0}
+Divides (Collapse base phys rights) = ⊥
+
+-- the planner of a split, or of an unmap of parts, waits for the frame of the table of the page's parts
 pub record AwaitsDivision (planner : Planner) : Type 0 where
   pub request : IsRequest planner.target planner.request
   pub phase : planner.phase ≡ phases.Division
   pub some : 1 ≤ planner.level
   pub few : planner.level ≤ levels planner.target.depth
   pub next : suc planner.height ≡ planner.level
-  pub is_split : (base : ℕ) × (planner.request ≡ Split base)
+  pub divides : Divides planner.request
 
 abbrev pub AwaitsFrameIn : Phase → Planner → Type 0
 AwaitsFrameIn phases.Descent planner = ⊥

@@ -15,10 +15,10 @@ use Rattle.vs_types.specs.declared.page.Size.TheVariants.{K4}
 use Rattle.vs_arena.specs.Store.{zeros}
 use Rattle.vs_walk.specs.Memory.{Memory, AreWhole}
 use Rattle.vs_space.specs.Held.{word_at}
-use Rattle.vs_space.specs.Path.{entry_in, table_at, table_in}
+use Rattle.vs_space.specs.Path.{entry_in, found_at, table_at, table_in}
 use Rattle.vs_plan.specs.declared.target.Target.{Target}
 use Rattle.vs_plan.specs.declared.request.Request.{Request}
-use Rattle.vs_plan.specs.declared.request.Request.TheVariants.{Map, Unmap, Protect, Ask, Remap, Split, Join}
+use Rattle.vs_plan.specs.declared.request.Request.TheVariants.{Map, Unmap, Protect, Ask, Remap, Split, Join, Prune, UnmapPart, Collapse}
 use Rattle.vs_plan.specs.declared.plan.Fill.{Fill}
 use Rattle.vs_plan.specs.declared.plan.Store.{Store}
 use Rattle.vs_plan.specs.declared.plan.Flush.{Flush}
@@ -36,25 +36,39 @@ use Rattle.vs_plan.specs.Way.{IsWay}
 
 -- ---- what came out
 
--- a table below the level of a page, on the way of an address that the page covers, has no present entry
-pub record HasEmptyTable (target : Target) (memory : Memory) (page : Page) (number : ℕ) : Type 0 where
+-- a table below the level of a page, on the way of this address, which the page covers, has no present entry
+pub record HasEmptyTable (target : Target) (memory : Memory) (page : Page) (number address : ℕ) : Type 0 where
   pub level : ℕ
-  pub address : ℕ
   pub rights : Rights
   pub below : level < level_of page.size
   pub covered : IsTrue (covers page address)
   pub way : IsWay target.depth memory target.root address level number rights
   pub empty : (index : ℕ) → index < 512 → entry_in level memory number index ≡ Some entry.Absent
 
--- that a map's page lies over a table without present entries
-abbrev pub LiesOverEmpty : Target → Memory → Request → ℕ → Type 0
-LiesOverEmpty target memory (Map page bits) number = HasEmptyTable target memory page number
-LiesOverEmpty target memory (Unmap base) number = ⊥
-LiesOverEmpty target memory (Protect base rights) number = ⊥
-LiesOverEmpty target memory (Ask address) number = ⊥
-LiesOverEmpty target memory (Remap base phys rights) number = ⊥
-LiesOverEmpty target memory (Split base) number = ⊥
-LiesOverEmpty target memory (Join base) number = ⊥
+-- that a map's page lies over a table without present entries, which is on the way of an address
+abbrev pub LiesOverEmpty : Target → Memory → Request → ℕ → ℕ → Type 0
+LiesOverEmpty target memory (Map page bits) number address = HasEmptyTable target memory page number address
+LiesOverEmpty target memory (Unmap base) number address = ⊥
+LiesOverEmpty target memory (Protect base rights) number address = ⊥
+LiesOverEmpty target memory (Ask at) number address = ⊥
+LiesOverEmpty target memory (Remap base phys rights) number address = ⊥
+LiesOverEmpty target memory (Split base) number address = ⊥
+LiesOverEmpty target memory (Join base) number address = ⊥
+LiesOverEmpty target memory (Prune at) number address = ⊥
+LiesOverEmpty target memory (UnmapPart base first count) number address = ⊥
+LiesOverEmpty target memory (Collapse base phys rights) number address = ⊥
+
+-- the word at this index of a table on a way links to a frame beyond the physical addresses
+pub record LeadsBeyond (target : Target) (memory : Memory) (number index : ℕ) : Type 0 where
+  pub level : ℕ
+  pub address : ℕ
+  pub rights : Rights
+  pub next : ℕ
+  pub own : Rights
+  pub way : IsWay target.depth memory target.root address (suc level) number rights
+  pub index_is : index ≡ index_at (suc level) address
+  pub link : found_at (suc level) memory number address ≡ Some (entry.Table next own)
+  pub beyond : frames_end target ≤ next
 
 -- the entries that lead to a table on the way allow less than these rights
 pub record AllowsLess (target : Target) (memory : Memory) (address : ℕ) (wanted : Rights) : Type 0 where
@@ -73,6 +87,9 @@ WantsMore target memory (Ask address) = ⊥
 WantsMore target memory (Remap base phys rights) = AllowsLess target memory base rights
 WantsMore target memory (Split base) = ⊥
 WantsMore target memory (Join base) = ⊥
+WantsMore target memory (Prune address) = ⊥
+WantsMore target memory (UnmapPart base first count) = ⊥
+WantsMore target memory (Collapse base phys rights) = AllowsLess target memory base rights
 
 -- the entry at an index of a table follows on from its first one, of a page of this size: as many pages on, with the same other bits but
 -- for the flags
@@ -97,7 +114,29 @@ pub record IsApart (target : Target) (memory : Memory) (base index : ℕ) : Type
   pub apart : Follows (size_at level) first index word → ⊥
   pub before : FollowBelow memory number (size_at level) first index
 
--- that an entry keeps the pages of a table from being joined
+-- the entry of a page of this size has the same rights and bits as the first one, whatever its address and its flags
+abbrev pub IsLike : Size → ℕ → ℕ → Type 0
+IsLike size first word = unflagged (with_address size word 0) ≡ unflagged (with_address size first 0)
+
+-- the entries of a table below an index are like its first one
+abbrev pub AreLikeBelow : Memory → ℕ → Size → ℕ → ℕ → Type 0
+AreLikeBelow memory number size first index = (i : ℕ) → i < index → (word : ℕ) × (word_at memory number i ≡ Some word) × IsLike size first word
+
+-- the first entry of a table that isn't like the entry of the page that begins at the base
+pub record IsUnlike (target : Target) (memory : Memory) (base index : ℕ) : Type 0 where
+  pub level : ℕ
+  pub number : ℕ
+  pub first : ℕ
+  pub word : ℕ
+  pub reached : table_at (levels target.depth) memory target.root level base ≡ Some number
+  pub first_is : word_at memory number (index_at level base) ≡ Some first
+  pub leaf : (phys : ℕ) × (own : Rights) × (meaning level first ≡ entry.Leaf phys own)
+  pub within : index < 512
+  pub word_is : word_at memory number index ≡ Some word
+  pub unlike : IsLike (size_at level) first word → ⊥
+  pub before : AreLikeBelow memory number (size_at level) first index
+
+-- that an entry keeps the pages of a table from being joined, or replaced by one
 abbrev pub KeepsApart : Target → Memory → Request → ℕ → Type 0
 KeepsApart target memory (Map page bits) index = ⊥
 KeepsApart target memory (Unmap base) index = ⊥
@@ -106,6 +145,32 @@ KeepsApart target memory (Ask address) index = ⊥
 KeepsApart target memory (Remap base phys rights) index = ⊥
 KeepsApart target memory (Split base) index = ⊥
 KeepsApart target memory (Join base) index = IsApart target memory base index
+KeepsApart target memory (Prune address) index = ⊥
+KeepsApart target memory (UnmapPart base first count) index = ⊥
+KeepsApart target memory (Collapse base phys rights) index = IsUnlike target memory base index
+
+-- the page that begins at the base lies in a table that stays
+pub record LiesInPinned (target : Target) (memory : Memory) (base : ℕ) : Type 0 where
+  pub level : ℕ
+  pub number : ℕ
+  pub first : ℕ
+  pub reached : table_at (levels target.depth) memory target.root level base ≡ Some number
+  pub first_is : word_at memory number (index_at level base) ≡ Some first
+  pub leaf : (phys : ℕ) × (own : Rights) × (meaning level first ≡ entry.Leaf phys own)
+  pub stays : highest_link target ≤ level
+
+-- that the table of the pages of a join or a collapse stays
+abbrev pub KeepsTable : Target → Memory → Request → Type 0
+KeepsTable target memory (Map page bits) = ⊥
+KeepsTable target memory (Unmap base) = ⊥
+KeepsTable target memory (Protect base rights) = ⊥
+KeepsTable target memory (Ask address) = ⊥
+KeepsTable target memory (Remap base phys rights) = ⊥
+KeepsTable target memory (Split base) = ⊥
+KeepsTable target memory (Join base) = LiesInPinned target memory base
+KeepsTable target memory (Prune address) = ⊥
+KeepsTable target memory (UnmapPart base first count) = ⊥
+KeepsTable target memory (Collapse base phys rights) = LiesInPinned target memory base
 
 -- the answer is that of the step, or there is a reason for none; the frames were offered
 abbrev pub IsReply : Target → Request → Memory → Space → List (Option ℕ) → Reply → Type 0
@@ -114,8 +179,8 @@ IsReply target request memory space offered replies.NoFrame = Contains offered N
 IsReply target request memory space offered (replies.FrameRange number) = Contains offered (Some number) × (frames_end target ≤ number)
 IsReply target request memory space offered replies.Rights =
     WantsMore target memory request × IsTrue (changes (stepped target.depth space request).answer)
-IsReply target request memory space offered (replies.Empty number) = LiesOverEmpty target memory request number
-IsReply target request memory space offered (replies.Reserved number index) = ⊥
+IsReply target request memory space offered (replies.Empty number address) = LiesOverEmpty target memory request number address
+IsReply target request memory space offered (replies.Reserved number index) = LeadsBeyond target memory number index
 IsReply target request memory space offered replies.PhysUnaligned = refusal target space request ≡ Some replies.PhysUnaligned
 IsReply target request memory space offered replies.PhysRange = refusal target space request ≡ Some replies.PhysRange
 IsReply target request memory space offered replies.Smallest = refusal target space request ≡ Some replies.Smallest
@@ -123,6 +188,8 @@ IsReply target request memory space offered replies.Largest = refusal target spa
 IsReply target request memory space offered replies.Unaligned = refusal target space request ≡ Some replies.Unaligned
 IsReply target request memory space offered (replies.Apart index) =
     KeepsApart target memory request index × IsTrue (changes (stepped target.depth space request).answer)
+IsReply target request memory space offered replies.Pinned =
+    KeepsTable target memory request × IsTrue (changes (stepped target.depth space request).answer)
 
 -- the refusal that a reply is, if it is one
 abbrev pub refusal_in : Reply → Option Reply
@@ -130,7 +197,7 @@ refusal_in (replies.Answer answer) = None
 refusal_in replies.NoFrame = None
 refusal_in (replies.FrameRange number) = None
 refusal_in replies.Rights = None
-refusal_in (replies.Empty number) = None
+refusal_in (replies.Empty number address) = None
 refusal_in (replies.Reserved number index) = None
 refusal_in replies.PhysUnaligned = Some replies.PhysUnaligned
 refusal_in replies.PhysRange = Some replies.PhysRange
@@ -138,6 +205,12 @@ refusal_in replies.Smallest = Some replies.Smallest
 refusal_in replies.Largest = Some replies.Largest
 refusal_in replies.Unaligned = Some replies.Unaligned
 refusal_in (replies.Apart index) = None
+refusal_in replies.Pinned = None
+
+-- what a page's size and addresses forbid is answered where it holds, and only there; but not where a link leads beyond the physical addresses
+abbrev pub IsDue : Target → Space → Request → Reply → Type 0
+IsDue target space request (replies.Reserved number index) = Unit {0}
+IsDue target space request reply = refusal target space request ≡ refusal_in reply
 
 -- the space after the stores
 abbrev pub space_after : Target → Request → Space → Reply → Space
@@ -145,7 +218,7 @@ space_after target request space (replies.Answer answer) = (stepped target.depth
 space_after target request space replies.NoFrame = space
 space_after target request space (replies.FrameRange number) = space
 space_after target request space replies.Rights = space
-space_after target request space (replies.Empty number) = space
+space_after target request space (replies.Empty number address) = space
 space_after target request space (replies.Reserved number index) = space
 space_after target request space replies.PhysUnaligned = space
 space_after target request space replies.PhysRange = space
@@ -153,6 +226,7 @@ space_after target request space replies.Smallest = space
 space_after target request space replies.Largest = space
 space_after target request space replies.Unaligned = space
 space_after target request space (replies.Apart index) = space
+space_after target request space replies.Pinned = space
 
 -- whether something is changed
 abbrev pub Changes : Reply → Type 0
@@ -160,7 +234,7 @@ Changes (replies.Answer answer) = IsFalse (changes answer) → ⊥
 Changes replies.NoFrame = ⊥
 Changes (replies.FrameRange number) = ⊥
 Changes replies.Rights = ⊥
-Changes (replies.Empty number) = ⊥
+Changes (replies.Empty number address) = ⊥
 Changes (replies.Reserved number index) = ⊥
 Changes replies.PhysUnaligned = ⊥
 Changes replies.PhysRange = ⊥
@@ -168,6 +242,7 @@ Changes replies.Smallest = ⊥
 Changes replies.Largest = ⊥
 Changes replies.Unaligned = ⊥
 Changes (replies.Apart index) = ⊥
+Changes replies.Pinned = ⊥
 
 -- ---- the stores
 
@@ -186,7 +261,7 @@ pub data IsMeant (target : Target) (memory : Memory) (address : ℕ) (unlinked :
       → Contains unlinked below → on.level ≤ highest_link target → store.new ≡ 0 → IsMeant target memory address unlinked store
   OfSpare : IsSpare target.depth memory target.root store.frame → store.frame < frames_end target → IsMeant target memory address unlinked store
 
--- a join's store: of the link to the table that is unlinked, on the way
+-- a join's or a collapse's store: of the link to the table that is unlinked, on the way
 pub record IsMeantByJoin (target : Target) (memory : Memory) (base : ℕ) (unlinked : List ℕ) (store : Store) : Type 0 where
   pub on : IsOnWay target memory base store
   pub below : ℕ
@@ -203,6 +278,9 @@ IsMeantBy target memory (Ask address) unlinked store = IsMeant target memory add
 IsMeantBy target memory (Remap base phys rights) unlinked store = IsMeant target memory base unlinked store
 IsMeantBy target memory (Split base) unlinked store = IsMeant target memory base unlinked store
 IsMeantBy target memory (Join base) unlinked store = IsMeantByJoin target memory base unlinked store
+IsMeantBy target memory (Prune address) unlinked store = IsMeant target memory address unlinked store
+IsMeantBy target memory (UnmapPart base first count) unlinked store = IsMeant target memory base unlinked store
+IsMeantBy target memory (Collapse base phys rights) unlinked store = IsMeantByJoin target memory base unlinked store
 
 -- a table that is unlinked: it was on the way of the address, below the root; now its words are all 0, and no way leads to it
 pub record IsUnlinked (target : Target) (memory after : Memory) (address number : ℕ) : Type 0 where
@@ -212,7 +290,7 @@ pub record IsUnlinked (target : Target) (memory after : Memory) (address number 
   pub clear : finite.get after number ≡ Some zeros
   pub unreached : (level b : ℕ) → table_at (levels target.depth) after target.root level b ≢ Some number
 
--- a table that a join unlinks: the same, but that its words are as they were
+-- a table that a join, a collapse or a prune unlinks: the same, but that its words are as they were
 pub record IsLeft (target : Target) (memory after : Memory) (base number : ℕ) : Type 0 where
   pub level : ℕ
   pub was : table_at (levels target.depth) memory target.root level base ≡ Some number
@@ -228,6 +306,9 @@ IsUnlinkedBy target memory after (Ask address) number = IsUnlinked target memory
 IsUnlinkedBy target memory after (Remap base phys rights) number = IsUnlinked target memory after base number
 IsUnlinkedBy target memory after (Split base) number = IsUnlinked target memory after base number
 IsUnlinkedBy target memory after (Join base) number = IsLeft target memory after base number
+IsUnlinkedBy target memory after (Prune address) number = IsLeft target memory after address number
+IsUnlinkedBy target memory after (UnmapPart base first count) number = IsUnlinked target memory after base number
+IsUnlinkedBy target memory after (Collapse base phys rights) number = IsLeft target memory after base number
 
 -- a frame has a word that isn't 0
 pub record HasWord (memory : Memory) (number : ℕ) : Type 0 where
@@ -247,6 +328,9 @@ IsPruned target after (Ask address) (store ∷ stores) = Unit {0}
 IsPruned target after (Remap base phys rights) (store ∷ stores) = Unit {0}
 IsPruned target after (Split base) (store ∷ stores) = Unit {0}
 IsPruned target after (Join base) (store ∷ stores) = Unit {0}
+IsPruned target after (Prune address) (store ∷ stores) = Unit {0}
+IsPruned target after (UnmapPart base first count) (store ∷ stores) = Unit {0}
+IsPruned target after (Collapse base phys rights) (store ∷ stores) = Unit {0}
 
 -- ---- the bits of the page's entry
 
@@ -256,7 +340,7 @@ AreLinks below [] = Unit {0}
 AreLinks below (store ∷ stores) = (store.new ≡ table_word below) × AreLinks store.frame stores
 
 -- the first store writes the page's entry: with its bits, and the later ones link new tables; none; with other rights. What a remap, a
--- split or a join writes, `IsPut` says.
+-- split, a join or a collapse writes, `IsPut` says. A prune clears one word.
 abbrev pub IsWritten : Request → List Store → Type 0
 IsWritten request [] = Unit {0}
 IsWritten (Map page bits) (store ∷ stores) = (store.new ≡ page_word page bits) × AreLinks store.frame stores
@@ -266,8 +350,11 @@ IsWritten (Ask address) (store ∷ stores) = ⊥
 IsWritten (Remap base phys rights) (store ∷ stores) = stores ≡ []
 IsWritten (Split base) (store ∷ stores) = stores ≡ []
 IsWritten (Join base) (store ∷ stores) = stores ≡ []
+IsWritten (Prune address) (store ∷ stores) = stores ≡ []
+IsWritten (UnmapPart base first count) (store ∷ stores) = stores ≡ []
+IsWritten (Collapse base phys rights) (store ∷ stores) = stores ≡ []
 
--- a map changes no word that is present (bit 0), and an unmap leaves only 0
+-- a map changes no word that is present (bit 0), and an unmap and a prune leave only 0
 abbrev pub IsOneWay : Request → List Store → Type 0
 IsOneWay (Map page bits) stores = All (λ store. store.old % 2 ≡ 0) stores
 IsOneWay (Unmap base) stores = All (λ store. store.new ≡ 0) stores
@@ -276,6 +363,9 @@ IsOneWay (Ask address) stores = Unit {0}
 IsOneWay (Remap base phys rights) stores = Unit {0}
 IsOneWay (Split base) stores = Unit {0}
 IsOneWay (Join base) stores = Unit {0}
+IsOneWay (Prune address) stores = All (λ store. store.new ≡ 0) stores
+IsOneWay (UnmapPart base first count) stores = Unit {0}
+IsOneWay (Collapse base phys rights) stores = Unit {0}
 
 -- the entry of the page at an address, of this size
 pub record IsEntryOf (target : Target) (memory : Memory) (address : ℕ) (size : Size) (word : ℕ) : Type 0 where
@@ -296,7 +386,7 @@ IsTold target memory address bits (replies.Answer (answers.Changed rights)) =
     (size : Size) × (word : ℕ) × IsEntryOf target memory address size word × (bits ≡ bits_in size word)
 IsTold target memory address bits reply = bits ≡ 0
 
--- ---- what a remap, a split or a join writes
+-- ---- what a remap, a split, a join or a collapse writes
 
 -- a store of an unmap or a protect: of the page's entry
 pub record IsOfPage (target : Target) (memory : Memory) (base : ℕ) (store : Store) : Type 0 where
@@ -314,8 +404,8 @@ pub record IsRemapped (target : Target) (memory : Memory) (base phys : ℕ) (rig
   pub new : store.new ≡ with_rights (with_address size store.old phys) rights
 
 -- a split of a page larger than 4 KiB fills a spare frame that was offered with the entries of the page's parts, which have the page's rights
--- and bits, and links it
-pub record IsSplit (target : Target) (memory : Memory) (base : ℕ) (offered : List (Option ℕ)) (fill : Fill) (store : Store) : Type 0 where
+-- and bits, but for those in a gap, and links it
+pub record IsSplit (target : Target) (memory : Memory) (base gap count : ℕ) (offered : List (Option ℕ)) (fill : Fill) (store : Store) : Type 0 where
   pub size : Size
   pub phys : ℕ
   pub own : Rights
@@ -330,6 +420,8 @@ pub record IsSplit (target : Target) (memory : Memory) (base : ℕ) (offered : L
   pub spare : IsSpare target.depth memory target.root fill.frame
   pub first : fill.first ≡ page_word (record { base = base; size = smaller size; rights = own; phys = phys }) (bits_in size store.old)
   pub step : fill.step ≡ bytes_of (smaller size)
+  pub gap_is : fill.gap ≡ gap
+  pub count_is : fill.gap_count ≡ count
   pub link : store.new ≡ table_word fill.frame
 
 -- a join writes one page's entry in the place of the link to a table, whose entries follow on from its first one: with the rights and the
@@ -354,7 +446,43 @@ pub record IsJoined (target : Target) (memory : Memory) (base : ℕ) (unlinked :
       (flagged (bits_in (size_at level) first))
   pub unlinked_is : unlinked ≡ number ∷ []
 
--- which table is filled: by a split alone; what the first store is of, and what is written by one store, which unlinks a table by a join alone
+-- a collapse writes one page's entry in the place of the link to a table, whose entries are like its first one: with the given address and
+-- rights and the bits of that one, and with both flags set
+pub record IsCollapsed (target : Target) (memory : Memory) (base phys : ℕ) (rights : Rights) (unlinked : List ℕ) (store : Store) : Type 0 where
+  pub level : ℕ
+  pub number : ℕ
+  pub first : ℕ
+  pub place : ℕ
+  pub own : Rights
+  pub allowed : Rights
+  pub few : level < 3
+  pub reached : table_at (levels target.depth) memory target.root level base ≡ Some number
+  pub first_is : word_at memory number (index_at level base) ≡ Some first
+  pub says : meaning level first ≡ entry.Leaf place own
+  pub aligned : base % bytes_of (larger (size_at level)) ≡ 0
+  pub phys_aligned : phys % bytes_of (larger (size_at level)) ≡ 0
+  pub alike : AreLikeBelow memory number (size_at level) first 512
+  pub above : table_at (levels target.depth) memory target.root (suc level) base ≡ Some store.frame
+  pub index_is : store.index ≡ index_at (suc level) base
+  pub leads : meaning (suc level) store.old ≡ entry.Table number allowed
+  pub new : store.new ≡ page_word (record { base = base; size = larger (size_at level); rights = rights; phys = phys })
+      (flagged (bits_in (size_at level) first))
+  pub unlinked_is : unlinked ≡ number ∷ []
+
+-- a prune clears the link to a table without a present entry, in which the address's way ends
+pub record IsCut (target : Target) (memory : Memory) (address : ℕ) (unlinked : List ℕ) (store : Store) : Type 0 where
+  pub level : ℕ
+  pub number : ℕ
+  pub allowed : Rights
+  pub reached : table_at (levels target.depth) memory target.root level address ≡ Some number
+  pub empty : (index : ℕ) → index < 512 → entry_in level memory number index ≡ Some entry.Absent
+  pub above : table_at (levels target.depth) memory target.root (suc level) address ≡ Some store.frame
+  pub index_is : store.index ≡ index_at (suc level) address
+  pub leads : meaning (suc level) store.old ≡ entry.Table number allowed
+  pub unlinked_is : unlinked ≡ number ∷ []
+
+-- which table is filled: by a split and an unmap of parts alone; what the first store is of, and what is written by one store, which unlinks
+-- a table by a join, a collapse or a prune alone
 abbrev pub IsPut : Target → Request → Memory → List (Option ℕ) → Option Fill → List Store → List ℕ → Type 0
 IsPut target request memory offered fill [] unlinked = fill ≡ None
 IsPut target (Map page bits) memory offered fill (store ∷ stores) unlinked = fill ≡ None
@@ -365,8 +493,13 @@ IsPut target (Ask address) memory offered fill (store ∷ stores) unlinked = fil
 IsPut target (Remap base phys rights) memory offered fill (store ∷ stores) unlinked =
     (fill ≡ None) × IsRemapped target memory base phys rights store × (unlinked ≡ [])
 IsPut target (Split base) memory offered fill (store ∷ stores) unlinked =
-    (table : Fill) × (fill ≡ Some table) × IsSplit target memory base offered table store × (unlinked ≡ [])
+    (table : Fill) × (fill ≡ Some table) × IsSplit target memory base 0 0 offered table store × (unlinked ≡ [])
 IsPut target (Join base) memory offered fill (store ∷ stores) unlinked = (fill ≡ None) × IsJoined target memory base unlinked store
+IsPut target (Prune address) memory offered fill (store ∷ stores) unlinked = (fill ≡ None) × IsCut target memory address unlinked store
+IsPut target (UnmapPart base first count) memory offered fill (store ∷ stores) unlinked =
+    (table : Fill) × (fill ≡ Some table) × IsSplit target memory base first count offered table store × (unlinked ≡ [])
+IsPut target (Collapse base phys rights) memory offered fill (store ∷ stores) unlinked =
+    (fill ≡ None) × IsCollapsed target memory base phys rights unlinked store
 
 -- where pages are joined, the space has each part of the page that takes their place
 abbrev pub Fits : Request → Space → List Store → Type 0
@@ -378,6 +511,9 @@ Fits (Ask address) space (store ∷ stores) = Unit {0}
 Fits (Remap base phys rights) space (store ∷ stores) = Unit {0}
 Fits (Split base) space (store ∷ stores) = Unit {0}
 Fits (Join base) space (store ∷ stores) = (page : Page) × (page.base ≡ base) × (page.size ≢ K4) × HasParts space page
+Fits (Prune address) space (store ∷ stores) = Unit {0}
+Fits (UnmapPart base first count) space (store ∷ stores) = Unit {0}
+Fits (Collapse base phys rights) space (store ∷ stores) = Unit {0}
 
 -- the page's entry is just as a protect or a remap would write it
 abbrev pub IsSoAlready : Target → Memory → Request → Type 0
@@ -390,17 +526,43 @@ IsSoAlready target memory (Remap base phys rights) =
     (size : Size) × (word : ℕ) × IsEntryOf target memory base size word × (word ≡ with_rights (with_address size word phys) rights)
 IsSoAlready target memory (Split base) = Unit {0}
 IsSoAlready target memory (Join base) = Unit {0}
+IsSoAlready target memory (Prune address) = Unit {0}
+IsSoAlready target memory (UnmapPart base first count) = Unit {0}
+IsSoAlready target memory (Collapse base phys rights) = Unit {0}
 
--- where a page was to be changed and there is no store, that is so
+-- a table has a present entry
+pub record HasEntry (memory : Memory) (number : ℕ) : Type 0 where
+  pub index : ℕ
+  pub word : ℕ
+  pub within : index < 512
+  pub there : word_at memory number index ≡ Some word
+  pub present : word % 2 ≡ 1
+
+-- the table in which the way of a prune's address ends has a present entry, or stays
+abbrev pub HasNoneToPrune : Target → Memory → Request → Type 0
+HasNoneToPrune target memory (Map page bits) = Unit {0}
+HasNoneToPrune target memory (Unmap base) = Unit {0}
+HasNoneToPrune target memory (Protect base rights) = Unit {0}
+HasNoneToPrune target memory (Ask address) = Unit {0}
+HasNoneToPrune target memory (Remap base phys rights) = Unit {0}
+HasNoneToPrune target memory (Split base) = Unit {0}
+HasNoneToPrune target memory (Join base) = Unit {0}
+HasNoneToPrune target memory (UnmapPart base first count) = Unit {0}
+HasNoneToPrune target memory (Collapse base phys rights) = Unit {0}
+HasNoneToPrune target memory (Prune address) = (level number : ℕ) → table_at (levels target.depth) memory target.root level address ≡ Some number
+    → table_in (found_at level memory number address) ≡ None → level < highest_link target → HasEntry memory number
+
+-- where a page was to be changed, or a table pruned, and there is no store, that is so
 abbrev pub IsAlready : Target → Memory → Request → Reply → List Store → Type 0
 IsAlready target memory request reply (store ∷ stores) = Unit {0}
+IsAlready target memory request (replies.Answer answers.Done) [] = HasNoneToPrune target memory request
 IsAlready target memory request (replies.Answer (answers.Changed rights)) [] = IsSoAlready target memory request
 IsAlready target memory request reply [] = Unit {0}
 
 -- ---- what is flushed
 
 -- nothing where nothing was stored, and after a map; else the page at the base, with the tables where one was unlinked; where pages of
--- another size take a page's place, all that was kept for their addresses
+-- another size take a page's place, all that was kept for their addresses. Of a prune 4 KiB at the address, with the tables
 abbrev pub IsFlushed : Target → Memory → Request → List Store → List ℕ → Flush → Type 0
 IsFlushed target memory request [] unlinked flush = flush ≡ flushes.Nothing
 IsFlushed target memory (Map page bits) (store ∷ stores) unlinked flush = flush ≡ flushes.Nothing
@@ -417,6 +579,11 @@ IsFlushed target memory (Split base) (store ∷ stores) unlinked flush =
     (size : Size) × IsEntryOf target memory base size store.old × (flush ≡ flushes.Range base size)
 IsFlushed target memory (Join base) (store ∷ stores) unlinked flush =
     (size : Size) × (first : ℕ) × IsEntryOf target memory base size first × (flush ≡ flushes.Range base (larger size))
+IsFlushed target memory (Prune address) (store ∷ stores) unlinked flush = flush ≡ flushes.PageAndTables address K4
+IsFlushed target memory (UnmapPart base first count) (store ∷ stores) unlinked flush =
+    (size : Size) × IsEntryOf target memory base size store.old × (flush ≡ flushes.Range base size)
+IsFlushed target memory (Collapse base phys rights) (store ∷ stores) unlinked flush =
+    (size : Size) × (word : ℕ) × IsEntryOf target memory base size word × (flush ≡ flushes.Range base (larger size))
 
 -- ---- which tables are reached
 
@@ -448,7 +615,7 @@ ended memory plan = stored_all (begun memory plan) plan.stores.items
 
 pub record IsRight (target : Target) (request : Request) (memory : Memory) (space : Space) (offered : List (Option ℕ)) (plan : Plan) : Type 0 where
   pub reply : IsReply target request memory space offered plan.reply
-  pub due : refusal target space request ≡ refusal_in plan.reply
+  pub due : IsDue target space request plan.reply
   pub put : IsPut target request memory offered plan.fill plan.stores.items plan.unlinked.items
   pub fits : Fits request space plan.stores.items
   pub safe : AreSafe target.depth (begun memory plan) target.root space (space_after target request space plan.reply) plan.stores.items

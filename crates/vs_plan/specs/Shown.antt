@@ -20,7 +20,8 @@ use Rattle.vs_plan.specs.declared.plan.Store.{Store}
 use Rattle.vs_plan.specs.declared.planner.Phase.{Phase}
 use Rattle.vs_plan.specs.declared.planner.Phase.TheVariants as phases
 use Rattle.vs_plan.specs.declared.planner.Planner.{Planner}
-use Rattle.vs_plan.specs.declared.request.Request.TheVariants.{Map, Unmap, Split}
+use Rattle.vs_plan.specs.declared.request.Request.TheVariants.{Map, Unmap}
+use Rattle.vs_plan.specs.Planner.{Divides}
 use Rattle.vs_plan.specs.Premise.{IsPremise, IsSpare}
 use Rattle.vs_plan.specs.Request.{address_of}
 use Rattle.vs_plan.specs.Right.{IsRight, IsWritten}
@@ -135,11 +136,12 @@ pub record IsGrown (memory : Memory) (planner : Planner) : Type 0 where
   pub within : All (λ (store : Store). store.frame < frames_end planner.target) planner.stores.items
   pub filled : AreFilled planner.target.depth memory planner.target.root page bits planner.height planner.below planner.stores.items
 
--- ---- at the entry of a page that is to be split
+-- ---- at the entry of a page that is to be divided
 
 pub record IsDivided (memory : Memory) (planner : Planner) : Type 0 where
   pub base : ℕ
-  pub request : planner.request ≡ Split base
+  pub place : address_of planner.request ≡ base
+  pub divides : Divides planner.request
   pub way : IsWay planner.target.depth memory planner.target.root base planner.level planner.number planner.rights
   pub word_is : word_at memory planner.number (index_at planner.level base) ≡ Some (slice_index planner.words planner.level)
   pub page : (phys : ℕ) × (own : Rights) × (meaning planner.level (slice_index planner.words planner.level) ≡ entry.Leaf phys own)

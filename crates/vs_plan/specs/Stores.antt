@@ -35,7 +35,19 @@ unfoldable pub stepping : ℕ → ℕ → ℕ → List ℕ
 stepping first step zero = []
 stepping first step (suc count) = first ∷ stepping (first + step) step count
 
+-- words, but with 0 for so many of them from an index on
+unfoldable pub with_gap : ℕ → ℕ → List ℕ → List ℕ
+with_gap zero zero words = words
+with_gap zero (suc count) [] = []
+with_gap zero (suc count) (word ∷ words) = 0 ∷ with_gap zero count words
+with_gap (suc gap) count [] = []
+with_gap (suc gap) count (word ∷ words) = word ∷ with_gap gap count words
+
+-- the words that are filled in
+abbrev pub fill_words : Fill → List ℕ
+fill_words fill = with_gap fill.gap fill.gap_count (stepping fill.first fill.step 512)
+
 -- the memory once a table is filled
 abbrev pub filled : Memory → Option Fill → Memory
 filled memory None = memory
-filled memory (Some fill) = finite.insert memory fill.frame (stepping fill.first fill.step 512)
+filled memory (Some fill) = finite.insert memory fill.frame (fill_words fill)

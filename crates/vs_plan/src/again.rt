@@ -1,10 +1,11 @@
 //! Plans made again with a word in which a processor has set flags since it was shown.
 ghost use Rattle.std.specs.Prelude.{◌≡◌, ◌<◌, ◌/◌, ◌%◌, IfNone, IfSome, IsTrue, IsFalse, length, slice_index_or, if◌then◌else◌};
 ghost use Rattle.vs_plan.specs.declared.plan.Store.{Store};
-ghost use Rattle.vs_plan.specs.Again.{HasFlagsSet, IsPlanAgain, bits_again, fill_again, flags_into, new_again, with_flags_of};
+ghost use Rattle.vs_plan.specs.Again.{HasFlagsSet, IsPlanAgain, bits_again, fill_again, flags_into, new_again, told_again, with_flags_of};
 
-use crate::plan::{Fill, Plan, Store};
+use crate::plan::{Fill, Plan, Reply, Store};
 use crate::word::{ABOVE_FLAGS, BELOW_FLAGS};
+use vs_types::Answer;
 
 impl Store {
     /// The store, where a processor has set its flags in the word since it was shown: with the word that is there now as `old`, and
@@ -89,8 +90,12 @@ impl Plan {
 
     /// The bits of the page's entry, once the store at this index found this word.
     fn bits_again(&self, index: usize, word: u64, new: u64) -> u64
-        ensures { result ≡ bits_again index self.now.unlinked.items word new self.now.bits }
+        ensures { result ≡ told_again self.now.reply
+            (bits_again index self.now.unlinked.items word new self.now.bits) self.now.bits }
     {
+        if let Reply::Answer(Answer::Done) = self.reply {
+            return self.bits;
+        }
         if index != 0 || (!self.unlinked.is_empty() && new != 0) {
             return self.bits;
         }

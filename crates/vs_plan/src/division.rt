@@ -1,9 +1,10 @@
-//! The end of a split: a frame filled with the parts of a page.
+//! The end of a split, and of an unmap of parts: a frame filled with the parts of a page.
 ghost use Rattle.std.specs.Prelude.{◌≡◌, ◌<◌, [], ◌∷◌, Some};
 ghost use Rattle.vs_walk.specs.Memory.{Memory};
 ghost use Rattle.vs_plan.specs.declared.request.Request.{Request};
-ghost use Rattle.vs_plan.specs.Planner.{HasGiven, AwaitsDivision, Awaits, IsSpareFor, sees_left};
+ghost use Rattle.vs_plan.specs.Planner.{HasGiven, AwaitsDivision, Awaits, Divides, IsSpareFor, sees_left};
 ghost use Rattle.vs_plan.specs.Shown.{IsDivided, IsNext};
+ghost use Rattle.vs_plan.specs.Request.{address_of};
 ghost use Rattle.vs_plan.specs.Target.{frames_end};
 ghost use Rattle.vs_plan.specs.inside.Ended.{IsAtEnd, HasEnded, IsEnd};
 
@@ -17,7 +18,8 @@ impl Planner {
     /// Asks for the frame of the table of the parts, where a page that can be split begins at the end of the way.
     pub(crate) fn end_split(&mut self, base: u64, word: u64) -> Step
         requires end { IsAtEnd self.old }
-        requires request { self.old.request ≡ Request.Split base }
+        requires divides { Divides self.old.request }
+        requires place { address_of self.old.request ≡ base }
         ensures same { (self.new.target ≡ self.old.target)
             × (self.new.request ≡ self.old.request) }
         ensures awaits { Awaits self.new result }
@@ -75,6 +77,8 @@ impl Planner {
             frame: number,
             first: page_word(part, bits),
             step: part.size.bytes(),
+            gap: 0,
+            gap_count: 0,
         });
         plan.stores.push(Store {
             frame: self.number,

@@ -16,7 +16,7 @@ ghost use Rattle.vs_plan.specs.declared.plan.Plan.{Plan};
 ghost use Rattle.vs_plan.specs.declared.plan.Store.{Store};
 ghost use Rattle.vs_plan.specs.declared.request.Request.{Request};
 ghost use Rattle.vs_plan.specs.declared.target.Target.{Target};
-ghost use Rattle.vs_plan.specs.Again.{HasFlagsSet, IsAgain, IsPlanAgain, fill_again, flags_into, new_again, with_flags_of};
+ghost use Rattle.vs_plan.specs.Again.{HasFlagsSet, IsAgain, IsPlanAgain, TakesTable, fill_again, flags_into, new_again, with_flags_of};
 ghost use Rattle.vs_plan.specs.Bits.{bits_in, flagged, page_word, with_address, with_rights};
 ghost use Rattle.vs_plan.specs.Flushed.{Suffices};
 ghost use Rattle.vs_plan.specs.Lived.{AreButFlags, SufficesButFlags};
@@ -30,8 +30,8 @@ ghost use Rattle.vs_plan.specs.Stores.{FindTheirWords, filled, stored};
 /// They stay so by stores of words in which nothing else differs, and `Store::again` gives such a store. So whatever flags processors set
 /// while a plan is carried out, at each moment the memory translates as it would without them. And no flag is lost: what a protect or a
 /// remap stores again, and the bits of the page's entry with the flags that were found, are those of the word that was found. So is
-/// what a split fills in again: the entries of the parts of the page of the word that was found. What a join stores has both flags,
-/// whatever word it found.
+/// what a split fills in again: the entries of the parts of the page of the word that was found. What a join or a collapse stores has both
+/// flags, whatever word it found.
 pub fn flags_keep_plans_safe()
     ensures translations { (depth : Depth) (root : ℕ) (old new : Memory) (space : Space)
         → AreSameButFlags old new → TranslatesAs depth old root space
@@ -83,7 +83,7 @@ pub fn flags_keep_processors_up_to_date()
 
 /// A right plan is right for each memory in which its stores find their words, and that differs from the one that was shown in flags alone,
 /// if the bits that it answers are those of the page's entry still. And so is the plan with the word that one of its stores found, whose
-/// bits are those of the page's entry then; but those of a join, of the first page as it was shown, have to be so still.
+/// bits are those of the page's entry then; but those of a join or a collapse, of the first page as it was shown, have to be so still.
 pub fn plans_are_right_again()
     ensures elsewhere { (target : Target) (request : Request) (memory now : Memory) (space : Space)
         (offered : List (Option ℕ)) (plan : Plan)
@@ -97,7 +97,6 @@ pub fn plans_are_right_again()
         → IsPremise target.depth memory target.root (address_of request) space
         → IsRight target request memory space offered plan → IsPlanAgain plan index word again
         → AreSameButFlags memory now → FindTheirWords (begun now again) again.stores.items
-        → ((base : ℕ) → request ≡ Request.Join base
-        → IsTold target now base again.bits again.reply)
+        → (TakesTable request → IsTold target now (address_of request) again.bits again.reply)
         → IsRight target request now space offered again }
 {}

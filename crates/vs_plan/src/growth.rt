@@ -43,6 +43,7 @@ impl Planner {
         match self.request {
             Request::Map(page, bits) => self.grow_on(page, bits, number),
             Request::Split(base) => self.divide(base, number),
+            Request::UnmapPart(base, first, count) => self.divide_part(base, first, count, number),
             _ => unreachable!(),
         }
     }
@@ -96,6 +97,10 @@ impl Planner {
                 self.refuse(Reply::Answer(Answer::Overlap(page.base - offset)))
             }
             Meaning::Table(next, _) => {
+                if next >= self.target.frames_end() {
+                    let index = index_at(self.level, page.base);
+                    return self.refuse(Reply::Reserved(self.number, index));
+                }
                 self.phase = Phase::Search;
                 self.base = page.base;
                 self.number = next;

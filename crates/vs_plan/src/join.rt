@@ -1,5 +1,6 @@
 //! The plan of a join.
 ghost use Rattle.std.specs.Prelude.{◌≡◌, ◌≢◌, ◌+◌, ◌%◌, ◌≤◌, ◌<◌, ℕ, None, IfNone, IfSome, slice_index};
+ghost use Rattle.vs_types.specs.Depth.{index_at};
 ghost use Rattle.vs_types.specs.Entry.{meaning, size_at};
 ghost use Rattle.vs_types.specs.Page.{bytes_of};
 ghost use Rattle.vs_types.specs.declared.entry.Meaning.{Meaning};
@@ -14,15 +15,18 @@ ghost use Rattle.vs_plan.specs.inside.Ended.{IsAtEnd, IsFirstApart, IsRightWith,
 
 use crate::plan::{Flush, Plan, Reply, Store};
 use crate::planner::Planner;
+use crate::reading::FrameWords;
 use crate::word::{bits_in, flagged, larger, page_word, unflagged};
 use vs_types::{Answer, Entry, FRAME_WORDS, Meaning, Page, Rights, Size, index_at};
 
 impl Planner {
     /// Puts one page in the place of those of the table at the end of the way, which has these words, where they follow on from the first.
-    pub(crate) fn plan_join(&self, base: u64, word: u64, words: &[u64; FRAME_WORDS]) -> Plan
+    pub(crate) fn plan_join<W: FrameWords>(&self, base: u64, word: u64, words: &mut W) -> Plan
         requires end { IsAtEnd self.now }
         requires request { self.now.request ≡ Request.Join base }
-        ensures { IsRightWith self.now word words.now result }
+        requires unread { (i : ℕ) → i < FRAME_WORDS → i ≢ index_at self.now.level base
+            → W.is_unread words.old i }
+        ensures { IsRightWith self.now word (W.words words.old) result }
     {
         let Meaning::Leaf(phys, own) = Entry::new(word).read(self.level) else {
             return self.plan_absent(base, word);
@@ -35,7 +39,10 @@ impl Planner {
         if let Some(reply) = not_first(base, phys, size) {
             return Plan::nothing(reply, 0);
         }
-        if let Some(index) = first_apart(words, size) {
+        if self.level >= self.target.highest_link() {
+            return Plan::nothing(Reply::Pinned, 0);
+        }
+        if let Some(index) = first_apart(word, words, size) {
             return Plan::nothing(Reply::Apart(index), 0);
         }
         let answer = Answer::Changed(self.rights.intersection(own));
@@ -104,16 +111,17 @@ fn not_first(base: u64, phys: u64, size: Size) -> Option<Reply>
     None
 }
 
-/// The first index at which these words, of entries of pages of this size, don't follow on from the first.
-fn first_apart(words: &[u64; FRAME_WORDS], size: Size) -> Option<usize>
-    ensures none { IfNone result ((i : ℕ) → i < FRAME_WORDS
-        → Follows size (slice_index words.now 0) i (slice_index words.now i)) }
-    ensures first { IfSome result (IsFirstApart words.now size) }
+/// The first index but 0 at which these words, of entries of pages of this size, don't follow on from the first, which is this one.
+fn first_apart<W: FrameWords>(first: u64, words: &mut W, size: Size) -> Option<usize>
+    requires { (i : ℕ) → 1 ≤ i → i < FRAME_WORDS → W.is_unread words.old i }
+    ensures none { IfNone result ((i : ℕ) → 1 ≤ i → i < FRAME_WORDS
+        → Follows size first i (slice_index (W.words words.old) i)) }
+    ensures first { IfSome result (IsFirstApart first (W.words words.old) size) }
 {
-    let first = unflagged(words[0]);
-    for index in 0..FRAME_WORDS {
-        let here = unflagged(words[index]);
-        if here < first || here - first != index as u64 * size.bytes() {
+    let start = unflagged(first);
+    for index in 1..FRAME_WORDS {
+        let here = unflagged(words.read(index));
+        if here < start || here - start != index as u64 * size.bytes() {
             return Some(index);
         }
     }

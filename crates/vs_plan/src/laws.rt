@@ -1,6 +1,6 @@
 //! Laws of the definitions in `specs/`. Each function does nothing: its clauses say what holds of all processors and plans.
 
-ghost use Rattle.std.specs.Prelude.{◌≡◌, ℕ, List, All, Option, Some, true, ◌∷◌};
+ghost use Rattle.std.specs.Prelude.{◌≡◌, ℕ, List, All, Option, Some, ◌∷◌};
 ghost use Rattle.std.specs.FinMap as finite;
 ghost use Rattle.vs_types.specs.Depth.{IsCanonical};
 ghost use Rattle.vs_types.specs.Space.{Space, no_pages};
@@ -21,6 +21,7 @@ ghost use Rattle.vs_plan.specs.Premise.{IsPremise, HasOwnWay};
 ghost use Rattle.vs_plan.specs.Processor.{Moment, Is, MayFind, IsUpToDate};
 ghost use Rattle.vs_plan.specs.Request.{IsRequest, address_of};
 ghost use Rattle.vs_plan.specs.Right.{IsRight, space_after, begun, ended};
+ghost use Rattle.vs_plan.specs.Target.{PinsRoot};
 
 /// An access of a processor that is up to date finds what a walk of the memory finds. It stays up to date while the memory stays.
 pub fn up_to_date_processors_find_walks()
@@ -82,7 +83,7 @@ pub fn plans_are_right_beside_their_root()
 pub fn roots_stay_beside()
     ensures beside { (target : Target) (memory : Memory) (base : ℕ) (plan : Plan) (other : ℕ)
         → AreBeside target.depth memory target.root other
-        → (IsShared target.depth memory target.root other base → target.pinned ≡ true)
+        → (IsShared target.depth memory target.root other base → PinsRoot target)
         → All (λ (store : Store). LeadsNotTo target.depth memory target.root store.frame
         → LeadsNotTo target.depth memory other store.frame) plan.stores.items
         → ((fill : Fill) → plan.fill ≡ Some fill

@@ -10,13 +10,17 @@
 
 mod again;
 pub mod changes;
+mod collapse;
 mod division;
 pub mod flags;
 mod growth;
 mod join;
 pub mod laws;
+mod part;
 mod plan;
 mod planner;
+mod prune;
+mod reading;
 mod remap;
 mod request;
 mod search;
@@ -25,6 +29,9 @@ mod word;
 
 pub use plan::{Fill, Flush, MOST_STORES, MOST_UNLINKED, Plan, Reply, Step, Store};
 pub use planner::{Asks, Phase, Planner};
-pub use request::{BadRequest, Request};
+pub use reading::{FrameWords, PlainWords};
+pub use request::{BadRequest, Request, ends_beyond};
 pub use target::Target;
-pub use word::{ABOVE_FLAGS, BELOW_FLAGS};
+pub use word::{
+    ABOVE_FLAGS, BELOW_FLAGS, are_bits, bits_in, page_word, permits, with_address, with_rights,
+};

@@ -38,7 +38,8 @@ pub enum Flush {
     Range(u64, Size),
 }
 
-/// A table that is filled before the stores: the word of this frame at index i, from 0 to 511, becomes `first + i * step`.
+/// A table that is filled before the stores: the word of this frame at index i, from 0 to 511, becomes `first + i * step`, but in the gap
+/// it stays 0.
 #[repr(C)]
 #[derive(Clone, Copy, Debug, Default, PartialEq, Eq)]
 pub struct Fill {
@@ -48,12 +49,16 @@ pub struct Fill {
     pub first: u64,
     /// What a word has above the one before it.
     pub step: u64,
+    /// The first index of the gap, and how many words it has: none by a split.
+    pub gap: u64,
+    pub gap_count: u64,
 }
 
 /// What came out.
 #[derive(Clone, Copy, Debug, PartialEq, Eq)]
 pub enum Reply {
-    /// As one sequential address space answers: `Done`, `Overlap`, `Removed`, `NotMapped`, `Inside`, `Changed` or `Mapped`.
+    /// As one sequential address space answers: `Done`, `Overlap`, `Removed`, `NotMapped`, `Inside`, `Changed` or `Mapped`. A prune
+    /// is `Done`.
     Answer(Answer),
     /// No frame was given where one was needed. Those that were given before aren't used.
     NoFrame,
@@ -61,24 +66,28 @@ pub enum Reply {
     FrameRange(u64),
     /// The entries that lead to the page's table allow less than the page is to allow.
     Rights,
-    /// This table, under which the least overlapped page was looked for, has no entry that is present.
-    Empty(u64),
-    /// A reserved bit is set in the word of this frame at this index, from 0 to 511.
+    /// This table, in which the least overlapped page was looked for, has no entry that is present. It is on the way of this address:
+    /// `Request::Prune` of that unlinks the table, unless it stays (`Target::pinned`).
+    Empty(u64, u64),
+    /// A reserved bit is set in the word of this frame at this index, from 0 to 511: it links to a frame beyond the physical addresses, or
+    /// says what no entry says.
     Reserved(u64, usize),
-    /// By a remap the physical address is no multiple of the size of the page that is there; by a join that of the page that is to take
-    /// the place of the others would be none.
+    /// By a remap the physical address is no multiple of the size of the page that is there; by a join or a collapse that of the page that
+    /// is to take the place of the others would be none.
     PhysUnaligned,
-    /// By a remap the page would not lie below physical 2^51, or not within the physical addresses.
+    /// By a remap or a collapse the page would not lie below physical 2^51, or not within the physical addresses.
     PhysRange,
-    /// The page that is to be split has 4 KiB.
+    /// The page that is to be split, or of which parts are to be removed, has 4 KiB.
     Smallest,
-    /// The page that begins at the address of a join has 1 GiB.
+    /// The page that begins at the address of a join or a collapse has 1 GiB.
     Largest,
-    /// The address of a join is no multiple of the next larger size than that of the page that begins there.
+    /// The address of a join or a collapse is no multiple of the next larger size than that of the page that begins there.
     Unaligned,
     /// By a join the entry at this index, from 0 to 511, is the first in its table that is no page that follows on: with another physical
-    /// address, other rights or other bits, but for the accessed and the dirty flag.
+    /// address, other rights or other bits, but for the accessed and the dirty flag. By a collapse the address may be any.
     Apart(usize),
+    /// The table of the pages that are to be joined or replaced stays linked (`Target::pinned`).
+    Pinned,
 }
 
 /// What a caller has to do: the fill, then the stores in their order, then the flush; then the frames that are no longer linked are
@@ -90,14 +99,14 @@ pub struct Plan {
     /// The bits of the entry of the page that is removed, changed or asked for, as it was shown, beside its address and its rights:
     /// at the places that `Request::Map` has. 0 where there is no such page.
     pub bits: u64,
-    /// The table that has to be filled before the stores: by a split alone.
+    /// The table that has to be filled before the stores: by a split and an unmap of parts alone.
     pub fill: Option<Fill>,
     /// The stores. None where nothing is changed.
     pub stores: ArrayVec<Store, MOST_STORES>,
     /// What has to be forgotten.
     pub flush: Flush,
-    /// The frame numbers of the tables that the stores unlink, in whose frames all words are 0 then. By a join their entries stay: the
-    /// frame has to be cleared before it is given again.
+    /// The frame numbers of the tables that the stores unlink, in whose frames all words are 0 then. By a join, a collapse and a prune their
+    /// words stay: the frame has to be cleared before it is given again.
     pub unlinked: ArrayVec<u64, MOST_UNLINKED>,
 }
 

@@ -16,6 +16,7 @@ ghost use Rattle.vs_plan.specs.Shown.{IsShown, IsDescended, IsNext};
 ghost use Rattle.vs_plan.specs.inside.Ended.{IsAtEnd, IsNoMap, HasEnded, IsRightAt};
 
 use crate::plan::{Flush, MOST_STORES, Plan, Reply, Step, Store};
+use crate::reading::FrameWords;
 use crate::request::{BadRequest, Request};
 use crate::target::Target;
 use crate::word::{bits_in, is_alone, permits, with_rights};
@@ -121,15 +122,16 @@ impl Planner {
     }
 
     /// Takes the words of the frame that was asked for. It asks for one frame a level at most.
-    pub fn see(&mut self, words: &[u64; FRAME_WORDS]) -> Step
-        requires { AwaitsWords self.old }
+    pub fn see<W: FrameWords>(&mut self, words: &mut W) -> Step
+        requires awaits { AwaitsWords self.old }
+        requires unread { (i : ℕ) → i < FRAME_WORDS → W.is_unread words.old i }
         ensures same { (self.new.target ≡ self.old.target)
             × (self.new.request ≡ self.old.request) }
         ensures awaits { Awaits self.new result }
         ensures fewer { sees_left self.new result < self.old.level }
         ensures given { HasGiven self.new [] result }
         ensures next { (memory : Memory) → IsShown memory self.old
-            → finite.get memory self.old.number ≡ Some words.now
+            → finite.get memory self.old.number ≡ Some (W.words words.old)
             → IsNext memory self.new [] result }
     {
         match self.phase {
@@ -140,31 +142,56 @@ impl Planner {
     }
 
     /// Goes on along the way.
-    fn descend(&mut self, words: &[u64; FRAME_WORDS]) -> Step
+    fn descend<W: FrameWords>(&mut self, words: &mut W) -> Step
         requires awaits { AwaitsWords self.old }
         requires phase { self.old.phase ≡ Phase.Descent }
+        requires unread { (i : ℕ) → i < FRAME_WORDS → W.is_unread words.old i }
         ensures same { (self.new.target ≡ self.old.target)
             × (self.new.request ≡ self.old.request) }
         ensures awaits { Awaits self.new result }
         ensures fewer { sees_left self.new result < self.old.level }
         ensures given { HasGiven self.new [] result }
         ensures next { (memory : Memory) → IsDescended memory self.old
-            → finite.get memory self.old.number ≡ Some words.now
+            → finite.get memory self.old.number ≡ Some (W.words words.old)
+            → IsNext memory self.new [] result }
+    {
+        let index = index_at(self.level, self.request.address());
+        let word = words.read(index);
+        self.follow(word, words)
+    }
+
+    /// Takes the words of the frame that was asked for on the way down, by the word of its entry, which was read already. As `see` does.
+    pub fn follow<W: FrameWords>(&mut self, word: u64, words: &mut W) -> Step
+        requires awaits { AwaitsWords self.old }
+        requires phase { self.old.phase ≡ Phase.Descent }
+        requires read { word ≡ slice_index (W.words words.old)
+            (index_at self.old.level (address_of self.old.request)) }
+        requires unread { (i : ℕ) → i < FRAME_WORDS
+            → i ≢ index_at self.old.level (address_of self.old.request) → W.is_unread words.old i }
+        ensures same { (self.new.target ≡ self.old.target)
+            × (self.new.request ≡ self.old.request) }
+        ensures awaits { Awaits self.new result }
+        ensures fewer { sees_left self.new result < self.old.level }
+        ensures given { HasGiven self.new [] result }
+        ensures next { (memory : Memory) → IsDescended memory self.old
+            → finite.get memory self.old.number ≡ Some (W.words words.old)
             → IsNext memory self.new [] result }
     {
         let level = self.level;
         let index = index_at(level, self.request.address());
-        let word = words[index];
         self.stop = self.stop_at(words, index);
         self.numbers[level as usize] = self.number;
         self.words[level as usize] = word;
-        if let Some((next, own)) = self.leads_on(word) {
-            self.rights = self.rights.intersection(own);
-            self.number = next;
-            self.level = level - 1;
-            return Step::See(next);
+        let Some((next, own)) = self.leads_on(word) else {
+            return self.end(word, words);
+        };
+        if next >= self.target.frames_end() {
+            return self.refuse(Reply::Reserved(self.number, index));
         }
-        self.end(word, words)
+        self.rights = self.rights.intersection(own);
+        self.number = next;
+        self.level = level - 1;
+        Step::See(next)
     }
 
     /// The table to which a word leads, and what it allows, where the way goes on below its level.
@@ -187,15 +214,20 @@ impl Planner {
     }
 
     /// The level of the lowest table that stays, where the next one has these words, and its entry this index.
-    fn stop_at(&self, words: &[u64; FRAME_WORDS], index: usize) -> u8
-        requires { index < FRAME_WORDS }
+    fn stop_at<W: FrameWords>(&self, words: &mut W, index: usize) -> u8
+        requires in_range { index < FRAME_WORDS }
+        requires unread { (i : ℕ) → i < FRAME_WORDS → i ≢ index → W.is_unread words.old i }
+        ensures same { W.words words.new ≡ W.words words.old }
+        ensures untouched { ((base : ℕ) → self.now.request ≡ Request.Unmap base → ⊥)
+            → words.new ≡ words.old }
         ensures at_most { result ≤ self.now.stop }
         ensures alone { ((result ≡ self.now.level)
             × ((base : ℕ) → self.now.request ≡ Request.Unmap base → self.now.level < self.now.stop
-            → (i : ℕ) × (i ≢ index) × (slice_index words.now i ≢ 0)))
+            → (i : ℕ) × (i ≢ index) × (slice_index (W.words words.old) i ≢ 0)))
             ⊎ ((result ≡ self.now.stop)
             × (self.now.level < self.now.stop
-            → (i : ℕ) → i ≢ index → slice_index words.now i ≡ 0)) }
+            → (i : ℕ) → i < FRAME_WORDS → i ≢ index
+            → slice_index (W.words words.old) i ≡ 0)) }
     {
         if self.level >= self.stop {
             return self.stop;
@@ -210,25 +242,34 @@ impl Planner {
     }
 
     /// Does what the request asks at the end of the way, at this word.
-    fn end(&mut self, word: u64, words: &[u64; FRAME_WORDS]) -> Step
-        requires { IsAtEnd self.old }
+    fn end<W: FrameWords>(&mut self, word: u64, words: &mut W) -> Step
+        requires end { IsAtEnd self.old }
+        requires unread { ((base : ℕ) → self.old.request ≡ Request.Unmap base → ⊥)
+            → (i : ℕ) → i < FRAME_WORDS
+            → i ≢ index_at self.old.level (address_of self.old.request)
+            → W.is_unread words.old i }
         ensures same { (self.new.target ≡ self.old.target)
             × (self.new.request ≡ self.old.request) }
         ensures awaits { Awaits self.new result }
         ensures fewer { sees_left self.new result < self.old.level }
         ensures given { HasGiven self.new [] result }
         ensures next { (memory : Memory) → HasEnded memory self.old word
-            → finite.get memory self.old.number ≡ Some words.now
+            → finite.get memory self.old.number ≡ Some (W.words words.old)
             → IsNext memory self.new [] result }
     {
         let plan = match self.request {
             Request::Map(page, bits) => return self.end_map(page, bits, word),
             Request::Split(base) => return self.end_split(base, word),
+            Request::UnmapPart(base, _, _) => return self.end_split(base, word),
             Request::Unmap(base) => self.plan_unmap(base, word),
             Request::Protect(base, rights) => self.plan_protect(base, rights, word),
             Request::Ask(address) => self.plan_ask(address, word),
             Request::Remap(base, phys, rights) => self.plan_remap(base, phys, rights, word),
             Request::Join(base) => self.plan_join(base, word, words),
+            Request::Prune(address) => self.plan_prune(address, word, words),
+            Request::Collapse(base, phys, rights) => {
+                self.plan_collapse(base, phys, rights, word, words)
+            }
         };
         self.phase = Phase::Ended;
         Step::Planned(plan)

@@ -48,7 +48,7 @@ impl Planner {
 }
 
 /// Why no page of this size can begin at this physical address.
-fn phys_refusal(phys: u64, phys_bits: u8, size: Size) -> Option<Reply>
+pub(crate) fn phys_refusal(phys: u64, phys_bits: u8, size: Size) -> Option<Reply>
     requires { phys_bits ≤ 52 }
     ensures { result ≡ phys_refusal phys phys_bits size }
 {

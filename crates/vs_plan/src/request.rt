@@ -1,6 +1,6 @@
 //! What may be asked of a planner, and when it is refused.
 ghost use Rattle.std.specs.Prelude.{◌≡◌, ◌+◌, ◌^◌, ◌≤◌, ℕ, min, nat_lt, IsTrue, MatchResult, None, Some};
-ghost use Rattle.vs_plan.specs.Request.{address_of, lowest_of, request_fault, page_fault, base_fault};
+ghost use Rattle.vs_plan.specs.Request.{address_of, lowest_of, request_fault, page_fault, base_fault, part_fault};
 
 use crate::target::Target;
 use crate::word::are_bits;
@@ -29,6 +29,15 @@ pub enum Request {
     /// Puts one page of the next larger size in the place of the 512 pages of a table, the first of which begins at this address.
     /// It translates as they do, and its entry has their bits, with both flags set.
     Join(u64),
+    /// Unlinks the table in which the way of this address ends, where it has no entry that is present. Its words stay as they are.
+    Prune(u64),
+    /// Removes parts of the page of 2 MiB or 1 GiB that begins at this address: of its 512 parts of the next smaller size so many (the
+    /// third number), from this one on (the second). The others translate as it did, and their entries have its bits.
+    UnmapPart(u64, u64, u64),
+    /// Puts one page of the next larger size, at this physical address and with these rights, in the place of the 512 pages of a table,
+    /// the first of which begins at this address. They have the same rights and the same bits, wherever they lie; its entry has their
+    /// bits, with both flags set. What lies at the physical address is the caller's, and that nobody writes to the pages meanwhile.
+    Collapse(u64, u64, Rights),
 }
 
 /// Why there is no plan for a request: the first reason that holds.
@@ -48,6 +57,8 @@ pub enum BadRequest {
     PhysRange,
     /// A bit is set that is none of those that a map may set.
     Bits,
+    /// The parts that are to be removed are none, all, or not all among 0 to 511.
+    Part,
 }
 
 impl fmt::Display for BadRequest {
@@ -62,6 +73,7 @@ impl fmt::Display for BadRequest {
             }
             BadRequest::PhysRange => write!(f, "the page lies beyond the physical addresses"),
             BadRequest::Bits => write!(f, "a bit is set that no map may set"),
+            BadRequest::Part => write!(f, "the parts are none, all, or not among 512"),
         }
     }
 }
@@ -80,7 +92,10 @@ impl Request {
             | Request::Ask(address)
             | Request::Remap(address, _, _)
             | Request::Split(address)
-            | Request::Join(address) => address,
+            | Request::Join(address)
+            | Request::Prune(address)
+            | Request::UnmapPart(address, _, _)
+            | Request::Collapse(address, _, _) => address,
         }
     }
 
@@ -95,13 +110,17 @@ impl Request {
             | Request::Ask(_)
             | Request::Remap(_, _, _)
             | Request::Split(_)
-            | Request::Join(_) => 1,
+            | Request::Join(_)
+            | Request::Prune(_)
+            | Request::UnmapPart(_, _, _)
+            | Request::Collapse(_, _, _) => 1,
         }
     }
 
     /// Whether tables may be unlinked for it.
     pub(crate) fn unlinks(self) -> bool
-        ensures { (base : ℕ) → self ≡ Request.Unmap base → IsTrue result }
+        ensures all { (base : ℕ) → self ≡ Request.Unmap base → IsTrue result }
+        ensures only { IsTrue result → (base : ℕ) × (self ≡ Request.Unmap base) }
     {
         matches!(self, Request::Unmap(_))
     }
@@ -130,8 +149,10 @@ impl Request {
             | Request::Protect(base, _)
             | Request::Remap(base, _, _)
             | Request::Split(base)
-            | Request::Join(base) => test_base(base),
-            Request::Ask(_) => Ok(()),
+            | Request::Join(base)
+            | Request::Collapse(base, _, _) => test_base(base),
+            Request::UnmapPart(base, first, count) => test_part(base, first, count),
+            Request::Ask(_) | Request::Prune(_) => Ok(()),
         }
     }
 }
@@ -159,7 +180,7 @@ fn test_page(page: Page, bits: u64, phys_bits: u8) -> Result<(), BadRequest>
 }
 
 /// Whether so many bytes at this physical address end beyond 2^51 or 2^phys_bits.
-pub(crate) fn ends_beyond(phys: u64, bytes: u64, phys_bits: u8) -> bool
+pub fn ends_beyond(phys: u64, bytes: u64, phys_bits: u8) -> bool
     requires { phys_bits ≤ 52 }
     ensures { result ≡ nat_lt (2 ^ min phys_bits 51) (phys + bytes) }
 {
@@ -173,6 +194,20 @@ fn test_base(base: u64) -> Result<(), BadRequest>
 {
     if base % 4096 != 0 {
         return Err(BadRequest::Unaligned);
+    }
+    Ok(())
+}
+
+/// Tests the canonical base of a page, and which of its parts are to be removed.
+fn test_part(base: u64, first: u64, count: u64) -> Result<(), BadRequest>
+    ensures { MatchResult result (λ _. part_fault base first count ≡ None)
+        (λ e. part_fault base first count ≡ Some e) }
+{
+    if base % 4096 != 0 {
+        return Err(BadRequest::Unaligned);
+    }
+    if count < 1 || count > 511 || first > 512 - count {
+        return Err(BadRequest::Part);
     }
     Ok(())
 }

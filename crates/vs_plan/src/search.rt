@@ -10,29 +10,34 @@ ghost use Rattle.vs_plan.specs.inside.Ended.{IsFirstPresent};
 
 use crate::plan::{Reply, Step};
 use crate::planner::Planner;
+use crate::reading::FrameWords;
 use vs_types::{Answer, Entry, FRAME_WORDS, Meaning};
 
 impl Planner {
     /// Goes on towards the first page below the level of the one that is to be mapped.
-    pub(crate) fn search(&mut self, words: &[u64; FRAME_WORDS]) -> Step
+    pub(crate) fn search<W: FrameWords>(&mut self, words: &mut W) -> Step
         requires awaits { AwaitsWords self.old }
         requires phase { self.old.phase ≡ Phase.Search }
+        requires unread { (i : ℕ) → i < FRAME_WORDS → W.is_unread words.old i }
         ensures same { (self.new.target ≡ self.old.target)
             × (self.new.request ≡ self.old.request) }
         ensures awaits { Awaits self.new result }
         ensures fewer { sees_left self.new result < self.old.level }
         ensures given { HasGiven self.new [] result }
         ensures next { (memory : Memory) → IsSearched memory self.old
-            → finite.get memory self.old.number ≡ Some words.now
+            → finite.get memory self.old.number ≡ Some (W.words words.old)
             → IsNext memory self.new [] result }
     {
         let level = self.level;
-        let Some(index) = first_present(words) else {
-            return self.refuse(Reply::Empty(self.number));
+        let Some((index, word)) = first_present(words) else {
+            return self.refuse(Reply::Empty(self.number, self.base));
         };
         self.base = self.base.wrapping_add((index as u64) << (3 + 9 * level));
-        match Entry::new(words[index]).read(level) {
+        match Entry::new(word).read(level) {
             Meaning::Table(next, _) => {
+                if next >= self.target.frames_end() {
+                    return self.refuse(Reply::Reserved(self.number, index));
+                }
                 self.number = next;
                 self.level = level - 1;
                 Step::See(next)
@@ -45,15 +50,18 @@ impl Planner {
     }
 }
 
-/// The index of the first word that is present.
-fn first_present(words: &[u64; FRAME_WORDS]) -> Option<usize>
+/// The index of the first word that is present, and the word.
+fn first_present<W: FrameWords>(words: &mut W) -> Option<(usize, u64)>
+    requires { (i : ℕ) → i < FRAME_WORDS → W.is_unread words.old i }
     ensures none { IfNone result
-        ((i : ℕ) → i < FRAME_WORDS → slice_index words.now i % 2 ≡ 0) }
-    ensures first { IfSome result (IsFirstPresent words.now) }
+        ((i : ℕ) → i < FRAME_WORDS → slice_index (W.words words.old) i % 2 ≡ 0) }
+    ensures first { IfSome result (λ found. IsFirstPresent (W.words words.old) found.0
+        × (found.1 ≡ slice_index (W.words words.old) found.0)) }
 {
     for index in 0..FRAME_WORDS {
-        if words[index] % 2 != 0 {
-            return Some(index);
+        let word = words.read(index);
+        if word % 2 != 0 {
+            return Some((index, word));
         }
     }
     None

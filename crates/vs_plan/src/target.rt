@@ -6,8 +6,9 @@ use vs_types::Depth;
 pub struct Target {
     /// How many levels of tables there are.
     pub depth: Depth,
-    /// Whether the tables that the root leads to are never unlinked: other roots may lead to them too.
-    pub pinned: bool,
+    /// Tables to which entries of this level and above lead are never unlinked, since other roots may lead to them too. 0: there are none.
+    /// 1: no table is unlinked.
+    pub pinned: u8,
     /// How many bits a physical address has: 36 to 52.
     pub phys_bits: u8,
     /// The frame number of the root.
@@ -15,7 +16,7 @@ pub struct Target {
 }
 
 impl Target {
-    ghost use Rattle.std.specs.Prelude.{◌≡◌, ◌-◌, ◌<◌, ◌≤◌, ◌^◌};
+    ghost use Rattle.std.specs.Prelude.{◌≡◌, ◌≤◌, ◌^◌};
     ghost use Rattle.vs_types.specs.Depth.{levels};
     ghost use Rattle.vs_plan.specs.Target.{highest_link, frames_end, HasPhysBits};
 
@@ -24,15 +25,15 @@ impl Target {
         ensures is { result ≡ highest_link self }
         ensures most { result ≤ levels self.depth }
     {
-        if self.pinned {
-            self.depth.levels() - 1
-        } else {
+        if self.pinned == 0 {
             self.depth.levels()
+        } else {
+            self.depth.levels().min(self.pinned - 1)
         }
     }
 
     /// The number of frames that there can be: 2^24 to 2^40.
-    pub(crate) fn frames_end(self) -> u64
+    pub fn frames_end(self) -> u64
         requires { HasPhysBits self }
         ensures is { result ≡ frames_end self }
         ensures most { result ≤ 2 ^ 40 }

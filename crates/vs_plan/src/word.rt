@@ -7,6 +7,7 @@ ghost use Rattle.vs_types.specs.Page.{level_of, bytes_of, intersection};
 ghost use Rattle.vs_plan.specs.Bits.{AreBits, placed, page_word, bits_in, with_rights, with_address, unflagged, flagged};
 ghost use Rattle.vs_plan.specs.Changes.{larger, smaller};
 
+use crate::reading::FrameWords;
 use vs_types::{Entry, FRAME_WORDS, Page, Rights, Size};
 
 /// Below bit 3 are an entry's bits for present, write and user.
@@ -37,7 +38,7 @@ const ADDRESS: u64 = 1 << 12;
 const ABOVE_ADDRESS: u64 = 1 << 52;
 
 /// Whether no bit is set but those that an entry can have beside its address and its rights.
-pub(crate) fn are_bits(bits: u64) -> bool
+pub fn are_bits(bits: u64) -> bool
     ensures { IsTrue result ↔ AreBits bits }
 {
     bits % ABOVE_RIGHTS == 0 && bits % ABOVE_ADDRESS < ADDRESS && bits < NO_FETCH
@@ -55,7 +56,7 @@ fn placed(size: Size, bits: u64) -> u64
 }
 
 /// The entry of a page with these bits.
-pub(crate) fn page_word(page: Page, bits: u64) -> u64
+pub fn page_word(page: Page, bits: u64) -> u64
     requires bits { AreBits bits }
     requires aligned { page.phys % bytes_of page.size ≡ 0 }
     requires in_range { page.phys < 2 ^ 52 }
@@ -66,7 +67,7 @@ pub(crate) fn page_word(page: Page, bits: u64) -> u64
 }
 
 /// The bits of the entry of a page of this size.
-pub(crate) fn bits_in(size: Size, word: u64) -> u64
+pub fn bits_in(size: Size, word: u64) -> u64
     ensures is { result ≡ bits_in size word }
     ensures are_bits { AreBits result }
 {
@@ -82,7 +83,7 @@ pub(crate) fn bits_in(size: Size, word: u64) -> u64
 }
 
 /// The entry with these rights, and its other bits as they were.
-pub(crate) fn with_rights(word: u64, rights: Rights) -> u64
+pub fn with_rights(word: u64, rights: Rights) -> u64
     ensures { result ≡ with_rights word rights }
 {
     let write = if rights.write { WRITE } else { 0 };
@@ -92,7 +93,7 @@ pub(crate) fn with_rights(word: u64, rights: Rights) -> u64
 }
 
 /// The entry of a page of this size with this physical address, and its other bits as they were.
-pub(crate) fn with_address(size: Size, word: u64, phys: u64) -> u64
+pub fn with_address(size: Size, word: u64, phys: u64) -> u64
     requires in_range { phys + bytes_of size ≤ 2 ^ 52 }
     ensures { result ≡ with_address size word phys }
 {
@@ -136,26 +137,29 @@ pub(crate) fn larger(size: Size) -> Size
 }
 
 /// Whether entries that allow these rights together allow all that is wanted.
-pub(crate) fn permits(above: Rights, wanted: Rights) -> bool
+pub fn permits(above: Rights, wanted: Rights) -> bool
     ensures all { IsTrue result → intersection above wanted ≡ wanted }
     ensures less { IsFalse result → intersection above wanted ≢ wanted }
 {
     above.intersection(wanted) == wanted
 }
 
-/// Whether each word of a frame but that at the index is 0. The one beside it is looked at first.
-pub(crate) fn is_alone(words: &[u64; FRAME_WORDS], index: usize) -> bool
-    requires { index < FRAME_WORDS }
-    ensures alone { IsTrue result → (i : ℕ) → i ≢ index → slice_index words.now i ≡ 0 }
+/// Whether each word of a frame but that at the index is 0. The one beside it is read first.
+pub(crate) fn is_alone<W: FrameWords>(words: &mut W, index: usize) -> bool
+    requires in_range { index < FRAME_WORDS }
+    requires unread { (i : ℕ) → i < FRAME_WORDS → i ≢ index → W.is_unread words.old i }
+    ensures same { W.words words.new ≡ W.words words.old }
+    ensures alone { IsTrue result → (i : ℕ) → i < FRAME_WORDS → i ≢ index
+        → slice_index (W.words words.old) i ≡ 0 }
     ensures other { IsFalse result
-        → (i : ℕ) × (i ≢ index) × (slice_index words.now i ≢ 0) }
+        → (i : ℕ) × (i ≢ index) × (slice_index (W.words words.old) i ≢ 0) }
 {
     let beside = if index % 2 == 0 { index + 1 } else { index - 1 };
-    if words[beside] != 0 {
+    if words.read(beside) != 0 {
         return false;
     }
     for i in 0..FRAME_WORDS {
-        if i != index && words[i] != 0 {
+        if i != index && i != beside && words.read(i) != 0 {
             return false;
         }
     }

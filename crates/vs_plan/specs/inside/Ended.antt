@@ -19,12 +19,12 @@ use Rattle.vs_plan.specs.declared.plan.Flush.TheVariants as flushes
 use Rattle.vs_plan.specs.declared.plan.Store.{Store}
 use Rattle.vs_plan.specs.declared.planner.Planner.{Planner}
 use Rattle.vs_plan.specs.declared.request.Request.{Request}
-use Rattle.vs_plan.specs.declared.request.Request.TheVariants.{Map, Unmap, Protect, Ask, Remap, Split, Join}
+use Rattle.vs_plan.specs.declared.request.Request.TheVariants.{Map, Unmap, Protect, Ask, Remap, Split, Join, Prune, UnmapPart, Collapse}
 use Rattle.vs_plan.specs.Bits.{page_word, bits_in, flagged}
 use Rattle.vs_plan.specs.Changes.{larger}
 use Rattle.vs_plan.specs.Premise.{IsPremise}
 use Rattle.vs_plan.specs.Request.{IsRequest, address_of, lowest_of}
-use Rattle.vs_plan.specs.Right.{IsRight, Follows}
+use Rattle.vs_plan.specs.Right.{IsRight, Follows, IsLike}
 use Rattle.vs_plan.specs.Shown.{HasMet}
 use Rattle.vs_plan.specs.Way.{IsWay}
 
@@ -56,7 +56,7 @@ IsRightWith planner word words plan = (memory : Memory) → HasEnded memory plan
     → (space : Space) → IsPremise planner.target.depth memory planner.target.root (address_of planner.request) space
     → IsRight planner.target planner.request memory space [] plan
 
--- a request of a page that is there
+-- a request that is answered by the page of its address
 abbrev pub IsNoMap : Request → Type 0
 IsNoMap (Map page bits) = ⊥
 IsNoMap (Unmap base) = Unit {0}
@@ -65,6 +65,9 @@ IsNoMap (Ask address) = Unit {0}
 IsNoMap (Remap base phys rights) = Unit {0}
 IsNoMap (Split base) = Unit {0}
 IsNoMap (Join base) = Unit {0}
+IsNoMap (Prune address) = ⊥
+IsNoMap (UnmapPart base first count) = Unit {0}
+IsNoMap (Collapse base phys rights) = Unit {0}
 
 -- the end, with a plan
 abbrev pub IsEnd : Step → Type 0
@@ -103,11 +106,17 @@ pub record IsFirstPresent (words : List ℕ) (index : ℕ) : Type 0 where
   pub present : slice_index words index % 2 ≢ 0
   pub before : (i : ℕ) → i < index → slice_index words i % 2 ≡ 0
 
--- the first entry of a table that doesn't follow on from its first one
-pub record IsFirstApart (words : List ℕ) (size : Size) (index : ℕ) : Type 0 where
+-- the first entry of a table, behind its first one, that doesn't follow on from that
+pub record IsFirstApart (first : ℕ) (words : List ℕ) (size : Size) (index : ℕ) : Type 0 where
   pub within : index < 512
-  pub apart : Follows size (slice_index words 0) index (slice_index words index) → ⊥
-  pub before : (i : ℕ) → i < index → Follows size (slice_index words 0) i (slice_index words i)
+  pub apart : Follows size first index (slice_index words index) → ⊥
+  pub before : (i : ℕ) → 1 ≤ i → i < index → Follows size first i (slice_index words i)
+
+-- the first entry of a table, behind its first one, that isn't like that
+pub record IsFirstUnlike (first : ℕ) (words : List ℕ) (size : Size) (index : ℕ) : Type 0 where
+  pub within : index < 512
+  pub unlike : IsLike size first (slice_index words index) → ⊥
+  pub before : (i : ℕ) → 1 ≤ i → i < index → IsLike size first (slice_index words i)
 
 -- the store of one page's entry in the place of the link to the table at the end of the way, whose first entry is this word; where the link
 -- is none, its rights are any

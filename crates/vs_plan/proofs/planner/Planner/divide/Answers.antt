@@ -44,7 +44,7 @@ returns-clause-next c = λ memory divided spare space premise.
     (ap (meaning p.level) (sym c.table.ensures.written) ∙ c.table.ensures.read_back p.level divided.large)
     (c.nothing-plan.ensures.reply_is ∙ ap (λ r. replies.Answer (answers.Changed r)) c.intersection.ensures)
     (c.nothing-plan.ensures.bits_are ∙ bits)
-    (fill_as number first (c.bytes.ensures ∙ ap bytes_of small))
+    (fill_as number 0 0 first (c.bytes.ensures ∙ ap bytes_of small))
     (c.push.ensures.items ∙ only_store c.nothing-plan.result.stores.items c.nothing-plan.ensures.stores p.number word c.index_at.ensures.is
     (c.word.ensures ∙ c.table.ensures.written))
     (ap (flushes.Range c.args.base) c.at_level-size.ensures) c.nothing-plan.ensures.unlinked

@@ -1,11 +1,14 @@
-use Rattle.std.proofs.Common.{◌≡◌, sym, ap, ◌∙◌}
+use Rattle.std.proofs.Common.{◌≡◌, Some, sym, ap, ◌∙◌, arith}
+use Rattle.vs_types.specs.Depth.{index_at}
 use Rattle.vs_types.specs.Entry.{meaning}
 use Rattle.vs_types.specs.Page.{bytes_of}
 use Rattle.vs_types.specs.declared.entry.Meaning.TheVariants as entry
 use Rattle.vs_plan.specs.declared.planner.Planner.{Planner}
 use Rattle.vs_plan.proofs.Asking.{reserved_right}
 use Rattle.vs_plan.proofs.Grown.{overlap_right}
-use Rattle.vs_plan.proofs.Parts.{planned_next}
+use Rattle.vs_plan.specs.Request.{address_of}
+use Rattle.vs_plan.proofs.Parts.{beyond_right, leads_beyond, planned_next}
+use Rattle.vs_plan.proofs.Stored.{found_word}
 use Rattle.vs_plan.proofs.Searching.{search_begins}
 use Rattle.vs_plan.proofs.planner.Planner.end_map.Goals as goal
 
@@ -20,8 +23,22 @@ returns-in-Leaf-clause-next c = λ memory ended.
     overlap_right p c.requires.end.request c.requires.request c.requires.end says (c.bytes.ensures ∙ ap bytes_of c.at_level.ensures) plan none memory ended
     space premise)
 
-pub returns-in-Table-clause-next : goal.returns-in-Table-clause-next
-returns-in-Table-clause-next c = λ memory ended.
+pub returns-then-next-frames_end-clause-next : goal.returns-then-next-frames_end-clause-next
+returns-then-next-frames_end-clause-next c = λ memory ended.
+    let p = c.args.self.now in
+    let says : meaning p.level c.args.word ≡ entry.Table c.in-Table.next c.in-Table.field-1 =
+    ap (meaning p.level) (sym c.new.ensures) ∙ sym c.read.ensures ∙ c.in-Table.is in
+    let refused = c.refuse-then-next-frames_end in
+    planned_next p refused.new.self refused.result (ap (λ (q : Planner). q.target) refused.ensures.same)
+    (ap (λ (q : Planner). q.request) refused.ensures.same) refused.ensures.planned
+    (λ plan none space premise. beyond_right premise plan none
+    (leads_beyond p.target (address_of p.request) p.level p.number p.rights c.requires.end.some ended.way
+    (found_word p.level memory p.number (address_of p.request) c.args.word ended.word_is ∙ ap Some says)
+    (c.index_at-index.ensures.is ∙ ap (λ r. index_at p.level (address_of r)) (sym c.requires.request))
+    (omega (arith, c.frames_end.ensures.is, c.if-next-frames_end.true))))
+
+pub returns-else-next-frames_end-clause-next : goal.returns-else-next-frames_end-clause-next
+returns-else-next-frames_end-clause-next c = λ memory ended.
     let p = c.args.self.now in
     let says : meaning p.level c.args.word ≡ entry.Table c.in-Table.next c.in-Table.field-1 =
     ap (meaning p.level) (sym c.new.ensures) ∙ sym c.read.ensures ∙ c.in-Table.is in

@@ -1,7 +1,7 @@
 use Rattle.std.proofs.Common.{ℕ, [], ◌∷◌, Option, Contains, refl, sym, ap, subst, arith}
 use Rattle.std.specs.Prelude.{IfSome}
 use Rattle.vs_types.proofs.Lists.{Contains-head}
-use Rattle.vs_plan.specs.Planner.{IsSpareFor}
+use Rattle.vs_plan.specs.Planner.{Divides, IsSpareFor}
 use Rattle.vs_plan.specs.Shown.{IsNext}
 use Rattle.vs_plan.specs.declared.planner.Planner.{Planner}
 use Rattle.vs_plan.proofs.Giving.{give_due, waits_growth, waits_division, grown_shown, divided_shown}
@@ -35,7 +35,10 @@ pub grow_on-requires-clause-awaits : goal.grow_on-requires-clause-awaits
 grow_on-requires-clause-awaits c = waits_growth c.args.self.now c.requires c.in-Map.is
 
 pub divide-requires-clause-awaits : goal.divide-requires-clause-awaits
-divide-requires-clause-awaits c = waits_division c.args.self.now c.requires c.in-Split.is
+divide-requires-clause-awaits c = waits_division c.args.self.now c.requires (subst Divides (sym c.in-Split.is) tt)
+
+pub divide_part-requires-clause-awaits : goal.divide_part-requires-clause-awaits
+divide_part-requires-clause-awaits c = waits_division c.args.self.now c.requires (subst Divides (sym c.in-UnmapPart.is) tt)
 
 pub returns-in-Map-clause-next : goal.returns-in-Map-clause-next
 returns-in-Map-clause-next c = λ memory shown spare.
@@ -47,7 +50,15 @@ returns-in-Map-clause-next c = λ memory shown spare.
 pub returns-in-Split-clause-next : goal.returns-in-Split-clause-next
 returns-in-Split-clause-next c = λ memory shown spare.
     let p = c.args.self.now in
-    let awaits = waits_division p c.requires c.in-Split.is in
+    let awaits = waits_division p c.requires (subst Divides (sym c.in-Split.is) tt) in
     let spare_for : IsSpareFor memory p c.in-Some.number = subst (λ (o : Option ℕ). IfSome o (λ number. IsSpareFor memory p number)) c.in-Some.is spare in
     subst (λ (o : Option ℕ). IsNext memory c.divide.new.self (o ∷ []) c.divide.result) (sym c.in-Some.is)
     (c.divide.ensures.next memory (divided_shown p awaits shown) spare_for)
+
+pub returns-in-UnmapPart-clause-next : goal.returns-in-UnmapPart-clause-next
+returns-in-UnmapPart-clause-next c = λ memory shown spare.
+    let p = c.args.self.now in
+    let awaits = waits_division p c.requires (subst Divides (sym c.in-UnmapPart.is) tt) in
+    let spare_for : IsSpareFor memory p c.in-Some.number = subst (λ (o : Option ℕ). IfSome o (λ number. IsSpareFor memory p number)) c.in-Some.is spare in
+    subst (λ (o : Option ℕ). IsNext memory c.divide_part.new.self (o ∷ []) c.divide_part.result) (sym c.in-Some.is)
+    (c.divide_part.ensures.next memory (divided_shown p awaits shown) spare_for)

@@ -16,6 +16,7 @@ returns-clause-awaits c = record {
   some = omega (arith, c.levels.ensures, three_levels c.args.target.depth);
   few = omega (arith, c.levels.ensures);
   lowest = λ is. omega (arith, c.levels.ensures, three_levels c.args.target.depth, low_request c.args.request);
+  within = (request_good c.args.target c.args.request c.in_ok-test.ensures).root;
   stop = c.highest_link.ensures.most;
 }
 

@@ -1,0 +1,116 @@
+//! The way of an address down to a table of level 1, over frames that lie one after another in memory.
+ghost use Rattle.std.specs.Prelude.{◌≡◌, ◌≢◌, ◌-◌, ◌/◌, ◌%◌, ◌<◌, ◌≤◌, ◌^◌, ℕ, IfNone, IfSome, IsTrue, length, slice_index, slice_index_or};
+ghost use Rattle.vs_types.specs.Entry.{meaning, rights_of};
+ghost use Rattle.vs_types.specs.declared.entry.Meaning.{Meaning};
+ghost use Rattle.vs_types.specs.declared.frame.TheConstants.{FRAME_WORDS};
+ghost use Rattle.vs_walk.specs.Memory.{Memory};
+ghost use Rattle.nrvs_plan_c.specs.Direct.{HasFrames, IsElsewhere};
+ghost use Rattle.nrvs_plan_c.specs.Kept.{target_of};
+ghost use Rattle.nrvs_plan_c.specs.inside.End.{IsAskable, IsEndOf};
+
+use crate::allowed::{all_allowed, narrowed};
+use crate::codes::depth_in;
+use crate::end::End;
+use crate::kept::{Target, Words};
+use vs_types::{FRAME_WORDS, index_at};
+
+/// The end of the way of an address, where target and address may be asked for, and it leads to a table of level 1 by frames that all
+/// lie here.
+pub(crate) fn end_in(frames: &[Words], first: u64, target: &Target, address: u64) -> Option<End>
+    ensures askable { IfSome result (λ end. IsAskable target.now address) }
+    ensures index { IfSome result (λ end. end.index < 512) }
+    ensures end { IfSome result (λ end. (memory : Memory) → HasFrames memory first frames.now
+        → IsEndOf (target_of target.now) memory address end) }
+{
+    if !is_askable(target, address) {
+        return None;
+    }
+    if !are_within(frames, first, target.phys_bits) {
+        return None;
+    }
+    let mut level = target.levels as u8;
+    let mut number = target.root;
+    let mut allowed = all_allowed();
+    while level > 1 {
+        let Some(words) = frame_at(frames, first, number) else {
+            return None;
+        };
+        let word = words.word[index_at(level, address)];
+        if !is_link(word) {
+            return None;
+        }
+        allowed = narrowed(allowed, word);
+        number = word % (1 << 52) / 4096;
+        level -= 1;
+    }
+    let Some(last) = frame_at(frames, first, number) else {
+        return None;
+    };
+    let index = index_at(1, address);
+    let word = last.word[index];
+    Some(End {
+        number,
+        index,
+        word,
+        allowed,
+    })
+}
+
+/// Whether there is such a target, and the address is canonical.
+fn is_askable(target: &Target, address: u64) -> bool
+    ensures { IsTrue result → IsAskable target.now address }
+{
+    (target.levels == 4 || target.levels == 5)
+        && target.phys_bits >= 36
+        && target.phys_bits <= 52
+        && target.root >> (target.phys_bits - 12) == 0
+        && depth_in(target.levels as u8).is_canonical(address)
+}
+
+/// Whether frames from a number on lie within the physical addresses.
+fn are_within(frames: &[Words], first: u64, phys_bits: u32) -> bool
+    requires from { 36 ≤ phys_bits }
+    requires to { phys_bits ≤ 52 }
+{
+    let end = 1u64 << (phys_bits - 12);
+    first <= end && frames.len() as u64 <= end - first
+}
+
+/// Whether a word above level 1 leads to a table.
+fn is_link(word: u64) -> bool
+    ensures { IsTrue result → (level : ℕ) → 2 ≤ level
+        → meaning level word ≡ Meaning.Table (word % 2 ^ 52 / 2 ^ 12) (rights_of word) }
+{
+    word % 2 == 1 && word / 128 % 2 == 0
+}
+
+/// The words of the frame of this number, where it lies here.
+pub(crate) fn frame_at<'a>(frames: &'a [Words], first: u64, number: u64) -> Option<&'a Words>
+    ensures there { IfSome result (λ words. (first ≤ number)
+        × (number - first < length frames.now)
+        × (words.now ≡ slice_index_or frames.now (number - first) words.now)) }
+    ensures none { IfNone result (IsElsewhere first (length frames.now) number) }
+{
+    if number < first {
+        return None;
+    }
+    frames.get((number - first) as usize)
+}
+
+/// Whether a table has a word other than 0 beside that at an index. In most the one next to it decides.
+pub(crate) fn has_other(words: &Words, index: usize) -> bool
+    requires { index < FRAME_WORDS }
+    ensures { IsTrue result
+        → (i : ℕ) × (i ≢ index) × (slice_index words.now.word i ≢ 0) }
+{
+    let beside = if index % 2 == 0 { index + 1 } else { index - 1 };
+    if words.word[beside] != 0 {
+        return true;
+    }
+    for i in 0..FRAME_WORDS {
+        if i != index && words.word[i] != 0 {
+            return true;
+        }
+    }
+    false
+}

@@ -1,0 +1,15 @@
+pub mod Stands
+pub mod Unlinked
+pub mod Several
+pub mod OnTable
+pub mod Moments
+pub mod Sequence
+pub mod RunRight
+pub mod PageFlushes
+pub mod MapRun
+pub mod ProtectRun
+pub mod UnmapRun
+pub mod Seeing
+pub mod Rooms
+pub mod Holes
+pub mod Harvesting

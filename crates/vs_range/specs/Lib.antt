@@ -1,0 +1,3 @@
+pub mod Several
+pub mod Run
+pub mod Planner

@@ -1,0 +1,186 @@
+-- What the planner of a range waits for, and what its next step means.
+use Rattle.std.specs.Prelude.{◌≡◌, ◌≢◌, ℕ, ◌+◌, ◌*◌, ◌%◌, ◌^◌, ◌<◌, ◌≤◌, ◌⊎◌, List, All, Option, Some, slice_index}
+use Rattle.vs_types.specs.Entry.{meaning}
+use Rattle.vs_types.specs.Depth.{index_at, IsCanonical}
+use Rattle.vs_types.specs.Page.{level_of, bytes_of, intersection}
+use Rattle.vs_types.specs.Space.{Space, page_at}
+use Rattle.vs_types.specs.declared.page.Page.{Page}
+use Rattle.vs_types.specs.declared.page.Rights.{Rights}
+use Rattle.vs_types.specs.declared.page.Size.{Size}
+use Rattle.vs_types.specs.declared.entry.Meaning.TheVariants as entry
+use Rattle.vs_walk.specs.Memory.{Memory}
+use Rattle.vs_walk.specs.Walk.{walk}
+use Rattle.vs_walk.specs.declared.walk.Walk.TheVariants.{NotMapped}
+use Rattle.vs_plan.specs.declared.plan.Step.{Step}
+use Rattle.vs_plan.specs.declared.plan.Step.TheVariants as steps
+use Rattle.vs_plan.specs.declared.request.Request.{Request}
+use Rattle.vs_plan.specs.declared.request.Request.TheVariants.{Map, Unmap, Protect, Ask}
+use Rattle.vs_plan.specs.Bits.{page_word, unflagged}
+use Rattle.vs_plan.specs.Planner.{AwaitsWords, AwaitsFrame}
+use Rattle.vs_plan.specs.Premise.{IsPremise}
+use Rattle.vs_plan.specs.Processor.{page_number, Translation}
+use Rattle.vs_plan.specs.Request.{address_of}
+use Rattle.vs_plan.specs.Right.{IsRight}
+use Rattle.vs_plan.specs.Shown.{IsShown}
+use Rattle.vs_plan.specs.Stores.{FindTheirWords}
+use Rattle.vs_range.specs.declared.planner.RangePlanner.{RangePlanner}
+use Rattle.vs_range.specs.declared.planner.RangeStep.{RangeStep}
+use Rattle.vs_range.specs.declared.planner.RangeStep.TheVariants.{See, Give, Runs, Harvests, Planned, Absent, Beyond}
+use Rattle.vs_range.specs.declared.run.Change.TheVariants.{Write, Clear, Allow, Unflag}
+use Rattle.vs_range.specs.declared.run.Forget.TheVariants as forget
+use Rattle.vs_range.specs.declared.run.Run.{Run}
+use Rattle.vs_range.specs.Run.{stores_of, flushes_in, IsRunRight}
+use Rattle.vs_range.specs.Several.{IsDroppedByOne}
+
+-- ---- what it waits for
+
+-- what may be done to a range
+abbrev pub IsRanged : Request → Type 0
+IsRanged (Map page bits) = Unit {0}
+IsRanged (Unmap base) = Unit {0}
+IsRanged (Protect base rights) = Unit {0}
+IsRanged (Ask address) = Unit {0}
+IsRanged request = ⊥
+
+-- the planner waits for the words of a frame
+pub record AwaitsRange (range : RangePlanner) : Type 0 where
+  pub words : AwaitsWords range.planner
+  pub base : address_of range.planner.request ≡ range.base
+  pub kind : IsRanged range.planner.request
+
+-- it waits for what the step says
+abbrev pub AwaitsNext : RangePlanner → RangeStep → Type 0
+AwaitsNext range (See number) = AwaitsRange range × (range.planner.number ≡ number)
+AwaitsNext range Give = AwaitsFrame range.planner
+AwaitsNext range (Runs run) = Unit {0}
+AwaitsNext range (Harvests run) = Unit {0}
+AwaitsNext range (Planned plan) = Unit {0}
+AwaitsNext range (Absent bytes) = Unit {0}
+AwaitsNext range (Beyond size) = Unit {0}
+
+-- the step of the first page's planner
+abbrev pub as_range : Step → RangeStep
+as_range (steps.See number) = See number
+as_range steps.Give = Give
+as_range (steps.Planned plan) = Planned plan
+
+-- ---- what a run is of
+
+-- a word is the entry of a page, in a table of this level
+pub record IsPageWord (level word : ℕ) : Type 0 where
+  pub phys : ℕ
+  pub own : Rights
+  pub says : meaning level word ≡ entry.Leaf phys own
+
+-- the page that begins at the base of a range has this size, and the entry for it, in the table that is seen, is this word
+pub record IsPageAt (range : RangePlanner) (word : ℕ) (size : Size) : Type 0 where
+  pub page : IsPageWord range.planner.level word
+  pub level : range.planner.level ≡ level_of size
+  pub aligned : range.base % bytes_of size ≡ 0
+
+-- so many pages of a map, from this one on, may be written in the table that is seen, where the first entry is this word
+pub record IsMapRoom (range : RangePlanner) (page : Page) (word count : ℕ) : Type 0 where
+  pub level : range.planner.level ≡ level_of page.size
+  pub absent : word % 2 ≡ 0
+  pub allows : intersection range.planner.rights page.rights ≡ page.rights
+  pub room : index_at range.planner.level range.base + count ≤ 512
+  pub within : (n : ℕ) → n ≤ count → n * bytes_of page.size ≤ range.bytes
+  pub low : (n : ℕ) → n ≤ count → page.phys + n * bytes_of page.size ≤ 2 ^ 51
+  pub phys : (n : ℕ) → n ≤ count → page.phys + n * bytes_of page.size ≤ 2 ^ range.planner.target.phys_bits
+
+-- a word of a table that is none of a run's, and not 0
+pub record HasOther (words : List ℕ) (index count : ℕ) : Type 0 where
+  pub other : ℕ
+  pub low : other < 512
+  pub apart : (other < index) ⊎ (index + count ≤ other)
+  pub some : slice_index words other ≢ 0
+
+-- the run that maps so many pages, from this one on
+abbrev pub map_run : Page → ℕ → ℕ → ℕ → ℕ → Run
+map_run page bits count frame index = record {
+  size = page.size;
+  count = count;
+  frame = frame;
+  index = index;
+  change = Write (page_word page bits) (bytes_of page.size);
+  forget = forget.Nothing;
+}
+
+-- the run that gives so many pages of this size these rights
+abbrev pub protect_run : Size → ℕ → Rights → ℕ → ℕ → ℕ → Run
+protect_run size base rights count frame index = record {
+  size = size;
+  count = count;
+  frame = frame;
+  index = index;
+  change = Allow rights;
+  forget = forget.Pages base size count;
+}
+
+-- the run that removes them
+abbrev pub unmap_run : Size → ℕ → ℕ → ℕ → ℕ → Run
+unmap_run size base count frame index = record {
+  size = size;
+  count = count;
+  frame = frame;
+  index = index;
+  change = Clear;
+  forget = forget.Pages base size count;
+}
+
+-- the run that takes the flags away from them
+abbrev pub harvest_run : Size → ℕ → ℕ → ℕ → ℕ → Run
+harvest_run size base count frame index = record {
+  size = size;
+  count = count;
+  frame = frame;
+  index = index;
+  change = Unflag;
+  forget = forget.Pages base size count;
+}
+
+-- ---- what its next step means
+
+-- the page that begins at the base ends beyond so many bytes
+pub record EndsBeyond (space : Space) (base bytes : ℕ) (size : Size) : Type 0 where
+  pub page : Page
+  pub there : page_at space base ≡ Some page
+  pub begins : page.base ≡ base
+  pub size_is : page.size ≡ size
+  pub beyond : bytes < bytes_of size
+
+-- nothing is mapped at the first so many bytes of a range, of which there are some
+pub record IsAbsentFor (memory : Memory) (range : RangePlanner) (bytes : ℕ) : Type 0 where
+  pub some : 1 ≤ bytes
+  pub nothing : (address : ℕ) → IsCanonical range.planner.target.depth address → range.base ≤ address → address < range.base + bytes
+      → walk range.planner.target.depth memory range.planner.target.root address ≡ NotMapped
+
+-- a run that is right for each space, and within the range
+pub record IsRunNext (memory : Memory) (range : RangePlanner) (run : Run) : Type 0 where
+  pub some : 1 ≤ run.count
+  pub within : run.count * bytes_of run.size ≤ range.bytes
+  pub right : (space : Space) → IsPremise range.planner.target.depth memory range.planner.target.root range.base space
+      → IsRunRight range.planner.target range.planner.request memory space run
+
+-- a harvest: it has a page, and is within the range. Each store finds the entry of a page, and takes the two flags from it and nothing else; and
+-- what is kept of its pages is dropped, so that a processor sets the flags again
+pub record IsHarvestNext (memory : Memory) (range : RangePlanner) (run : Run) : Type 0 where
+  pub some : 1 ≤ run.count
+  pub within : run.count * bytes_of run.size ≤ range.bytes
+  pub found : FindTheirWords memory (stores_of memory run)
+  pub cleared : All (λ store. IsPageWord range.planner.level store.old × (store.new ≡ unflagged store.old)) (stores_of memory run)
+  pub dropped : (number frame level : ℕ) (rights : Rights) → number < run.count → IsDroppedByOne (flushes_in run.forget)
+      (Translation level (page_number level (range.base + number * bytes_of run.size)) frame rights)
+
+-- the next step, by what was shown of the memory and which frames were offered
+abbrev pub IsRangeNext : Memory → RangePlanner → List (Option ℕ) → RangeStep → Type 0
+IsRangeNext memory range offered (See number) = IsShown memory range.planner
+IsRangeNext memory range offered Give = IsShown memory range.planner
+IsRangeNext memory range offered (Runs run) = IsRunNext memory range run
+IsRangeNext memory range offered (Harvests run) = IsHarvestNext memory range run
+IsRangeNext memory range offered (Planned plan) = (space : Space)
+    → IsPremise range.planner.target.depth memory range.planner.target.root (address_of range.planner.request) space
+    → IsRight range.planner.target range.planner.request memory space offered plan
+IsRangeNext memory range offered (Absent bytes) = IsAbsentFor memory range bytes
+IsRangeNext memory range offered (Beyond size) = (space : Space)
+    → IsPremise range.planner.target.depth memory range.planner.target.root range.base space → EndsBeyond space range.base range.bytes size

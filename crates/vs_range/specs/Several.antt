@@ -1,0 +1,73 @@
+-- Plans one after another, before one flush.
+use Rattle.std.specs.Prelude.{◌≡◌, ℕ, ◌⊎◌, List, [], ◌∷◌, ◌++◌, Contains, Option}
+use Rattle.std.specs.FinMap as finite
+use Rattle.vs_types.specs.Space.{Space}
+use Rattle.vs_walk.specs.Memory.{Memory}
+use Rattle.vs_plan.specs.declared.plan.Flush.{Flush}
+use Rattle.vs_plan.specs.declared.plan.Plan.{Plan}
+use Rattle.vs_plan.specs.declared.request.Request.{Request}
+use Rattle.vs_plan.specs.declared.target.Target.{Target}
+use Rattle.vs_plan.specs.Flushed.{while_stored}
+use Rattle.vs_plan.specs.Other.{HasSameTables}
+use Rattle.vs_plan.specs.Premise.{IsPremise}
+use Rattle.vs_plan.specs.Processor.{Kept, IsDropped, Moment, Flushes}
+use Rattle.vs_plan.specs.Request.{address_of}
+use Rattle.vs_plan.specs.Right.{IsRight, written_frames, space_after, begun, ended}
+
+-- a call that was planned: what was asked, which frames were offered, the memory as it was then, and the plan
+pub record Call : Type 0 where
+  pub request : Request
+  pub offered : List (Option ℕ)
+  pub memory : Memory
+  pub plan : Plan
+
+-- before a plan: since the plan before it the memory has changed only where no way leads; these frames, which are unlinked, are as they were,
+-- and the plan writes into none of them; what a plan asks of the memory holds, and it is right
+pub record IsRightThen (target : Target) (memory : Memory) (space : Space) (gone : List ℕ) (call : Call) : Type 0 where
+  pub tables : HasSameTables target.depth target.root memory call.memory
+  pub stays : (number : ℕ) → Contains gone number → finite.get call.memory number ≡ finite.get memory number
+  pub spared : (number : ℕ) → Contains gone number → Contains (written_frames call.plan.fill call.plan.stores.items) number → ⊥
+  pub premise : IsPremise target.depth call.memory target.root (address_of call.request) space
+  pub right : IsRight target call.request call.memory space call.offered call.plan
+
+-- plans are right one after another, each where those before it have left the memory and the space; these frames were unlinked before the first
+abbrev pub AreRight : Target → Memory → Space → List ℕ → List Call → Type 0
+AreRight target memory space gone [] = Unit {0}
+AreRight target memory space gone (call ∷ calls) =
+    IsRightThen target memory space gone call
+    × AreRight target (ended call.memory call.plan) (space_after target call.request space call.plan.reply) (call.plan.unlinked.items ++ gone) calls
+
+-- the memory after all plans
+abbrev pub ended_all : Memory → List Call → Memory
+ended_all memory [] = memory
+ended_all memory (call ∷ calls) = ended_all (ended call.memory call.plan) calls
+
+-- the space after all plans
+abbrev pub space_after_all : Target → Space → List Call → Space
+space_after_all target space [] = space
+space_after_all target space (call ∷ calls) = space_after_all target (space_after target call.request space call.plan.reply) calls
+
+-- the frames that they unlink
+abbrev pub unlinked_by : List Call → List ℕ
+unlinked_by [] = []
+unlinked_by (call ∷ calls) = call.plan.unlinked.items ++ unlinked_by calls
+
+-- the moments while the stores of all are made, after earlier ones
+abbrev pub while_planned : List Call → List Moment → List Moment
+while_planned [] earlier = earlier
+while_planned (call ∷ calls) earlier = while_planned calls (while_stored (begun call.memory call.plan) call.plan.stores.items earlier)
+
+-- and then these flushes
+abbrev pub flushed_by : List Flush → List Moment → List Moment
+flushed_by [] moments = moments
+flushed_by (flush ∷ flushes) moments = flushed_by flushes (Flushes flush ∷ moments)
+
+-- one of the flushes drops what is kept
+abbrev pub IsDroppedByOne : List Flush → Kept → Type 0
+IsDroppedByOne [] kept = ⊥
+IsDroppedByOne (flush ∷ flushes) kept = IsDropped flush kept ⊎ IsDroppedByOne flushes kept
+
+-- what the flush of a plan drops, one of these drops
+abbrev pub HaveAll : List Flush → List Call → Type 0
+HaveAll flushes [] = Unit {0}
+HaveAll flushes (call ∷ calls) = ((kept : Kept) → IsDropped call.plan.flush kept → IsDroppedByOne flushes kept) × HaveAll flushes calls

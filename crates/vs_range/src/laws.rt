@@ -1,0 +1,35 @@
+//! Laws of the definitions in `specs/`. Each function does nothing: its clauses say what holds of all processors and plans.
+
+ghost use Rattle.std.specs.Prelude.{◌≡◌, ◌≢◌, ℕ, List, [], Contains, Some};
+ghost use Rattle.vs_types.specs.Depth.{levels};
+ghost use Rattle.vs_types.specs.Space.{Space};
+ghost use Rattle.vs_types.specs.declared.page.Rights.{Rights};
+ghost use Rattle.vs_walk.specs.Memory.{Memory};
+ghost use Rattle.vs_space.specs.Path.{table_at};
+ghost use Rattle.vs_plan.specs.declared.plan.Flush.{Flush};
+ghost use Rattle.vs_plan.specs.declared.target.Target.{Target};
+ghost use Rattle.vs_plan.specs.Processor.{Moment, PagingEntry, MayKeep, IsUpToDate};
+ghost use Rattle.vs_range.specs.Several.{Call, AreRight, ended_all, while_planned, HaveAll, flushed_by, unlinked_by};
+
+/// Plans one after another need no flush between them. A processor that was up to date before the first is so again once the stores of all
+/// are made and it has flushed all that each of their flushes drops. No way leads to a frame that one of them has unlinked; but until
+/// that flush a processor may read it, and so no later plan may write into it. After the flush nothing that is kept leads into one:
+/// then the frames are free.
+pub fn flushes_of_several_plans_suffice()
+    ensures after { (target : Target) (memory : Memory) (space : Space) (calls : List Call)
+        (flushes : List Flush) (earlier : List Moment) → AreRight target memory space [] calls
+        → HaveAll flushes calls → IsUpToDate target.depth target.root memory earlier
+        → IsUpToDate target.depth target.root (ended_all memory calls)
+        (flushed_by flushes (while_planned calls earlier)) }
+    ensures unreached { (target : Target) (memory : Memory) (space : Space) (calls : List Call)
+        (number : ℕ) → AreRight target memory space [] calls → Contains (unlinked_by calls) number
+        → (level address : ℕ)
+        → table_at (levels target.depth) (ended_all memory calls) target.root level address
+        ≢ Some number }
+    ensures freed { (target : Target) (memory : Memory) (space : Space) (calls : List Call)
+        (moments : List Moment) (level region number : ℕ) (rights : Rights)
+        → AreRight target memory space [] calls
+        → IsUpToDate target.depth target.root (ended_all memory calls) moments
+        → Contains (unlinked_by calls) number
+        → MayKeep target.depth target.root moments (PagingEntry level region number rights) → ⊥ }
+{}

@@ -1,0 +1,11 @@
+//! Ranges of pages in a page table whose frames a kernel keeps itself: one run of words for each table, and one flush for all.
+#![tactic(auto)]
+
+pub mod laws;
+mod planner;
+mod run;
+mod search;
+mod word;
+
+pub use planner::{RangePlanner, RangeStep};
+pub use run::{Change, Forget, Run};
