@@ -50,8 +50,15 @@
 #ifndef NRVS_H
 #define NRVS_H
 
+#ifdef __KERNEL__ /* Linux: its modules are compiled with -nostdinc */
+#include <linux/types.h>
+#ifndef UINT64_C
+#define UINT64_C(number) number##ULL
+#endif
+#else
 #include <stddef.h>
 #include <stdint.h>
+#endif
 
 #ifdef __cplusplus
 extern "C" {

@@ -6,6 +6,12 @@ use std::process::{exit, Command};
 fn main() {
     println!("cargo:rerun-if-env-changed=NRVS_ARCHIVES");
     link(&archives("nrvs_c"), "nrvs_c");
+    if env::var_os("CARGO_FEATURE_PLANS").is_some() {
+        link(&archives("nrvs_plan_c"), "nrvs_plan_c");
+    }
+    if env::var_os("CARGO_FEATURE_NODES").is_some() {
+        link(&archives("nrvs_nodes_c"), "nrvs_nodes_c");
+    }
     if env::var_os("CARGO_FEATURE_AUDIT").is_some() {
         link(&archives("nrvs_audit_c"), "nrvs_audit_c");
         link(&heap(), "libc_c");

@@ -43,11 +43,20 @@
 mod audit;
 mod errors;
 mod ffi;
+#[cfg(feature = "nodes")]
+pub mod nodes;
 mod page;
+#[cfg(feature = "plans")]
+mod plan;
 mod table;
 
 #[cfg(feature = "audit")]
 pub use audit::{audit, Fault, Format, OutOfMemory, Verdict};
 pub use errors::{AccessError, BadMemory, BadRequest, ChangeError, MapError};
 pub use page::{Access, Depth, Frame, Mapping, Mark, Mode, Page, Rights, Size};
+#[cfg(feature = "plans")]
+pub use plan::{
+    Answer, BadPlan, Fill, Flush, Give, NotAsked, Plan, Planner, Request, See, Step, Store, Target,
+    ATTRIBUTES,
+};
 pub use table::PageTable;

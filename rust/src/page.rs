@@ -125,6 +125,18 @@ impl Frame {
         core::array::from_fn(|index| self.word(index))
     }
 
+    /// Stores a word at an index below 512.
+    #[cfg(feature = "plans")]
+    pub(crate) fn store(&self, index: usize, word: u64) {
+        self.0[index].store(word, Ordering::Relaxed);
+    }
+
+    /// Stores a word at an index below 512 where the old one is there; else the word that is there.
+    #[cfg(feature = "plans")]
+    pub(crate) fn exchange(&self, index: usize, old: u64, new: u64) -> Result<u64, u64> {
+        self.0[index].compare_exchange(old, new, Ordering::SeqCst, Ordering::SeqCst)
+    }
+
     /// Clears the flags of the word at an index below 512, where that is present, and gives the word as it was.
     pub(crate) fn clear_flags(&self, index: usize) -> u64 {
         let cleared = |word| (word & PRESENT != 0).then_some(word & !(ACCESSED | DIRTY));

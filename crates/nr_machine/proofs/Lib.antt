@@ -1,0 +1,13 @@
+pub mod Cases
+pub mod Kept
+pub mod Teaching
+pub mod Stores
+pub mod Held
+pub mod Ending
+pub mod Stated
+pub mod Run
+pub mod Spending
+pub mod Told
+pub mod Loaded
+pub mod Fitting
+pub mod Refusals

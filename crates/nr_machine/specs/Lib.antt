@@ -1,0 +1,10 @@
+pub mod Words
+pub mod Actor
+pub mod World
+pub mod Laws
+pub mod States
+pub mod Examples
+pub mod Machine
+pub mod Sound
+pub mod Bound
+pub mod inside

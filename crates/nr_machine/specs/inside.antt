@@ -1,0 +1,2 @@
+-- The insides of a machine: no public clause cites them.
+pub mod Told

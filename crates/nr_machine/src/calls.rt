@@ -1,0 +1,215 @@
+//! The calls of a machine.
+ghost use Rattle.std.specs.Prelude.{◌≡◌, ◌≢◌, ◌<◌, ◌≤◌, ◌+◌, ◌*◌, ◌^◌, ℕ, nat_le, nat_lt, length, [], ◌∷◌, ◌++◌, List, IsTrue, ◌↔◌, All, IfOk, IfErr, MatchResult, if◌then◌else◌, Some, None};
+ghost use Rattle.std.specs.List.{list_all};
+ghost use Rattle.nr_machine.specs.declared.asked.Asked.{Asked};
+ghost use Rattle.nr_machine.specs.declared.node.Phase.{Phase};
+ghost use Rattle.nr_machine.specs.declared.words.Operation.{Operation};
+ghost use Rattle.nr_machine.specs.declared.words.Update.{Update};
+ghost use Rattle.nr_machine.specs.declared.words.Word.{Word};
+ghost use Rattle.nr_machine.specs.Actor.{applies, begins, ends, is_own, learned};
+ghost use Rattle.nr_machine.specs.Bound.{Spends, left};
+ghost use Rattle.nr_machine.specs.Machine.{IsFit, MayAsk, actor_of, asked_by, refusal_of};
+ghost use Rattle.nr_machine.specs.Sound.{IsSound};
+
+use crate::asked::{Asked, END, Refusal, Reply};
+use crate::node::{Node, Phase};
+use crate::words::{RING, Update};
+
+impl Node {
+    /// Begins a call that appends these updates, 1 to 16 of them, one after another in the log.
+    ///
+    /// # Errors
+    ///
+    /// The first refusal that holds.
+    pub fn update(&mut self, updates: &[Update]) -> Result<Asked, Refusal>
+        requires { IsSound self.old }
+        ensures sound { IsSound self.new }
+        ensures asks { IfOk result (λ asked. asked ≡ asked_by self.new) }
+        ensures may { IfOk result (λ asked.
+            MayAsk self.new.nodes self.new.number (actor_of self.new) asked) }
+        ensures begun { IfOk result (λ asked. (refusal_of self.old updates.now ≡ None)
+            × (actor_of self.new ≡ begins (ends (actor_of self.old)) updates.now)) }
+        ensures replies { IfOk result (λ asked. self.new.replies.items ≡ []) }
+        ensures works { IfOk result (λ asked. asked ≢ Asked.Broken) }
+        ensures bounded { IfOk result (λ asked.
+            left self.new ≡ self.new.nodes + 2 * length updates.now + 6) }
+        ensures refused { IfErr result (λ why. (refusal_of self.old updates.now ≡ Some why)
+            × (self.new ≡ self.old)) }
+        ensures same { (self.new.nodes ≡ self.old.nodes) × (self.new.number ≡ self.old.number) }
+    {
+        self.test(updates)?;
+        self.batch.clear();
+        let Ok(()) = self.batch.try_extend_from_slice(updates) else {
+            unreachable!();
+        };
+        self.standing = None;
+        self.firsts = 0;
+        self.seconds = 0;
+        self.replies.clear();
+        self.phase = Phase::Looks;
+        Ok(self.asks())
+    }
+
+    /// Tests whether a call may begin with these updates.
+    fn test(&self, updates: &[Update]) -> Result<(), Refusal>
+        ensures { MatchResult result (λ ok. refusal_of self.now updates.now ≡ None)
+            (λ why. refusal_of self.now updates.now ≡ Some why) }
+    {
+        if !matches!(self.phase, Phase::Rest) {
+            return Err(Refusal::Busy);
+        }
+        if updates.is_empty() {
+            return Err(Refusal::Empty);
+        }
+        if updates.len() > RING {
+            return Err(Refusal::TooMany);
+        }
+        if !are_small(updates) {
+            return Err(Refusal::TooLarge);
+        }
+        Ok(())
+    }
+
+    /// Begins a call that is over at once where its node has applied at least so many entries. Else its node takes and applies all that are
+    /// in the log when it loads the head, which may be fewer than so many.
+    ///
+    /// # Errors
+    ///
+    /// `Busy`, where the call before isn't over.
+    pub fn sync(&mut self, at_least: u64) -> Result<Asked, Refusal>
+        requires { IsSound self.old }
+        ensures sound { IsSound self.new }
+        ensures asks { IfOk result (λ asked. asked ≡ asked_by self.new) }
+        ensures may { IfOk result (λ asked.
+            MayAsk self.new.nodes self.new.number (actor_of self.new) asked) }
+        ensures begun { IfOk result (λ asked. (self.old.phase ≡ Phase.Rest)
+            × (actor_of self.new ≡ ends (actor_of self.old)) × (asked ≡
+            (if nat_le at_least self.old.applied then Asked.Done
+            else Asked.Carry (Operation.Load Word.Head)))) }
+        ensures bounded { IfOk result (λ asked. left self.new ≤ 5) }
+        ensures replies { IfOk result (λ asked. self.new.replies.items ≡ []) }
+        ensures refused { IfErr result (λ why. (self.old.phase ≢ Phase.Rest)
+            × (why ≡ Refusal.Busy) × (self.new ≡ self.old)) }
+        ensures same { (self.new.nodes ≡ self.old.nodes) × (self.new.number ≡ self.old.number) }
+    {
+        if !matches!(self.phase, Phase::Rest) {
+            return Err(Refusal::Busy);
+        }
+        self.batch.clear();
+        self.standing = None;
+        self.firsts = 0;
+        self.seconds = 0;
+        self.replies.clear();
+        if at_least > self.applied {
+            self.phase = Phase::Looks;
+        }
+        Ok(self.asks())
+    }
+
+    /// Takes what the word was before the operation that was asked for; of a node that lags any value. Where neither was asked for,
+    /// nothing changes.
+    pub fn told(&mut self, value: u64) -> Asked
+        requires { IsSound self.old }
+        ensures sound { IsSound self.new }
+        ensures asks { result ≡ asked_by self.new }
+        ensures may { MayAsk self.new.nodes self.new.number (actor_of self.new) result }
+        ensures learned { (operation : Operation) → asked_by self.old ≡ Asked.Carry operation
+            → result ≢ Asked.Broken
+            → actor_of self.new ≡ learned self.old.number (actor_of self.old) operation value }
+        ensures fits { (operation : Operation) → asked_by self.old ≡ Asked.Carry operation
+            → IsFit self.old.nodes (actor_of self.old) operation value → result ≢ Asked.Broken }
+        ensures lags { (node : ℕ) → asked_by self.old ≡ Asked.Lags node
+            → (result ≡ Asked.Carry (Operation.Load Word.Head))
+            × (actor_of self.new ≡ actor_of self.old) × Spends 1 self.old self.new }
+        ensures bounded { (operation : Operation) → asked_by self.old ≡ Asked.Carry operation
+            → IsFit self.old.nodes (actor_of self.old) operation value
+            → Spends 0 self.old self.new }
+        ensures named { (node : ℕ) → result ≡ Asked.Lags node
+            → (asked_by self.old ≡ Asked.Carry (Operation.Load (Word.Local node)))
+            × (value + 16 < self.new.seen + length self.new.batch.items) }
+        ensures others { ((operation : Operation) → asked_by self.old ≢ Asked.Carry operation)
+            → ((node : ℕ) → asked_by self.old ≢ Asked.Lags node) → self.new ≡ self.old }
+        ensures same { (self.new.nodes ≡ self.old.nodes) × (self.new.number ≡ self.old.number)
+            × (self.new.replies ≡ self.old.replies) }
+    {
+        self.take(value);
+        self.asks()
+    }
+
+    /// Takes the reply to the entry that was to be applied. Where none was, nothing changes.
+    pub fn applied(&mut self, reply: Reply) -> Asked
+        requires { IsSound self.old }
+        ensures sound { IsSound self.new }
+        ensures asks { result ≡ asked_by self.new }
+        ensures may { MayAsk self.new.nodes self.new.number (actor_of self.new) result }
+        ensures applied { (update : Update) → asked_by self.old ≡ Asked.Apply update
+            → (actor_of self.new ≡ applies (actor_of self.old)) × (self.new.replies.items
+            ≡ (if is_own (actor_of self.old) then self.old.replies.items ++ (reply ∷ [])
+            else self.old.replies.items)) }
+        ensures works { (update : Update) → asked_by self.old ≡ Asked.Apply update
+            → result ≢ Asked.Broken }
+        ensures bounded { (update : Update) → asked_by self.old ≡ Asked.Apply update
+            → Spends 0 self.old self.new }
+        ensures others { ((update : Update) → asked_by self.old ≢ Asked.Apply update)
+            → self.new ≡ self.old }
+        ensures same { (self.new.nodes ≡ self.old.nodes) × (self.new.number ≡ self.old.number) }
+    {
+        if !matches!(self.phase, Phase::Applies) {
+            return self.asks();
+        }
+        self.apply(reply);
+        self.asks()
+    }
+
+    /// The next entry is applied, with this reply.
+    fn apply(&mut self, reply: Reply)
+        requires sound { IsSound self.old }
+        requires phase { self.old.phase ≡ Phase.Applies }
+        ensures sound { IsSound self.new }
+        ensures actor { actor_of self.new ≡ applies (actor_of self.old) }
+        ensures replies { self.new.replies.items
+            ≡ (if is_own (actor_of self.old) then self.old.replies.items ++ (reply ∷ [])
+            else self.old.replies.items) }
+        ensures works { self.new.phase ≢ Phase.Broken }
+        ensures bounded { Spends 0 self.old self.new }
+        ensures same { (self.new.nodes ≡ self.old.nodes) × (self.new.number ≡ self.old.number) }
+    {
+        let own = self.is_own();
+        let _applied = self.got.pop();
+        self.applied += 1;
+        self.from += 1;
+        if own {
+            self.replies.push(reply);
+        }
+        self.phase = if self.got.is_empty() {
+            Phase::Flushes
+        } else {
+            Phase::Applies
+        };
+    }
+
+    /// Whether the entry that is applied next is one of the updates of the call.
+    fn is_own(&self) -> bool
+        requires { IsSound self.now }
+        ensures { result ≡ is_own (actor_of self.now) }
+    {
+        match self.standing {
+            None => false,
+            Some(first) => first <= self.applied && self.applied < first + self.batch.len() as u64,
+        }
+    }
+}
+
+/// Whether the second words of these updates are below 2^57.
+fn are_small(updates: &[Update]) -> bool
+    ensures { result ≡ list_all (λ (update : Update). nat_lt update.second (2 ^ 57)) updates.now }
+{
+    updates.iter().all(|update| update.second < END)
+}
+
+/// Whether every node is done with a place, where the words `Done` of all nodes, loaded one after another in any order, are these.
+pub fn everywhere(done: &[u64], place: u64) -> bool
+    ensures { IsTrue result ↔ All (λ count. place < count) done.now }
+{
+    done.iter().all(|count| place < *count)
+}

@@ -1,0 +1,97 @@
+//! What holds of every schedule of single operations, whatever the number of nodes. Each function does nothing: its clauses say what holds.
+
+ghost use Rattle.std.specs.Prelude.{ℕ, ◌≡◌, ◌≤◌, ◌<◌, ◌+◌, ◌-◌, ◌*◌, ◌^◌, List};
+ghost use Rattle.nr_machine.specs.World.{Act, MayAct, Plays, World, opening, played};
+ghost use Rattle.nr_machine.specs.World.Act.{Does};
+ghost use Rattle.nr_machine.specs.Words.{told_by};
+ghost use Rattle.nr_machine.specs.Bound.{Spends, left, price, total};
+ghost use Rattle.nr_machine.specs.Machine.{IsFit};
+ghost use Rattle.nr_machine.specs.declared.node.Node.{Node};
+ghost use Rattle.nr_machine.specs.declared.words.Operation.{Operation};
+ghost use Rattle.nr_machine.specs.Laws.{AllApplied, AreWritten, Everywhere, KeepsPrecedence, StandInOrder};
+ghost use Rattle.nr_machine.specs.States.{AllRight, Kind, Nodes, StatesFollow, at_first, ends_among, ends_of, run};
+ghost use Rattle.nr_machine.specs.Examples.{example, its_events};
+
+/// One log: `head` is its tail, every node has taken, applied and flushed a beginning of it, in that order, no node is more than a ring
+/// behind, and what it knows to be completed is. And each entry that some node hasn't taken yet lies where that node looks for it.
+pub fn nodes_share_one_log()
+    ensures order { (nodes : ℕ) (acts : List Act) → nodes ≤ 64 → Plays nodes (opening nodes) acts
+        → StandInOrder nodes (played (opening nodes) acts) }
+    ensures written { (nodes : ℕ) (acts : List Act) → nodes ≤ 64 → Plays nodes (opening nodes) acts
+        → AreWritten nodes (played (opening nodes) acts) }
+{}
+
+/// Whatever the entries do to a state, each node keeps the state after its beginning of the one log; each update that ended was given the
+/// answers at its places, to its own updates and in their order; and each read saw the state after as many entries as it reports.
+pub fn states_follow_the_log<State, Answer>()
+    ensures world { (kind : Kind State Answer) (w : Nodes State Answer) (acts : List Act)
+        → (run kind w acts).world ≡ played w.world acts }
+    ensures states { (nodes : ℕ) (kind : Kind State Answer) (acts : List Act) → nodes ≤ 64
+        → Plays nodes (opening nodes) acts
+        → StatesFollow nodes kind (run kind (at_first nodes kind) acts) }
+    ensures replies { (nodes : ℕ) (kind : Kind State Answer) (acts : List Act) → nodes ≤ 64
+        → Plays nodes (opening nodes) acts → AllRight kind
+        (run kind (at_first nodes kind) acts).world (run kind (at_first nodes kind) acts).replies }
+    ensures ends { (nodes : ℕ) (kind : Kind State Answer) (acts : List Act)
+        → ends_among (run kind (at_first nodes kind) acts).world.events
+        ≡ ends_of (run kind (at_first nodes kind) acts).replies }
+{}
+
+/// The order of calls by their places keeps the order in which they happened: what ended before another call began comes before it, and a
+/// read sees all of it.
+pub fn calls_keep_precedence()
+    ensures { (nodes : ℕ) (acts : List Act) → nodes ≤ 64 → Plays nodes (opening nodes) acts
+        → KeepsPrecedence (played (opening nodes) acts).events }
+{}
+
+/// What is completed doesn't become less. So a read that loads it sees at least what was completed before.
+pub fn completed_never_falls()
+    ensures { (nodes : ℕ) (acts more : List Act) → nodes ≤ 64 → Plays nodes (opening nodes) acts
+        → Plays nodes (played (opening nodes) acts) more
+        → (played (opening nodes) acts).words.completed
+        ≤ (played (played (opening nodes) acts) more).words.completed }
+{}
+
+/// What an operation gives is a value that a machine takes, as long as the log is far from 2^57 entries. So none breaks.
+pub fn values_fit()
+    ensures { (nodes : ℕ) (acts : List Act) (n : ℕ) (operation : Operation) → nodes ≤ 64
+        → Plays nodes (opening nodes) acts
+        → (played (opening nodes) acts).log.tail + 16 < 2 ^ 57
+        → MayAct nodes (played (opening nodes) acts) (Does n operation)
+        → IsFit nodes ((played (opening nodes) acts).actor n) operation
+        (told_by (played (opening nodes) acts).words operation) }
+{}
+
+/// In so many steps of a call, one after another: each spends one of what is left (`Node::told`, `Node::applied`). So their number is
+/// bounded by what was left as the call began, and the price of each entry that was seen meanwhile; and by how often a node lagged.
+pub fn calls_are_bounded()
+    ensures { (machine : ℕ → Node) (lagged : ℕ → ℕ) (count : ℕ)
+        → ((i : ℕ) → i < count → Spends (lagged i) (machine i) (machine (i + 1)))
+        → count + left (machine count) ≤ left (machine 0)
+        + price (machine 0) * ((machine count).seen - (machine 0).seen)
+        + ((machine 0).nodes + 2) * total lagged count }
+{}
+
+/// How much a node has applied and flushed doesn't become less. So what every node has stays so, even where one loads the nodes' words one
+/// after another, whatever happens meanwhile and next.
+pub fn everywhere_stays()
+    ensures grows { (nodes : ℕ) (acts more : List Act) → nodes ≤ 64
+        → Plays nodes (opening nodes) acts → Plays nodes (played (opening nodes) acts) more
+        → (n : ℕ) → (played (opening nodes) acts).words.done n
+        ≤ (played (played (opening nodes) acts) more).words.done n }
+    ensures stays { (nodes : ℕ) (acts more : List Act) (place : ℕ) → nodes ≤ 64
+        → Plays nodes (opening nodes) acts → Plays nodes (played (opening nodes) acts) more
+        → Everywhere nodes (played (opening nodes) acts) place
+        → Everywhere nodes (played (played (opening nodes) acts) more) place }
+    ensures applied { (nodes : ℕ) (acts : List Act) (place : ℕ) → nodes ≤ 64
+        → Plays nodes (opening nodes) acts
+        → Everywhere nodes (played (opening nodes) acts) place
+        → AllApplied nodes (played (opening nodes) acts) place }
+{}
+
+/// What is asked of a schedule can be met: here a read at one node sees the update of another, and then both have flushed it.
+pub fn calls_can_end()
+    ensures plays { Plays 2 (opening 2) example }
+    ensures events { (played (opening 2) example).events ≡ its_events }
+    ensures flushed { Everywhere 2 (played (opening 2) example) 0 }
+{}

@@ -1,0 +1,8 @@
+mod Histories
+mod Values
+mod Growing
+mod Opened
+mod Given
+mod Noted
+mod Steps
+mod Faultless

@@ -1,0 +1,28 @@
+use Rattle.std.proofs.Common.{◌+◌, arith, subst, sym}
+use Rattle.nr_machine.specs.declared.node.Phase.TheVariants as phases
+use Rattle.nr_machine.specs.inside.Told.{IsTold}
+use Rattle.nr_machine.proofs.Loaded.{told_lagging, told_last, told_next}
+use Rattle.nrvs_nodes_c.specs.Kept.{node_in}
+use Rattle.nrvs_nodes_c.proofs.kept.Node.scan.Goals as goal
+
+pub returns-then-value-need-clause-told : goal.returns-then-value-need-clause-told
+returns-then-value-need-clause-told c = let node = node_in c.args.self.now in
+    let need = c.need.ensures in
+    let behind = c.if-value-need.true in
+    subst (λ l. IsTold node c.args.value (record node { asked = node.next + 1; least = l; phase = phases.Lags })) (sym c.least_with-self.ensures)
+    (told_lagging node c.args.value c.requires.kept.sound c.requires.phase (omega (arith, need, behind)))
+
+pub returns-then-self-clause-told : goal.returns-then-self-clause-told
+returns-then-self-clause-told c = let node = node_in c.args.self.now in
+    let need = c.need.ensures in
+    let most = c.if-value-need.false in
+    subst (λ l. IsTold node c.args.value (record node { asked = node.next + 1; least = l; phase = phases.StoresFirst })) (sym c.least_with-self.ensures)
+    (told_last node c.args.value c.requires.kept.sound c.requires.phase (omega (arith, need, most)) c.if-self.true)
+
+pub returns-else-self-clause-told : goal.returns-else-self-clause-told
+returns-else-self-clause-told c = let node = node_in c.args.self.now in
+    let need = c.need.ensures in
+    let most = c.if-value-need.false in
+    subst (λ p. IsTold node c.args.value (record node { asked = node.next + 1; least = c.least_with-self.result; next = node.next + 1; phase = p })) (sym c.requires.phase)
+    (subst (λ l. IsTold node c.args.value (record node { asked = node.next + 1; least = l; next = node.next + 1; phase = phases.Scans })) (sym c.least_with-self.ensures)
+    (told_next node c.args.value c.requires.kept.sound c.requires.phase (omega (arith, need, most)) c.if-self.false))

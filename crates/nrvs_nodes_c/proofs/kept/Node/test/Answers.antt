@@ -1,0 +1,14 @@
+use Rattle.std.proofs.Common.{sym, ◌∙◌, arith}
+use Rattle.std.proofs.lemmas.Bool.Decides.{nat_tests}
+use Rattle.nr_machine.proofs.Refusals.{no_refusal}
+use Rattle.nrvs_nodes_c.specs.Kept.{node_in}
+use Rattle.nrvs_nodes_c.proofs.kept.Node.test.Goals as goal
+use Rattle.nrvs_nodes_c.proofs.kept.Node.test.Goals.{in-Rest, in_default}
+
+pub returns : goal.returns
+returns c = elim c.match-matches.branch [
+  | in-Rest w ↦ no_refusal (node_in c.args.self.now) c.args.updates.now (sym c.phase_in.ensures ∙ w.in-Rest.is)
+      (λ none. let one = c.is_empty.ensures in let two = c.if-is_empty.false in grind (arith, nat_tests, one, two, none))
+      c.if-updates-gt-RING.false (sym c.are_small.ensures ∙ c.if-not-are_small.false)
+  | in_default w ↦ let one = c.if-not-matches.false in let two = w.matches-is in absurd (cc)
+]

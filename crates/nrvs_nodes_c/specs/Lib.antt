@@ -1,0 +1,4 @@
+pub mod Kept
+pub mod Said
+pub mod Next
+pub mod Steps

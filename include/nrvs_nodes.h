@@ -1,0 +1,230 @@
+/* Node replication for a kernel: a log that the nodes of a machine share, as a machine that asks for one atomic operation at a time.
+ *
+ * Each node keeps a copy of something, as the page tables of an address space, under a lock of its own. An update is appended to one log,
+ * and each node applies all entries in their order. A call holds no memory but the node's struct, no lock and no handle: it ends with one
+ * operation on one word that the caller carries out, or with an entry to apply. nrvs_node_run, below, does that for C11 atomics:
+ *
+ *     lock(me);
+ *     code = nrvs_node_update(&node[me], &update, 1);
+ *     if (code < NRVS_NODE_REFUSED)
+ *             code = nrvs_node_run(&node[me], &words, rings, apply, lags, context);
+ *     reply = node[me].replies[0];
+ *     unlock(me);
+ *
+ * What an entry means is the caller's: two words, of which the second is below 2^57. A reply is two words as well.
+ *
+ * What is promised, where the caller keeps what is listed below (crates/nrvs_nodes_c/README.md has the clauses):
+ *   - whatever the order of single operations, there is one log; each node applies a beginning of it, in order, each entry once; an update
+ *     is answered at its place, in `replies`, in the order of the updates of its call;
+ *   - a call that ended before another began comes before it in the log. A read sees all that was completed when it began: it loads
+ *     `completed` first, and looks at the node's copy under its lock, once nrvs_node_at is at least that; else it syncs;
+ *   - no entry is overwritten that some node has still to take. NRVS_NODE_LAGS names a node just where its word, as it was loaded, leaves no
+ *     room: its ring's length behind;
+ *   - whatever the others do, a call ends: one of u updates on n nodes after at most (n + 2 u + 7) (e + 1) operations and entries, where its
+ *     node takes e entries in it, its own among them, and n + 2 more for each NRVS_NODE_LAGS; a sync after at most 6 e + 5. So a node that
+ *     was stopped holds up nobody, until others are 16 entries ahead of it;
+ *   - what every node is done with stays so (nrvs_nodes_everywhere). Where each node keeps page tables and applies entries by the plans of
+ *     nrvs_plan.h, and flushes its processors before it says so, each node's tables translate as the address space after the entries that
+ *     it has applied. A processor finds what the space has after as many entries, or one more while a plan is carried out. Once every node
+ *     is done with an unmap, none finds the page any more: so then its frame may be freed;
+ *   - the recording of such a run, calls before and replies after, has no fault for nrvs_audit.h.
+ *
+ * What the caller has to keep, which no call can test:
+ *   - each operation is carried out as asked, whole, in one order with all others (sequentially consistent), and its value given to
+ *     nrvs_node_told: the word as it was before, of a store any value. Nobody else writes the words. All are 0 at first, and all nodes new;
+ *   - from the begin of a call to its end one caller at a time has the node: a lock of its own is held;
+ *   - the log has fewer than 2^57 - 16 entries;
+ *   - an entry is applied to the node's copy, and flushed on its processors, before nrvs_node_applied;
+ *   - pointers are not null, aligned as their types are, and to as many elements as is said; each call is given the struct as the call
+ *     before left it;
+ *   - linking: the archive asks for memcpy, memset and memmove at most.
+ */
+#ifndef NRVS_NODES_H
+#define NRVS_NODES_H
+
+#include <stdbool.h>
+#include <stddef.h>
+#include <stdint.h>
+
+#ifdef __cplusplus
+extern "C" {
+#endif
+
+enum { NRVS_MOST_NODES = 64, NRVS_NODE_RING = 16 };
+
+/* What a call returns: what is asked for next, or why it is refused; then nothing changed. */
+enum {
+	NRVS_NODE_DONE = 0,     /* nothing: the call is over */
+	NRVS_NODE_LOAD = 1,     /* load the word */
+	NRVS_NODE_STORE = 2,    /* store `value` */
+	NRVS_NODE_EXCHANGE = 3, /* compare with `value` and, where it is equal, store `new_value` */
+	NRVS_NODE_MAX = 4,      /* store the greater of the word and `value` */
+	NRVS_NODE_APPLY = 5,    /* apply `entry`, then nrvs_node_applied */
+	NRVS_NODE_LAGS = 6,     /* have node `node` sync, or wait till it does; then nrvs_node_told with any value */
+	NRVS_NODE_BROKEN = 7,   /* nothing ever again: given a value that no word has, or the log is at its end */
+	NRVS_NODE_REFUSED = 16, /* and above: a refusal */
+	NRVS_NODE_BUSY = 16,    /* the call before isn't over */
+	NRVS_NODE_EMPTY = 17,   /* no update */
+	NRVS_NODE_TOO_MANY = 18,
+	NRVS_NODE_TOO_LARGE = 19, /* a second word isn't below 2^57 */
+	NRVS_NODE_NO_NODE = 20  /* more than 64 nodes, or a number that isn't below theirs */
+};
+
+/* A word: `head` and `completed` are of all nodes, the others of one. */
+enum {
+	NRVS_WORD_HEAD = 0,
+	NRVS_WORD_COMPLETED = 1,
+	NRVS_WORD_LOCAL = 2,
+	NRVS_WORD_DONE = 3,
+	NRVS_WORD_FIRST = 4, /* the first and the second word of the entry at `index` of the ring of `node` */
+	NRVS_WORD_SECOND = 5
+};
+
+struct nrvs_node_update {
+	uint64_t first;
+	uint64_t second; /* below 2^57 */
+};
+
+struct nrvs_node_reply {
+	uint64_t first;
+	uint64_t second;
+};
+
+struct nrvs_node_asked {
+	uint32_t code;      /* as the call returned it */
+	uint32_t word;      /* NRVS_WORD_HEAD .. */
+	uint64_t node;      /* whose word; or who lags */
+	uint64_t index;     /* 0 to 15 */
+	uint64_t value;
+	uint64_t new_value;
+	struct nrvs_node_update entry;
+};
+
+/* The machine of a node: plain numbers. */
+struct nrvs_node {
+	struct nrvs_node_asked asked;
+	uint64_t applied;     /* how many entries the node has applied */
+	uint64_t reply_count; /* the replies to the updates of the call */
+	struct nrvs_node_reply replies[NRVS_NODE_RING];
+	uint64_t own[84];     /* the library's */
+};
+
+/* The machine of node `number` of so many nodes, all of whose words are 0. */
+uint32_t nrvs_node_new(struct nrvs_node *node, uint64_t nodes, uint64_t number);
+
+/* Begins a call that appends 1 to 16 updates, one after another in the log. */
+uint32_t nrvs_node_update(struct nrvs_node *node, const struct nrvs_node_update *updates, size_t count);
+
+/* Begins a call that ends at once where the node has applied at least so many entries; else it has applied all that were there when the
+ * call loaded the head, which may be fewer.
+ */
+uint32_t nrvs_node_sync(struct nrvs_node *node, uint64_t at_least);
+
+/* Takes what the word was before the operation that was asked for. */
+uint32_t nrvs_node_told(struct nrvs_node *node, uint64_t value);
+
+/* Takes the reply to the entry that was to be applied. */
+uint32_t nrvs_node_applied(struct nrvs_node *node, const struct nrvs_node_reply *reply);
+
+/* Whether every node is done with the entry at a place, where the words `done` of all nodes are these. */
+bool nrvs_nodes_everywhere(const uint64_t *done, size_t nodes, uint64_t place);
+
+/* How many entries the node has applied; while no call is open they are completed too. */
+static inline uint64_t nrvs_node_at(const struct nrvs_node *node)
+{
+	return node->applied;
+}
+
+#ifdef __cplusplus
+}
+#elif defined(__STDC_VERSION__) && __STDC_VERSION__ >= 201112L && !defined(__STDC_NO_ATOMICS__) && !defined(__KERNEL__)
+#include <stdatomic.h>
+
+/* The words of all nodes, and those of one: each that several processors write or wait for has cache lines of its own. */
+struct nrvs_log_words {
+	_Alignas(128) _Atomic uint64_t head;
+	_Alignas(128) _Atomic uint64_t completed;
+};
+
+struct nrvs_node_words {
+	_Alignas(128) _Atomic uint64_t local;
+	_Alignas(128) _Atomic uint64_t done;
+	_Alignas(128) _Atomic uint64_t ring[2 * NRVS_NODE_RING];
+};
+
+static inline _Atomic uint64_t *nrvs_word_of(struct nrvs_log_words *words, struct nrvs_node_words *nodes,
+					     const struct nrvs_node_asked *asked)
+{
+	switch (asked->word) {
+	case NRVS_WORD_HEAD:
+		return &words->head;
+	case NRVS_WORD_COMPLETED:
+		return &words->completed;
+	case NRVS_WORD_LOCAL:
+		return &nodes[asked->node].local;
+	case NRVS_WORD_DONE:
+		return &nodes[asked->node].done;
+	case NRVS_WORD_FIRST:
+		return &nodes[asked->node].ring[2 * asked->index];
+	default:
+		return &nodes[asked->node].ring[2 * asked->index + 1];
+	}
+}
+
+/* Carries an operation out: what the word was before; of a store 0, which nrvs_node_told doesn't look at. */
+static inline uint64_t nrvs_carry_out(_Atomic uint64_t *word, const struct nrvs_node_asked *asked)
+{
+	uint64_t was = 0;
+
+	switch (asked->code) {
+	case NRVS_NODE_LOAD:
+		return atomic_load(word);
+	case NRVS_NODE_STORE:
+		atomic_store(word, asked->value);
+		return 0;
+	case NRVS_NODE_EXCHANGE:
+		was = asked->value;
+		atomic_compare_exchange_strong(word, &was, asked->new_value);
+		return was;
+	default:
+		was = atomic_load(word);
+		while (was < asked->value && !atomic_compare_exchange_weak(word, &was, asked->value))
+			;
+		return was;
+	}
+}
+
+/* Goes on with a call to its end: NRVS_NODE_DONE, or NRVS_NODE_BROKEN. */
+static inline uint32_t nrvs_node_run(struct nrvs_node *node, struct nrvs_log_words *words, struct nrvs_node_words *nodes,
+				     struct nrvs_node_reply (*apply)(void *context, const struct nrvs_node_update *entry),
+				     void (*lags)(void *context, uint64_t other), void *context)
+{
+	uint32_t code = node->asked.code;
+
+	while (code != NRVS_NODE_DONE && code != NRVS_NODE_BROKEN) {
+		if (code == NRVS_NODE_APPLY) {
+			struct nrvs_node_reply reply = apply(context, &node->asked.entry);
+
+			code = nrvs_node_applied(node, &reply);
+		} else if (code == NRVS_NODE_LAGS) {
+			lags(context, node->asked.node);
+			code = nrvs_node_told(node, 0);
+		} else {
+			code = nrvs_node_told(node, nrvs_carry_out(nrvs_word_of(words, nodes, &node->asked), &node->asked));
+		}
+	}
+	return code;
+}
+
+/* Whether every node is done with the entry at a place. */
+static inline bool nrvs_nodes_done(struct nrvs_node_words *nodes, size_t count, uint64_t place)
+{
+	uint64_t done[NRVS_MOST_NODES];
+
+	for (size_t i = 0; i < count; i++)
+		done[i] = atomic_load(&nodes[i].done);
+	return nrvs_nodes_everywhere(done, count, place);
+}
+#endif
+
+#endif
