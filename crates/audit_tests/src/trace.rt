@@ -159,7 +159,7 @@ static CHANGES: [(Changes, Format); 4] = [
 ];
 
 /// Changes of the user's write, and the fault of each.
-static CHANGES_OF_ACCESS: [(Changes, Format); 9] = [
+static CHANGES_OF_ACCESS: [(Changes, Format); 10] = [
     (&[(5, 1)], Format::BadEvent(2)),
     (&[(76, 5)], Format::BadEvent(2)),
     (&[(77, 3)], Format::BadEvent(2)),
@@ -169,6 +169,7 @@ static CHANGES_OF_ACCESS: [(Changes, Format); 9] = [
     (&[(97, 10)], Format::BadEvent(3)),
     (&[(98, 1)], Format::BadEvent(3)),
     (&[(99, 1)], Format::BadEvent(3)),
+    (&[(111, 2)], Format::BadEvent(3)),
 ];
 
 /// The bytes are refused with the fault.

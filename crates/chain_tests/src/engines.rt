@@ -2,7 +2,7 @@
 
 use crate::bytes::NOTHING_RECORDED;
 use nr_chain_engines::{audit_chain_io, chain_end_io, chain_start_io};
-use nr_engines::ProgFault;
+use nr_engines::{Input, ProgFault};
 use std::alloc::Global;
 use std::io::{Chain, Error, ErrorKind, Read, Write};
 use std::process::Abort;
@@ -64,16 +64,16 @@ static CASES: [(usize, bool, Option<u8>, &'static str); 6] = [
 ];
 
 /// Audits a chain, and holds what it writes and its status against what is expected, none where no read can be made.
-fn audits_to<R: Read>(
+fn audits_to<R: Read + Drop>(
     rt: &impl Abort,
     alloc: Global,
-    input: &mut R,
+    input: R,
     quiet: bool,
     wanted: (Option<u8>, &str),
 ) {
     let (status, written) = wanted;
     let mut output = Vec::new(alloc);
-    let told = audit_chain_io(alloc, input, &mut output, quiet);
+    let told = audit_chain_io(alloc, &mut Input::new(input), &mut output, quiet);
     assert!(rt; output.as_slice() == written.as_bytes());
     expect_status(rt, told, status);
 }
@@ -90,7 +90,7 @@ fn expect_status(rt: &impl Abort, told: Result<u8, ProgFault>, wanted: Option<u8
 fn chains_in_short_reads(rt: HostRuntime) {
     for (reads, quiet, status, written) in &CASES {
         let wanted = (*status, *written);
-        audits_to(&rt, rt.alloc(), &mut two_segments(*reads), *quiet, wanted);
+        audits_to(&rt, rt.alloc(), two_segments(*reads), *quiet, wanted);
     }
 }
 
@@ -106,15 +106,16 @@ static CUT_SHORT: [(bool, &'static str); 2] = [
 #[test]
 fn a_segment_cut_short(rt: HostRuntime) {
     for (quiet, written) in &CUT_SHORT {
-        let mut input = NOTHING.as_slice().chain(&NOTHING[..1]);
-        audits_to(&rt, rt.alloc(), &mut input, *quiet, (Some(1), *written));
+        let input = NOTHING.as_slice().chain(&NOTHING[..1]);
+        audits_to(&rt, rt.alloc(), input, *quiet, (Some(1), *written));
     }
 }
 
 #[test]
 fn a_second_write_that_fails(rt: HostRuntime) {
     let mut output = TakesOne(Vec::new(rt.alloc()));
-    let told = audit_chain_io(rt.alloc(), &mut two_segments(100), &mut output, false);
+    let mut input = Input::new(two_segments(100));
+    let told = audit_chain_io(rt.alloc(), &mut input, &mut output, false);
     assert!(rt; output.0.as_slice() == b"segment 0\nyes\norder\n".as_slice());
     assert!(rt; matches!(told, Err(ProgFault::CannotWrite)));
 }
@@ -128,19 +129,20 @@ static ENDS: [(usize, Option<u8>, Option<u8>); 4] = [
 ];
 
 /// Writes the pages at an end of a chain, and holds what it writes and its status against what is expected.
-fn lists_to<R: Read>(
+fn lists_to<R: Read + Drop>(
     rt: &impl Abort,
     alloc: Global,
-    input: &mut R,
+    input: R,
     is_end: bool,
     wanted: (Option<u8>, &str),
 ) {
     let (status, written) = wanted;
     let mut output = Vec::new(alloc);
+    let mut source = Input::new(input);
     let told = if is_end {
-        chain_end_io(alloc, input, &mut output, false)
+        chain_end_io(alloc, &mut source, &mut output, false)
     } else {
-        chain_start_io(alloc, input, &mut output, true)
+        chain_start_io(alloc, &mut source, &mut output, true)
     };
     assert!(rt; output.as_slice() == written.as_bytes());
     expect_status(rt, told, status);
@@ -150,13 +152,7 @@ fn lists_to<R: Read>(
 fn the_ends_of_a_chain_in_short_reads(rt: HostRuntime) {
     for (reads, start, end) in &ENDS {
         for (is_end, status) in [(false, *start), (true, *end)] {
-            lists_to(
-                &rt,
-                rt.alloc(),
-                &mut two_segments(*reads),
-                is_end,
-                (status, ""),
-            );
+            lists_to(&rt, rt.alloc(), two_segments(*reads), is_end, (status, ""));
         }
     }
 }
@@ -164,8 +160,8 @@ fn the_ends_of_a_chain_in_short_reads(rt: HostRuntime) {
 #[test]
 fn the_ends_of_a_chain_cut_short(rt: HostRuntime) {
     let first = "segment 0\nno 1 Format Truncated\n";
-    lists_to(&rt, rt.alloc(), &mut &NOTHING[..1], false, (Some(1), first));
-    let mut input = NOTHING.as_slice().chain(&NOTHING[..1]);
+    lists_to(&rt, rt.alloc(), &NOTHING[..1], false, (Some(1), first));
+    let input = NOTHING.as_slice().chain(&NOTHING[..1]);
     let second = "segment 1\nno 1 Format Truncated\n";
-    lists_to(&rt, rt.alloc(), &mut input, true, (Some(1), second));
+    lists_to(&rt, rt.alloc(), input, true, (Some(1), second));
 }

@@ -1,6 +1,6 @@
 //! A flush that fails.
 
-use nr_engines::{ProgFault, audit_io, resolve_io};
+use nr_engines::{Input, ProgFault, audit_io, resolve_io};
 use std::io::{Error, ErrorKind, Read, Write};
 use std::process::Abort;
 
@@ -38,11 +38,11 @@ fn expect(rt: &impl Abort, told: Result<u8, ProgFault>, output: &FailsAtFlush, w
 fn flush_that_fails(rt: HostRuntime) {
     let alloc = rt.alloc();
     let mut output = FailsAtFlush(Vec::new(alloc));
-    let mut input = HEAD.as_slice().chain(ROOT.as_slice());
+    let mut input = Input::new(HEAD.as_slice().chain(ROOT.as_slice()));
     let told = audit_io(alloc, &mut input, &mut output);
     expect(&rt, told, &output, "yes\norder\n");
     let mut output = FailsAtFlush(Vec::new(alloc));
-    let mut input = HEAD.as_slice().chain(ROOT.as_slice());
+    let mut input = Input::new(HEAD.as_slice().chain(ROOT.as_slice()));
     let told = resolve_io(alloc, &mut input, &mut output, "0x400123", 0, false);
     expect(&rt, told, &output, "not mapped\n");
 }

@@ -21,14 +21,13 @@ use Rattle.nr_audit.proofs.CallsAndReplies.{no_call_at_reply, no_call_past, no_r
 use Rattle.nr_audit.proofs.CallsAndReplies.{no_reply_with, no_answer, answers_only}
 use Rattle.nr_trace.proofs.LawsOfCalls.{answers_from}
 
-pub record HasFound (trace : Recording) (end : ℕ) (last table : List (Option ℕ)) : Type 0 where
-  pub threads : length last ≡ trace.layout.threads
+pub record HasFound (trace : Recording) (end : ℕ) (last : ℕ → Option ℕ) (table : List (Option ℕ)) : Type 0 where
   pub one_each : length table ≡ length trace.events
   pub replies : (call : ℕ) → call < length table → IsReplyBelow trace end call (get_or table call None)
-  pub last_made : (thread call : ℕ) → get_or last thread None ≡ Some call
+  pub last_made : (thread call : ℕ) → last thread ≡ Some call
       → (made : Invocation) × (call < end) × (call_of trace call ≡ Some made) × (made.thread ≡ thread)
   pub others_answered : (call : ℕ) (made : Invocation) → call < end → call_of trace call ≡ Some made
-      → (get_or last made.thread None ≡ Some call) ⊎ ((index : ℕ) × (index < end) × Answers trace index call)
+      → (last made.thread ≡ Some call) ⊎ ((index : ℕ) × (index < end) × Answers trace index call)
 
 pub nothing : (n i : ℕ) → ◌≡◌ {A = Option ℕ} (get_or (replicate n None) i None) None
 nothing n i = elim (cases_lt i n) [
@@ -36,20 +35,18 @@ nothing n i = elim (cases_lt i n) [
   | inr past ↦ get_or_past (replicate n None) i None (subst (λ m. m ≤ i) (sym (length-replicate {A = Option ℕ} n None)) past)
 ]
 
-nothing_known : (trace : Recording) → HasFound trace 0 (replicate trace.layout.threads None) (replicate (length trace.events) None)
-nothing_known trace = record {
-  threads = length-replicate {A = Option ℕ} trace.layout.threads None;
+nothing_known : (trace : Recording) (last : ℕ → Option ℕ) → ((thread : ℕ) → last thread ≡ None) → HasFound trace 0 last (replicate (length trace.events) None)
+nothing_known trace last none = record {
   one_each = length-replicate {A = Option ℕ} (length trace.events) None;
   replies = λ call lt. subst (λ o. IsReplyBelow trace 0 call o) (sym (nothing (length trace.events) call)) (λ index lt. absurd (omega arith));
-  last_made = λ thread call e. absurd (let none = nothing trace.layout.threads thread in cc);
+  last_made = λ thread call e. absurd (let gone = none thread in cc);
   others_answered = λ call made lt. absurd (omega arith);
 }
 
 -- before the first event nothing is known
-pub known_at_start : (trace : Recording) (last table : List (Option ℕ)) → last ≡ replicate trace.layout.threads None
+pub known_at_start : (trace : Recording) (last : ℕ → Option ℕ) (table : List (Option ℕ)) → ((thread : ℕ) → last thread ≡ None)
     → table ≡ replicate (length trace.events) None → HasFound trace 0 last table
-known_at_start trace last table e f =
-    subst (λ l. HasFound trace 0 l table) (sym e) (subst (λ t. HasFound trace 0 (replicate trace.layout.threads None) t) (sym f) (nothing_known trace))
+known_at_start trace last table none f = subst (HasFound trace 0 last) (sym f) (nothing_known trace last none)
 
 -- an event that is no reply to the call leaves what is known of the reply to it
 reply_stays : (trace : Recording) (end call : ℕ) (o : Option ℕ) → (Answers trace end call → ⊥) → IsReplyBelow trace end call o
@@ -79,8 +76,8 @@ unanswered trace end call None e h = h
 unanswered trace end call (Some reply) e h = absurd (cc)
 
 -- the thread has no call without a reply
-abbrev pub IsIdle : List (Option ℕ) → List (Option ℕ) → ℕ → Type 0
-IsIdle last table thread = (call : ℕ) → get_or last thread None ≡ Some call → get_or table call None ≢ None
+abbrev pub IsIdle : (ℕ → Option ℕ) → List (Option ℕ) → ℕ → Type 0
+IsIdle last table thread = (call : ℕ) → last thread ≡ Some call → get_or table call None ≢ None
 
 none_at : (trace : Recording) (i : ℕ) → (OpensTwice trace i → ⊥) → (HasFault trace (NoSuchCall i) → ⊥) → (HasFault trace (AnsweredTwice i) → ⊥)
     → HasNone (IsCallFaultAt i) trace
@@ -131,7 +128,7 @@ no_call_fault trace none = none_of_all IsCallFaultAt trace (λ index. elim (case
 ])
 
 -- what is known after all events
-pub table_at_end : (trace : Recording) (last table : List (Option ℕ)) → HasNone IsCallFault trace → HasFound trace (length trace.events) last table
+pub table_at_end : (trace : Recording) (last : ℕ → Option ℕ) (table : List (Option ℕ)) → HasNone IsCallFault trace → HasFound trace (length trace.events) last table
     → AreReplies trace table
 table_at_end trace last table clean known = record {
   one_each = known.one_each;
@@ -151,51 +148,47 @@ table_at_end trace last table clean known = record {
     | inr past ↦ absurd (let none = no_reply_past trace index past in cc)
   ]
 
-module _ (trace : Recording) (end : ℕ) (last table : List (Option ℕ)) (known : HasFound trace end last table) (within : end < length trace.events) where
+module _ (trace : Recording) (end : ℕ) (last : ℕ → Option ℕ) (table : List (Option ℕ)) (known : HasFound trace end last table) (within : end < length trace.events) where
   below_table : (call : ℕ) → call < end → call < length table
   below_table call lt = omega (arith, known.one_each)
 
   -- the event is a call or a touch, and no reply
   module _ (own : Invocation) (thread : ℕ) (on : own.thread ≡ thread) (is : call_of trace end ≡ Some own) (no_reply : reply_of trace end ≡ None) where
     -- what a call adds to what is known
-    pub known_after_call : thread < trace.layout.threads → IsIdle last table thread → HasFound trace (end + 1) (set last thread (Some end)) table
-    known_after_call few idle = record {
-      threads = length-set last thread (Some end) ∙ known.threads;
+    pub known_after_call : (now : ℕ → Option ℕ) → now thread ≡ Some end → ((other : ℕ) → other ≢ thread → now other ≡ last other)
+        → IsIdle last table thread → HasFound trace (end + 1) now table
+    known_after_call now here others idle = record {
       one_each = known.one_each;
       replies = λ call lt. reply_stays trace end call (get_or table call None)
           (no_answer trace end call no_reply) (known.replies call lt);
       last_made = λ other call e. elim (cases_eq other thread) [
         | inl same ↦
-            let here : get_or (set last thread (Some end)) other None ≡ Some end =
-            subst (λ t. get_or (set last thread (Some end)) t None ≡ Some end) (sym same)
-            (get_or-set_same last thread (Some end) None (omega (arith, known.threads))) in
-            let it : end ≡ call = cc in (
+            let it : end ≡ call = (let own = subst (λ t. now t ≡ Some end) (sym same) here in cc) in (
               own,
               omega arith,
               subst (λ i. call_of trace i ≡ Some own) it is,
               on ∙ sym same,
             )
         | inr apart ↦
-            let old = known.last_made other call (sym (get_or-set_other last thread other (Some end) None apart) ∙ e) in
+            let old = known.last_made other call (sym (others other apart) ∙ e) in
             (old.0, omega (arith, old.1), old.2, old.3)
       ];
       others_answered = λ call made lt e. elim (cases_lt call end) [
         | inl low ↦ elim (known.others_answered call made low e) [
           | inl at_last ↦ elim (cases_eq made.thread thread) [
             | inl same ↦
-                let reply = answered trace end call (get_or table call None) (idle call (subst (λ t. get_or last t None ≡ Some call) same at_last))
+                let reply = answered trace end call (get_or table call None) (idle call (subst (λ t. last t ≡ Some call) same at_last))
                 (known.replies call (below_table call low)) in
                 inr (reply.0, omega (arith, reply.1), reply.2)
-            | inr apart ↦ inl (get_or-set_other last thread made.thread (Some end) None apart ∙ at_last)
+            | inr apart ↦ inl (others made.thread apart ∙ at_last)
           ]
           | inr reply ↦ inr (reply.0, omega (arith, reply.1), reply.2)
         ]
-        | inr here ↦
+        | inr at_end ↦
             let it : call ≡ end = omega arith in
             let told = subst (λ i. call_of trace i ≡ Some made) it e in
             let same : made ≡ own = cc in
-            inl (subst (λ t. get_or (set last thread (Some end)) t None ≡ Some call) (sym (ap (λ (m : Invocation). m.thread) same ∙ on))
-            (get_or-set_same last thread (Some end) None (omega (arith, known.threads)) ∙ ap (λ i. Some i) (sym it)))
+            inl (subst (λ t. now t ≡ Some call) (sym (ap (λ (m : Invocation). m.thread) same ∙ on)) (here ∙ ap (λ i. Some i) (sym it)))
       ];
     }
 
@@ -209,7 +202,7 @@ module _ (trace : Recording) (end : ℕ) (last table : List (Option ℕ)) (known
         elim (known.others_answered twice.earlier twice.earlier_made twice.is_earlier twice.is_earlier_made) [
           | inl at_last ↦
               let reply = answered trace end twice.earlier (get_or table twice.earlier None)
-              (idle twice.earlier (subst (λ t. get_or last t None ≡ Some twice.earlier) threads at_last))
+              (idle twice.earlier (subst (λ t. last t ≡ Some twice.earlier) threads at_last))
               (known.replies twice.earlier (below_table twice.earlier twice.is_earlier)) in
               twice.not_answered reply.0 reply.1 reply.2
           | inr reply ↦ twice.not_answered reply.0 reply.1 reply.2
@@ -218,7 +211,7 @@ module _ (trace : Recording) (end : ℕ) (last table : List (Option ℕ)) (known
         (no_reply_with trace end _ no_reply)
 
     -- a call of a thread whose last call has no reply
-    pub first_open : (call : ℕ) → get_or last thread None ≡ Some call → get_or table call None ≡ None → IsFirstAmong (IsCallFaultAt end) trace (ThreadOpen end)
+    pub first_open : (call : ℕ) → last thread ≡ Some call → get_or table call None ≡ None → IsFirstAmong (IsCallFaultAt end) trace (ThreadOpen end)
     first_open call at_last none = record {
       is_among = refl;
       holds =
@@ -277,7 +270,6 @@ module _ (trace : Recording) (end : ℕ) (last table : List (Option ℕ)) (known
 
     pub known_after_reply : call < end → get_or table call None ≡ None → HasFound trace (end + 1) last (set table call (Some end))
     known_after_reply low none = record {
-      threads = known.threads;
       one_each = length-set table call (Some end) ∙ known.one_each;
       replies = λ other lt. elim (cases_eq other call) [
         | inl same ↦

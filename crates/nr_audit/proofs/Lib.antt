@@ -1,5 +1,6 @@
 pub mod Ranks
 pub mod CallsAndReplies
+pub mod LastCalls
 pub mod CallFaults
 pub mod LogFaults
 pub mod PositionFaults

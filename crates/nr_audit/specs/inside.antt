@@ -2,6 +2,7 @@
 pub mod Chains
 pub mod Dumps
 pub mod Indexes
+pub mod LastCalls
 pub mod LastEvents
 pub mod Passes
 pub mod Prefixes

@@ -8,6 +8,7 @@ ghost use Rattle.nr_audit.specs.inside.Search.{HasNone, IsFirstAmong};
 ghost use Rattle.nr_audit.specs.inside.Passes.{IsCallFault};
 
 use crate::history::History;
+use crate::last_calls::LastCalls;
 use crate::tables::{MaybeIndex, empty_table};
 use nr_trace::{Event, Fault, Recorded, Trace};
 use std::alloc::Global;
@@ -30,25 +31,26 @@ fn is_call(event: Recorded) -> bool
 }
 
 /// Whether the last call of a thread has no reply.
-fn is_open(last: MaybeIndex, replies: &[MaybeIndex]) -> bool
+fn is_open(last: Option<u32>, replies: &[MaybeIndex]) -> bool
     requires { IfSome last (λ call. call < length replies.now) }
     ensures { IsTrue result ↔ IsSomeAnd last (λ call. slice_index_or replies.now call None ≡ None) }
 {
-    match last.get() {
+    match last {
         Some(call) => replies[call as usize].get().is_none(),
         None => false,
     }
 }
 
 /// Looks for a call of a thread whose earlier call has no reply yet, a reply to what is no earlier call, and a second
-/// reply to a call; a touch is a call here. Gives the history, and allocates memory for it: four bytes for each event, and for each thread.
+/// reply to a call; a touch is a call here. Gives the history, and allocates memory for it, four bytes for each event, and for the
+/// last calls of the threads.
 pub(crate) fn check_calls<'a>(alloc: Global, trace: &'a Trace) -> Result<History<'a>, Fail<Fault>>
     ensures history { IfOk result (λ history. history ≡ trace.now) }
     ensures clean { OnOk result (HasNone IsCallFault trace.now) }
     ensures first { IfErr result (IfRefused (IsFirstAmong IsCallFault trace.now)) }
 {
     let events = trace.events();
-    let mut last = empty_table(alloc, trace.layout().threads() as usize)?;
+    let mut last = LastCalls::new(alloc, trace.layout().threads(), events.len())?;
     let mut replies = empty_table(alloc, events.len())?;
     for (index, event) in events.iter().enumerate() {
         let event = event.event();
@@ -61,10 +63,10 @@ pub(crate) fn check_calls<'a>(alloc: Global, trace: &'a Trace) -> Result<History
             }
             replies[call as usize] = MaybeIndex::of(index as u32);
         } else if let Some(thread) = thread_of(event) {
-            if is_open(last[thread as usize], &replies) {
+            if is_open(last.of(thread), &replies) {
                 return Err(Fail::Refused(Fault::ThreadOpen(index as u32)));
             }
-            last[thread as usize] = MaybeIndex::of(index as u32);
+            last.note(thread, index as u32)?;
         }
     }
     Ok(History::of(trace, replies))

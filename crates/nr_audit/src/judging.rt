@@ -62,8 +62,9 @@ pub fn judge_from(alloc: Global, trace: &Trace, start: PlainSpace) -> Result<Jud
 /// space. And that each dump that is there, as all of a trace are, translates every canonical address as that space does after so
 /// many updates as the replica had applied. `No` does not say that no other order explains the trace.
 ///
-/// Allocates memory beside the trace: at most 16 bytes for each event and 4 for each thread; and, when these are freed but
-/// for 4 bytes for each call of the order, for one space and what the check of a dump takes.
+/// Allocates memory beside the trace: at most 16 bytes for each event and 4 for each thread, or where there are more threads than
+/// events an entry of a map for each thread that makes a call; and, when these are freed but for 4 bytes for each call of the
+/// order, for one space and what the check of a dump takes.
 ///
 /// # Errors
 ///

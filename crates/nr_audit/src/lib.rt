@@ -12,6 +12,7 @@ pub mod examples;
 mod floors;
 mod history;
 mod judging;
+mod last_calls;
 mod last_events;
 pub mod laws;
 mod log;

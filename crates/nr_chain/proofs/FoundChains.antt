@@ -2,7 +2,8 @@
 use Rattle.std.proofs.Common.{◌≡◌, ℕ, List, [], ◌∷◌, map, Option, Some, None, refl, ap, sym, subst}
 use Rattle.std.specs.Prelude.{All, ⊤}
 use Rattle.std.proofs.lemmas.List.Elements.{All-nil, All-cons}
-use Rattle.vs_types.specs.Space.{Space}
+use Rattle.vs_types.specs.Config.{Layout}
+use Rattle.vs_types.specs.Space.{Space, IsSpace}
 use Rattle.nr_trace.specs.Recording.{Recording}
 use Rattle.nr_trace.specs.Calls.{IsWellFormedHistory}
 use Rattle.nr_trace.proofs.LawsOfHistories.{history_if_faultless}
@@ -12,7 +13,7 @@ use Rattle.nr_segment.specs.Touches.{HasRightTouches}
 use Rattle.nr_segment.specs.declared.fault.SegmentFault.TheVariants.{Within}
 use Rattle.nr_chain.specs.Fed.{Kept}
 use Rattle.nr_chain.specs.Bytes.{kept_after, SpellAll, EndsWith, GoesOnSo}
-use Rattle.nr_chain.specs.Headline.{traces, IsRightChain}
+use Rattle.nr_chain.specs.Headline.{traces, GoesOnIn, IsRightChain}
 use Rattle.nr_chain.specs.Joined.{Segment, both, joined}
 use Rattle.nr_chain.specs.Run.{AreFaultlessFrom, AreRightFrom, IsRightFrom, space_behind}
 use Rattle.nr_chain.proofs.Both.{of_log, right_both, space_behind_both}
@@ -21,6 +22,7 @@ use Rattle.nr_chain.proofs.Faultless.{right_all}
 use Rattle.nr_chain.proofs.History.{earlier_calls}
 use Rattle.nr_chain.proofs.OneChain.{one_chain}
 use Rattle.nr_chain.proofs.Restarts.{begins_in}
+use Rattle.nr_chain.proofs.Started.{goes_on_in, stays_space, started_joined, AreStarted}
 use Rattle.nr_chain.proofs.Touched.{touches_both}
 
 -- the touches of each segment are right, from the space after those before it
@@ -33,6 +35,7 @@ record IsFound (kept : Kept) (bytes : List ℕ) (orders : List (List ℕ)) (segm
   ordered : orders ≡ map (λ segment. segment.order) segments
   faultless : AreFaultlessFrom kept.space kept.layout segments
   touched : AreTouchedRight kept.space segments
+  started : AreStarted kept.layout.depth kept.space segments
   histories : All (λ segment. IsWellFormedHistory segment.trace) segments
   layouts : All (λ segment. segment.trace.layout ≡ kept.layout) segments
 
@@ -46,17 +49,20 @@ found_none kept [] end = record {
   ordered = refl;
   faultless = tt;
   touched = tt;
+  started = tt;
   histories = All-nil (λ (s : Segment). IsWellFormedHistory s.trace);
   layouts = All-nil (λ (s : Segment). s.trace.layout ≡ kept.layout);
 }
 found_none kept (x ∷ bytes) end = absurd end
 
-found_behind : (kept : Kept) (bytes : List ℕ) (orders : List (List ℕ)) → GoesOnSo (Some kept) bytes orders None
+found_behind : (kept : Kept) (bytes : List ℕ) (orders : List (List ℕ)) → IsSpace kept.layout.depth kept.space → GoesOnSo (Some kept) bytes orders None
     → (segments : List Segment) × IsFound kept bytes orders segments
-found_behind kept bytes [] end = ([], found_none kept bytes end)
-found_behind kept bytes (order ∷ more) (segment, rest, begins, sound, same, next) =
-    let (segments, are) = found_behind (kept_after (Some kept) segment) rest more next in
+found_behind kept bytes [] is end = ([], found_none kept bytes end)
+found_behind kept bytes (order ∷ more) is (segment, rest, begins, sound, same, next) =
     let layout : segment.layout ≡ kept.layout = sym begins.spelled.follows in
+    let own_is : IsSpace segment.layout.depth kept.space = subst (λ (l : Layout). IsSpace l.depth kept.space) (sym layout) is in
+    let (segments, are) = found_behind (kept_after (Some kept) segment) rest more
+    (stays_space segment begins.spelled.in_range kept.space own_is segment.log) next in
     let own : Segment = record { trace = segment; order = order } in (
       own ∷ segments,
       record {
@@ -69,6 +75,11 @@ found_behind kept bytes (order ∷ more) (segment, rest, begins, sound, same, ne
           subst (λ layout. AreFaultlessFrom (space_behind kept.space own) layout segments) layout are.faultless,
         );
         touched = (sound.touches, are.touched);
+        started = (
+          subst (λ (l : Layout). GoesOnIn l.depth segment.start kept.space) layout
+              (goes_on_in segment kept.space begins.spelled.in_range own_is sound),
+          subst (λ (l : Layout). AreStarted l.depth (space_behind kept.space own) segments) layout are.started,
+        );
         histories = All-cons (λ (s : Segment). IsWellFormedHistory s.trace) own segments (history_of (Some kept.space) segment sound) are.histories;
         layouts = All-cons (λ (s : Segment). s.trace.layout ≡ kept.layout) own segments layout
             (subst (λ layout. All (λ (s : Segment). s.trace.layout ≡ layout) segments) layout are.layouts);
@@ -90,8 +101,9 @@ touches_joined start first (next ∷ more) right (same_layout, next_right, rest)
 pub right_chain : (bytes : List ℕ) (orders : List (List ℕ)) → GoesOnSo None bytes orders None → IsRightChain bytes orders
 right_chain bytes [] end = absurd end
 right_chain bytes (order ∷ more) (segment, rest, begins, sound, same, next) =
-    let (segments, are) = found_behind (kept_after None segment) rest more next in
     let start = first_space None segment in
+    let own_is = (begins_in segment begins.spelled.in_range sound).0 in
+    let (segments, are) = found_behind (kept_after None segment) rest more (stays_space segment begins.spelled.in_range start own_is segment.log) next in
     let first : Segment = record { trace = segment; order = order } in
     let all : AreFaultlessFrom start segment.layout (first ∷ segments) = (refl, (λ fault h. sound.faultless (Within fault) h), same, are.faultless) in
     let right : AreRightFrom start segment.layout (first ∷ segments) = right_all start segment.layout (first ∷ segments) all in
@@ -104,8 +116,9 @@ right_chain bytes (order ∷ more) (segment, rest, begins, sound, same, next) =
       layouts = are.layouts;
       histories = All-cons (λ (s : Segment). IsWellFormedHistory s.trace) first segments (history_of None segment sound) are.histories;
       start = start;
-      is_space = (begins_in segment begins.spelled.in_range sound).0;
+      is_space = own_is;
       begins = (begins_in segment begins.spelled.in_range sound).1;
+      goes_on = started_joined start first segments right.1 right.2 are.started;
       run = right_run start first segments right;
       touches = touches_joined start first segments right.1 right.2 sound.touches are.touched;
     }

@@ -8,14 +8,11 @@ pub mod Chains
 pub mod Faultless
 pub mod Recorded
 pub mod Places
-pub mod CutFront
-pub mod CutRest
-pub mod CutWhole
-pub mod Cuts
 pub mod Meeting
 mod GoesOn
 pub mod Touched
 pub mod OneChain
+pub mod Started
 pub mod FoundChains
 pub mod Ends
 pub mod Pieces
@@ -25,7 +22,4 @@ pub mod Judged
 pub mod Wholes
 pub mod Restarts
 pub mod ByteParts
-pub mod TouchesApart
-pub mod SameRuns
-pub mod CutVerdicts
 pub mod Exact

@@ -1,5 +1,5 @@
 -- What a chain is right with.
-use Rattle.std.specs.Prelude.{◌≡◌, ℕ, List, ◌∷◌, map, All, Option, None, Some}
+use Rattle.std.specs.Prelude.{◌≡◌, ℕ, List, ◌∷◌, ◌++◌, map, All, Option, None, Some, ⊤}
 use Rattle.vs_types.specs.Space.{no_pages, IsSpace, Space}
 use Rattle.vs_types.specs.declared.depth.Depth.{Depth}
 use Rattle.vs_walk.specs.Dump.{Image}
@@ -9,7 +9,7 @@ use Rattle.nr_trace.specs.Calls.{IsWellFormedHistory}
 use Rattle.nr_segment.specs.Touches.{HasRightTouches}
 use Rattle.nr_chain.specs.Bytes.{SpellsChain}
 use Rattle.nr_chain.specs.Joined.{Segment, joined}
-use Rattle.nr_chain.specs.Run.{IsRightRun}
+use Rattle.nr_chain.specs.Run.{space_behind, IsRightRun}
 
 -- the recordings of some segments
 abbrev pub traces : List Segment → List Recording
@@ -20,11 +20,17 @@ abbrev pub BeginsIn : Depth → Option Image → Space → Type 0
 BeginsIn depth None space = space ≡ no_pages
 BeginsIn depth (Some start) space = TranslatesAs depth start.frames start.root space
 
+-- a segment goes on in a space as which its start translates, where it has one
+abbrev pub GoesOnIn : Depth → Option Image → Space → Type 0
+GoesOnIn depth None space = ⊤
+GoesOnIn depth (Some start) space = TranslatesAs depth start.frames start.root space
+
 -- the bytes are right with these orders: they spell one chain of segments; all have one layout, and the events of each are a well-formed
--- history; and of the one run that they are, from the space on in which the first begins: all answered updates and reads and some
--- unanswered updates are in the orders, one after the other, each once; a call answered before another was made comes first; each answer
--- is that of one sequential address space; each dump translates every address as that space does after all updates of the segments
--- before its own and some of its own; and each answered touch was answered as its address was at a moment that no flush had ended before
+-- history; each segment behind the first goes on in the space after all updates of the segments before it; and of the one run that they
+-- are, from the space on in which the first begins: all answered updates and reads and some unanswered updates are in the orders, one after
+-- the other, each once; a call answered before another was made comes first; each answer is that of one sequential address space; each dump
+-- translates every address as that space does after all updates of the segments before its own and some of its own; and each answered touch
+-- was answered as its address was at a moment that no flush had ended before
 pub record IsRightChain (bytes : List ℕ) (orders : List (List ℕ)) : Type 0 where
   pub first : Segment
   pub more : List Segment
@@ -36,5 +42,7 @@ pub record IsRightChain (bytes : List ℕ) (orders : List (List ℕ)) : Type 0 w
   pub start : Space
   pub is_space : IsSpace first.trace.layout.depth start
   pub begins : BeginsIn first.trace.layout.depth first.trace.start start
+  pub goes_on : (front rest : List Segment) (next : Segment) → more ≡ front ++ next ∷ rest
+      → GoesOnIn first.trace.layout.depth next.trace.start (space_behind start (joined first front))
   pub run : IsRightRun start first more
   pub touches : HasRightTouches start (joined first more).trace

@@ -1,6 +1,5 @@
 pub mod Joined
 pub mod Run
-pub mod Cut
 pub mod Examples
 pub mod Fed
 pub mod Bytes

@@ -1,13 +1,12 @@
 //! Laws of the definitions in `specs/`. Each function does nothing: its clauses say what holds of all runs.
 
-ghost use Rattle.std.specs.Prelude.{◌≡◌, ◌++◌, ◌∷◌, ◌↔◌, ℕ, length, List};
+ghost use Rattle.std.specs.Prelude.{◌≡◌, ◌++◌, ◌∷◌, ℕ, length, List};
 ghost use Rattle.vs_types.specs.Config.{Layout};
 ghost use Rattle.vs_types.specs.Space.{Space};
 ghost use Rattle.nr_trace.specs.Calls.{IsAnswered, IsCall, IsWellFormedHistory};
-ghost use Rattle.nr_trace.specs.Laws.{HasCleanLog, IsFaultlessFrom};
-ghost use Rattle.nr_trace.specs.Orders.{recorded_order, space_from};
+ghost use Rattle.nr_trace.specs.Laws.{HasCleanLog};
+ghost use Rattle.nr_trace.specs.Orders.{recorded_order};
 ghost use Rattle.nr_trace.specs.Recording.{Recording};
-ghost use Rattle.nr_chain.specs.Cut.{without_dumps, AreCut, AreRecorded, IsClosed};
 ghost use Rattle.nr_chain.specs.Joined.{calls_behind, joined, joined_traces, Segment};
 ghost use Rattle.nr_chain.specs.Run.{AreFaultlessFrom, AreRightFrom, IsHistory, IsRightRun};
 ghost use Rattle.nr_chain.specs.Run.{space_behind, space_behind_all};
@@ -67,28 +66,4 @@ pub fn histories_follow()
         → IsWellFormedHistory second
         → ((call : ℕ) → IsCall first call → IsAnswered first call)
         → IsWellFormedHistory (joined_traces first second) }
-{}
-
-/// A run that is cut in two, where each call made before the cut has its reply there, has no fault exactly where the two have
-/// none, the second from the space after the first. Dumps are of the second alone, and each has applied the whole log of the
-/// first: of a run with a dump of fewer entries nothing is said.
-pub fn a_cut_makes_no_difference()
-    ensures { (start : Space) (first second : Recording) → second.layout ≡ first.layout
-        → IsClosed first → IsFaultlessFrom start (joined_traces first second)
-        ↔ (IsFaultlessFrom start (without_dumps first)
-        × IsFaultlessFrom (space_from start first first.log) second) }
-{}
-
-/// So it is with several cuts, where each segment but the last is closed and no dump of it is there.
-pub fn cuts_make_no_difference()
-    ensures whole { (start : Space) (layout : Layout) (first : Segment) (more : List Segment)
-        → AreCut first more → AreFaultlessFrom start layout (first ∷ more)
-        → IsFaultlessFrom start (joined first more).trace }
-    ensures order { (start : Space) (layout : Layout) (first : Segment) (more : List Segment)
-        → AreCut first more → AreFaultlessFrom start layout (first ∷ more)
-        → (joined first more).order ≡ recorded_order (joined first more).trace }
-    ensures segments { (start : Space) (layout : Layout) (first : Segment) (more : List Segment)
-        → AreCut first more → AreRecorded layout (first ∷ more)
-        → IsFaultlessFrom start (joined first more).trace
-        → AreFaultlessFrom start layout (first ∷ more) }
 {}

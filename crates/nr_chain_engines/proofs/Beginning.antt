@@ -1,5 +1,6 @@
 -- The first segment of a chain that is read in blocks, and what is said of its start.
-use Rattle.std.proofs.Common.{◌≡◌, ◌≤◌, ℕ, ◌++◌, inl, inr, Bool, true, false, List, [], ◌∷◌, Contains, length, take, drop, append-nil, Option, Some}
+use Rattle.std.proofs.Common.{◌≡◌, ◌≤◌, ◌+◌, ◌-◌, ◌^◌, ℕ, ◌++◌, inl, inr, Bool, true, false, List, [], ◌∷◌, Contains, length, take, drop, append-nil, Option}
+use Rattle.std.proofs.Common.{Some}
 use Rattle.std.proofs.Common.{None, Result, Ok, Err, refl, sym, ap, ◌∙◌, subst, arith}
 use Rattle.std.specs.Io.KnownBytes.{Consumes, IsAtEnd, Keeps}
 use Rattle.std.proofs.KnownBytes.{Consumes-kept, Consumes-nil, Consumes-trans}
@@ -39,14 +40,24 @@ use Rattle.nr_pages.specs.Dumps.{dump_text}
 use Rattle.nr_pages.specs.Listing.{pages_text}
 use Rattle.nr_chain_engines.specs.ChainPages.{HasReadFewOfStart, IsChainStart}
 use Rattle.nr_chain_engines.specs.inside.Begun.{BeginsSo, HasReadFirst, IsBegun, SaysOfFirst, SaysUnread}
-use Rattle.nr_engines.proofs.Input.{one_block, whole_read, whole_with}
+use Rattle.nr_engines.proofs.Inputs.{one_block, whole_read, whole_with}
+use Rattle.nr_engines.specs.Ends.{IsUnreadable}
+use Rattle.nr_chain_engines.proofs.Reading.{many_more}
+use Rattle.nr_chain_engines.specs.declared.audit.TheConstants.{MOST_BLOCKS}
+use Rattle.std.proofs.lemmas.List.{length-append}
 
 abbrev fed_first : List ℕ → FedSegment
 fed_first bytes = record { before = None; pieces = Taken bytes }
 
 -- nothing is read yet
-pub begins : (known : Option (List ℕ)) (feed : FedSegment) → feed ≡ fed_first [] → IsBegun known known feed
-begins known feed is = record { read = []; consumed = Consumes-nil known; feed_is = is; short = none_is_short (forms.Segment None) }
+pub begins : (known : Option (List ℕ)) (feed : FedSegment) → feed ≡ fed_first [] → IsBegun known known feed MOST_BLOCKS
+begins known feed is = record {
+  read = [];
+  many = omega arith;
+  consumed = Consumes-nil known;
+  feed_is = is;
+  short = none_is_short (forms.Segment None);
+}
 
 -- what a feed of a first segment makes of a piece
 took_first : (read piece : List ℕ) (feed new : FedSegment) (count : ℕ) → feed ≡ fed_first read → FeedsSegment feed piece new (Ok count)
@@ -56,7 +67,7 @@ took_first read piece feed new count is feeds =
 
 -- ---- how much is read
 
-few_more : (known left next : Option (List ℕ)) (feed : FedSegment) (piece : List ℕ) → IsBegun known left feed → Consumes left next piece
+few_more : {room : ℕ} (known left next : Option (List ℕ)) (feed : FedSegment) (piece : List ℕ) → IsBegun known left feed room → Consumes left next piece
     → length piece ≤ 4096 → HasReadFewOfStart known next
 few_more known left next feed piece begun lost size = record {
   before = begun.read;
@@ -66,11 +77,11 @@ few_more known left next feed piece begun lost size = record {
   one_block = size;
 }
 
-pub few_begun : {known left next : Option (List ℕ)} {feed : FedSegment} (count : ℕ) (block : List ℕ) → IsBegun known left feed
+pub few_begun : {known left next : Option (List ℕ)} {feed : FedSegment} {room : ℕ} (count : ℕ) (block : List ℕ) → IsBegun known left feed room
     → Consumes left next (take count block) → length block ≡ 4096 → HasReadFewOfStart known next
 few_begun count block begun lost full = few_more _ _ _ _ (take count block) begun lost (one_block count block full)
 
-pub few_stayed : {known left next : Option (List ℕ)} {feed : FedSegment} → IsBegun known left feed → Keeps left next
+pub few_stayed : {known left next : Option (List ℕ)} {feed : FedSegment} {room : ℕ} → IsBegun known left feed room → Keeps left next
     → HasReadFewOfStart known next
 few_stayed {left = left} {next = next} begun keeps =
     few_more _ _ _ _ [] begun (Consumes-kept left left next [] (Consumes-nil left) keeps) (omega arith)
@@ -83,8 +94,8 @@ ends_so read (Err (Refused fault)) (is, short) =
     let same : fault ≡ Truncated = cc in subst (HasSegmentFault None read) (sym same) short
 ends_so read (Err Memory) ends = tt
 
-pub first_ended : (known left next : Option (List ℕ)) (feed : FedSegment) (piece : List ℕ) (result : Result Recording (Fail Format))
-    → IsBegun known left feed
+pub first_ended : {room : ℕ} (known left next : Option (List ℕ)) (feed : FedSegment) (piece : List ℕ) (result : Result Recording (Fail Format))
+    → IsBegun known left feed room
     → Consumes left next piece → piece ≡ [] → IsAtEnd next → EndsSegment feed result → HasReadFirst known result
 first_ended known left next feed piece result begun lost none end ends =
     let consumed = subst (Consumes known next) (ap (λ (p : List ℕ). begun.read ++ p) none ∙ append-nil begun.read)
@@ -102,7 +113,7 @@ refused_so : (read piece behind : List ℕ) (new : FedSegment) (fail : Fail Form
 refused_so read piece behind new (Refused fault) feeds = feeds.1.1 behind
 refused_so read piece behind new Memory feeds = tt
 
-first_refused : (known left next : Option (List ℕ)) (feed new : FedSegment) (piece : List ℕ) (fail : Fail Format) → IsBegun known left feed
+first_refused : {room : ℕ} (known left next : Option (List ℕ)) (feed new : FedSegment) (piece : List ℕ) (fail : Fail Format) → IsBegun known left feed room
     → Consumes left next piece → FeedsSegment feed piece new (Err fail) → HasReadFirst known (Err fail)
 first_refused known left next feed new piece fail begun lost feeds =
     let (behind, is) = whole_with known next (begun.read ++ piece) (Consumes-trans known left next begun.read piece begun.consumed lost) in
@@ -114,8 +125,8 @@ first_refused known left next feed new piece fail begun lost feeds =
     }
 
 -- so it is with what such a feed ends with
-pub first_stopped : (known left next : Option (List ℕ)) (feed new : FedSegment) (piece : List ℕ) (fail : Fail Format)
-    (read : Result Recording (Fail Format)) → IsBegun known left feed → Consumes left next piece → FeedsSegment feed piece new (Err fail)
+pub first_stopped : {room : ℕ} (known left next : Option (List ℕ)) (feed new : FedSegment) (piece : List ℕ) (fail : Fail Format)
+    (read : Result Recording (Fail Format)) → IsBegun known left feed room → Consumes left next piece → FeedsSegment feed piece new (Err fail)
     → EndsSegment new read → HasReadFirst known read
 first_stopped known left next feed new piece fail read begun lost feeds ends =
     let here : FeedsSegment (fed_first begun.read) piece new (Err fail) =
@@ -137,9 +148,9 @@ whole_so read piece behind new count (Ok segment) is whole ends =
     (drop count piece ++ behind, record { own = read ++ take count piece; is = cut_so read piece behind count; spelled = spelled })
 whole_so read piece behind new count (Err fail) is whole ends = absurd (not_refused new fail whole ends)
 
-pub first_whole : (known left next : Option (List ℕ)) (feed new : FedSegment) (piece : List ℕ) (count : ℕ)
+pub first_whole : {room : ℕ} (known left next : Option (List ℕ)) (feed new : FedSegment) (piece : List ℕ) (count : ℕ)
     (result : Result Recording (Fail Format))
-    → IsBegun known left feed → Consumes left next piece → FeedsSegment feed piece new (Ok count) → IsWhole new → EndsSegment new result
+    → IsBegun known left feed room → Consumes left next piece → FeedsSegment feed piece new (Ok count) → IsWhole new → EndsSegment new result
     → HasReadFirst known result
 first_whole known left next feed new piece count result begun lost feeds whole ends =
     let (behind, is) = whole_with known next (begun.read ++ piece) (Consumes-trans known left next begun.read piece begun.consumed lost) in
@@ -151,17 +162,26 @@ first_whole known left next feed new piece count result begun lost feeds whole e
 
 -- ---- it isn't yet
 
-pub first_goes_on : (known left next : Option (List ℕ)) (feed new : FedSegment) (piece : List ℕ) (count : ℕ) → IsBegun known left feed
-    → Consumes left next piece → FeedsSegment feed piece new (Ok count) → (IsWhole new → ⊥) → IsBegun known next new
-first_goes_on known left next feed new piece count begun lost feeds none =
+pub first_goes_on : (known left next : Option (List ℕ)) (feed new : FedSegment) (piece : List ℕ) (count room less : ℕ)
+    → IsBegun known left feed room → Consumes left next piece → 1 ≤ length piece → less + 1 ≡ room → FeedsSegment feed piece new (Ok count)
+    → (IsWhole new → ⊥) → IsBegun known next new less
+first_goes_on known left next feed new piece count room less begun lost some one feeds none =
     let is = took_first begun.read piece feed new count begun.feed_is feeds in
     let pieces : new.pieces ≡ Taken (begun.read ++ piece) = is.taken ∙ ap Taken (took_all None begun.read piece new count is none) in
     record {
       read = begun.read ++ piece;
+      many = many_more (length begun.read) (length piece) _ room less begun.many some one (length-append begun.read piece);
       consumed = Consumes-trans known left next begun.read piece begun.consumed lost;
       feed_is = λ i. record { before = is.behind i; pieces = pieces i };
       short = too_short None begun.read piece new count is none;
     }
+
+-- so many blocks were read
+pub begins_too_late : {known left : Option (List ℕ)} {feed : FedSegment} {room : ℕ} (last : Option ℕ) → IsBegun known left feed room → room ≡ 0
+    → IsUnreadable (2 ^ 52 - 1) known left last
+begins_too_late last begun none =
+    let many = begun.many in
+    inr (begun.read, begun.consumed, omega (arith, many, none))
 
 -- ---- what is said of its start
 

@@ -12,7 +12,7 @@ use Rattle.nr_chain_engines.specs.inside.Judged.{HasJudged, IsTextAfter, SaysEnd
 use Rattle.nr_chain_engines.specs.declared.audit.Judged.{Judged}
 use Rattle.nr_chain_engines.specs.declared.audit.Judged.TheVariants.{Ended, Faulty}
 use Rattle.nr_chain_engines.proofs.Going.{ended, lasting}
-use Rattle.nr_engines.proofs.Input.{whole_read, whole_with}
+use Rattle.nr_engines.proofs.Inputs.{whole_read, whole_with}
 
 -- right segments to the end of the bytes come to what is kept of the last
 comes_to : (kept last : Option Kept) (bytes rest : List ℕ) (orders : List (List ℕ)) (end : Kept) → GoesOnTo kept bytes orders last rest

@@ -1,3 +1,4 @@
+pub mod Growing
 pub mod Lines
 pub mod Going
 pub mod Reading

@@ -1,11 +1,12 @@
 -- A chain that is read in blocks, whose lines are written as its segments are judged.
 use Rattle.std.proofs.Common.{◌≡◌, ◌≢◌, ◌≤◌, ℕ, ◌+◌, ◌*◌, ◌++◌, ◌⊎◌, inl, inr, Bool, List, [], length, append-nil, Option, Some, None, Result, Ok}
-use Rattle.std.proofs.Common.{Err, IfErr, IfOk, refl, sym, ap, ◌∙◌, subst, take, arith}
+use Rattle.std.proofs.Common.{Err, IfErr, IfOk, refl, sym, ap, ◌∙◌, subst, take, arith, append_assoc, unwrap_or, ◌^◌, ◌-◌}
 use Rattle.std.specs.Io.KnownBytes.{Appends, Consumes, IsAtEnd, Keeps}
 use Rattle.std.proofs.KnownBytes.{Appends-nil, Appends-trans, Consumes-kept, Consumes-nil, Consumes-trans}
-use Rattle.std.proofs.lemmas.List.{length-append}
-use Rattle.nr_engines.proofs.Input.{one_block, whole_read, whole_with}
+use Rattle.std.proofs.lemmas.List.{length-append, length-take}
+use Rattle.nr_engines.proofs.Inputs.{one_block, whole_read, whole_with}
 use Rattle.nr_engines.specs.Answers.{IsReadOf, WritesReport}
+use Rattle.nr_engines.specs.Ends.{IsUnreadable}
 use Rattle.nr_engines.specs.declared.fault.ProgFault.{ProgFault}
 use Rattle.nr_engines.specs.declared.fault.ProgFault.TheVariants.{CannotRead, CannotWrite, Memory}
 use Rattle.nr_segment.specs.declared.fault.SegmentFault.{SegmentFault}
@@ -13,9 +14,10 @@ use Rattle.nr_chain.specs.Fed.{ChainFed, Kept}
 use Rattle.nr_chain.specs.Bytes.{EndsWith, GoesOnSo}
 use Rattle.nr_chain.specs.Verdict.{LastsNext}
 use Rattle.nr_chain.proofs.FoundChains.{right_chain}
-use Rattle.nr_chain_engines.specs.ChainAudit.{AuditsWhatIsRead, HasReadFewOfChain, HasWrittenFirst, IsChainAudit}
+use Rattle.nr_chain_engines.specs.ChainAudit.{AuditsWhatIsRead, HasReadFewOfChain, HasWrittenAtOnce, HasWrittenFirst, IsChainAudit}
 use Rattle.nr_chain_engines.specs.ChainText.{chain_status, chain_text, end_lines, shown_lines}
-use Rattle.nr_chain_engines.specs.inside.Going.{IsShort, TakesBlock, TakesSegments, TakesSome}
+use Rattle.nr_chain_engines.proofs.Growing.{grows_nothing}
+use Rattle.nr_chain_engines.specs.inside.Going.{Grows, IsShort, TakesBlock, TakesSegments, TakesSome}
 use Rattle.nr_chain_engines.specs.inside.Judged.{IsAt}
 use Rattle.nr_chain_engines.specs.declared.audit.TheConstants.{MOST_BLOCKS}
 use Rattle.nr_chain_engines.specs.declared.audit.Taken.TheVariants.{More}
@@ -27,6 +29,7 @@ pub record IsReading (quiet : Bool) (known left old new : Option (List ℕ)) (ch
   pub here : IsAt quiet known left old new chain.kept chain.bytes count
   pub short : IsShort chain.kept chain.bytes
   pub few : count + 4096 * room ≤ 4096 * MOST_BLOCKS
+  pub many : 2 ^ 52 - 1 ≤ room + length here.read
 
 pub reading_begins : (quiet : Bool) (known old : Option (List ℕ)) (chain : ChainFed) → chain ≡ record { kept = None; bytes = [] }
     → IsReading quiet known known old old chain 0 MOST_BLOCKS
@@ -41,6 +44,7 @@ reading_begins quiet known old chain is = subst (λ (f : ChainFed). IsReading qu
   };
   short = none_short None;
   few = omega arith;
+  many = omega arith;
 }
 
 -- the reader has lost as much, and no more
@@ -102,14 +106,20 @@ fewer_left : (count number size room less : ℕ) → count ≤ number + size →
     → count + 4096 * less ≤ 4096 * MOST_BLOCKS
 fewer_left count number size room less more few short one = omega arith
 
+pub many_more : (size block all room less : ℕ) → 2 ^ 52 - 1 ≤ room + size → 1 ≤ block → less + 1 ≡ room → all ≡ size + block
+    → 2 ^ 52 - 1 ≤ less + all
+many_more size block all room less many some one long = omega arith
+
 pub reads_on : (quiet : Bool) (known left next old now new : Option (List ℕ)) (chain more : ChainFed) (block : List ℕ)
     (number count room less : ℕ)
-    → IsReading quiet known left old now chain number room → Consumes left next block → length block ≤ 4096 → less + 1 ≡ room
+    → IsReading quiet known left old now chain number room → Consumes left next block → length block ≤ 4096 → 1 ≤ length block → less + 1 ≡ room
     → TakesBlock quiet chain number block now new (More more count) → IsReading quiet known next old new more count less
-reads_on quiet known left next old now new chain more block number count room less reading lost size one (taken, short, most) = record {
+unfolding next_block
+reads_on quiet known left next old now new chain more block number count room less reading lost size some one (taken, short, most) = record {
   here = next_block quiet known left next old now new chain block more.kept more.bytes number count reading.here lost taken;
   short = short;
   few = fewer_left count number (length block) room less most reading.few size one;
+  many = many_more (length reading.here.read) (length block) _ room less reading.many some one (length-append reading.here.read block);
 }
 
 -- ---- how much is read
@@ -136,6 +146,57 @@ pub few_kept : {quiet : Bool} {known left next old new : Option (List ℕ)} {cha
     → IsReading quiet known left old new chain number room → Keeps left next → HasReadFewOfChain known next
 few_kept {left = left} {next = next} reading keeps =
     few_more [] reading (Consumes-kept left left next [] (Consumes-nil left) keeps) (omega arith)
+
+-- the lines are written of all segments that were whole before the last read
+pub written_at_once : {quiet : Bool} {known left next old now new : Option (List ℕ)} {chain : ChainFed} {number room : ℕ} (block : List ℕ)
+    (last : Option ℕ) → IsReading quiet known left old now chain number room → Consumes left next block → length block ≤ unwrap_or last 0
+    → Grows now new → HasWrittenAtOnce quiet known next last old new
+written_at_once {quiet = quiet} {known = known} {left = left} {next = next} {old = old} {now = now} {new = new} {chain = chain} block last reading
+    lost size (more, grown) =
+    let here = reading.here in
+    record {
+      before = here.read;
+      block = block;
+      read = Consumes-trans known left next here.read block here.consumed lost;
+      last_read = size;
+      orders = here.orders;
+      right_yet = right_yet chain.kept here.read chain.bytes here.orders here.goes_on reading.short;
+      more = more;
+      written = Appends-trans old now new (shown_lines quiet 0 here.orders) more here.written grown;
+    }
+
+pub block_at_once : {quiet : Bool} {known left next old now new : Option (List ℕ)} {chain : ChainFed} {number room : ℕ} (count : ℕ)
+    (block : List ℕ) (last : Option ℕ) → IsReading quiet known left old now chain number room → Consumes left next (take count block)
+    → last ≡ Some count → Grows now new → HasWrittenAtOnce quiet known next last old new
+block_at_once count block last reading lost is grown =
+    written_at_once (take count block) last reading lost
+    (subst (λ (l : Option ℕ). length (take count block) ≤ unwrap_or l 0) (sym is) (let long = length-take count block in omega arith)) grown
+
+pub kept_at_once : {quiet : Bool} {known left next old now : Option (List ℕ)} {chain : ChainFed} {number room : ℕ} (last : Option ℕ)
+    → IsReading quiet known left old now chain number room → Keeps left next → HasWrittenAtOnce quiet known next last old now
+kept_at_once {left = left} {next = next} {now = now} last reading keeps =
+    written_at_once [] last reading (Consumes-kept left left next [] (Consumes-nil left) keeps) (omega arith) (grows_nothing now)
+
+pub more_at_once : {quiet : Bool} {known left old now new : Option (List ℕ)} {last : Option ℕ}
+    → HasWrittenAtOnce quiet known left last old now → Grows now new → HasWrittenAtOnce quiet known left last old new
+more_at_once {quiet = quiet} {old = old} {now = now} {new = new} so_far (more, grown) = record {
+  before = so_far.before;
+  block = so_far.block;
+  read = so_far.read;
+  last_read = so_far.last_read;
+  orders = so_far.orders;
+  right_yet = so_far.right_yet;
+  more = so_far.more ++ more;
+  written = subst (Appends old new) (append_assoc (shown_lines quiet 0 so_far.orders) so_far.more more)
+      (Appends-trans old now new (shown_lines quiet 0 so_far.orders ++ so_far.more) more so_far.written grown);
+}
+
+-- so many blocks were read
+pub reads_too_much : {quiet : Bool} {known left old now : Option (List ℕ)} {chain : ChainFed} {number room : ℕ} (last : Option ℕ)
+    → IsReading quiet known left old now chain number room → room ≡ 0 → IsUnreadable (2 ^ 52 - 1) known left last
+reads_too_much last reading none =
+    let many = reading.many in
+    inr (reading.here.read, reading.here.consumed, omega (arith, many, none))
 
 -- ---- where there is no answer
 

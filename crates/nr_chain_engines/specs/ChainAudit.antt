@@ -1,5 +1,5 @@
 -- What the audit of a chain answers to bytes, how much it reads, and what it has written where it gives no answer.
-use Rattle.std.specs.Prelude.{◌≡◌, ◌≤◌, ◌⊎◌, ◌++◌, ℕ, Bool, List, [], length, Option, None, Some}
+use Rattle.std.specs.Prelude.{◌≡◌, ◌≤◌, ◌⊎◌, ◌++◌, ℕ, Bool, List, [], length, Option, None, Some, unwrap_or}
 use Rattle.std.specs.Io.KnownBytes.{Appends, Consumes}
 use Rattle.nr_trace.specs.declared.fault.Fault.TheVariants.{Format}
 use Rattle.nr_trace.specs.declared.fault.Format.TheVariants.{Truncated}
@@ -51,3 +51,15 @@ pub record HasWrittenFirst (quiet : Bool) (known left old new : Option (List ℕ
   pub orders : List (List ℕ)
   pub right_yet : AreRightYet front orders
   pub written : Appends old new (shown_lines quiet 0 orders)
+
+-- however much was written: the lines of all segments that were whole before the last read, and perhaps more behind them; so many bytes
+-- were in that read, none where it gave an error
+pub record HasWrittenAtOnce (quiet : Bool) (known left : Option (List ℕ)) (last : Option ℕ) (old new : Option (List ℕ)) : Type 0 where
+  pub before : List ℕ
+  pub block : List ℕ
+  pub read : Consumes known left (before ++ block)
+  pub last_read : length block ≤ unwrap_or last 0
+  pub orders : List (List ℕ)
+  pub right_yet : AreRightYet before orders
+  pub more : List ℕ
+  pub written : Appends old new (shown_lines quiet 0 orders ++ more)

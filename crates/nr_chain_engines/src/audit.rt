@@ -1,21 +1,22 @@
 //! The audit of a chain that is read in blocks.
 
-ghost use Rattle.std.specs.Prelude.{◌≡◌, ◌≢◌, ◌+◌, ◌<◌, ◌^◌, ◌⊎◌, IfErr, IfOk, OnOk, length};
+ghost use Rattle.std.specs.Prelude.{◌≡◌, ◌≢◌, ◌+◌, ◌<◌, ◌^◌, ◌-◌, ◌⊎◌, IfErr, IfOk, OnOk, length};
 ghost use Rattle.std.specs.Io.KnownBytes.{Appends};
 ghost use Rattle.nr_engines.specs.Answers.{WritesReport};
+ghost use Rattle.nr_engines.specs.Ends.{RefusesUnreadable};
 ghost use Rattle.nr_engines.specs.Refusals.{IsEndFault};
-ghost use Rattle.nr_chain_engines.specs.ChainAudit.{AuditsWhatIsRead, HasReadFewOfChain, HasWrittenFirst, IsChainAudit};
+ghost use Rattle.nr_chain_engines.specs.ChainAudit.{AuditsWhatIsRead, HasReadFewOfChain, HasWrittenAtOnce, HasWrittenFirst, IsChainAudit};
 ghost use Rattle.nr_chain_engines.specs.ChainText.{chain_status, end_lines, lines_of};
-ghost use Rattle.nr_chain_engines.specs.inside.Going.{IsShort, TakesBlock, TakesSome};
+ghost use Rattle.nr_chain_engines.specs.inside.Going.{Grows, IsShort, TakesBlock, TakesSome};
 ghost use Rattle.nr_chain_engines.specs.inside.Judged.{HasJudged};
 
 use crate::text::{end_lines, segment_lines};
 use nr_audit::Order;
 use nr_chain::{Chain, Step};
-use nr_engines::{BLOCK, ProgFault, read_block, write_text};
+use nr_engines::{BLOCK, ProgFault, Source, read_block, write_text};
 use nr_segment::SegmentFault;
 use std::alloc::Global;
-use std::io::{Read, Write};
+use std::io::Write;
 
 /// The most blocks that are read of a chain: those of so many bytes that their count has 64 bits.
 pub const MOST_BLOCKS: u64 = (1 << 52) - 1;
@@ -41,6 +42,7 @@ fn write_right<W: Write>(
         (lines_of quiet number order.now)) }
     ensures err { IfErr result (λ fault. (fault ≡ ProgFault.CannotWrite)
         ⊎ ((fault ≡ ProgFault.Memory) × (writer.new ≡ writer.old))) }
+    ensures grown { Grows (W.contents writer.old) (W.contents writer.new) }
 {
     if quiet {
         return Ok(());
@@ -60,6 +62,7 @@ fn write_end<W: Write>(
         × Appends (W.contents writer.old) (W.contents writer.new) (end_lines number found)) }
     ensures err { IfErr result (λ fault. (fault ≡ ProgFault.CannotWrite)
         ⊎ ((fault ≡ ProgFault.Memory) × (writer.new ≡ writer.old))) }
+    ensures grown { Grows (W.contents writer.old) (W.contents writer.new) }
 {
     let text = end_lines(alloc, number, found)?;
     write_text(writer, text.as_bytes())?;
@@ -85,6 +88,7 @@ fn take_block<W: Write>(
     ensures err { IfErr result (λ fault. (fault ≡ ProgFault.CannotWrite)
         ⊎ ((fault ≡ ProgFault.Memory) × TakesSome quiet begun right block.now
         (W.contents writer.old) (W.contents writer.new))) }
+    ensures grown { Grows (W.contents writer.old) (W.contents writer.new) }
 {
     let mut chain = begun;
     let mut number = right;
@@ -114,7 +118,7 @@ pub(crate) enum Judged {
 }
 
 /// Reads blocks and feeds each, to the end of the input or to the first fault, and writes the lines of right segments.
-pub(crate) fn judge_blocks<R: Read, W: Write>(
+pub(crate) fn judge_blocks<R: Source, W: Write>(
     alloc: Global,
     reader: &mut R,
     writer: &mut W,
@@ -129,6 +133,10 @@ pub(crate) fn judge_blocks<R: Read, W: Write>(
         → HasWrittenFirst quiet (R.remaining reader.old) (R.remaining reader.new)
         (W.contents writer.old) (W.contents writer.new) fault) }
     ensures few { HasReadFewOfChain (R.remaining reader.old) (R.remaining reader.new) }
+    ensures at_once { HasWrittenAtOnce quiet (R.remaining reader.old) (R.remaining reader.new)
+        (R.last_read reader.new) (W.contents writer.old) (W.contents writer.new) }
+    ensures unread { RefusesUnreadable (2 ^ 52 - 1) (R.remaining reader.old)
+        (R.remaining reader.new) (R.last_read reader.new) result }
 {
     let mut chain = Chain::new(alloc);
     let mut number = 0;
@@ -154,14 +162,17 @@ pub(crate) fn judge_blocks<R: Read, W: Write>(
 /// many segments there are, or the first wrong one and its first fault. The status is 0 where the chain is right, else 1. It reads
 /// nothing behind the block in which the first fault shows. Where it is `quiet`, it writes the last lines alone.
 ///
+/// The lines of a segment are written before more is read than the block with which it is whole. So wherever it ends, also with a write
+/// that fails, those of all segments that were whole before its last read are written.
+///
 /// It allocates what one segment says, the space before it, what its judgement takes, and its lines. Where it gives no answer, the lines
 /// of some segments at the front of the chain may have been written, which are right.
 ///
 /// # Errors
 ///
-/// `CannotRead` and `CannotWrite` where an end gave an error, `Memory` where a growth of memory was refused; and `CannotRead` where the
-/// input doesn't end within 2^52 - 1 reads.
-pub fn audit_chain_io<R: Read, W: Write>(
+/// `CannotRead` where the last read gave an error, or the input doesn't end within 2^52 - 1 reads; `CannotWrite` where the writer gave an
+/// error, `Memory` where a growth of memory was refused.
+pub fn audit_chain_io<R: Source, W: Write>(
     alloc: Global,
     reader: &mut R,
     writer: &mut W,
@@ -176,6 +187,10 @@ pub fn audit_chain_io<R: Read, W: Write>(
         → HasWrittenFirst quiet (R.remaining reader.old) (R.remaining reader.new)
         (W.contents writer.old) (W.contents writer.new) fault) }
     ensures few { HasReadFewOfChain (R.remaining reader.old) (R.remaining reader.new) }
+    ensures at_once { HasWrittenAtOnce quiet (R.remaining reader.old) (R.remaining reader.new)
+        (R.last_read reader.new) (W.contents writer.old) (W.contents writer.new) }
+    ensures unread { RefusesUnreadable (2 ^ 52 - 1) (R.remaining reader.old)
+        (R.remaining reader.new) (R.last_read reader.new) result }
 {
     match judge_blocks(alloc, reader, writer, &mut [0; BLOCK], quiet)? {
         Judged::Ended(chain, number) => write_end(alloc, writer, number, chain.end()),

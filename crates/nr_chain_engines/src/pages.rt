@@ -1,6 +1,6 @@
 //! The pages with which a chain begins, and those after its last segment.
 
-ghost use Rattle.std.specs.Prelude.{◌≡◌, ℕ, [], IfErr, IfOk, List, None, OnOk, Result, length, string_bytes};
+ghost use Rattle.std.specs.Prelude.{◌≡◌, ◌-◌, ◌^◌, ℕ, [], IfErr, IfOk, List, None, OnOk, Result, length, string_bytes};
 ghost use Rattle.vs_types.specs.declared.refusal.Fail.{Fail};
 ghost use Rattle.vs_types.specs.Space.{pages};
 ghost use Rattle.nr_trace.specs.Feed.{EndsSegment, FedSegment};
@@ -10,6 +10,7 @@ ghost use Rattle.nr_trace.specs.declared.fault.Format.{Format};
 ghost use Rattle.nr_segment.specs.Faults.{IsSoundAfter};
 ghost use Rattle.nr_segment.specs.Start.{first_space};
 ghost use Rattle.nr_engines.specs.Answers.{WritesReport};
+ghost use Rattle.nr_engines.specs.Ends.{RefusesUnreadable};
 ghost use Rattle.nr_engines.specs.Refusals.{IsEndFault, WritesAnswersAlone};
 ghost use Rattle.nr_pages.specs.Listing.{pages_text};
 ghost use Rattle.nr_chain_engines.specs.ChainAudit.{HasReadFewOfChain};
@@ -20,12 +21,12 @@ ghost use Rattle.nr_chain_engines.specs.inside.Judged.{IsTextAfter, SaysEnd, Say
 use crate::audit::{Judged, MOST_BLOCKS, judge_blocks};
 use crate::text::end_lines;
 use nr_chain::Chain;
-use nr_engines::{BLOCK, ProgFault, Report, read_block, write_report};
+use nr_engines::{BLOCK, ProgFault, Report, Source, read_block, write_report};
 use nr_pages::{dump_text, space_text};
 use nr_segment::{SegmentFault, SegmentVerdict, judge_segment};
 use nr_trace::{Fault, Format, SegmentFeed, Trace};
 use std::alloc::Global;
-use std::io::{self, Read, Write};
+use std::io::{self, Write};
 use vs_types::{Fail, Memory};
 
 /// What is said of a chain whose segment of this number is the first with a fault.
@@ -38,7 +39,7 @@ fn fault_report(alloc: Global, number: u64, fault: SegmentFault) -> Result<Repor
 }
 
 /// Reads blocks and feeds each, until the first segment is whole, or can't be any more. What the feed ends with is then what was read.
-fn feed_first<R: Read>(
+fn feed_first<R: Source>(
     reader: &mut R,
     first: &mut SegmentFeed,
     block: &mut [u8],
@@ -50,6 +51,8 @@ fn feed_first<R: Read>(
         → HasReadFirst (R.remaining reader.old) read) }
     ensures err { IfErr result (λ fault. fault ≡ ProgFault.CannotRead) }
     ensures few { HasReadFewOfStart (R.remaining reader.old) (R.remaining reader.new) }
+    ensures unread { RefusesUnreadable (2 ^ 52 - 1) (R.remaining reader.old)
+        (R.remaining reader.new) (R.last_read reader.new) result }
 {
     let mut room = MOST_BLOCKS;
     while room > 0 {
@@ -69,7 +72,7 @@ fn feed_first<R: Read>(
 }
 
 /// Reads the first segment.
-fn read_first<R: Read>(
+fn read_first<R: Source>(
     alloc: Global,
     reader: &mut R,
     block: &mut [u8],
@@ -78,6 +81,8 @@ fn read_first<R: Read>(
     ensures ok { IfOk result (HasReadFirst (R.remaining reader.old)) }
     ensures err { IfErr result (λ fault. fault ≡ ProgFault.CannotRead) }
     ensures few { HasReadFewOfStart (R.remaining reader.old) (R.remaining reader.new) }
+    ensures unread { RefusesUnreadable (2 ^ 52 - 1) (R.remaining reader.old)
+        (R.remaining reader.new) (R.last_read reader.new) result }
 {
     let mut first = SegmentFeed::new(alloc, None);
     feed_first(reader, &mut first, block)?;
@@ -154,9 +159,9 @@ fn start_report(
 ///
 /// # Errors
 ///
-/// `CannotRead` and `CannotWrite` where an end gave an error, `Memory` where a growth of memory was refused; and `CannotRead` where the
-/// segment isn't whole within 2^52 - 1 reads.
-pub fn chain_start_io<R: Read, W: Write>(
+/// `CannotRead` where the last read gave an error, or the segment isn't whole within 2^52 - 1 reads; `CannotWrite` where the writer gave
+/// an error, `Memory` where a growth of memory was refused.
+pub fn chain_start_io<R: Source, W: Write>(
     alloc: Global,
     reader: &mut R,
     writer: &mut W,
@@ -167,6 +172,8 @@ pub fn chain_start_io<R: Read, W: Write>(
     ensures err { IfErr result IsEndFault }
     ensures alone { WritesAnswersAlone writer.old writer.new result }
     ensures few { HasReadFewOfStart (R.remaining reader.old) (R.remaining reader.new) }
+    ensures unread { RefusesUnreadable (2 ^ 52 - 1) (R.remaining reader.old)
+        (R.remaining reader.new) (R.last_read reader.new) result }
 {
     let read = read_first(alloc, reader, &mut [0; BLOCK])?;
     let report = start_report(alloc, read, as_ranges)?;
@@ -212,7 +219,7 @@ fn end_report(alloc: Global, judged: Judged, as_ranges: bool) -> Result<Report, 
 /// # Errors
 ///
 /// Those of `audit_chain_io`.
-pub fn chain_end_io<R: Read, W: Write>(
+pub fn chain_end_io<R: Source, W: Write>(
     alloc: Global,
     reader: &mut R,
     writer: &mut W,
@@ -223,6 +230,8 @@ pub fn chain_end_io<R: Read, W: Write>(
     ensures err { IfErr result IsEndFault }
     ensures alone { WritesAnswersAlone writer.old writer.new result }
     ensures few { HasReadFewOfChain (R.remaining reader.old) (R.remaining reader.new) }
+    ensures unread { RefusesUnreadable (2 ^ 52 - 1) (R.remaining reader.old)
+        (R.remaining reader.new) (R.last_read reader.new) result }
 {
     let judged = judge_blocks(alloc, reader, &mut io::sink(), &mut [0; BLOCK], true)?;
     let report = end_report(alloc, judged, as_ranges)?;

@@ -5,6 +5,7 @@ use Rattle.std.specs.Prelude.{IfOk, IfSome}
 use Rattle.std.proofs.lemmas.List.{append-nil, take-append-drop}
 use Rattle.vs_types.specs.Config.{Layout}
 use Rattle.vs_types.specs.declared.refusal.Fail.TheVariants.{Refused}
+use Rattle.vs_plain.specs.Plain.{BoundedSpace}
 use Rattle.nr_trace.specs.Recording.{Recording}
 use Rattle.nr_trace.specs.Spelling.{SpellsSegment}
 use Rattle.nr_trace.specs.FirstFault.{HasFaultAs, HasSegmentFault}
@@ -23,7 +24,7 @@ use Rattle.nr_chain.proofs.OneChain.{not_empty}
 use Rattle.nr_chain.proofs.Pieces.{Took, refused, some_taken, spelled_whole, took, took_all, too_short}
 use Rattle.nr_chain_explain.specs.Came.{CameTo, Seen, came_after, kept_in, layout_in, sums_in}
 use Rattle.nr_chain_explain.specs.Explanation.{Explains, GoesOnTo, IsExplanationFrom, IsShownNext, IsShownOf}
-use Rattle.nr_chain_explain.specs.inside.Reading.{all_seen, FitsCame, IsReading}
+use Rattle.nr_chain_explain.specs.inside.Reading.{all_seen, spaces_of, FitsCame, IsReading}
 use Rattle.nr_chain_explain.proofs.Cuts.{cut_so}
 use Rattle.nr_chain_explain.proofs.Walking.{bad_unit_lasts}
 use Rattle.nr_chain_explain.specs.inside.Steps.{IsRefusalOf, IsWrongOf, JudgedTo, JudgesTo, StepsTo}
@@ -40,19 +41,21 @@ use Rattle.std.proofs.lemmas.Result.{IfOk-weaker}
 -- ---- between two pieces
 
 -- of the next segment nothing has come
-pub fresh_reading : (last : Option Came) (bytes : List ℕ) (feed : FedSegment) → bytes ≡ []
-    → feed ≡ record { before = layout_in (all_seen last); pieces = Taken [] } → IfSome last FitsCame → IsReading last bytes feed
-fresh_reading last bytes feed none is fits =
+pub fresh_reading : (last : Option Came) (before : Option BoundedSpace) (bytes : List ℕ) (feed : FedSegment) → bytes ≡ []
+    → feed ≡ record { before = layout_in (all_seen last); pieces = Taken [] } → IfSome last FitsCame → before ≡ spaces_of last
+    → IsReading last before bytes feed
+fresh_reading last before bytes feed none is fits same =
     let fresh : FedSegment = record { before = layout_in (all_seen last); pieces = Taken [] } in
-    let reading : IsReading last [] fresh = record {
+    let reading : IsReading last before [] fresh = record {
       taken = refl;
       behind = refl;
       not_whole = λ whole.
           let there = spelled_whole fresh whole in not_empty (layout_in (all_seen last)) [] there.0 there.1 refl;
       short = none_is_short (forms.Segment (layout_in (all_seen last)));
       fits = fits;
+      same = same;
     } in
-    subst (λ (bs : List ℕ). IsReading last bs feed) (sym none) (subst (IsReading last []) (sym is) reading)
+    subst (λ (bs : List ℕ). IsReading last before bs feed) (sym none) (subst (IsReading last before []) (sym is) reading)
 
 pub took_here : (feed new : FedSegment) (bytes piece : List ℕ) (count : ℕ) → feed.pieces ≡ Taken bytes → FeedsSegment feed piece new (Ok count)
     → Took feed.before bytes piece new count
@@ -142,8 +145,8 @@ none_of_two : (front behind : List ℕ) → front ++ behind ≡ [] → behind �
 none_of_two [] behind e = e
 none_of_two (x ∷ front) behind e = absurd cc
 
-module _ (last : Option Came) (bytes : List ℕ) (feed new : FedSegment) (self : Seen) (piece : List ℕ) (old : IsReading last bytes feed)
-    (view : record { came = all_seen last; bytes = bytes } ≡ self) where
+module _ (last : Option Came) (before : Option BoundedSpace) (bytes : List ℕ) (feed new : FedSegment) (self : Seen) (piece : List ℕ)
+    (old : IsReading last before bytes feed) (view : record { came = all_seen last; bytes = bytes } ≡ self) where
   -- the segment is whole, and is judged
   pub judged : {E : Type 0} (count : ℕ) (taken : List ℕ) (result : Result Step E) → taken ≡ bytes ++ take count piece → FeedsSegment feed piece new (Ok count)
       → IsWhole new → IfOk result (JudgesTo (all_seen last) taken count) → IfOk result (StepsTo self piece)
@@ -169,7 +172,7 @@ module _ (last : Option Came) (bytes : List ℕ) (feed new : FedSegment) (self :
       )
 
   pub more_reading : (count : ℕ) (taken : List ℕ) → taken ≡ bytes ++ take count piece → FeedsSegment feed piece new (Ok count) → (IsWhole new → ⊥)
-      → IsReading last taken new
+      → IsReading last before taken new
   more_reading count taken same feeds none =
       let is = took_here feed new bytes piece count old.taken feeds in
       let all : taken ≡ bytes ++ piece = same ∙ took_all feed.before bytes piece new count is none in
@@ -180,6 +183,7 @@ module _ (last : Option Came) (bytes : List ℕ) (feed new : FedSegment) (self :
         short = subst (λ before. HasFaultAs (forms.Segment before) taken Truncated) (sym is.behind)
             (subst (λ bs. HasFaultAs (forms.Segment feed.before) bs Truncated) (sym all) (too_short feed.before bytes piece new count is none));
         fits = old.fits;
+        same = old.same;
       }
 
   -- the bytes with the piece are refused, whatever comes behind it

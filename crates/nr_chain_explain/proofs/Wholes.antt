@@ -10,6 +10,7 @@ use Rattle.nr_trace.specs.Feed.{EndsSegment, FedSegment, IsWhole}
 use Rattle.nr_trace.specs.Feed.Fed.{Taken}
 use Rattle.nr_trace.specs.Versions.{Follows}
 use Rattle.nr_trace.specs.declared.version.Form.TheVariants as forms
+use Rattle.nr_audit.specs.Verdict.{space_of}
 use Rattle.nr_segment.specs.Faults.{IsFirstAfter, IsSoundAfter}
 use Rattle.nr_segment.specs.declared.fault.SegmentFault.{SegmentFault}
 use Rattle.nr_segment.specs.declared.fault.SegmentFault.TheVariants.{Start}
@@ -78,10 +79,10 @@ module _ (last : Option Came) (segment : Recording) (before : Option BoundedSpac
       → BeginsWell last segment
   well_behind order space is fault h = (sound_behind order space is).faultless (Start fault) h
 
-  pub space_behind : (order : List ℕ) (space : BoundedSpace) → IsVerdictAfter (pages_before before) segment (verdicts.Right order space)
-      → space.space ≡ last_space (space_in (all_seen last)) segment
-  space_behind order space (sound, order_is, space_is) =
-      ap (λ (s : BoundedSpace). s.space) space_is ∙ ap (λ (p : Option Space). last_space p segment) pages_are
+  pub whole_behind : (order : List ℕ) (space : BoundedSpace) → IsVerdictAfter (pages_before before) segment (verdicts.Right order space)
+      → space ≡ space_of segment.layout (last_space (space_in (all_seen last)) segment)
+  whole_behind order space (sound, order_is, space_is) =
+      space_is ∙ ap (λ (p : Option Space). space_of segment.layout (last_space p segment)) pages_are
 
   pub fits_behind : (order : List ℕ) (space own : BoundedSpace) (layout : Layout) → IsVerdictAfter (pages_before before) segment (verdicts.Right order space)
       → layout ≡ segment.layout → own ≡ space → FitsLayout layout own

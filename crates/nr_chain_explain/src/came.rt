@@ -1,13 +1,17 @@
 //! What the segments of a chain so far have come to.
 
-ghost use Rattle.std.specs.Prelude.{◌≡◌, ◌<◌, IfOk, None, count_by, length, option_map};
+ghost use Rattle.std.specs.Prelude.{◌≡◌, ◌<◌, IfOk, IfSome, None, count_by, length, option_map};
 ghost use Rattle.nr_trace.specs.Orders.{recorded_order};
+ghost use Rattle.nr_audit.specs.Verdict.{space_of};
+ghost use Rattle.nr_segment.specs.Verdict.{last_space};
 ghost use Rattle.nr_chain_explain.specs.Came.{began_with, came_after, counts_of, is_there, is_touch, nothing_yet, sums_after, sums_in};
-ghost use Rattle.nr_chain_explain.specs.inside.Reading.{all_seen, seen_of, BeginsWell};
+ghost use Rattle.nr_chain_explain.specs.Came.{space_in};
+ghost use Rattle.nr_chain_explain.specs.inside.Reading.{all_seen, seen_of, BeginsWell, FitsSegment};
 
 use crate::explanation::ChainCounts;
-use crate::spaces::start_space;
+use crate::spaces::{follow, start_space};
 use nr_audit::Order;
+use nr_segment::copy;
 use nr_trace::{Event, Trace, TraceLayout};
 use std::alloc::Global;
 use vs_plain::PlainSpace;
@@ -109,42 +113,58 @@ fn sums_after(sums: Sums, segment: &Trace, order: &Order, size: usize) -> Sums
     }
 }
 
-/// The space with which the chain begins, where its first segment has a start. This one may be that, and nothing is wrong with it.
-fn began_with(
+/// The space after a segment, which this one is too, and that with which the chain begins, where its first segment has a start. This one
+/// may be that, and nothing is wrong with it.
+fn spaces_after(
     alloc: Global,
     last: Option<Came>,
     segment: &Trace,
-) -> Result<Option<PlainSpace>, Memory>
-    requires { BeginsWell last segment.now }
-    ensures { IfOk result (λ began.
-        option_map (λ space. space.space) began ≡ began_with (all_seen last) segment.now) }
+    after: &PlainSpace,
+) -> Result<(PlainSpace, Option<PlainSpace>), Memory>
+    requires fits { IfSome last (FitsSegment segment.now) }
+    requires well { BeginsWell last segment.now }
+    requires after { after.now
+        ≡ space_of segment.now.layout (last_space (space_in (all_seen last)) segment.now) }
+    ensures space { IfOk result (λ spaces. spaces.0 ≡ after.now) }
+    ensures began { IfOk result (λ spaces.
+        option_map (λ space. space.space) spaces.1 ≡ began_with (all_seen last) segment.now) }
 {
     match last {
-        Some(came) => Ok(came.began),
-        None => start_space(alloc, segment),
+        Some(came) => {
+            let space = follow(segment, came.space)?;
+            Ok((space, came.began))
+        }
+        None => {
+            let began = start_space(alloc, segment)?;
+            let space = copy(alloc, segment.layout().tables(), after)?;
+            Ok((space, began))
+        }
     }
 }
 
-/// What is come to with a segment more, of which this is the order, which leads to this space, and which so many bytes spell.
+/// What is come to with a segment more, of which this is the order, which leads to this space, and which so many bytes spell. It
+/// allocates two spaces where the segment is the first, else memory for the pages that its log maps.
 pub(crate) fn go_on(
     alloc: Global,
     last: Option<Came>,
     segment: &Trace,
     order: &Order,
-    space: PlainSpace,
+    after: &PlainSpace,
     size: usize,
 ) -> Result<Came, Memory>
+    requires fits { IfSome last (FitsSegment segment.now) }
     requires well { BeginsWell last segment.now }
     requires order { order.now ≡ recorded_order segment.now }
-    requires space { space.space ≡ (came_after (all_seen last) segment.now size).kept.space }
+    requires after { after.now
+        ≡ space_of segment.now.layout (last_space (space_in (all_seen last)) segment.now) }
     ensures seen { IfOk result (λ came.
         seen_of came ≡ came_after (all_seen last) segment.now size) }
     ensures layout { IfOk result (λ came. came.layout ≡ segment.now.layout) }
-    ensures space { IfOk result (λ came. came.space ≡ space) }
+    ensures space { IfOk result (λ came. came.space ≡ after.now) }
 {
     let sums = sums_after(sums_of(&last), segment, order, size);
     let layout = segment.layout();
-    let began = began_with(alloc, last, segment)?;
+    let (space, began) = spaces_after(alloc, last, segment, after)?;
     Ok(Came {
         layout,
         space,

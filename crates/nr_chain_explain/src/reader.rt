@@ -7,27 +7,29 @@ ghost use Rattle.nr_trace.specs.FirstFault.{HasFaultAs};
 ghost use Rattle.nr_trace.specs.Versions.{Follows};
 ghost use Rattle.nr_chain_explain.specs.Came.{layout_in};
 ghost use Rattle.nr_chain_explain.specs.Explanation.{Explains, FeedsReader};
-ghost use Rattle.nr_chain_explain.specs.inside.Reading.{all_seen, FitsCame, FitsSegment};
+ghost use Rattle.nr_chain_explain.specs.inside.Reading.{all_seen, spaces_of, FitsCame, FitsSegment};
 ghost use Rattle.nr_chain_explain.specs.inside.Steps.{JudgedTo, JudgesTo, StepsTo};
 
 use crate::came::{Came, go_on, sums_of};
 use crate::explaining::explain_segment;
 use crate::explanation::ChainExplanation;
 use crate::refusing::{ended, refusal};
-use crate::spaces::copy_before;
 use nr_segment::{SegmentVerdict, judge_segment};
 use nr_trace::{SegmentFeed, Trace};
 use std::alloc::Global;
 use std::marker::Model;
+use vs_plain::PlainSpace;
 use vs_types::{Fail, Memory};
 
 /// A reader of a chain that comes in pieces, cut anywhere, which explains what an audit of it finds. It keeps the bytes of one segment
-/// and what they say, the space after the segment before, and that with which the chain begins. Contracts see what the segments so far
-/// have come to, and the bytes of the next one.
+/// and what they say, the space after the segment before twice, and that with which the chain begins. Contracts see what the segments
+/// so far have come to, and the bytes of the next one.
 #[derive(Drop)]
 pub struct ChainReader {
     alloc: Global,
     last: Option<Came>,
+    /// The space after the segment before, once more: the judge takes it, and changes it up to the first fault.
+    before: Option<PlainSpace>,
     /// The bytes of the next segment so far.
     bytes: Vec<u8>,
     feed: SegmentFeed,
@@ -47,7 +49,7 @@ impl Model for ChainReader {
 
     ghost view = { λ r. record { came = all_seen r.last; bytes = r.bytes.items } };
 
-    ghost invariant = { λ r. IsReading r.last r.bytes.items r.feed };
+    ghost invariant = { λ r. IsReading r.last r.before r.bytes.items r.feed };
 }
 
 /// What a piece makes of a reader.
@@ -80,6 +82,7 @@ impl ChainReader {
         ChainReader {
             alloc,
             last: None,
+            before: None,
             bytes: Vec::new(alloc),
             feed: SegmentFeed::new(alloc, None),
         }
@@ -92,6 +95,7 @@ impl ChainReader {
         let ChainReader {
             alloc,
             last,
+            before,
             mut bytes,
             mut feed,
         } = self;
@@ -99,11 +103,12 @@ impl ChainReader {
             Ok(count) => {
                 bytes.extend_from_slice(&piece[..count])?;
                 if feed.is_whole() {
-                    return judge_whole(alloc, last, &bytes, feed, count);
+                    return judge_whole(alloc, last, before, &bytes, feed, count);
                 }
                 let next = ChainReader {
                     alloc,
                     last,
+                    before,
                     bytes,
                     feed,
                 };
@@ -119,8 +124,9 @@ impl ChainReader {
     }
 
     /// Takes the next piece, with all segments that are whole with it; each of them is judged, and the first wrong one explained. It
-    /// allocates the bytes of a segment and what they say, what its judgement takes, a copy of the space before it, the space with which
-    /// the chain begins, and what shows a fault; where that is one of the format, what the segment says once more.
+    /// allocates the bytes of a segment and what they say, what its judgement takes, the pages that its log maps, and what shows a fault;
+    /// where that is one of the format, what the segment says once more. With the first segment it allocates three spaces, with any other
+    /// right one none: the log is served on two of them.
     ///
     /// # Errors
     ///
@@ -155,6 +161,7 @@ impl ChainReader {
         let ChainReader {
             alloc,
             last,
+            before: _,
             bytes,
             feed: _,
         } = self;
@@ -166,6 +173,7 @@ impl ChainReader {
 fn judge_whole(
     alloc: Global,
     last: Option<Came>,
+    before: Option<PlainSpace>,
     bytes: &[u8],
     feed: SegmentFeed,
     count: usize,
@@ -174,34 +182,37 @@ fn judge_whole(
     requires taken { feed.pieces ≡ Taken bytes.now }
     requires behind { feed.before ≡ layout_in (all_seen last) }
     requires fits { IfSome last FitsCame }
+    requires same { before ≡ spaces_of last }
     ensures { IfOk result (JudgesTo (all_seen last) bytes.now count) }
 {
     let segment = match feed.end() {
         Ok(segment) => segment,
         Err(_) => unreachable!(),
     };
-    judge_next(alloc, last, &segment, bytes.len(), count)
+    judge_next(alloc, last, before, &segment, bytes.len(), count)
 }
 
 /// Judges the segment that comes next, which has so many bytes, and explains it where it is wrong.
 fn judge_next(
     alloc: Global,
     last: Option<Came>,
+    before: Option<PlainSpace>,
     segment: &Trace,
     size: usize,
     count: usize,
 ) -> Result<Step, Memory>
     requires fits { IfSome last (FitsSegment segment.now) }
+    requires same { before ≡ spaces_of last }
     ensures { IfOk result (JudgedTo (all_seen last) segment.now size count) }
 {
-    let before = copy_before(alloc, &last, segment)?;
     match judge_segment(alloc, segment, before)? {
         SegmentVerdict::Right(order, space) => {
-            let came = go_on(alloc, last, segment, &order, space, size)?;
+            let came = go_on(alloc, last, segment, &order, &space, size)?;
             let feed = SegmentFeed::new(alloc, Some(came.layout));
             let next = ChainReader {
                 alloc,
                 last: Some(came),
+                before: Some(space),
                 bytes: Vec::new(alloc),
                 feed,
             };

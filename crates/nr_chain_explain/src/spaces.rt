@@ -1,12 +1,14 @@
 //! The space with which a segment begins.
 
 ghost use Rattle.std.specs.Prelude.{◌≡◌, IfOk, IfSome, None, Some, option_map};
+ghost use Rattle.nr_trace.specs.Orders.{space_from};
 ghost use Rattle.nr_audit.specs.Verdict.{space_of};
 ghost use Rattle.nr_segment.specs.Start.{first_space, start_space, BeginsRight};
 ghost use Rattle.nr_chain_explain.specs.Came.{space_in};
 ghost use Rattle.nr_chain_explain.specs.inside.Reading.{all_seen, BeginsWell, FitsSegment};
 
 use crate::came::Came;
+use nr_explain::apply_place;
 use nr_segment::copy;
 use nr_trace::Trace;
 use std::alloc::Global;
@@ -42,20 +44,18 @@ pub(crate) fn start_space(alloc: Global, segment: &Trace) -> Result<Option<Plain
     Ok(Some(space))
 }
 
-/// A copy of the space after the segment before, if there is one. It allocates memory for it.
-pub(crate) fn copy_before(
-    alloc: Global,
-    last: &Option<Came>,
-    segment: &Trace,
-) -> Result<Option<PlainSpace>, Memory>
-    requires { IfSome last.now (FitsSegment segment.now) }
-    ensures { IfOk result (λ before. before ≡ option_map (λ came. came.space) last.now) }
+/// The space after a segment that begins with this one. It allocates memory for the pages that the segment's log maps.
+pub(crate) fn follow(segment: &Trace, first: PlainSpace) -> Result<PlainSpace, Memory>
+    requires { first ≡ space_of segment.now.layout first.space }
+    ensures { IfOk result (λ space. space ≡ space_of segment.now.layout
+        (space_from first.space segment.now segment.now.log)) }
 {
-    let Some(came) = last else {
-        return Ok(None);
-    };
-    let before = copy(alloc, segment.layout().tables(), &came.space)?;
-    Ok(Some(before))
+    let places = segment.log().len() as u32;
+    let mut space = first;
+    for place in 0..places {
+        apply_place(segment, &mut space, place)?;
+    }
+    Ok(space)
 }
 
 /// The space with which a segment begins, with whose start nothing is wrong. It allocates memory for it, and of a first segment

@@ -1,8 +1,8 @@
 -- What is known of a chain that is read in blocks and explained.
-use Rattle.std.proofs.Common.{◌≡◌, ◌≤◌, ℕ, List, [], ◌++◌, length, Option, None, refl, sym, subst, take, arith}
+use Rattle.std.proofs.Common.{◌≡◌, ◌≤◌, ◌+◌, ◌-◌, ◌^◌, inr, ℕ, List, [], ◌++◌, length, Option, None, refl, sym, subst, take, arith}
 use Rattle.std.specs.Io.KnownBytes.{Consumes, IsAtEnd, Keeps}
 use Rattle.std.proofs.KnownBytes.{Consumes-kept, Consumes-nil, Consumes-trans}
-use Rattle.std.proofs.lemmas.List.{append-nil, append_assoc}
+use Rattle.std.proofs.lemmas.List.{append-nil, append_assoc, length-append}
 use Rattle.nr_trace.specs.Recording.{Recording}
 use Rattle.nr_trace.specs.FirstFault.{HasSegmentFault}
 use Rattle.nr_trace.specs.declared.fault.Format.TheVariants.{Truncated}
@@ -13,35 +13,43 @@ use Rattle.nr_chain_explain.proofs.Feeding.{explains_on, goes_and, goes_with}
 use Rattle.nr_chain_explain.proofs.Verdicts.{goes_on_so, orders_in}
 use Rattle.nr_chain_engines.specs.ChainAudit.{HasReadFewOfChain}
 use Rattle.nr_chain_engines.proofs.Going.{ends_yet, none_short}
+use Rattle.nr_chain_engines.proofs.Reading.{many_more}
+use Rattle.nr_chain_engines.specs.declared.audit.TheConstants.{MOST_BLOCKS}
+use Rattle.nr_engines.specs.Ends.{IsUnreadable}
 use Rattle.nr_chain_explain.specs.declared.explanation.ChainExplanation.{ChainExplanation}
-use Rattle.nr_engines.proofs.Input.{one_block, whole_read, whole_with}
+use Rattle.nr_engines.proofs.Inputs.{one_block, whole_read, whole_with}
 use Rattle.nr_chain_texts.specs.inside.Explaining.{HasExplained}
 
--- what was read is right segments, and the beginning of one more
-pub record IsExplaining (known left : Option (List ℕ)) (chain : Seen) : Type 0 where
+-- what was read is right segments, and the beginning of one more, and so many blocks may be read yet
+pub record IsExplaining (known left : Option (List ℕ)) (chain : Seen) (room : ℕ) : Type 0 where
   pub read : List ℕ
+  pub many : 2 ^ 52 - 1 ≤ room + length read
   pub consumed : Consumes known left read
   pub segments : List Recording
   pub goes_on : GoesOnTo None read segments chain.came chain.bytes
   pub short : HasSegmentFault (layout_in chain.came) chain.bytes Truncated
 
-pub explaining_starts : (known : Option (List ℕ)) (chain : Seen) → chain ≡ record { came = None; bytes = [] } → IsExplaining known known chain
+pub explaining_starts : (known : Option (List ℕ)) (chain : Seen) → chain ≡ record { came = None; bytes = [] }
+    → IsExplaining known known chain MOST_BLOCKS
 explaining_starts known chain is =
     let nothing : Seen = record { came = None; bytes = [] } in
-    let here : IsExplaining known known nothing = record {
+    let here : IsExplaining known known nothing MOST_BLOCKS = record {
       read = [];
+      many = omega arith;
       consumed = Consumes-nil known;
       segments = [];
       goes_on = (refl, refl);
       short = none_short None;
     } in
-    subst (IsExplaining known known) (sym is) here
+    subst (λ (seen : Seen). IsExplaining known known seen MOST_BLOCKS) (sym is) here
 
 -- a block was read and taken
-pub explaining_goes_on : (known left new : Option (List ℕ)) (chain next : Seen) (block : List ℕ) → IsExplaining known left chain
-    → Consumes left new block → (block ≡ [] → ⊥) → FeedsReader chain block (More next) → IsExplaining known new next
-explaining_goes_on known left new chain next block here lost some ((more, on), short) = record {
+pub explaining_goes_on : (known left new : Option (List ℕ)) (chain next : Seen) (block : List ℕ) (room less : ℕ)
+    → IsExplaining known left chain room → Consumes left new block → 1 ≤ length block → less + 1 ≡ room → (block ≡ [] → ⊥)
+    → FeedsReader chain block (More next) → IsExplaining known new next less
+explaining_goes_on known left new chain next block room less here lost size one some ((more, on), short) = record {
   read = here.read ++ block;
+  many = many_more (length here.read) (length block) _ room less here.many size one (length-append here.read block);
   consumed = Consumes-trans known left new here.read block here.consumed lost;
   segments = here.segments ++ more;
   goes_on = goes_and None chain.came next.came (here.read ++ block) (chain.bytes ++ block) next.bytes here.segments more
@@ -50,7 +58,7 @@ explaining_goes_on known left new chain next block here lost some ((more, on), s
 }
 
 -- nothing is wrong yet with the bytes before the block
-few_more : (known left new : Option (List ℕ)) (chain : Seen) (block : List ℕ) → IsExplaining known left chain → Consumes left new block
+few_more : {room : ℕ} (known left new : Option (List ℕ)) (chain : Seen) (block : List ℕ) → IsExplaining known left chain room → Consumes left new block
     → length block ≤ 4096 → HasReadFewOfChain known new
 few_more known left new chain block here lost size =
     let (found, ends, early) = ends_yet (kept_in chain.came) chain.bytes here.short in
@@ -63,17 +71,24 @@ few_more known left new chain block here lost size =
       one_block = size;
     }
 
-pub few_read : {known left new : Option (List ℕ)} {chain : Seen} (count : ℕ) (block : List ℕ) → IsExplaining known left chain
+pub few_read : {known left new : Option (List ℕ)} {chain : Seen} {room : ℕ} (count : ℕ) (block : List ℕ) → IsExplaining known left chain room
     → Consumes left new (take count block) → length block ≡ 4096 → HasReadFewOfChain known new
 few_read count block here lost full = few_more _ _ _ _ (take count block) here lost (one_block count block full)
 
-pub few_kept : {known left new : Option (List ℕ)} {chain : Seen} → IsExplaining known left chain → Keeps left new → HasReadFewOfChain known new
+pub few_kept : {known left new : Option (List ℕ)} {chain : Seen} {room : ℕ} → IsExplaining known left chain room → Keeps left new → HasReadFewOfChain known new
 few_kept {left = left} {new = new} here keeps =
     few_more _ _ _ _ [] here (Consumes-kept left left new [] (Consumes-nil left) keeps) (omega arith)
 
+-- so many blocks were read
+pub explains_too_late : {known left : Option (List ℕ)} {chain : Seen} {room : ℕ} (last : Option ℕ) → IsExplaining known left chain room → room ≡ 0
+    → IsUnreadable (2 ^ 52 - 1) known left last
+explains_too_late last here none =
+    let many = here.many in
+    inr (here.read, here.consumed, omega (arith, many, none))
+
 -- nothing is left to read
-pub explained_at_end : (known left new : Option (List ℕ)) (chain : Seen) (block : List ℕ) (explanation : ChainExplanation)
-    → IsExplaining known left chain → Consumes left new block → block ≡ [] → IsAtEnd new → Explains chain [] explanation
+pub explained_at_end : {room : ℕ} (known left new : Option (List ℕ)) (chain : Seen) (block : List ℕ) (explanation : ChainExplanation)
+    → IsExplaining known left chain room → Consumes left new block → block ≡ [] → IsAtEnd new → Explains chain [] explanation
     → HasExplained known explanation
 explained_at_end known left new chain block explanation here lost none end explains =
     let lost_none = subst (Consumes left new) none lost in
@@ -86,8 +101,8 @@ explained_at_end known left new chain block explanation here lost none end expla
     }
 
 -- the fault shows in a block, whatever comes behind it
-pub explained_in_block : (known left new : Option (List ℕ)) (chain : Seen) (block : List ℕ) (explanation : ChainExplanation)
-    → IsExplaining known left chain → Consumes left new block → ((rest : List ℕ) → Explains chain (block ++ rest) explanation)
+pub explained_in_block : {room : ℕ} (known left new : Option (List ℕ)) (chain : Seen) (block : List ℕ) (explanation : ChainExplanation)
+    → IsExplaining known left chain room → Consumes left new block → ((rest : List ℕ) → Explains chain (block ++ rest) explanation)
     → HasExplained known explanation
 explained_in_block known left new chain block explanation here lost explains =
     let (behind, is) = whole_with known new (here.read ++ block) (Consumes-trans known left new here.read block here.consumed lost) in

@@ -1,9 +1,10 @@
 //! The explanation of a chain that is read in blocks.
 
-ghost use Rattle.std.specs.Prelude.{◌≡◌, ◌≢◌, ◌++◌, [], IfErr, IfOk, OnOk, Some, codes, length, string_bytes};
+ghost use Rattle.std.specs.Prelude.{◌≡◌, ◌≢◌, ◌++◌, ◌-◌, ◌^◌, [], IfErr, IfOk, OnOk, Some, codes, length, string_bytes};
 ghost use Rattle.serde_json.specs.Data.{object, put as with_member, string};
 ghost use Rattle.serde_json.specs.View.{members_view, view};
 ghost use Rattle.nr_engines.specs.Answers.{WritesReport};
+ghost use Rattle.nr_engines.specs.Ends.{RefusesUnreadable};
 ghost use Rattle.nr_engines.specs.Refusals.{IsEndFault, WritesAnswersAlone};
 ghost use Rattle.nr_chain_engines.specs.ChainAudit.{HasReadFewOfChain};
 ghost use Rattle.nr_chain_engines.specs.ChainText.{end_lines, segment_fault_text};
@@ -16,11 +17,11 @@ use crate::evidence::{segment_evidence_text, segment_evidence_value};
 use crate::sentence::segment_sentence;
 use nr_chain_engines::{MOST_BLOCKS, segment_fault_text};
 use nr_chain_explain::{ChainCounts, ChainExplanation, ChainReader, Fed, SegmentEvidence};
-use nr_engines::{BLOCK, Members, ProgFault, Report, read_block, write_report};
+use nr_engines::{BLOCK, Members, ProgFault, Report, Source, read_block, write_report};
 use nr_segment::SegmentFault;
 use serde_json::{Map, Value, put};
 use std::alloc::{AllocError, Global};
-use std::io::{Read, Write};
+use std::io::Write;
 
 fn status_of(explanation: &ChainExplanation) -> u8
     ensures { result ≡ chain_explanation_status explanation.now }
@@ -187,7 +188,7 @@ fn chain_report(
 }
 
 /// Reads blocks and feeds each, to the end of the input or to the first fault.
-fn explain_blocks<R: Read>(
+fn explain_blocks<R: Source>(
     alloc: Global,
     reader: &mut R,
     block: &mut [u8],
@@ -196,6 +197,8 @@ fn explain_blocks<R: Read>(
     ensures ok { IfOk result (HasExplained (R.remaining reader.old)) }
     ensures err { IfErr result IsEndFault }
     ensures few { HasReadFewOfChain (R.remaining reader.old) (R.remaining reader.new) }
+    ensures unread { RefusesUnreadable (2 ^ 52 - 1) (R.remaining reader.old)
+        (R.remaining reader.new) (R.last_read reader.new) result }
 {
     let mut chain = ChainReader::new(alloc);
     let mut room = MOST_BLOCKS;
@@ -225,9 +228,9 @@ fn explain_blocks<R: Read>(
 ///
 /// # Errors
 ///
-/// `CannotRead` and `CannotWrite` where an end gave an error, `Memory` where a growth of memory was refused; and `CannotRead` where the
-/// input doesn't end within 2^52 - 1 reads.
-pub fn explain_chain_io<R: Read, W: Write>(
+/// `CannotRead` where the last read gave an error, or the input doesn't end within 2^52 - 1 reads; `CannotWrite` where the writer gave an
+/// error, `Memory` where a growth of memory was refused.
+pub fn explain_chain_io<R: Source, W: Write>(
     alloc: Global,
     reader: &mut R,
     writer: &mut W,
@@ -238,6 +241,8 @@ pub fn explain_chain_io<R: Read, W: Write>(
     ensures err { IfErr result IsEndFault }
     ensures alone { WritesAnswersAlone writer.old writer.new result }
     ensures few { HasReadFewOfChain (R.remaining reader.old) (R.remaining reader.new) }
+    ensures unread { RefusesUnreadable (2 ^ 52 - 1) (R.remaining reader.old)
+        (R.remaining reader.new) (R.last_read reader.new) result }
 {
     let explanation = explain_blocks(alloc, reader, &mut [0; BLOCK])?;
     let report = chain_report(alloc, as_json, explanation)?;

@@ -1,66 +1,173 @@
 //! An inspection of the input, of one file or of several.
 
 ghost use Rattle.std.specs.Prelude.{◌≡◌, IfErr, IfOk, map};
-ghost use Rattle.nr_commands.specs.Tasks.{AuditsEach, AuditsOne, RunsChainTaskOnFile, RunsInspection, RunsTaskOnFile, WritesLine};
+ghost use Rattle.nr_engines.specs.Answers.{IsNamedAudit, WritesReport};
+ghost use Rattle.nr_engines.specs.Refusals.{WritesAnswersAlone};
+ghost use Rattle.nr_commands.specs.Tasks.{AuditsEach, AuditsOne, RunsChainTask, RunsChainTaskOnFile, RunsInspection};
+ghost use Rattle.nr_commands.specs.Tasks.{RunsTask, RunsTaskOnFile, WritesLine};
 
 use crate::files::FilesByName;
 use crate::inspection::Inspection;
-use crate::refusal::{tell_name, tell_refused};
+use crate::refusal::{refused_status, remark, tell_outcome};
 use crate::task::{ChainTask, Task};
-use nr_engines::{ProgFault, named_audit_io};
+use nr_engines::{Input, ProgFault, named_audit_io};
 use std::alloc::Global;
 use std::io::{Read, Write};
 
+/// How a chain begins, and how a trace does.
+const CHAIN: &[u8; 4] = b"NRVS";
+
+const TRACE: &[u8; 4] = b"NRVT";
+
+const IS_CHAIN: &str = "this is a chain: use --chain\n";
+
+const IS_TRACE: &str = "this is a trace: leave out --chain\n";
+
+const NO_TRACE: &str = "this is a chain, and resolve reads traces\n";
+
+/// Does the task on an input, and says on the errors why it has no answer, and that it begins as a chain.
+fn run_task<R: Read, W: Write, E: Write>(
+    alloc: Global,
+    task: Task<'_>,
+    name: Option<&str>,
+    input: &mut Input<R>,
+    output: &mut W,
+    errors: &mut E,
+) -> Result<u8, ProgFault>
+    ensures { RunsTask task.entry (R.remaining input.old.reader) W.contents output.old output.new
+        result }
+{
+    let word = task.word();
+    let outcome = task.run(alloc, input, output);
+    let about = match outcome {
+        Err(ProgFault::BadAddress) => word,
+        _ => name,
+    };
+    tell_outcome(alloc, &outcome, about, input.error(), errors);
+    if input.begins_with(CHAIN) {
+        let text = if word.is_some() { NO_TRACE } else { IS_CHAIN };
+        remark(name, text, errors);
+    }
+    outcome
+}
+
+/// Does the task on a chain, and says on the errors why it has no answer, and that it begins as a trace.
+fn run_chain_task<R: Read, W: Write, E: Write>(
+    alloc: Global,
+    task: ChainTask,
+    name: Option<&str>,
+    input: &mut Input<R>,
+    output: &mut W,
+    errors: &mut E,
+) -> Result<u8, ProgFault>
+    ensures { RunsChainTask task (R.remaining input.old.reader) W.contents output.old output.new
+        result }
+{
+    let outcome = task.run(alloc, input, output);
+    tell_outcome(alloc, &outcome, name, input.error(), errors);
+    if input.begins_with(TRACE) {
+        remark(name, IS_TRACE, errors);
+    }
+    outcome
+}
+
 /// Does the task on the file of this name.
-fn run_on_file<F: FilesByName, W: Write>(
+fn run_on_file<F: FilesByName, W: Write, E: Write>(
     files: &F,
     alloc: Global,
     task: Task<'_>,
     name: &str,
     output: &mut W,
+    errors: &mut E,
 ) -> Result<u8, ProgFault>
     ensures { RunsTaskOnFile task.entry (F.file_bytes files.now name.now) W.contents output.old
         output.new result }
 {
     match files.open(name) {
-        Ok(mut file) => task.run(alloc, &mut file, output),
-        Err(_) => Err(ProgFault::CannotRead),
+        Ok(file) => {
+            let mut input = Input::new(file);
+            run_task(alloc, task, Some(name), &mut input, output, errors)
+        }
+        Err(error) => {
+            let outcome = Err(ProgFault::CannotRead);
+            tell_outcome(alloc, &outcome, Some(name), Some(error), errors);
+            outcome
+        }
     }
 }
 
 /// Does the task on the chain in the file of this name.
-fn run_on_chain<F: FilesByName, W: Write>(
+fn run_on_chain<F: FilesByName, W: Write, E: Write>(
     files: &F,
     alloc: Global,
     task: ChainTask,
     name: &str,
     output: &mut W,
+    errors: &mut E,
 ) -> Result<u8, ProgFault>
     ensures { RunsChainTaskOnFile task (F.file_bytes files.now name.now) W.contents output.old
         output.new result }
 {
     match files.open(name) {
-        Ok(mut file) => task.run(alloc, &mut file, output),
-        Err(_) => Err(ProgFault::CannotRead),
+        Ok(file) => {
+            let mut input = Input::new(file);
+            run_chain_task(alloc, task, Some(name), &mut input, output, errors)
+        }
+        Err(error) => {
+            let outcome = Err(ProgFault::CannotRead);
+            tell_outcome(alloc, &outcome, Some(name), Some(error), errors);
+            outcome
+        }
     }
 }
 
+/// Audits one of several inputs, and writes its line; says on the errors why it has none, but where the output failed, and that it begins
+/// as a chain.
+fn write_own_line<R: Read, W: Write, E: Write>(
+    alloc: Global,
+    name: &str,
+    input: &mut Input<R>,
+    output: &mut W,
+    errors: &mut E,
+) -> Result<u8, ProgFault>
+    ensures ok { IfOk result (WritesReport (IsNamedAudit name.now) (R.remaining input.old.reader)
+        (W.contents output.old) (W.contents output.new)) }
+    ensures alone { WritesAnswersAlone output.old output.new result }
+{
+    let outcome = named_audit_io(alloc, input, output, name);
+    if !matches!(outcome, Err(ProgFault::CannotWrite)) {
+        tell_outcome(alloc, &outcome, Some(name), input.error(), errors);
+    }
+    if input.begins_with(CHAIN) {
+        remark(Some(name), IS_CHAIN, errors);
+    }
+    outcome
+}
+
 /// Audits the file of this name, and writes its line.
-fn write_line<F: FilesByName, R: Read, W: Write>(
+fn write_line<F: FilesByName, R: Read, W: Write, E: Write>(
     files: &F,
     alloc: Global,
     name: &str,
-    reader: &mut R,
+    input: &mut Input<R>,
     output: &mut W,
+    errors: &mut E,
 ) -> Result<u8, ProgFault>
     ensures { WritesLine (F.file_bytes files.now) name.now W.contents output.old output.new result }
 {
     if name == "-" {
-        return named_audit_io(alloc, reader, output, name);
+        return write_own_line(alloc, name, input, output, errors);
     }
     match files.open(name) {
-        Ok(mut file) => named_audit_io(alloc, &mut file, output, name),
-        Err(_) => Err(ProgFault::CannotRead),
+        Ok(file) => {
+            let mut opened = Input::new(file);
+            write_own_line(alloc, name, &mut opened, output, errors)
+        }
+        Err(error) => {
+            let outcome = Err(ProgFault::CannotRead);
+            tell_outcome(alloc, &outcome, Some(name), Some(error), errors);
+            outcome
+        }
     }
 }
 
@@ -69,7 +176,7 @@ fn audit_one<F: FilesByName, R: Read, W: Write, E: Write>(
     files: &F,
     alloc: Global,
     name: &str,
-    reader: &mut R,
+    input: &mut Input<R>,
     output: &mut W,
     errors: &mut E,
 ) -> Result<u8, ProgFault>
@@ -78,9 +185,9 @@ fn audit_one<F: FilesByName, R: Read, W: Write, E: Write>(
         (W.contents output.new)) }
     ensures err { IfErr result (λ fault. fault ≡ ProgFault.CannotWrite) }
 {
-    match write_line(files, alloc, name, reader, output) {
+    match write_line(files, alloc, name, input, output, errors) {
         Ok(status) => Ok(status),
-        Err(fault) => tell_refused(name, fault, errors),
+        Err(fault) => refused_status(fault),
     }
 }
 
@@ -89,7 +196,7 @@ fn audit_each<F: FilesByName, R: Read, W: Write, E: Write>(
     files: &F,
     alloc: Global,
     names: &[&str],
-    reader: &mut R,
+    input: &mut Input<R>,
     output: &mut W,
     errors: &mut E,
 ) -> Result<u8, ProgFault>
@@ -99,15 +206,15 @@ fn audit_each<F: FilesByName, R: Read, W: Write, E: Write>(
 {
     let mut worst = 0u8;
     for name in names {
-        let status = audit_one(files, alloc, *name, reader, output, errors)?;
+        let status = audit_one(files, alloc, *name, input, output, errors)?;
         worst = worst.max(status);
     }
     Ok(worst)
 }
 
-/// Makes the inspection, of standard input or of the files that are named. Why a file has no answer is written to the errors, by its
-/// name; of one file the name alone, before the line that the program ends with. Allocates what the task does, for one file after the
-/// other.
+/// Makes the inspection, of standard input or of the files that are named. Why there is no answer is written to the errors, behind the
+/// name of the file or the word that is wrong, and with the error of an input that can't be read; so is that a chain was read as a trace,
+/// or a trace as a chain. Allocates what the task does, for one file after the other, and a line for the errors.
 ///
 /// # Errors
 ///
@@ -117,32 +224,24 @@ pub fn run_inspection<F: FilesByName, R: Read, W: Write, E: Write>(
     files: &F,
     alloc: Global,
     inspection: Inspection<'_>,
-    reader: &mut R,
+    input: &mut Input<R>,
     output: &mut W,
     errors: &mut E,
 ) -> Result<u8, ProgFault>
-    ensures { RunsInspection (F.file_bytes files.now) inspection.entry (R.remaining reader.old)
-        W.contents output.old output.new result }
+    ensures { RunsInspection (F.file_bytes files.now) inspection.entry
+        (R.remaining input.old.reader) W.contents output.old output.new result }
 {
     match inspection {
-        Inspection::One(task, None) => task.run(alloc, reader, output),
-        Inspection::One(task, Some(name)) => {
-            let outcome = run_on_file(files, alloc, task, name, output);
-            if let Err(fault) = &outcome {
-                tell_name(name, fault, errors);
-            }
-            outcome
-        }
+        Inspection::One(task, None) => run_task(alloc, task, None, input, output, errors),
+        Inspection::One(task, Some(name)) => run_on_file(files, alloc, task, name, output, errors),
         Inspection::Each(names) => {
-            audit_each(files, alloc, names.as_slice(), reader, output, errors)
-        }
-        Inspection::Chain(task, None) => task.run(alloc, reader, output),
-        Inspection::Chain(task, Some(name)) => {
-            let outcome = run_on_chain(files, alloc, task, name, output);
-            if let Err(fault) = &outcome {
-                tell_name(name, fault, errors);
-            }
+            let outcome = audit_each(files, alloc, names.as_slice(), input, output, errors);
+            tell_outcome(alloc, &outcome, None, None, errors);
             outcome
+        }
+        Inspection::Chain(task, None) => run_chain_task(alloc, task, None, input, output, errors),
+        Inspection::Chain(task, Some(name)) => {
+            run_on_chain(files, alloc, task, name, output, errors)
         }
     }
 }

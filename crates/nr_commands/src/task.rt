@@ -2,10 +2,10 @@
 
 use nr_chain_engines::{audit_chain_io, chain_end_io, chain_start_io};
 use nr_chain_texts::explain_chain_io;
-use nr_engines::{ProgFault, audit_io, explain_all_io, explain_io, resolve_io};
+use nr_engines::{ProgFault, Source, audit_io, explain_all_io, explain_io, resolve_io};
 use nr_pages::pages_io;
 use std::alloc::Global;
-use std::io::{Read, Write};
+use std::io::Write;
 
 /// What can be asked of one trace.
 #[derive(Debug, Drop)]
@@ -20,18 +20,27 @@ pub enum Task<'a> {
     Pages(u8, bool),
 }
 
-impl Task<'_> {
+impl<'a> Task<'a> {
     ghost use Rattle.std.specs.Prelude.{IfOk, IfErr};
     ghost use Rattle.nr_engines.specs.Answers.{HasReadFew, WritesReport};
+    ghost use Rattle.nr_engines.specs.Ends.{RefusesUnreadable};
     ghost use Rattle.nr_engines.specs.Refusals.{WritesAnswersAlone};
     ghost use Rattle.nr_commands.specs.Tasks.{IsTaskFault, IsTaskReport};
+
+    /// The address, as the command line spells it, where the task has one.
+    pub(crate) fn word(&self) -> Option<&'a str> {
+        match self {
+            Task::Resolve(address, _, _) => Some(*address),
+            _ => None,
+        }
+    }
 
     /// Does the task on the input, and gives the exit status. Allocates what the engine of the task does.
     ///
     /// # Errors
     ///
     /// Those of `audit_io`, of `explain_io`, of `resolve_io`, or of `pages_io`.
-    pub fn run<R: Read, W: Write>(
+    pub fn run<R: Source, W: Write>(
         self,
         alloc: Global,
         reader: &mut R,
@@ -42,6 +51,8 @@ impl Task<'_> {
         ensures err { IfErr result (IsTaskFault self.entry (R.remaining reader.old)) }
         ensures alone { WritesAnswersAlone writer.old writer.new result }
         ensures few { HasReadFew (R.remaining reader.old) (R.remaining reader.new) }
+        ensures unread { RefusesUnreadable 70647893 (R.remaining reader.old)
+            (R.remaining reader.new) (R.last_read reader.new) result }
     {
         match self {
             Task::Audit => audit_io(alloc, reader, writer),
@@ -76,6 +87,8 @@ pub enum ChainTask {
 }
 
 impl ChainTask {
+    ghost use Rattle.std.specs.Prelude.{◌-◌, ◌^◌};
+    ghost use Rattle.nr_engines.specs.Ends.{RefusesUnreadable};
     ghost use Rattle.nr_commands.specs.Tasks.{RunsChainTask};
 
     /// Does the task on the input, and gives the exit status. Allocates what the engine of the task does.
@@ -83,14 +96,16 @@ impl ChainTask {
     /// # Errors
     ///
     /// Those of `audit_chain_io`, of `explain_chain_io`, of `chain_start_io`, or of `chain_end_io`.
-    pub fn run<R: Read, W: Write>(
+    pub fn run<R: Source, W: Write>(
         self,
         alloc: Global,
         reader: &mut R,
         writer: &mut W,
     ) -> Result<u8, ProgFault>
-        ensures { RunsChainTask self (R.remaining reader.old) W.contents writer.old writer.new
+        ensures runs { RunsChainTask self (R.remaining reader.old) W.contents writer.old writer.new
             result }
+        ensures unread { RefusesUnreadable (2 ^ 52 - 1) (R.remaining reader.old)
+            (R.remaining reader.new) (R.last_read reader.new) result }
     {
         match self {
             ChainTask::Audit(quiet) => audit_chain_io(alloc, reader, writer, quiet),

@@ -1,5 +1,6 @@
-pub mod Input
+pub mod Inputs
 pub mod Reports
+pub mod Writing
 pub mod UnitTexts
 pub mod NoFloats
 pub mod Puts

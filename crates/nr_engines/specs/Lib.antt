@@ -8,6 +8,7 @@ pub mod Evidence
 pub mod Explained
 pub mod FullExplained
 pub mod Answers
+pub mod Ends
 pub mod Refusals
 pub use Rattle.vs_types.specs.Config
 pub use Rattle.vs_types.specs.Depth

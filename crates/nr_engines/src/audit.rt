@@ -6,16 +6,18 @@ ghost use Rattle.nr_audit.specs.Verdict.{verdict_status};
 ghost use Rattle.nr_engines.specs.Text.{verdict_line};
 ghost use Rattle.nr_engines.specs.Refusals.{IsEndFault, WritesAnswersAlone};
 ghost use Rattle.nr_engines.specs.Answers.{HasReadFew, IsAudit, IsNamedAudit, WritesReport};
+ghost use Rattle.nr_engines.specs.Ends.{RefusesUnreadable};
 
 use crate::ends::write_report;
 use crate::fault::ProgFault;
 use crate::report::Report;
+use crate::source::Source;
 use crate::text::{verdict_line, verdict_text};
 use crate::unit_input::read_trace;
 use nr_audit::{Verdict, judge_read};
 use nr_trace::{Format, Trace};
 use std::alloc::{AllocError, Global};
-use std::io::{Read, Write};
+use std::io::Write;
 use vs_types::{Fail, Memory};
 
 fn status_of(verdict: &Verdict) -> u8
@@ -52,7 +54,7 @@ pub fn audit_read(alloc: Global, read: Result<Trace, Fail<Format>>) -> Result<Re
 /// # Errors
 ///
 /// `CannotRead` and `CannotWrite` where an end gave an error, `Memory` where a growth of memory was refused.
-pub fn audit_io<R: Read, W: Write>(
+pub fn audit_io<R: Source, W: Write>(
     alloc: Global,
     reader: &mut R,
     writer: &mut W,
@@ -62,6 +64,8 @@ pub fn audit_io<R: Read, W: Write>(
     ensures err { IfErr result IsEndFault }
     ensures alone { WritesAnswersAlone writer.old writer.new result }
     ensures few { HasReadFew (R.remaining reader.old) (R.remaining reader.new) }
+    ensures unread { RefusesUnreadable 70647893 (R.remaining reader.old) (R.remaining reader.new)
+        (R.last_read reader.new) result }
 {
     let read = read_trace(alloc, reader)?;
     let report = audit_read(alloc, read)?;
@@ -105,7 +109,7 @@ pub fn named_audit_read(
 /// # Errors
 ///
 /// Those of `audit_io`.
-pub fn named_audit_io<R: Read, W: Write>(
+pub fn named_audit_io<R: Source, W: Write>(
     alloc: Global,
     reader: &mut R,
     writer: &mut W,
@@ -116,6 +120,8 @@ pub fn named_audit_io<R: Read, W: Write>(
     ensures err { IfErr result IsEndFault }
     ensures alone { WritesAnswersAlone writer.old writer.new result }
     ensures few { HasReadFew (R.remaining reader.old) (R.remaining reader.new) }
+    ensures unread { RefusesUnreadable 70647893 (R.remaining reader.old) (R.remaining reader.new)
+        (R.last_read reader.new) result }
 {
     let read = read_trace(alloc, reader)?;
     let report = named_audit_read(alloc, name, read)?;

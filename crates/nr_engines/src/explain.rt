@@ -12,6 +12,7 @@ ghost use Rattle.nr_engines.specs.Explained.{explanation_data, explanation_json,
 ghost use Rattle.nr_engines.specs.Explained.{shown_text, told_explanation, IsExplained};
 ghost use Rattle.nr_engines.specs.Refusals.{IsEndFault, WritesAnswersAlone};
 ghost use Rattle.nr_engines.specs.Answers.{HasReadFew, WritesReport};
+ghost use Rattle.nr_engines.specs.Ends.{RefusesUnreadable};
 
 use crate::ends::write_report;
 use crate::evidence::{counts_lines, counts_value, evidence_lines, evidence_value};
@@ -19,13 +20,14 @@ use crate::fact_json::{Members, put_text};
 use crate::fault::ProgFault;
 use crate::report::Report;
 use crate::sentence::sentence_text;
+use crate::source::Source;
 use crate::text::{no_text, no_words, yes_text};
 use crate::unit_input::read_units;
 use nr_explain::{Counts, Evidence, Explanation, Unread, explain_read};
 use nr_trace::{Fault, Trace};
 use serde_json::{Map, Value, put};
 use std::alloc::{AllocError, Global};
-use std::io::{Read, Write};
+use std::io::Write;
 use vs_types::Memory;
 
 pub(crate) fn status_of(explanation: &Explanation) -> u8
@@ -223,7 +225,7 @@ pub fn explained_read(
 /// # Errors
 ///
 /// `CannotRead` and `CannotWrite` where an end gave an error, `Memory` where a growth of memory was refused.
-pub fn explain_io<R: Read, W: Write>(
+pub fn explain_io<R: Source, W: Write>(
     alloc: Global,
     reader: &mut R,
     writer: &mut W,
@@ -234,6 +236,8 @@ pub fn explain_io<R: Read, W: Write>(
     ensures err { IfErr result IsEndFault }
     ensures alone { WritesAnswersAlone writer.old writer.new result }
     ensures few { HasReadFew (R.remaining reader.old) (R.remaining reader.new) }
+    ensures unread { RefusesUnreadable 70647893 (R.remaining reader.old) (R.remaining reader.new)
+        (R.last_read reader.new) result }
 {
     let read = read_units(alloc, reader)?;
     let report = explained_read(alloc, read, as_json)?;

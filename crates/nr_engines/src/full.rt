@@ -8,6 +8,7 @@ ghost use Rattle.nr_engines.specs.Answers.{HasReadFew, WritesReport};
 ghost use Rattle.nr_engines.specs.Explained.{explanation_status};
 ghost use Rattle.nr_engines.specs.FullExplained.{dump_data, dump_lines, full_data, full_json, full_text, told_full, IsFullyExplained};
 ghost use Rattle.nr_engines.specs.Refusals.{IsEndFault, WritesAnswersAlone};
+ghost use Rattle.nr_engines.specs.Ends.{RefusesUnreadable};
 
 use crate::ends::write_report;
 use crate::evidence::evidence_value;
@@ -16,6 +17,7 @@ use crate::fact_json::Members;
 use crate::fault::ProgFault;
 use crate::report::Report;
 use crate::sentence::sentence_text;
+use crate::source::Source;
 use crate::text::fault_text;
 use crate::unit_input::read_units;
 use nr_explain::{
@@ -24,7 +26,7 @@ use nr_explain::{
 use nr_trace::{Fault, Trace};
 use serde_json::{Map, Value, put};
 use std::alloc::{AllocError, Global};
-use std::io::{Read, Write};
+use std::io::Write;
 use vs_types::Memory;
 
 /// The lines of a dump that has no fault.
@@ -251,7 +253,7 @@ pub fn fully_explained_read(
 /// # Errors
 ///
 /// `CannotRead` and `CannotWrite` where an end gave an error, `Memory` where a growth of memory was refused.
-pub fn explain_all_io<R: Read, W: Write>(
+pub fn explain_all_io<R: Source, W: Write>(
     alloc: Global,
     reader: &mut R,
     writer: &mut W,
@@ -262,6 +264,8 @@ pub fn explain_all_io<R: Read, W: Write>(
     ensures err { IfErr result IsEndFault }
     ensures alone { WritesAnswersAlone writer.old writer.new result }
     ensures few { HasReadFew (R.remaining reader.old) (R.remaining reader.new) }
+    ensures unread { RefusesUnreadable 70647893 (R.remaining reader.old) (R.remaining reader.new)
+        (R.last_read reader.new) result }
 {
     let read = read_units(alloc, reader)?;
     let report = fully_explained_read(alloc, read, as_json)?;

@@ -20,6 +20,7 @@ mod report;
 mod resolve;
 mod sentence;
 mod shared;
+mod source;
 mod text;
 mod unit_input;
 mod units;
@@ -45,6 +46,7 @@ pub use shared::{
     put_answer, put_look, put_missing_frame, put_read, put_reserved_entry, put_shared_frame,
     put_stray_frame, put_unlike,
 };
+pub use source::{Input, Source};
 pub use text::{fault_text, walk_words, yes_text};
 pub use unit_input::{read_trace, read_units};
 pub use units::{bytes_text, unit_text};

@@ -8,17 +8,19 @@ ghost use Rattle.nr_trace.specs.Feed.{Reads};
 ghost use Rattle.nr_trace.specs.Spelling.{Spells};
 ghost use Rattle.nr_engines.specs.Answers.{HasReadFew, IsResolve, IsWalk, WritesReport, walk_lines};
 ghost use Rattle.nr_engines.specs.Refusals.{IsWalkFault, IsResolveFault, WritesAnswersAlone};
+ghost use Rattle.nr_engines.specs.Ends.{RefusesUnreadable};
 
 use crate::ends::write_report;
 use crate::fact_text::push_steps;
 use crate::fault::ProgFault;
 use crate::report::Report;
+use crate::source::Source;
 use crate::text::{no_text, walk_text};
 use crate::unit_input::read_trace;
 use nr_explain::entries_read;
 use nr_trace::{Fault, Format, Trace};
 use std::alloc::Global;
-use std::io::{Read, Write};
+use std::io::Write;
 use vs_text::parse_address;
 use vs_types::{Depth, Fail, Memory};
 use vs_walk::{Dump, translate};
@@ -113,7 +115,7 @@ pub fn resolve_read(
 ///
 /// The first that holds of `BadAddress`, `CannotRead`, `NotCanonical`, `NoSuchReplica`, `CannotWrite`; `Memory` where a growth
 /// of memory was refused.
-pub fn resolve_io<R: Read, W: Write>(
+pub fn resolve_io<R: Source, W: Write>(
     alloc: Global,
     reader: &mut R,
     writer: &mut W,
@@ -127,6 +129,8 @@ pub fn resolve_io<R: Read, W: Write>(
         (IsResolveFault address.now replica with_steps (R.remaining reader.old)) }
     ensures alone { WritesAnswersAlone writer.old writer.new result }
     ensures few { HasReadFew (R.remaining reader.old) (R.remaining reader.new) }
+    ensures unread { RefusesUnreadable 70647893 (R.remaining reader.old) (R.remaining reader.new)
+        (R.last_read reader.new) result }
 {
     let address = spelled_address(address).ok_or(ProgFault::BadAddress)?;
     let read = read_trace(alloc, reader)?;

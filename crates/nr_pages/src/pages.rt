@@ -3,15 +3,16 @@
 ghost use Rattle.std.specs.Prelude.{◌≡◌, ℕ, IfErr, IfOk, List, MatchResult, string_bytes};
 ghost use Rattle.nr_trace.specs.Feed.{Reads};
 ghost use Rattle.nr_engines.specs.Answers.{HasReadFew, WritesReport};
+ghost use Rattle.nr_engines.specs.Ends.{RefusesUnreadable};
 ghost use Rattle.nr_engines.specs.Refusals.{WritesAnswersAlone};
 ghost use Rattle.nr_engines.specs.Text.{no_text};
 ghost use Rattle.nr_pages.specs.Answers.{dump_fault, IsPages, IsPagesFault, IsPagesRefusal, ShowsDump};
 
 use crate::printing::dump_text;
-use nr_engines::{ProgFault, Report, fault_text, read_trace, write_report};
+use nr_engines::{ProgFault, Report, Source, fault_text, read_trace, write_report};
 use nr_trace::{Fault, Format, Trace};
 use std::alloc::{AllocError, Global};
-use std::io::{Read, Write};
+use std::io::Write;
 use vs_types::{Depth, Fail, Memory};
 use vs_walk::{Dump, WalkFault};
 
@@ -98,7 +99,7 @@ pub fn pages_read(
 /// # Errors
 ///
 /// The first that holds of `CannotRead`, `NoSuchReplica`, `CannotWrite`; `Memory` where a growth of memory was refused.
-pub fn pages_io<R: Read, W: Write>(
+pub fn pages_io<R: Source, W: Write>(
     alloc: Global,
     reader: &mut R,
     writer: &mut W,
@@ -110,6 +111,8 @@ pub fn pages_io<R: Read, W: Write>(
     ensures err { IfErr result (IsPagesFault as_ranges replica (R.remaining reader.old)) }
     ensures alone { WritesAnswersAlone writer.old writer.new result }
     ensures few { HasReadFew (R.remaining reader.old) (R.remaining reader.new) }
+    ensures unread { RefusesUnreadable 70647893 (R.remaining reader.old) (R.remaining reader.new)
+        (R.last_read reader.new) result }
 {
     let read = read_trace(alloc, reader)?;
     let report = pages_read(alloc, read, replica, as_ranges)?;

@@ -359,7 +359,3 @@ first_of_list start segment touches index d are (touch, at, wrong, below) =
                   omega (arith, made))
             ]
           ]
-
-pub index_within : (start : Space) (segment : Recording) (touches : List Touch) (index : ℕ) → FindsStale start segment touches (Some index)
-    → index < length touches
-index_within start segment touches index (touch, at, wrong, below) = slice_get_within touches index touch at

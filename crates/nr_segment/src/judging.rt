@@ -8,7 +8,7 @@ ghost use Rattle.nr_segment.specs.Verdict.{last_space, pages_before, FitsLayout,
 ghost use Rattle.nr_segment.specs.inside.Judged.{has_answers, verdict_of, IsVerdictFrom};
 
 use crate::fault::SegmentFault;
-use crate::start::{begin, copy};
+use crate::start::begin;
 use crate::touches::{has_touches, stale_touch};
 use crate::verdict::SegmentVerdict;
 use nr_audit::{Judged, judge_from};
@@ -56,13 +56,13 @@ fn judge_begun(alloc: Global, segment: &Trace, start: PlainSpace) -> Result<Segm
         let verdict = verdict_of(found);
         return Ok(verdict);
     }
-    let again = copy(alloc, segment.layout().tables(), &start)?;
+    let (stale, start) = stale_touch(alloc, segment, start)?;
     let judged = judge_from(alloc, segment, start)?;
     if !has_answers(&judged) {
         let early = verdict_of(judged);
         return Ok(early);
     }
-    match stale_touch(alloc, segment, again)? {
+    match stale {
         Some(call) => Ok(SegmentVerdict::Wrong(SegmentFault::Stale(call))),
         None => {
             let late = verdict_of(judged);
@@ -82,8 +82,9 @@ fn judge_begun(alloc: Global, segment: &Trace, start: PlainSpace) -> Result<Segm
 /// dump that is there translates as that space; and that each answered touch was answered as its address was at some moment of that
 /// order which no flush had ended before the touch began.
 ///
-/// It allocates what `judge` of a trace allocates; and where there are touches eight bytes for each event, the touches, a copy of the
-/// space, and its changes.
+/// It allocates what `judge` of a trace allocates; and before that, where there are touches, twelve bytes for each event, the
+/// touches, and the changes of the space, which are done and undone. It takes time for the segment's own events, log, start and dumps, and
+/// not for the pages of the space before.
 ///
 /// # Errors
 ///

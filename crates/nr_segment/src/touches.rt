@@ -39,6 +39,7 @@ fn note(replies: &mut Vec<Option<u32>>, call: usize, index: u32)
     ensures within { call < length replies.old.items
         → replies.new.items ≡ slice_set replies.old.items call (Some index) }
     ensures past { length replies.old.items ≤ call → replies.new.items ≡ replies.old.items }
+    ensures as_many { length replies.new.items ≡ length replies.old.items }
 {
     if call < replies.len() {
         replies[call] = Some(index);
@@ -47,10 +48,10 @@ fn note(replies: &mut Vec<Option<u32>>, call: usize, index: u32)
 
 /// Notes the reply that an event is, if it is one, under its call.
 fn put_reply(segment: &Trace, index: usize, replies: &mut Vec<Option<u32>>)
-    requires clean { HasCleanLog segment.now }
     requires within { index < length segment.now.events }
-    requires below { AreRepliesBelow segment.now index replies.old.items }
-    ensures { AreRepliesBelow segment.now (index + 1) replies.new.items }
+    ensures below { HasCleanLog segment.now → AreRepliesBelow segment.now index replies.old.items
+        → AreRepliesBelow segment.now (index + 1) replies.new.items }
+    ensures as_many { length replies.new.items ≡ length replies.old.items }
 {
     match reply_call(segment.events()[index].event()) {
         None => {}
@@ -60,9 +61,10 @@ fn put_reply(segment: &Trace, index: usize, replies: &mut Vec<Option<u32>>)
 
 /// By call number, the event at which it was answered. It allocates eight bytes for each event.
 fn replies(alloc: Global, segment: &Trace) -> Result<Vec<Option<u32>>, Memory>
-    requires { HasCleanLog segment.now }
-    ensures { IfOk result
+    ensures below { HasCleanLog segment.now → IfOk result
         (λ replies. AreRepliesBelow segment.now (length segment.now.events) replies.items) }
+    ensures as_many { IfOk result
+        (λ replies. length replies.items ≡ length segment.now.events) }
 {
     let mut replies = vec![in alloc; None; segment.events().len()]?;
     for index in 0..segment.events().len() {
@@ -118,11 +120,12 @@ fn push_touch(
     made: usize,
     touches: &mut Vec<Touch>,
 ) -> Result<(), Memory>
-    requires replies { AreRepliesBelow segment.now (length segment.now.events) replies.now }
+    requires as_many { length replies.now ≡ length segment.now.events }
     requires within { made < length segment.now.events }
     requires few { made < 2 ^ 32 }
-    requires below { AreTouchesBelow segment.now made touches.old.items }
-    ensures { OnOk result (AreTouchesBelow segment.now (made + 1) touches.new.items) }
+    ensures { AreRepliesBelow segment.now (length segment.now.events) replies.now
+        → AreTouchesBelow segment.now made touches.old.items
+        → OnOk result (AreTouchesBelow segment.now (made + 1) touches.new.items) }
 {
     match answered_touch(segment, replies, made) {
         None => Ok(()),
@@ -135,8 +138,7 @@ fn push_touch(
 
 /// The answered touches of a segment, by call number. It allocates memory for them, and eight bytes for each event.
 fn touches_of(alloc: Global, segment: &Trace) -> Result<Vec<Touch>, Memory>
-    requires { HasCleanLog segment.now }
-    ensures { IfOk result
+    ensures { HasCleanLog segment.now → IfOk result
         (λ touches. AreTouchesBelow segment.now (length segment.now.events) touches.items) }
 {
     let replies = replies(alloc, segment)?;
@@ -147,21 +149,25 @@ fn touches_of(alloc: Global, segment: &Trace) -> Result<Vec<Touch>, Memory>
     Ok(touches)
 }
 
-/// The call number of the first touch that is stale, where the segment begins with this space, or `None`. It allocates memory for the
-/// touches, and for the replay of the log.
+/// The call number of the first touch that is stale, where the segment begins with this space, or `None`; and the space again. Of a
+/// segment whose log isn't clean nothing is said but that the space comes back. It allocates memory for the touches, and for the
+/// replay of the log, which is undone.
 pub(crate) fn stale_touch(
     alloc: Global,
     segment: &Trace,
     start: PlainSpace,
-) -> Result<Option<u32>, Memory>
-    requires space { start ≡ space_of segment.now.layout start.space }
-    requires clean { HasCleanLog segment.now }
-    ensures none { IfOk result (λ call. IfNone call (HasRightTouches start.space segment.now)) }
-    ensures some { IfOk result (λ call. IfSome call (IsFirstStale start.space segment.now)) }
+) -> Result<(Option<u32>, PlainSpace), Memory>
+    requires { start ≡ space_of segment.now.layout start.space }
+    ensures none { HasCleanLog segment.now → IfOk result
+        (λ found. IfNone found.0 (HasRightTouches start.space segment.now)) }
+    ensures some { HasCleanLog segment.now → IfOk result
+        (λ found. IfSome found.0 (IsFirstStale start.space segment.now)) }
+    ensures start { IfOk result (λ found. found.1 ≡ start) }
 {
     let touches = touches_of(alloc, segment)?;
-    match first_stale(alloc, segment, start, &touches)? {
-        Some(index) => Ok(Some(touches[index].made)),
-        None => Ok(None),
+    let (stale, start) = first_stale(alloc, segment, start, &touches)?;
+    match stale {
+        Some(index) => Ok((Some(touches[index].made), start)),
+        None => Ok((None, start)),
     }
 }

@@ -6,4 +6,5 @@ pub mod Replayed
 pub mod Sighted
 pub mod Sizes
 pub mod StepChanges
+pub mod Undone
 pub mod Walked

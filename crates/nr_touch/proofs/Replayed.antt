@@ -1,6 +1,6 @@
 -- The changes that the replay lists, place by place.
 use Rattle.std.proofs.Common.{◌≡◌, ℕ, ◌+◌, ◌-◌, ◌<◌, ◌≤◌, ◌*◌, ◌^◌, ◌⊎◌, ◌↔◌, inl, inr, true, false, List, [], ◌∷◌, ◌++◌, length, get_or, take, Option, Some}
-use Rattle.std.proofs.Common.{None, IfSome}
+use Rattle.std.proofs.Common.{None, IfSome, Contains}
 use Rattle.std.proofs.Common.{slice_get, set, refl, sym, ap, ◌∙◌, subst, min, replicate, arith}
 use Rattle.std.specs.Prelude.{option_and_then, ◌==◌, if◌then◌else◌}
 use Rattle.std.specs.List.Sorted.{IsNonDecreasingBy}
@@ -110,12 +110,6 @@ module _ (start : Space) (trace : Recording) (changes : List PlacedChange) (plac
     by_cover p a same looks (inl covered) = (c, Contains-push changes c, here ∙ sym same, covered)
     by_cover p a same looks (inr uncovered) = absurd (others a uncovered looks)
 
-  pub places_rise : (c : PlacedChange) → c.place ≡ place → IsNonDecreasingBy (λ (x : PlacedChange). x.place) changes
-      → IsNonDecreasingBy (λ (x : PlacedChange). x.place) (changes ++ c ∷ [])
-  places_rise c here rising = IsNonDecreasingBy-push (λ (x : PlacedChange). x.place) changes c rising (λ d some.
-      let low = (are.each (get_or changes (length changes - 1) d) (Contains-get_or changes (length changes - 1) d (omega (arith, some)))).1 in
-      omega (arith, low, here))
-
 -- what is listed of one place more
 pub listed_more : (start : Space) (trace : Recording) (changes : List PlacedChange) (place : ℕ) → AreChangesBelow start trace changes place
     → (change : Option Change) (made answered : ℕ) → slice_get trace.log place ≡ Some made
@@ -139,14 +133,22 @@ listed_more start trace changes place are (Some change) made answered placed rep
     refl
     (λ a uncovered looks. looks (is.others a uncovered))
 
-pub listed_rises : (start : Space) (trace : Recording) (changes : List PlacedChange) (place : ℕ) → AreChangesBelow start trace changes place
+-- places rise, where those that are listed lie below the next one
+pub listed_rises : (changes : List PlacedChange) (place : ℕ) → ((c : PlacedChange) → Contains changes c → c.place < place)
     → (change : Option Change) (made answered : ℕ) → IsNonDecreasingBy (λ (x : PlacedChange). x.place) changes
     → IsNonDecreasingBy (λ (x : PlacedChange). x.place) (changes ++ listed change place made answered)
-listed_rises start trace changes place are None made answered rising =
+listed_rises changes place below None made answered rising =
     subst (IsNonDecreasingBy (λ (x : PlacedChange). x.place)) (sym (append-nil changes)) rising
-listed_rises start trace changes place are (Some change) made answered rising =
-    places_rise start trace changes place are
-    (record { change = change; number = number_of change.page; place = place; made = made; answered = answered }) refl rising
+listed_rises changes place below (Some change) made answered rising =
+    IsNonDecreasingBy-push (λ (x : PlacedChange). x.place) changes
+    (record { change = change; number = number_of change.page; place = place; made = made; answered = answered }) rising (λ d some.
+    let low = below (get_or changes (length changes - 1) d) (Contains-get_or changes (length changes - 1) d (omega (arith, some))) in
+    omega (arith, low))
+
+-- the space that a replay has reached, and the changes on the way
+pub record IsReplayed (start : Space) (trace : Recording) (changes : List PlacedChange) (place : ℕ) (now : Space) : Type 0 where
+  pub reached : now ≡ space_from start trace (take place trace.log)
+  pub are : AreChangesBelow start trace changes place
 
 pub none_listed : (start : Space) (trace : Recording) (changes : List PlacedChange) → changes ≡ [] → AreChangesBelow start trace changes 0
 none_listed start trace changes is = record {

@@ -17,6 +17,7 @@ use Rattle.vs_types.proofs.Steps.{map_cases, unmap_cases, protect_cases, alone, 
 use Rattle.nr_touch.specs.inside.Changes.{IsPageChange, IsChange}
 use Rattle.nr_touch.specs.declared.change.Change.{Change}
 use Rattle.nr_touch.proofs.QuietPages.{page_or_not}
+use Rattle.nr_touch.proofs.Undone.{insert_elsewhere, remove_elsewhere}
 
 abbrev fresh : Page → Change
 fresh page = record { page = page; was_mapped = false }
@@ -47,6 +48,7 @@ module _ {depth : Depth} (limit : ℕ) {space : Space} (is : IsSpace depth space
         at a ∙ ap (λ b. cond b (Some page) (page_at space a)) covered in
         cc;
     others = λ a uncovered. sym (at a ∙ ap (λ b. cond b (Some page) (page_at space a)) uncovered);
+    elsewhere = insert_elsewhere space page.base page;
   } where
     meets : (q : Page) → Holds space q → q.base ≡ page.base → ⊥
     meets q holds same = alone is page e q page.base holds (subst (λ z. IsTrue (covers q z)) same (covers_base q)) (covers_base page)
@@ -78,6 +80,7 @@ module _ {depth : Depth} (limit : ℕ) {space : Space} (is : IsSpace depth space
         page_at_after_remove is page holds a ∙ ap (λ b. cond b None (page_at space a)) covered in
         cc;
     others = λ a uncovered. sym (page_at_after_remove is page holds a ∙ ap (λ b. cond b None (page_at space a)) uncovered);
+    elsewhere = remove_elsewhere space page.base;
   }
 
   pub unmap_change : (base : ℕ) (answer : Answer) (after : Space) (result : Option Change)
@@ -113,6 +116,7 @@ module _ {depth : Depth} (limit : ℕ) {space : Space} (is : IsSpace depth space
           apart (same_Some page other (sym ((page_at_means is a page).1 (holds, covered)) ∙ same
           ∙ at a ∙ ap (λ b. cond b (Some other) (page_at space a)) covered));
       others = λ a uncovered. sym (at a ∙ ap (λ b. cond b (Some other) (page_at space a)) uncovered);
+      elsewhere = insert_elsewhere space page.base other;
     }
 
     kept : page ≡ other → (a : ℕ) → page_at space a ≡ page_at (finite.insert space page.base other) a

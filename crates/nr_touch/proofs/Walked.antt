@@ -10,13 +10,12 @@ use Rattle.std.proofs.lemmas.Bool.{cases_lt, false≢true}
 use Rattle.nr_touch.specs.Stale.{AreRightBelow, FindsStale}
 use Rattle.vs_types.specs.Space.{Space, page_at}
 use Rattle.vs_types.specs.Step.{allow, allow_in_page}
-use Rattle.vs_types.specs.declared.limits.TheConstants.{LOG_PLACES}
 use Rattle.nr_trace.specs.Recording.{Recording}
 use Rattle.nr_trace.specs.Calls.{Answers}
 use Rattle.nr_trace.specs.Orders.{space_from}
 use Rattle.nr_touch.specs.Touches.{page_after, ChangesLook, IsAllowedPrefix, IsAnsweredAt, IsRightTouch}
-use Rattle.nr_touch.specs.inside.Changes.{AreChanges, IsPlaced}
-use Rattle.nr_touch.specs.inside.Columns.{Covers, IsPast, IsAhead, IsNext, IsNumbered}
+use Rattle.nr_touch.specs.inside.Changes.{AreChanges}
+use Rattle.nr_touch.specs.inside.Columns.{Covers, IsPast, IsAhead, IsNext}
 use Rattle.nr_touch.specs.inside.Sights.{IsAnsweredBetween}
 use Rattle.nr_touch.specs.inside.Walk.{shown}
 use Rattle.nr_touch.specs.declared.change.PlacedChange.{PlacedChange}
@@ -176,15 +175,6 @@ permuted start trace xs ys same are = record {
   all = λ place address l looks.
       let (c, has, at, covered) = are.all place address l looks in
       (c, Contains-permutation xs ys c same has, at, covered);
-}
-
-pub placed_numbered : (start : Space) (trace : Recording) (c : PlacedChange) → IsPlaced start trace c → c.place < length trace.log
-    → length trace.log ≤ LOG_PLACES → IsNumbered c
-placed_numbered start trace c is within few = record {
-  number = is.number;
-  aligned = is.well_formed.aligned;
-  low = let range = is.well_formed.phys_range in omega (arith, range);
-  few = omega (arith, within, few);
 }
 
 -- ---- touch by touch

@@ -3,4 +3,5 @@ pub mod Bounds
 pub mod Changes
 pub mod Columns
 pub mod Sights
+pub mod Undo
 pub mod Walk

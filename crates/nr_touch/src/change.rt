@@ -1,6 +1,6 @@
 //! What an update does to one page.
 
-ghost use Rattle.std.specs.Prelude.{◌≡◌, ◌≢◌, ◌+◌, ◌<◌, ◌≤◌, ◌^◌, true, false, IfOk, IsTrue, None, Some};
+ghost use Rattle.std.specs.Prelude.{◌≡◌, ◌≢◌, ◌+◌, ◌<◌, ◌≤◌, ◌^◌, true, false, option_to_list, IfOk, IsTrue, None, Some};
 ghost use Rattle.vs_types.specs.Operation.{IsAction};
 ghost use Rattle.vs_types.specs.Page.{bytes_of, covers, IsPage};
 ghost use Rattle.vs_types.specs.Space.{Space, IsSpace};
@@ -8,6 +8,7 @@ ghost use Rattle.vs_types.specs.Step.{step, look, look_in_page};
 ghost use Rattle.vs_types.specs.declared.page.Page.{Page};
 ghost use Rattle.vs_types.specs.declared.page.Rights.{Rights};
 ghost use Rattle.nr_touch.specs.inside.Changes.{page_before, number_of, IsChange};
+ghost use Rattle.nr_touch.specs.inside.Undo.{LeadsTo};
 ghost use Rattle.nr_touch.specs.declared.change.Change.{Change};
 
 use vs_plain::PlainSpace;
@@ -151,6 +152,8 @@ pub(crate) fn apply(space: &mut PlainSpace, op: Op) -> Result<Option<Change>, Me
       space = (step space.old.depth space.old.limit space.old.space op).space;
     }) }
     ensures change { IfOk result (IsChange space.old.depth space.old.space space.new.space) }
+    ensures leads { IfOk result (λ change.
+        LeadsTo space.old.depth space.old.space (option_to_list change) space.new.space) }
 {
     let answer = space.apply(op)?;
     Ok(change_of(op, answer, space))

@@ -15,6 +15,7 @@ mod search;
 mod sights;
 mod stale;
 mod touch;
+mod undo;
 
 pub use stale::first_stale;
 pub use touch::Touch;

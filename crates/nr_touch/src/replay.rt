@@ -1,6 +1,6 @@
 //! The replay of the log, which lists what changes.
 
-ghost use Rattle.std.specs.Prelude.{◌≡◌, ◌+◌, ◌≤◌, ◌^◌, ◌++◌, length, replicate, IfOk, IfSome, OnOk};
+ghost use Rattle.std.specs.Prelude.{◌≡◌, ◌+◌, ◌≤◌, ◌^◌, ◌++◌, length, map, replicate, Contains, IfOk, IfSome, OnOk};
 ghost use Rattle.std.specs.List.Sorted.{IsNonDecreasingBy};
 ghost use Rattle.vs_types.specs.Operation.{IsAction};
 ghost use Rattle.vs_types.specs.Page.{bytes_of};
@@ -9,7 +9,10 @@ ghost use Rattle.vs_types.specs.declared.depth.Depth.{Depth};
 ghost use Rattle.nr_trace.specs.Calls.{operation_in, operation_of};
 ghost use Rattle.nr_trace.specs.Laws.{HasCleanLog};
 ghost use Rattle.nr_trace.specs.Orders.{space_from};
+ghost use Rattle.nr_touch.specs.declared.change.PlacedChange.{PlacedChange};
 ghost use Rattle.nr_touch.specs.inside.Changes.{AreChanges, AreReplies, listed};
+ghost use Rattle.nr_touch.specs.inside.Columns.{IsNumbered};
+ghost use Rattle.nr_touch.specs.inside.Undo.{LeadsTo};
 
 use crate::change::{Change, PlacedChange, apply, number_of};
 use nr_trace::{Event, Trace};
@@ -97,8 +100,8 @@ fn list(
     }
 }
 
-/// The changes of how addresses look that the updates of the log make, by place, and the space after the whole log. Allocates a
-/// table of four bytes for each event, and for the changes.
+/// The changes of how addresses look that the updates of the log make, by place, and the space after the whole log. What the log has
+/// that is no update changes nothing. Allocates a table of four bytes for each event, and for the changes.
 pub(crate) fn replay(
     alloc: Global,
     trace: &Trace,
@@ -106,11 +109,17 @@ pub(crate) fn replay(
 ) -> Result<(Vec<PlacedChange>, PlainSpace), Memory>
     requires depth { start.depth ≡ trace.now.layout.depth }
     requires limit { start.limit ≡ trace.now.layout.tables }
-    requires clean { HasCleanLog trace.now }
-    ensures changes { IfOk result (λ done. AreChanges start.space trace.now done.0.items) }
-    ensures by_place { IfOk result (λ done. IsNonDecreasingBy (λ c. c.place) done.0.items) }
-    ensures space { IfOk result
+    ensures changes { HasCleanLog trace.now
+        → IfOk result (λ done. AreChanges start.space trace.now done.0.items) }
+    ensures space { HasCleanLog trace.now → IfOk result
         (λ done. done.1.space ≡ space_from start.space trace.now trace.now.log) }
+    ensures by_place { IfOk result (λ done. IsNonDecreasingBy (λ c. c.place) done.0.items) }
+    ensures numbered { IfOk result
+        (λ done. (c : PlacedChange) → Contains done.0.items c → IsNumbered c) }
+    ensures leads { IfOk result (λ done.
+        LeadsTo start.depth start.space (map (λ c. c.change) done.0.items) done.1.space) }
+    ensures depth { IfOk result (λ done. done.1.depth ≡ start.depth) }
+    ensures limit { IfOk result (λ done. done.1.limit ≡ start.limit) }
 {
     let replies = replies(alloc, trace)?;
     let mut space = start;

@@ -1,6 +1,6 @@
 //! The search for the first touch that is stale.
 
-ghost use Rattle.std.specs.Prelude.{◌≡◌, ◌↔◌, ◌<◌, false, length, IfOk, IfSome, IsSomeAnd, IsTrue};
+ghost use Rattle.std.specs.Prelude.{◌≡◌, ◌↔◌, ◌<◌, false, length, map, IfOk, IfSome, IsSomeAnd, IsTrue};
 ghost use Rattle.vs_types.specs.Space.{Space, page_at};
 ghost use Rattle.vs_types.specs.Step.{look, allow};
 ghost use Rattle.nr_trace.specs.Laws.{HasCleanLog};
@@ -13,10 +13,11 @@ ghost use Rattle.nr_touch.specs.inside.Columns.{AreColumns, Covers, IsNumbered};
 ghost use Rattle.nr_touch.specs.inside.Walk.{shown};
 
 use crate::between::is_answered_between;
-use crate::change::PlacedChange;
+use crate::change::{Change, PlacedChange};
 use crate::history::History;
 use crate::replay::replay;
 use crate::touch::Touch;
+use crate::undo::undo_all;
 use nr_trace::Trace;
 use std::alloc::Global;
 use vs_plain::PlainSpace;
@@ -88,12 +89,38 @@ fn is_right(history: &History, space: &PlainSpace, places: u32, touch: &Touch) -
     is_answered_between(history, touch, first, last)
 }
 
+/// The index of the first touch that isn't answered as its address was at a moment that is allowed, or `None`.
+fn first_of(history: &History, space: &PlainSpace, places: u32, touches: &[Touch]) -> Option<usize>
+    requires { AreColumns history.now }
+    ensures finds { (start : Space) (trace : Recording)
+        → AreChanges start trace history.now.changes.items
+        → space.now.space ≡ space_from start trace trace.log → places ≡ length trace.log
+        → FindsStale start trace touches.now result }
+    ensures within { IfSome result (λ index. index < length touches.now) }
+{
+    for (index, touch) in touches.iter().enumerate() {
+        if !is_right(history, space, places, touch) {
+            return Some(index);
+        }
+    }
+    None
+}
+
+/// The changes without their places.
+fn changes_of(alloc: Global, changes: &[PlacedChange]) -> Result<Vec<Change>, Memory>
+    ensures { IfOk result (λ v. v.items ≡ map (λ c. c.change) changes.now) }
+{
+    Ok(changes.iter().map(|each| each.change).collect(alloc)?)
+}
+
 /// The index of the first touch that isn't answered as its address was at a moment that is still allowed: after the first entries
 /// of the log, so many that they have each update that changes how the address looks and was answered before the touch was made,
-/// and none that changes it and was made after the touch was answered. `None` where each touch is right.
+/// and none that changes it and was made after the touch was answered. `None` where each touch is right. Gives the start back too.
 ///
-/// The touches lie in the trace, whose log is clean; its space begins with this start. Allocates a table of four bytes for each
-/// event, and 124 bytes for each update that changes the space.
+/// The touches lie in the trace, whose space begins with this start. Of a trace whose log isn't clean nothing is said but that the
+/// start comes back. It takes time for the events, the log and the touches, and not for the pages of the start: the updates of the
+/// log are done on it, and then undone. Allocates a table of four bytes for each event, and 156 bytes for each update that changes
+/// the space.
 ///
 /// # Errors
 ///
@@ -103,19 +130,19 @@ pub fn first_stale(
     trace: &Trace,
     start: PlainSpace,
     touches: &[Touch],
-) -> Result<Option<usize>, Memory>
+) -> Result<(Option<usize>, PlainSpace), Memory>
     requires depth { start.depth ≡ trace.now.layout.depth }
     requires limit { start.limit ≡ trace.now.layout.tables }
-    requires clean { HasCleanLog trace.now }
-    ensures { IfOk result (FindsStale start.space trace.now touches.now) }
+    ensures finds { HasCleanLog trace.now
+        → IfOk result (λ found. FindsStale start.space trace.now touches.now found.0) }
+    ensures within { IfOk result (λ found. IfSome found.0 (λ index. index < length touches.now)) }
+    ensures start { IfOk result (λ found. found.1 ≡ start) }
 {
     let places = trace.log().len() as u32;
     let (changes, space) = replay(alloc, trace, start)?;
+    let done = changes_of(alloc, &changes)?;
     let history = History::of(alloc, changes)?;
-    for (index, touch) in touches.iter().enumerate() {
-        if !is_right(&history, &space, places, touch) {
-            return Ok(Some(index));
-        }
-    }
-    Ok(None)
+    let stale = first_of(&history, &space, places, touches);
+    let start = undo_all(space, &done)?;
+    Ok((stale, start))
 }

@@ -1,1 +1,5 @@
 pub mod CommandLines
+pub mod WholeInput
+pub mod Simulations
+pub mod ServedRuns
+pub mod RunTexts

@@ -1,9 +1,21 @@
 pub mod Program
 pub mod CommandLine
+pub mod RunText
+pub mod Simulation
+pub mod ServedRun
+pub use Rattle.vs_types.specs.Config
+pub use Rattle.vs_types.specs.Depth
+pub use Rattle.vs_types.specs.Refusal
+pub use Rattle.vs_text.specs.Words
+pub use Rattle.nr_trace.specs.Recording
+pub use Rattle.nr_trace.specs.Spelling
+pub use Rattle.nr_audit.specs.Headline
+pub use Rattle.nr_core.specs.State
+pub use Rattle.nr_core.specs.Run
+pub use Rattle.nr_script.specs.Script
 pub use Rattle.nr_engines.specs.Answers
 pub use Rattle.nr_engines.specs.Refusals
-pub use Rattle.nr_run_engines.specs.ServedRun
-pub use Rattle.nr_commands.specs.Words
+pub use Rattle.nr_engines.specs.Text
+pub use Rattle.nr_commands.specs.Words as CommandWords
 pub use Rattle.nr_commands.specs.Tasks
-pub use Rattle.nr_run_engines.specs.Simulation
 pub use Rattle.clap.specs.Words as ClapWords

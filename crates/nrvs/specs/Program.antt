@@ -2,8 +2,8 @@
 use Rattle.std.specs.Prelude.{ℕ, List, Option, Result, MatchResult}
 use Rattle.nr_engines.specs.Answers.{WritesReport}
 use Rattle.nr_engines.specs.Refusals.{WritesAnswersAlone}
-use Rattle.nr_run_engines.specs.ServedRun.{IsRunFault, IsServedRun}
-use Rattle.nr_run_engines.specs.Simulation.{IsSimulation, IsSimulationFault}
+use Rattle.nrvs.specs.ServedRun.{IsRunFault, IsServedRun}
+use Rattle.nrvs.specs.Simulation.{IsSimulation, IsSimulationFault}
 use Rattle.nr_engines.specs.declared.fault.ProgFault.{ProgFault}
 use Rattle.nr_commands.specs.Tasks.{RunsInspection}
 use Rattle.nrvs.specs.declared.command.Command.{Command}

@@ -1,7 +1,7 @@
 //! What the program can be asked to do.
 
+use crate::runs::Setup;
 use nr_commands::Inspection;
-use nr_run_engines::Setup;
 
 /// What the program can be asked to do.
 #[derive(Debug, Drop)]

@@ -5,6 +5,7 @@
 mod command;
 mod command_line;
 mod program;
+mod runs;
 mod words;
 
 use nr_commands::program_words;

@@ -4,10 +4,10 @@ ghost use Rattle.nr_commands.specs.Tasks.{EndsWith, Runs};
 ghost use Rattle.nrvs.specs.Program.{RunsCommand};
 
 use crate::command::Command;
+use crate::runs::{run_io, simulate_io};
 use clap::Error;
-use nr_commands::{FilesByName, end, run_inspection, tell_refusal};
-use nr_engines::ProgFault;
-use nr_run_engines::{run_io, simulate_io};
+use nr_commands::{FilesByName, exit_status, run_inspection, tell_outcome, tell_refusal};
+use nr_engines::{Input, ProgFault};
 use std::alloc::Global;
 use std::io::{Read, Write};
 use std::sync::Wait;
@@ -18,24 +18,33 @@ fn try_run<T: FilesByName + Threads + Wait + Sync, R: Read + Drop, W: Write, E: 
     rt: &T,
     alloc: Global,
     asked: Result<Command<'_>, Error>,
-    mut reader: R,
+    reader: R,
     output: &mut W,
     errors: &mut E,
 ) -> Result<u8, ProgFault>
     ensures { Runs (RunsCommand (T.file_bytes rt.now)) asked.entry (R.remaining reader)
         W.contents output.old output.new result }
 {
+    let mut input = Input::new(reader);
     match asked {
         Ok(Command::Inspect(inspection)) => {
-            run_inspection(rt, alloc, inspection, &mut reader, output, errors)
+            run_inspection(rt, alloc, inspection, &mut input, output, errors)
         }
         Ok(Command::Simulate(setup, as_trace)) => {
-            simulate_io(alloc, &mut reader, output, setup, as_trace)
+            let outcome = simulate_io(alloc, &mut input, output, setup, as_trace);
+            tell_outcome(alloc, &outcome, None, input.error(), errors);
+            outcome
         }
         Ok(Command::Run(setup, turns, as_trace)) => {
-            run_io(rt, alloc, &mut reader, output, setup, turns, as_trace)
+            let outcome = run_io(rt, alloc, &mut input, output, setup, turns, as_trace);
+            tell_outcome(alloc, &outcome, None, input.error(), errors);
+            outcome
         }
-        Err(refusal) => tell_refusal(alloc, refusal, output, errors),
+        Err(refusal) => {
+            let outcome = tell_refusal(alloc, refusal, output, errors);
+            tell_outcome(alloc, &outcome, None, None, errors);
+            outcome
+        }
     }
 }
 
@@ -53,5 +62,5 @@ pub fn run<T: FilesByName + Threads + Wait + Sync, R: Read + Drop, W: Write, E: 
         W.contents output.old output.new result }
 {
     let outcome = try_run(rt, alloc, asked, reader, output, errors);
-    end(outcome, errors)
+    exit_status(outcome)
 }

@@ -9,10 +9,10 @@ ghost use Rattle.nrvs.specs.CommandLine.{command_line, Asks, IsNumber, IsSetup, 
 
 use crate::command::Command;
 use crate::command_line::command_line;
+use crate::runs::Setup;
 use clap::error::ErrorKind;
 use clap::{ArgMatches, Error};
 use nr_commands::{NoWords, read_audit, read_explain, read_pages, read_resolve};
-use nr_run_engines::Setup;
 use std::alloc::{AllocError, Global};
 use vs_types::Depth;
 

@@ -3,8 +3,10 @@
 ghost use Rattle.nr_commands.specs.Tasks.{EndsWith, Runs, RunsInspection};
 
 use clap::Error;
-use nr_commands::{FilesByName, Inspection, end, run_inspection, tell_refusal};
-use nr_engines::ProgFault;
+use nr_commands::{
+    FilesByName, Inspection, exit_status, run_inspection, tell_outcome, tell_refusal,
+};
+use nr_engines::{Input, ProgFault};
 use std::alloc::Global;
 use std::io::{Read, Write};
 
@@ -13,16 +15,21 @@ fn try_run<F: FilesByName, R: Read + Drop, W: Write, E: Write>(
     files: &F,
     alloc: Global,
     asked: Result<Inspection<'_>, Error>,
-    mut reader: R,
+    reader: R,
     output: &mut W,
     errors: &mut E,
 ) -> Result<u8, ProgFault>
     ensures { Runs (RunsInspection (F.file_bytes files.now)) asked.entry (R.remaining reader)
         W.contents output.old output.new result }
 {
+    let mut input = Input::new(reader);
     match asked {
-        Ok(inspection) => run_inspection(files, alloc, inspection, &mut reader, output, errors),
-        Err(refusal) => tell_refusal(alloc, refusal, output, errors),
+        Ok(inspection) => run_inspection(files, alloc, inspection, &mut input, output, errors),
+        Err(refusal) => {
+            let outcome = tell_refusal(alloc, refusal, output, errors);
+            tell_outcome(alloc, &outcome, None, None, errors);
+            outcome
+        }
     }
 }
 
@@ -40,5 +47,5 @@ pub fn run<F: FilesByName, R: Read + Drop, W: Write, E: Write>(
         W.contents output.old output.new result }
 {
     let outcome = try_run(files, alloc, asked, reader, output, errors);
-    end(outcome, errors)
+    exit_status(outcome)
 }

@@ -1,5 +1,5 @@
 -- The first segment of a chain that is read, and what is said of its start. No public clause cites this file.
-use Rattle.std.specs.Prelude.{◌≡◌, ◌⊎◌, ℕ, Bool, List, Option, None, Result, Ok, Err, ⊤}
+use Rattle.std.specs.Prelude.{◌≡◌, ◌≤◌, ◌+◌, ◌-◌, ◌^◌, ◌⊎◌, ℕ, Bool, List, length, Option, None, Result, Ok, Err, ⊤}
 use Rattle.std.specs.Io.KnownBytes.{Consumes}
 use Rattle.vs_types.specs.Space.{pages}
 use Rattle.vs_types.specs.declared.refusal.Fail.{Fail}
@@ -32,9 +32,10 @@ pub record HasReadFirst (known : Option (List ℕ)) (read : Result Recording (Fa
   pub is_read : IsReadOf known input
   pub begins : BeginsSo input read
 
--- between two blocks: the feed has taken what the reader has lost, which is too little for a segment
-pub record IsBegun (known left : Option (List ℕ)) (feed : FedSegment) : Type 0 where
+-- between two blocks: the feed has taken what the reader has lost, which is too little for a segment, and so many blocks may be read yet
+pub record IsBegun (known left : Option (List ℕ)) (feed : FedSegment) (room : ℕ) : Type 0 where
   pub read : List ℕ
+  pub many : 2 ^ 52 - 1 ≤ room + length read
   pub consumed : Consumes known left read
   pub feed_is : feed ≡ record { before = None; pieces = Taken read }
   pub short : HasSegmentFault None read Truncated

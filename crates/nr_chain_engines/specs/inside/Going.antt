@@ -20,6 +20,10 @@ GoesOnTo kept bytes (order ∷ more) last rest =
     (segment : Recording) × (behind : List ℕ) × BeginsWith (layout_before kept) bytes segment behind × IsSoundAfter (space_before kept) segment
     × (order ≡ recorded_order segment) × GoesOnTo (Some (kept_after kept segment)) behind more last rest
 
+-- something was written after what was there, if anything
+abbrev pub Grows : Option (List ℕ) → Option (List ℕ) → Type 0
+Grows old new = (more : List ℕ) × Appends old new more
+
 -- the bytes of the next segment are too few
 abbrev pub IsShort : Option Kept → List ℕ → Type 0
 IsShort kept bytes = HasSegmentFault (layout_before kept) bytes Truncated

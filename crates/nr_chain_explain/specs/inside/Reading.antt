@@ -23,6 +23,10 @@ seen_of came = record {
 abbrev pub all_seen : Option Came → Option CameTo
 all_seen last = option_map seen_of last
 
+-- the space after the last segment, if there is one
+abbrev pub spaces_of : Option Came → Option BoundedSpace
+spaces_of last = option_map (λ (came : Came). came.space) last
+
 -- the space after the last segment has the depth and the limit of its layout
 abbrev pub FitsCame : Came → Type 0
 FitsCame came = FitsLayout came.layout came.space
@@ -35,10 +39,11 @@ FitsSegment segment came = FitsLayout segment.layout came.space
 abbrev pub BeginsWell : Option Came → Recording → Type 0
 BeginsWell last segment = BeginsRight (space_in (all_seen last)) segment
 
--- the next segment is not whole, but may become so; it comes behind the last one
-pub record IsReading (last : Option Came) (bytes : List ℕ) (feed : FedSegment) : Type 0 where
+-- the next segment is not whole, but may become so; it comes behind the last one, the space after which is there twice
+pub record IsReading (last : Option Came) (before : Option BoundedSpace) (bytes : List ℕ) (feed : FedSegment) : Type 0 where
   pub taken : feed.pieces ≡ Taken bytes
   pub behind : feed.before ≡ layout_in (all_seen last)
   pub not_whole : IsWhole feed → ⊥
   pub short : HasFaultAs (forms.Segment feed.before) bytes Truncated
   pub fits : IfSome last FitsCame
+  pub same : before ≡ spaces_of last

@@ -1,6 +1,7 @@
 -- What an update does to one page, and the changes that the updates of a trace make. No public clause cites this file.
 use Rattle.std.specs.Prelude.{◌≡◌, ◌≢◌, ℕ, ◌+◌, ◌-◌, ◌%◌, ◌<◌, ◌^◌, ◌↔◌, if◌then◌else◌, nat_lt, false, List, [], ◌∷◌, length, slice_get, slice_index, Option}
 use Rattle.std.specs.Prelude.{Some, None, Contains, IsTrue}
+use Rattle.std.specs.FinMap as finite
 use Rattle.vs_types.specs.Page.{bytes_of, covers, level_of, IsPage}
 use Rattle.vs_types.specs.Space.{Space, page_at}
 use Rattle.vs_types.specs.declared.depth.Depth.{Depth}
@@ -16,12 +17,13 @@ use Rattle.nr_touch.specs.declared.change.PlacedChange.{PlacedChange}
 abbrev pub page_before : Change → Option Page
 page_before change = if change.was_mapped then Some change.page else None
 
--- the addresses of one page look otherwise in the second space, and no others
+-- the addresses of one page look otherwise in the second space, and no others; and no page begins otherwise but at the base of that one
 pub record IsPageChange (depth : Depth) (before after : Space) (change : Change) : Type 0 where
   pub well_formed : IsPage depth change.page
   pub was : (address : ℕ) → IsTrue (covers change.page address) → page_at before address ≡ page_before change
   pub differs : (address : ℕ) → IsTrue (covers change.page address) → page_at before address ≢ page_at after address
   pub others : (address : ℕ) → covers change.page address ≡ false → page_at before address ≡ page_at after address
+  pub elsewhere : finite.remove after change.page.base ≡ finite.remove before change.page.base
 
 -- what a step changes: one page, or no address looks otherwise
 abbrev pub IsChange : Depth → Space → Space → Option Change → Type 0

@@ -1,4 +1,4 @@
-use Rattle.nr_chain_engines.proofs.Reading.{answers_end, answers_wrong, end_refused, reports_end, reports_wrong}
+use Rattle.nr_chain_engines.proofs.Reading.{answers_end, answers_wrong, end_refused, more_at_once, reports_end, reports_wrong}
 use Rattle.nr_chain_engines.proofs.audit.audit_chain_io.Goals as goal
 
 pub returns-in-Ended-clause-ok : goal.returns-in-Ended-clause-ok
@@ -31,3 +31,9 @@ returns-in-Faulty-clause-first g c =
     let judged = rw c.in-Faulty.is at c.in_ok-chain.ensures.ok in
     end_refused g.W.Write.contents c.judge_blocks.new.writer c.write_end-in-Faulty.new.writer c.write_end-in-Faulty.result judged.2
     c.write_end-in-Faulty.ensures.err
+
+pub returns-in-Ended-clause-at_once : goal.returns-in-Ended-clause-at_once
+returns-in-Ended-clause-at_once g c = more_at_once c.in_ok-chain.ensures.at_once c.write_end.ensures.grown
+
+pub returns-in-Faulty-clause-at_once : goal.returns-in-Faulty-clause-at_once
+returns-in-Faulty-clause-at_once g c = more_at_once c.in_ok-chain.ensures.at_once c.write_end-in-Faulty.ensures.grown

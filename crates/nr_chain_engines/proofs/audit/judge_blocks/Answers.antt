@@ -1,14 +1,17 @@
 use Rattle.std.proofs.Common.{◌≡◌, ◌≢◌, ℕ, ◌-◌, [], length, ap, subst, take, arith}
+use Rattle.std.proofs.lemmas.List.{length-take}
 use Rattle.std.specs.Io.KnownBytes.{IsAtEnd}
 use Rattle.std.proofs.KnownBytes.{Keeps-refl}
-use Rattle.nr_engines.proofs.Input.{one_block}
+use Rattle.nr_engines.proofs.Inputs.{one_block}
+use Rattle.nr_chain_engines.proofs.Growing.{grows_nothing}
 use Rattle.nr_engines.specs.declared.fault.ProgFault.{ProgFault}
 use Rattle.nr_engines.specs.declared.fault.ProgFault.TheVariants.{CannotRead, CannotWrite}
 use Rattle.nr_chain_engines.specs.ChainAudit.{HasWrittenFirst}
 use Rattle.nr_chain_engines.specs.inside.Going.{TakesBlock}
 use Rattle.nr_chain_engines.specs.declared.audit.Taken.{Taken}
 use Rattle.nr_chain_engines.proofs.Going.{passed_on}
-use Rattle.nr_chain_engines.proofs.Reading.{all_written, block_refused, few_kept, few_read, next_block, read_nothing, reading_begins, reads_on, stayed}
+use Rattle.nr_chain_engines.proofs.Reading.{all_written, block_at_once, block_refused, few_kept, few_read, kept_at_once, next_block, read_nothing}
+use Rattle.nr_chain_engines.proofs.Reading.{reading_begins, reads_on, reads_too_much, stayed}
 use Rattle.nr_chain_engines.proofs.audit.judge_blocks.Goals as goal
 
 pub loop-room-init : goal.loop-room-init
@@ -94,7 +97,9 @@ loop-room-preserved g c =
     (contents c.take_block.new.writer) t) c.in-More.is c.in_ok-next.ensures.ok in
     reads_on c.args.quiet _ (known c.loop-room.reader) (known c.read_block.new.reader) _ (contents c.loop-room.writer) (contents c.take_block.new.writer)
     c.loop-room.chain c.in-More.next piece c.loop-room.number c.in-More.right c.loop-room.room (c.loop-room.room - 1) c.loop-room.invariant
-    c.in_ok-count.ensures.ok (one_block c.in_ok-count.count c.read_block.new.block full) (omega arith) taken
+    c.in_ok-count.ensures.ok (one_block c.in_ok-count.count c.read_block.new.block full)
+    (let long = length-take c.in_ok-count.count c.read_block.new.block in
+    omega (arith, c.in_ok-count.ensures.bound, c.if-count-eq0.false, full)) (omega arith) taken
 
 pub returns-clause-first : goal.returns-clause-first
 returns-clause-first g c =
@@ -103,3 +108,27 @@ returns-clause-first g c =
 
 pub returns-clause-few : goal.returns-clause-few
 returns-clause-few g c = few_kept c.loop-room.invariant (Keeps-refl (g.R.Read.remaining c.loop-room.reader))
+
+pub returns-in_err-count-clause-at_once : goal.returns-in_err-count-clause-at_once
+returns-in_err-count-clause-at_once g c = kept_at_once _ c.loop-room.invariant c.in_err-count.ensures.kept
+
+pub returns-then-count-eq0-clause-at_once : goal.returns-then-count-eq0-clause-at_once
+returns-then-count-eq0-clause-at_once g c =
+    block_at_once c.in_ok-count.count c.read_block.new.block _ c.loop-room.invariant c.in_ok-count.ensures.ok c.in_ok-count.ensures.last
+    (grows_nothing (g.W.Write.contents c.loop-room.writer))
+
+pub returns-in_err-next-clause-at_once : goal.returns-in_err-next-clause-at_once
+returns-in_err-next-clause-at_once g c =
+    block_at_once c.in_ok-count.count c.read_block.new.block _ c.loop-room.invariant c.in_ok-count.ensures.ok c.in_ok-count.ensures.last
+    c.in_err-next.ensures.grown
+
+pub returns-in-Wrong-clause-at_once : goal.returns-in-Wrong-clause-at_once
+returns-in-Wrong-clause-at_once g c =
+    block_at_once c.in_ok-count.count c.read_block.new.block _ c.loop-room.invariant c.in_ok-count.ensures.ok c.in_ok-count.ensures.last
+    c.in_ok-next.ensures.grown
+
+pub returns-clause-at_once : goal.returns-clause-at_once
+returns-clause-at_once g c = kept_at_once _ c.loop-room.invariant (Keeps-refl (g.R.Read.remaining c.loop-room.reader))
+
+pub returns-clause-unread : goal.returns-clause-unread
+returns-clause-unread g c = λ same. reads_too_much _ c.loop-room.invariant (omega arith)

@@ -4,6 +4,8 @@ use Rattle.nr_chain.specs.Verdict.{FeedsChain}
 use Rattle.nr_chain_engines.specs.inside.Going.{TakesSome}
 use Rattle.nr_engines.specs.declared.fault.ProgFault.{ProgFault}
 use Rattle.nr_engines.specs.declared.fault.ProgFault.TheVariants.{CannotWrite, Memory}
+use Rattle.nr_chain_engines.specs.ChainText.{shown_lines}
+use Rattle.nr_chain_engines.proofs.Growing.{grows_on}
 use Rattle.nr_chain_engines.proofs.Going.{block_begins, block_taken, block_wrong, next_segment, passed_on, unwritten_lines}
 use Rattle.nr_chain_engines.proofs.audit.take_block.Goals as goal
 
@@ -44,3 +46,10 @@ returns-in_err-write_right-in-Right-clause-err g c =
     (unwritten_lines c.args.quiet c.args.begun c.segments.chain c.args.right c.segments.number c.args.block.now c.segments.rest.now
     (contents c.args.writer.now) contents c.segments.writer c.write_right.new.writer c.in_err-write_right-in-Right.field-0.0
     c.segments.invariant c.in_err-write_right-in-Right.ensures.err)
+
+pub returns-in_err-write_right-in-Right-clause-grown : goal.returns-in_err-write_right-in-Right-clause-grown
+returns-in_err-write_right-in-Right-clause-grown g c =
+    let contents = g.W.Write.contents in
+    let taken = c.segments.invariant.taken in
+    grows_on (contents c.args.writer.now) (contents c.segments.writer) (contents c.write_right.new.writer)
+    (shown_lines c.args.quiet c.args.right taken.orders, taken.written) c.in_err-write_right-in-Right.ensures.grown

@@ -1,7 +1,8 @@
-use Rattle.std.proofs.Common.{◌≡◌, ℕ, [], ap, take, arith}
+use Rattle.std.proofs.Common.{◌≡◌, ℕ, [], ap, take, ◌-◌, arith}
+use Rattle.std.proofs.lemmas.List.{length-take}
 use Rattle.std.specs.Io.KnownBytes.{IsAtEnd}
 use Rattle.std.proofs.KnownBytes.{Keeps-refl}
-use Rattle.nr_chain_engines.proofs.Beginning.{begins, few_begun, few_stayed, first_ended, first_goes_on, first_stopped, first_whole}
+use Rattle.nr_chain_engines.proofs.Beginning.{begins, begins_too_late, few_begun, few_stayed, first_ended, first_goes_on, first_stopped, first_whole}
 use Rattle.nr_chain_engines.proofs.pages.feed_first.Goals as goal
 
 pub loop-room-init : goal.loop-room-init
@@ -55,7 +56,13 @@ loop-room-preserved g c =
     let known = g.R.Read.remaining in
     let piece = take c.in_ok-count.count c.read_block.new.block in
     first_goes_on _ (known c.loop-room.reader) (known c.read_block.new.reader) c.loop-room.first c.feed.new.self piece c.in_default.field-0
-    c.loop-room.invariant c.in_ok-count.ensures.ok c.in_default.ensures (λ whole. let is = c.is_whole.ensures.1 whole in let other = c.if-is_whole.false in cc)
+    c.loop-room.room (c.loop-room.room - 1) c.loop-room.invariant c.in_ok-count.ensures.ok
+    (let long = length-take c.in_ok-count.count c.read_block.new.block in
+    omega (arith, c.in_ok-count.ensures.bound, c.if-count-eq0.false)) (omega arith) c.in_default.ensures
+    (λ whole. let is = c.is_whole.ensures.1 whole in let other = c.if-is_whole.false in cc)
 
 pub returns-clause-few : goal.returns-clause-few
 returns-clause-few g c = few_stayed c.loop-room.invariant (Keeps-refl (g.R.Read.remaining c.loop-room.reader))
+
+pub returns-clause-unread : goal.returns-clause-unread
+returns-clause-unread g c = λ same. begins_too_late _ c.loop-room.invariant (omega arith)

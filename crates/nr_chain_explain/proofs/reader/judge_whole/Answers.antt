@@ -8,6 +8,7 @@ unreachable-requires c = not_refused c.args.feed c.in-Err.field-0 c.requires.who
 pub judge_next-requires : goal.judge_next-requires
 judge_next-requires c = record {
   fits = fits_segment c.args.last c.args.feed c.in-Ok.segment c.requires.behind c.requires.fits c.requires.whole c.in-Ok.ensures;
+  same = c.requires.same;
 }
 
 pub returns : goal.returns

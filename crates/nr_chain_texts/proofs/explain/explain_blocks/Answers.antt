@@ -1,9 +1,9 @@
-use Rattle.std.proofs.Common.{◌≡◌, ◌≤◌, ℕ, [], length, ap, subst, take, arith}
+use Rattle.std.proofs.Common.{◌≡◌, ◌≤◌, ℕ, [], length, ap, subst, take, ◌-◌, arith}
 use Rattle.std.proofs.lemmas.List.{length-take}
 use Rattle.std.specs.Io.KnownBytes.{IsAtEnd}
 use Rattle.std.proofs.KnownBytes.{Keeps-refl}
 use Rattle.nr_chain_explain.specs.Explanation.{FeedsReader}
-use Rattle.nr_chain_texts.proofs.Explaining.{explained_at_end, explained_in_block, explaining_goes_on, explaining_starts, few_kept, few_read}
+use Rattle.nr_chain_texts.proofs.Explaining.{explained_at_end, explained_in_block, explaining_goes_on, explaining_starts, explains_too_late, few_kept, few_read}
 use Rattle.nr_chain_texts.proofs.explain.explain_blocks.Goals as goal
 
 pub loop-room-init : goal.loop-room-init
@@ -34,7 +34,8 @@ loop-room-preserved g c =
     let some : 1 ≤ length piece =
     omega (arith, c.if-count-eq0.false, c.read_block.auto.block, c.loop-room.auto.block, c.requires) in
     explaining_goes_on (known c.args.reader.now) (known c.loop-room.reader) (known c.read_block.new.reader) c.loop-room.chain c.in-More.next piece
-    c.loop-room.invariant c.in_ok-count.ensures.ok (λ none. let zero : length piece ≡ 0 = ap length none in omega (arith, some, zero))
+    c.loop-room.room (c.loop-room.room - 1) c.loop-room.invariant c.in_ok-count.ensures.ok some (omega arith)
+    (λ none. let zero : length piece ≡ 0 = ap length none in omega (arith, some, zero))
     (subst (FeedsReader c.loop-room.chain piece) c.in-More.is c.in_ok-next.ensures)
 
 pub returns-in_err-count-clause-few : goal.returns-in_err-count-clause-few
@@ -62,3 +63,6 @@ returns-in-Found-clause-few g c =
 
 pub returns-clause-few : goal.returns-clause-few
 returns-clause-few g c = few_kept c.loop-room.invariant (Keeps-refl (g.R.Read.remaining c.loop-room.reader))
+
+pub returns-clause-unread : goal.returns-clause-unread
+returns-clause-unread g c = λ same. explains_too_late _ c.loop-room.invariant (omega arith)

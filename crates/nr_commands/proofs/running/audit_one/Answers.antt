@@ -10,7 +10,7 @@ returns-in-Ok-clause-ok g c =
 
 pub returns-in-Err-clause-ok : goal.returns-in-Err-clause-ok
 returns-in-Err-clause-ok g c =
-    IfOk-weaker c.tell_refused.result _ _
+    IfOk-weaker c.refused_status.result _ _
     (λ status h. no_line (g.F.FilesByName.file_bytes c.args.files.now) c.args.name.now c.in-Err.fault _ _ status h.0
     (ap g.W.Write.contents (c.in-Err.ensures.alone h.1)))
-    c.tell_refused.ensures.ok
+    c.refused_status.ensures.ok

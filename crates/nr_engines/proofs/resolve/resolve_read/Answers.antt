@@ -1,4 +1,4 @@
-use Rattle.nr_engines.proofs.Input.{trace_read}
+use Rattle.nr_engines.proofs.Inputs.{trace_read}
 use Rattle.nr_engines.proofs.resolve.resolve_read.Goals as goal
 
 pub returns-in-Ok : goal.returns-in-Ok

@@ -2,7 +2,7 @@ use Rattle.std.proofs.Common.{◌≡◌, ℕ, [], ap, take, arith}
 use Rattle.std.proofs.lemmas.List.{length-take}
 use Rattle.std.specs.Io.KnownBytes.{IsAtEnd}
 use Rattle.std.proofs.KnownBytes.{Keeps-refl}
-use Rattle.nr_engines.proofs.Input.{units_go_on, units_stop, units_end, units_read_a_block, units_read_no_more}
+use Rattle.nr_engines.proofs.Inputs.{units_go_on, units_stop, units_end, units_read_a_block, units_read_no_more, units_too_long}
 use Rattle.nr_engines.proofs.unit_input.feed_units.Goals as goal
 
 pub returns-in_err-count-clause-few : goal.returns-in_err-count-clause-few
@@ -52,3 +52,6 @@ loop-room-preserved g c =
     let bound = c.in_ok-count.ensures.bound in
     units_go_on (take c.in_ok-count.count c.read_block.new.block) c.loop-room.invariant c.in_ok-count.ensures.ok (omega arith)
     c.in_default.ensures.fed.0 c.in_default.ensures.fed.1
+
+pub returns-clause-unread : goal.returns-clause-unread
+returns-clause-unread g c = λ same. units_too_long _ c.loop-room.invariant (omega arith)

@@ -1,4 +1,4 @@
-use Rattle.nr_engines.proofs.Input.{AreFed}
+use Rattle.nr_engines.proofs.Inputs.{AreFed}
 use Rattle.nr_engines.proofs.unit_input.feed_units.Given as goal
 
 abbrev pub invariant-loop-room : goal.invariant-loop-room

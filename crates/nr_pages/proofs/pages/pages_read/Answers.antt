@@ -1,7 +1,7 @@
 use Rattle.std.proofs.Common.{◌≡◌, ◌∙◌, inl, ap, sym, subst, slice_get, string_bytes, Some}
 use Rattle.std.proofs.lemmas.Option.{slice_get-get_or}
 use Rattle.vs_types.specs.Config.{Layout}
-use Rattle.nr_engines.proofs.Input.{trace_read}
+use Rattle.nr_engines.proofs.Inputs.{trace_read}
 use Rattle.nr_pages.specs.Answers.{ShowsDump}
 use Rattle.nr_pages.proofs.pages.pages_read.Goals as goal
 

@@ -2,7 +2,9 @@ use Rattle.std.proofs.Common.{◌≡◌, sym, ap, ◌∙◌, subst}
 use Rattle.vs_types.specs.Operation.{IsAction}
 use Rattle.vs_types.specs.Space.{IsSpace}
 use Rattle.vs_types.specs.Step.{step}
+use Rattle.vs_types.proofs.Steps.{step_space}
 use Rattle.nr_touch.specs.inside.Changes.{IsChange}
+use Rattle.nr_touch.proofs.Undone.{change_leads}
 use Rattle.nr_touch.proofs.change.apply.Goals as goal
 
 pub returns-clause-change : goal.returns-clause-change
@@ -20,3 +22,10 @@ returns-clause-change c =
     (subst (λ d. IsAction d c.args.op) (sym depth) c.requires)
     (c.in_ok-answer.ensures.ok.0 ∙ ap (λ s. s.answer) (sym same))
     (space ∙ ap (λ s. s.space) (sym same)))
+
+pub returns-clause-leads : goal.returns-clause-leads
+returns-clause-leads c =
+    let old = c.args.space.now in
+    let is = c.in_ok-answer.ensures.apart in
+    let space = ap (λ s. s.space) c.in_ok-answer.ensures.ok.1 in
+    change_leads is (subst (IsSpace old.depth) (sym space) (step_space old.limit is c.args.op c.requires)) c.change_of.result (returns-clause-change c)

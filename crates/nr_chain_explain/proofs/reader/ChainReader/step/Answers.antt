@@ -32,7 +32,7 @@ returns-then-is_whole c =
     let count = c.in-Ok.count in
     let same : c.deref.result.now ≡ bytes ++ take count piece =
     c.deref.ensures.value ∙ c.in_ok-extend_from_slice-in-Ok.ensures.items in
-    judged c.self.inside.last bytes c.self.inside.feed c.feed.new.self c.args.self piece c.self.invariant c.self.view_is count c.deref.result.now
+    judged c.self.inside.last c.self.inside.before bytes c.self.inside.feed c.feed.new.self c.args.self piece c.self.invariant c.self.view_is count c.deref.result.now
     c.judge_whole.result same c.in-Ok.ensures (c.is_whole.ensures.0 c.if-is_whole.true) c.judge_whole.ensures
 
 pub invariant_of-next : goal.invariant_of-next
@@ -40,7 +40,7 @@ invariant_of-next c =
     let bytes = c.self.inside.bytes.items in
     let piece = c.args.piece.now in
     let count = c.in-Ok.count in
-    more_reading c.self.inside.last bytes c.self.inside.feed c.feed.new.self c.args.self piece c.self.invariant c.self.view_is count
+    more_reading c.self.inside.last c.self.inside.before bytes c.self.inside.feed c.feed.new.self c.args.self piece c.self.invariant c.self.view_is count
     c.extend_from_slice.new.self.items (c.in_ok-extend_from_slice-in-Ok.ensures.items)
     c.in-Ok.ensures (λ whole. let is = c.is_whole.ensures.1 whole in let other = c.if-is_whole.false in cc)
 
@@ -49,7 +49,7 @@ returns-in-Ok c =
     let bytes = c.self.inside.bytes.items in
     let piece = c.args.piece.now in
     let count = c.in-Ok.count in
-    more_taken c.self.inside.last bytes c.self.inside.feed c.feed.new.self c.args.self piece c.self.invariant c.self.view_is count
+    more_taken c.self.inside.last c.self.inside.before bytes c.self.inside.feed c.feed.new.self c.args.self piece c.self.invariant c.self.view_is count
     c.extend_from_slice.new.self.items (c.in_ok-extend_from_slice-in-Ok.ensures.items)
     c.in-Ok.ensures (λ whole. let is = c.is_whole.ensures.1 whole in let other = c.if-is_whole.false in cc)
 
@@ -58,15 +58,18 @@ refusal-requires c =
     let all : c.deref-in-Err-Refused.result.now ≡ c.self.inside.bytes.items ++ c.args.piece.now =
     c.deref-in-Err-Refused.ensures.value ∙ c.in_ok-extend_from_slice-in-Err-Refused.ensures.items in
     subst (HasSegmentFault (layout_in (all_seen c.self.inside.last)) c.deref-in-Err-Refused.result.now) (sym c.in-Err-Refused.fault-is)
-    (piece_has c.self.inside.last c.self.inside.bytes.items c.self.inside.feed c.feed.new.self c.args.self c.args.piece.now c.self.invariant
+    (piece_has c.self.inside.last c.self.inside.before c.self.inside.bytes.items c.self.inside.feed c.feed.new.self c.args.self c.args.piece.now c.self.invariant
     c.self.view_is c.in-Err-Refused.fault c.deref-in-Err-Refused.result.now all (rw c.in-Err-Refused.field-0-is at c.in-Err-Refused.ensures))
 
 pub returns : goal.returns
 returns c =
     let all : c.deref-in-Err-Refused.result.now ≡ c.self.inside.bytes.items ++ c.args.piece.now =
     c.deref-in-Err-Refused.ensures.value ∙ c.in_ok-extend_from_slice-in-Err-Refused.ensures.items in
-    piece_refused c.self.inside.last c.self.inside.bytes.items c.self.inside.feed c.feed.new.self c.args.self c.args.piece.now c.self.invariant
+    piece_refused c.self.inside.last c.self.inside.before c.self.inside.bytes.items c.self.inside.feed c.feed.new.self c.args.self c.args.piece.now c.self.invariant
     c.self.view_is c.in-Err-Refused.fault c.deref-in-Err-Refused.result.now c.in_ok-found-in-Err-Refused.found all
     (rw c.in-Err-Refused.field-0-is at c.in-Err-Refused.ensures)
     (subst (λ (f : Format). IsRefusalOf (all_seen c.self.inside.last) c.deref-in-Err-Refused.result.now f c.in_ok-found-in-Err-Refused.found)
     c.in-Err-Refused.fault-is c.in_ok-found-in-Err-Refused.ensures)
+
+pub judge_whole-requires-clause-same : goal.judge_whole-requires-clause-same
+judge_whole-requires-clause-same c = c.self.invariant.same

@@ -1,0 +1,124 @@
+-- Runs that are the same but for dumps that are not there have the same faults, and the same right touches.
+use Rattle.std.proofs.Common.{◌≡◌, ℕ, List, [], slice_get, Option, Some, None, refl, sym, subst}
+use Rattle.std.proofs.lemmas.Option.{none-some}
+use Rattle.vs_types.specs.Space.{Space}
+use Rattle.vs_walk.specs.Dump.{Image}
+use Rattle.nr_trace.specs.Recording.{IsThere, Recording}
+use Rattle.nr_trace.specs.Faults.{HasFaultFrom, IsWrongFrom, OpensTwice, RestsOnMore}
+use Rattle.nr_trace.specs.Laws.{IsFaultlessFrom}
+use Rattle.nr_trace.specs.declared.fault.Fault.{Fault}
+use Rattle.nr_trace.specs.declared.fault.Fault.TheVariants.{ThreadOpen, WrongAnswer, PrefixPastLog, PrefixShort, MissingFrame, SharedFrame, ReservedBit}
+use Rattle.nr_trace.specs.declared.fault.Fault.TheVariants.{StrayFrame, Differs}
+use Rattle.nr_segment.specs.Start.{first_space}
+use Rattle.nr_segment.specs.Touches.{HasTouch, HasRightTouches}
+use Rattle.nr_segment.specs.Faults.{HasNoFaultAfter, IsSoundAfter}
+use Rattle.nr_segment.specs.declared.fault.SegmentFault.TheVariants.{Start, Within, Stale}
+use Rattle.chain_cuts.specs.Cut.{without_dumps, HasNoDumps, IsSameRun}
+
+-- the dumps that are there among some are among others
+abbrev AreAmong : List Image → List Image → Type 0
+AreAmong some others = (replica : ℕ) (dump : Image) → IsThere dump → slice_get some replica ≡ Some dump → slice_get others replica ≡ Some dump
+
+module _ (trace : Recording) (some others : List Image) where
+  abbrev with_some : Recording
+  with_some = record trace { dumps = some }
+
+  abbrev with_others : Recording
+  with_others = record trace { dumps = others }
+
+  same_open : (index : ℕ) → OpensTwice with_some index → OpensTwice with_others index
+  same_open index opens = record {
+    made = opens.made;
+    is_made = opens.is_made;
+    earlier = opens.earlier;
+    earlier_made = opens.earlier_made;
+    is_earlier = opens.is_earlier;
+    is_earlier_made = opens.is_earlier_made;
+    same_thread = opens.same_thread;
+    not_answered = opens.not_answered;
+  }
+
+  same_wrong : (start : Space) (call : ℕ) → IsWrongFrom start with_some call → IsWrongFrom start with_others call
+  same_wrong start call wrong = record {
+    made = wrong.made;
+    is_made = wrong.is_made;
+    no_touch = wrong.no_touch;
+    reply = wrong.reply;
+    is_reply = wrong.is_reply;
+    differs = wrong.differs;
+  }
+
+  same_rest : (replica : ℕ) (dump : Image) → RestsOnMore with_some replica dump → RestsOnMore with_others replica dump
+  same_rest replica dump rests = record {
+    index = rests.index;
+    reply = rests.reply;
+    is_reply = rests.is_reply;
+    made = rests.made;
+    is_made = rests.is_made;
+    here = rests.here;
+    more = rests.more;
+  }
+
+  same_fault : (start : Space) → AreAmong some others → (fault : Fault) → HasFaultFrom start with_some fault → HasFaultFrom start with_others fault
+  same_fault start among (ThreadOpen index) h = same_open index h
+  same_fault start among (WrongAnswer call) h = same_wrong start call h
+  same_fault start among (PrefixPastLog replica) (dump, is, there, h) = (dump, among replica dump there is, there, h)
+  same_fault start among (PrefixShort replica) (dump, is, there, h) = (dump, among replica dump there is, there, same_rest replica dump h)
+  same_fault start among (MissingFrame replica number) (dump, is, there, h) = (dump, among replica dump there is, there, h)
+  same_fault start among (SharedFrame replica number) (dump, is, there, h) = (dump, among replica dump there is, there, h)
+  same_fault start among (ReservedBit replica number index) (dump, is, there, h) = (dump, among replica dump there is, there, h)
+  same_fault start among (StrayFrame replica number) (dump, is, there, h) = (dump, among replica dump there is, there, h)
+  same_fault start among (Differs replica address) (dump, is, there, h) = (dump, among replica dump there is, there, h)
+  same_fault start among fault h = h
+
+  same_touches : (start : Space) → HasRightTouches start with_some → HasRightTouches start with_others
+  same_touches start right touch has =
+      let own : HasTouch with_some touch =
+      record { asks = has.asks; reply = has.reply; is_reply = has.is_reply; of_it = has.of_it; answer = has.answer } in
+      let (n, allowed, answered) = right touch own in
+      (n, record { within = allowed.within; flushed = allowed.flushed; not_foreseen = allowed.not_foreseen }, answered)
+
+  same_begin : (before : Option Space) → first_space before with_some ≡ first_space before with_others
+  same_begin None = refl
+  same_begin (Some space) = refl
+
+same_sound : (before : Option Space) (trace : Recording) (some others : List Image) → AreAmong others some
+    → IsSoundAfter before (record trace { dumps = some }) → IsSoundAfter before (record trace { dumps = others })
+same_sound before trace some others among sound = record { faultless = faultless; touches = touches } where
+  start : Space
+  start = first_space before (record trace { dumps = some })
+
+  begin : start ≡ first_space before (record trace { dumps = others })
+  begin = same_begin trace some others before
+
+  touches : HasRightTouches (first_space before (record trace { dumps = others })) (record trace { dumps = others })
+  touches =
+      subst (λ (space : Space). HasRightTouches space (record trace { dumps = others })) begin (same_touches trace some others start sound.touches)
+
+  faultless : HasNoFaultAfter before (record trace { dumps = others })
+  faultless (Start fault) h = sound.faultless (Start fault) h
+  faultless (Within fault) h =
+      sound.faultless (Within fault)
+      (same_fault trace others some start among fault (subst (λ (space : Space). HasFaultFrom space (record trace { dumps = others }) fault) (sym begin) h))
+  faultless (Stale call) (touch, has, made, wrong) = wrong (touches touch has)
+
+-- the same run is sound
+pub sound_as_same : (before : Option Space) (first second : Recording) → IsSameRun first second → IsSoundAfter before first → IsSoundAfter before second
+sound_as_same before first second alike sound =
+    subst (λ (trace : Recording). IsSoundAfter before (record trace { dumps = second.dumps })) alike.same
+    (same_sound before first first.dumps second.dumps (λ replica dump there. (alike.dumps replica dump there).1) sound)
+
+pub same_back : (first second : Recording) → IsSameRun first second → IsSameRun second first
+same_back first second alike = record {
+  same = sym alike.same;
+  dumps = λ replica dump there. ((alike.dumps replica dump there).1, (alike.dumps replica dump there).0);
+}
+
+-- a run of which no dump is there has the faults that it has without dumps
+pub faultless_without : (start : Space) (trace : Recording) → HasNoDumps trace → IsFaultlessFrom start (without_dumps trace) → IsFaultlessFrom start trace
+faultless_without start trace none faultless fault h =
+    faultless fault (same_fault trace trace.dumps [] start (λ replica dump there is. absurd (none replica dump is there)) fault h)
+
+pub without_faultless : (start : Space) (trace : Recording) → IsFaultlessFrom start trace → IsFaultlessFrom start (without_dumps trace)
+without_faultless start trace faultless fault h =
+    faultless fault (same_fault trace [] trace.dumps start (λ replica dump there is. absurd (none-some dump is)) fault h)

@@ -1,0 +1,98 @@
+//! An input that is read in blocks, and what its last read gave.
+
+ghost use Rattle.std.specs.Prelude.{◌≡◌, Ok};
+ghost use Rattle.std.specs.Result.{result_err, result_ok};
+
+use std::io::{self, Read};
+
+/// A reader of which it is known what its last read gave.
+pub trait Source: Read {
+    ghost use Rattle.std.specs.Prelude.{ℕ, Option};
+    ghost use Rattle.std.specs.Io.{ReadsAtMost};
+    ghost use Rattle.std.specs.Io.KnownBytes.{ReadConsumes};
+
+    /// How many bytes the last `read_some` gave; none where it gave an error.
+    ghost last_read: { Self → Option ℕ };
+
+    /// Reads once, as `read` does, and notes what that gave.
+    ///
+    /// # Errors
+    ///
+    /// The error that the read gave.
+    fn read_some(&mut self, block: &mut [u8]) -> io::Result<usize>
+        ensures bound { ReadsAtMost result block.new }
+        ensures bytes { ReadConsumes (Self.remaining self.old) (Self.remaining self.new) result
+            block.new }
+        ensures last { last_read self.new ≡ result_ok result };
+}
+
+/// A reader that notes what its last read gave, and the first four bytes.
+#[derive(Drop)]
+pub struct Input<R> {
+    pub reader: R,
+    last: io::Result<usize>,
+    head: [u8; 4],
+    /// How many bytes of the head have been read.
+    known: usize,
+}
+
+impl<R> Input<R> {
+    /// A reader of which nothing has been read yet.
+    pub fn new(reader: R) -> Input<R>
+        ensures reader { result.reader ≡ reader }
+        ensures last { result.last ≡ Ok 0 }
+    {
+        Input {
+            reader,
+            last: Ok(0),
+            head: [0; 4],
+            known: 0,
+        }
+    }
+
+    /// The error that the last read gave, if it gave one.
+    pub fn error(&self) -> Option<io::Error>
+        ensures { result ≡ result_err self.now.last }
+    {
+        self.last.err()
+    }
+
+    /// Whether its first four bytes are these.
+    pub fn begins_with(&self, magic: &[u8; 4]) -> bool {
+        self.known == 4 && self.head == *magic
+    }
+
+    /// Keeps bytes that were read, if they are among the first four.
+    fn note(&mut self, bytes: &[u8])
+        ensures reader { self.new.reader ≡ self.old.reader }
+        ensures last { self.new.last ≡ self.old.last }
+    {
+        for byte in bytes {
+            if self.known >= 4 {
+                return;
+            }
+            self.head[self.known] = *byte;
+            self.known += 1;
+        }
+    }
+}
+
+impl<R: Read> Read for Input<R> {
+    ghost remaining = { λ input. R.remaining input.reader };
+
+    fn read(&mut self, block: &mut [u8]) -> io::Result<usize> {
+        self.reader.read(block)
+    }
+}
+
+impl<R: Read> Source for Input<R> {
+    ghost last_read = { λ input. result_ok input.last };
+
+    fn read_some(&mut self, block: &mut [u8]) -> io::Result<usize> {
+        self.last = self.reader.read(block);
+        if let Ok(count) = self.last {
+            self.note(&block[..count]);
+        }
+        self.last
+    }
+}

@@ -1,4 +1,0 @@
-pub mod WholeInput
-pub mod Simulations
-pub mod ServedRuns
-pub mod RunTexts

@@ -1,8 +1,0 @@
-use Rattle.std.proofs.Common.{◌≡◌, map, take, string_bytes}
-use Rattle.std.specs.List.{enumerate_from, flat_map}
-use Rattle.nr_run_engines.specs.RunText.{thread_lines}
-use Rattle.nr_run_engines.proofs.run_text.verified_text.Given as goal
-
--- the threads so far
-abbrev pub invariant-loop-thread : goal.invariant-loop-thread
-invariant-loop-thread l = string_bytes l.text ≡ flat_map thread_lines (enumerate_from 0 (map (λ said. said.items) (take l.thread l.threads)))

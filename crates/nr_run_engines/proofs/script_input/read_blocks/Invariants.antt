@@ -1,8 +1,0 @@
-use Rattle.nr_run_engines.proofs.WholeInput.{IsTakenIn}
-use Rattle.nr_run_engines.proofs.script_input.read_blocks.Given as goal
-
-abbrev pub invariant-loop-room : goal.invariant-loop-room
-invariant-loop-room g l = IsTakenIn (g.R.Read.remaining l.initial.reader) (g.R.Read.remaining l.reader) l.bytes.items l.room
-
-abbrev pub decreases-loop-room : goal.decreases-loop-room
-decreases-loop-room g l = l.room

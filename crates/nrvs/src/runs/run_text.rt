@@ -1,0 +1,62 @@
+//! What `run` prints.
+ghost use Rattle.std.specs.Prelude.{◌≡◌, ◌++◌, IfOk, OnOk, map, string_bytes};
+ghost use Rattle.std.specs.List.{flat_map};
+ghost use Rattle.nrvs.specs.RunText.{said_line, refused_text, said_text, verified_text};
+
+use itoa::Buffer;
+use nr_engines::{fault_text, push_answer};
+use nr_serve::Said;
+use nr_trace::Fault;
+use std::alloc::{AllocError, Global};
+
+/// Adds what came of a call.
+fn push_said(text: &mut String, said: Said) -> Result<(), AllocError>
+    ensures { OnOk result (string_bytes text.new ≡ string_bytes text.old ++ said_text said) }
+{
+    match said {
+        Said::Answer(_, answer) => push_answer(text, answer),
+        Said::Stopped => text.push_str("stopped"),
+    }
+}
+
+/// Adds the line of a call.
+fn push_call(text: &mut String, thread: usize, said: Said) -> Result<(), AllocError>
+    ensures { OnOk result (string_bytes text.new ≡ string_bytes text.old ++ said_line thread said) }
+{
+    text.push_str(Buffer::new().format(thread))?;
+    text.push(' ')?;
+    push_said(text, said)?;
+    text.push('\n')
+}
+
+/// Adds the lines of a thread's calls.
+fn push_thread(text: &mut String, thread: usize, said: &[Said]) -> Result<(), AllocError>
+    ensures { OnOk result
+        (string_bytes text.new ≡ string_bytes text.old ++ flat_map (said_line thread) said.now) }
+{
+    for call in said {
+        push_call(text, thread, *call)?;
+    }
+    Ok(())
+}
+
+/// The lines of a verified run. Allocates memory for the text.
+pub(crate) fn verified_text(alloc: Global, threads: &[Vec<Said>]) -> Result<String, AllocError>
+    ensures { IfOk result (λ text.
+        string_bytes text ≡ verified_text (map (λ said. said.items) threads.now)) }
+{
+    let mut text = String::new(alloc);
+    for (thread, said) in threads.iter().enumerate() {
+        push_thread(&mut text, thread, said.as_slice())?;
+    }
+    text.push_str("verified\n")?;
+    Ok(text)
+}
+
+/// The line of a refused run. Allocates memory for the text.
+pub(crate) fn refused_text(alloc: Global, fault: Fault) -> Result<String, AllocError>
+    ensures { IfOk result (λ text. string_bytes text ≡ refused_text fault) }
+{
+    let text = fault_text(alloc, fault)?;
+    format!(in alloc; "refused {text}\n")
+}
