@@ -1,24 +1,30 @@
 #!/usr/bin/env python3
-"""Writes a long chain: chain.py [--touches | --untouched | --crowd] SEGMENTS >CHAIN; or one segment as a trace: chain.py --trace >TRACE
+"""Writes a long chain: chain.py [HOW] SEGMENTS >CHAIN, where HOW is --touches, --untouched, --crowd, --behind, --behind-one or --threads; or
+one segment as a trace: chain.py --trace >TRACE
 
 A segment has as many events as there may be. In one 16,384 maps, 32,768 reads, and as many unmaps as maps are each answered; it is a right
 trace too. With --touches 30,000 updates of 256 pages have 35,536 touches beside them: half of these are of a page whose update is open, and
 are answered as it was before; --untouched leaves them out. With --crowd 43,690 updates of one page are never answered, and as many touches
 of it, made after them, are each answered as it was before one of them that is drawn. Each segment begins and ends with no page, so that
 all are alike.
+
+With --behind a segment that begins with 32,768 pages comes before so many segments of one touch each, and with --behind-one before one
+segment that has as many touches. With --threads each segment is one event, a call, in a layout of 65,535 threads.
 """
 import random
 import struct
 import sys
 
 from traces import Run                  # which also says where recording.py is
-from recording import ALL, ALLOWED, DONE, FAULT, MAP, REMOVED, UNMAP, call, dump, frames, reply
+from recording import ALL, ALLOWED, DONE, FAULT, MAP, REMOVED, RESOLVE, UNMAP, call, dump, frames, reply
 
 PAGES, READS, THREADS, TABLES = 16384, 32768, 64, 4096
 TOUCHED, UPDATES, TOUCHES = 256, 30000, 35536
 CROWD = 43690                           # updates, and touches
 MOST_THREADS = 65535                    # of a segment
+STARTED = 32768                         # pages with which a chain begins
 TOUCH, USER = 5, 1                      # a kind of call; the mode of an access
+NO_DUMP = bytes(16)
 NO_PAGE = 4                             # the error code of a user's read of no page
 
 
@@ -93,14 +99,44 @@ def crowd():
     return made
 
 
+def counted(log, events, start=0):
+    return b"NRVS" + struct.pack(">HBBHHIII", 1, 4, 1, MOST_THREADS, TABLES, log, events, start)
+
+
+def begun():
+    """A segment in which nothing is called, and with which a chain begins: its pages are each at its own address."""
+    tables = frames({page << 12: (0, page << 12, ALL) for page in range(STARTED)})
+    return counted(0, 0, len(tables)) + dump(0, tables)[8:] + NO_DUMP
+
+
+def touch_of(number, behind=0):
+    """A touch of a page, with its reply, behind so many events."""
+    address = (number % STARTED << 12) + 5
+    return call(0, 1, TOUCH, address, rights=USER) + reply(behind, 0, ALLOWED, value=address)
+
+
+def behind(segments):
+    for number in range(segments):
+        yield counted(0, 2) + touch_of(number) + NO_DUMP
+
+
+def behind_one(touches):
+    yield counted(0, 2 * touches) + b"".join(touch_of(number, 2 * number) for number in range(touches)) + NO_DUMP
+
+
+def of_threads(segments):
+    for _ in range(segments):
+        yield counted(0, 1) + call(0, MOST_THREADS - 1, RESOLVE, 0) + NO_DUMP
+
+
 def segment(made):
-    counts = struct.pack(">HBBHHIII", 1, 4, 1, MOST_THREADS, TABLES, len(made.log), len(made.events), 0)
     places = struct.pack(f">{len(made.log)}I", *made.log)
-    return b"".join([b"NRVS", counts, places, *made.events, dump(len(made.log), frames({}))])
+    return b"".join([counted(len(made.log), len(made.events)), places, *made.events, dump(len(made.log), frames({}))])
 
 
 def main(words):
     makers = {"": run, "--touches": lambda: touched(TOUCHES), "--untouched": lambda: touched(0), "--crowd": crowd}
+    small = {"--behind": (begun, behind), "--behind-one": (begun, behind_one), "--threads": (bytes, of_threads)}
     how = "".join(words[:-1])
     if words == ["--trace"]:
         run().write(sys.stdout.buffer)
@@ -108,6 +144,10 @@ def main(words):
         bytes_of_one = segment(makers[how]())
         for _ in range(int(words[-1])):
             sys.stdout.buffer.write(bytes_of_one)
+    elif words and words[-1].isdigit() and how in small:
+        first, more = small[how]
+        sys.stdout.buffer.write(first())
+        sys.stdout.buffer.writelines(more(int(words[-1])))
     else:
         sys.exit(__doc__)
 

@@ -1,7 +1,9 @@
 /* The calls of plans beside a plain page table in C of the same calls, which tests what is asked, answers and prunes alike; and beside the
  * page table of nrvs.h: nanoseconds a call.
  *
- *     plans WHICH CALLS: plan, plain or table; maps, protects and unmaps of drawn pages of 4 KiB, a third each
+ *     plans WHICH CALLS: plan, direct, plain or table; maps, protects and unmaps of drawn pages of 4 KiB, a third each
+ *
+ * `plan` shows each frame that is asked for; `direct` hands over all of them, as a direct map has them.
  */
 #define _POSIX_C_SOURCE 200809L
 #include "nrvs_plan.h"
@@ -59,6 +61,17 @@ static uint32_t by_plan(unsigned kind, uint64_t base, uint32_t rights)
 	if (kind == 1)
 		return carry_out(&plan, nrvs_plan_protect(&plan, &target, base, rights));
 	return carry_out(&plan, nrvs_plan_unmap(&plan, &target, base));
+}
+
+static uint32_t by_direct_map(unsigned kind, uint64_t base, uint32_t rights)
+{
+	const struct nrvs_words *frames = (const struct nrvs_words *)(const void *)memory;
+	struct nrvs_plan plan;
+	if (kind == 0)
+		return carry_out(&plan, nrvs_plan_map_in(&plan, &target, frames, FRAMES, 0, base, NRVS_4K, base, rights, 0));
+	if (kind == 1)
+		return carry_out(&plan, nrvs_plan_protect_in(&plan, &target, frames, FRAMES, 0, base, rights));
+	return carry_out(&plan, nrvs_plan_unmap_in(&plan, &target, frames, FRAMES, 0, base));
 }
 
 /* ---- in plain C: with the same tests of what is asked, and the same answers ---- */
@@ -213,7 +226,7 @@ static uint32_t plain_unmap(const struct nrvs_target *of, uint64_t base, struct 
 	tell(&way, base, to);
 	to->reply.size = (uint8_t)(way.level - 1);
 	__atomic_store_n(way.at, 0, __ATOMIC_RELAXED);
-	for (level = way.level; level < of->levels - (of->pinned != 0) && is_empty(way.tables[level]); level++) {
+	for (level = way.level; level < (of->pinned ? of->pinned - 1 : of->levels) && is_empty(way.tables[level]); level++) {
 		__atomic_store_n(entry(way.tables[level + 1], level + 1, base), 0, __ATOMIC_RELAXED);
 		to->unlinked[to->unlinked_count++] = way.tables[level];
 		to->flush = NRVS_FLUSH_PAGE_AND_TABLES;
@@ -281,7 +294,9 @@ int main(int count, char **words)
 	uint32_t (*call)(unsigned, uint64_t, uint32_t) = by_plan;
 	struct timespec from, to;
 	uint64_t seed = 1;
-	if (strcmp(which, "plan") != 0)
+	if (strcmp(which, "direct") == 0)
+		call = by_direct_map;
+	else if (strcmp(which, "plan") != 0)
 		call = strcmp(which, "plain") == 0 ? in_plain_c : by_table;
 	begin_memory();
 	if (call == by_table)

@@ -1,5 +1,5 @@
 #!/usr/bin/env python3
-"""Prints what crates/space_benchmark must print: space_sums.py ROUNDS, or space_sums.py ROUNDS five.
+"""Prints what `nrvs_benchmark page_table` must print: space_sums.py ROUNDS, or space_sums.py ROUNDS five.
 
 It has no page table: a space is a dictionary from bases to pages, and tables are counted by their definition.
 """

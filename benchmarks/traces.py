@@ -1,7 +1,7 @@
 #!/usr/bin/env python3
 """Writes large traces for the benchmarks: traces.py KIND > FILE, where KIND is one of the names below.
 
-Each is a right run, but for `most_leaves`: its answers are those of the space, and each dump is the page table after the
+Each is a right run, but for `most_leaves` and `dense`: its answers are those of the space, and each dump is the page table after the
 whole log.
 """
 import os
@@ -65,6 +65,27 @@ def greatest(out):
     run.write(out)
 
 
+def both_ends(out):
+    """As `greatest`, and each table has entries at both ends, in words 0 and 511, as the root of a kernel's table has: 65,360 pages."""
+    run = Run(4, 64)
+    for i in range(4085):
+        directory, entry_ = divmod(i, 511)
+        entry_ += entry_ > 254                      # a directory leads to tables by all its words but the one in the middle
+        half, quarter = divmod(directory, 4)
+        base = half * 0xFFFFFF8000000000 + ((0, 1, 510, 511)[quarter] << 30) + (entry_ << 21)
+        for k in range(16):
+            run.map(base + ((k + 496 * (k > 7)) << 12), (i * 16 + k) << 12)
+    while len(run.log) < 65536:
+        run.unmap(1 << 46)
+    run.write(out)
+
+
+def dense(out):
+    """Four dumps of 4,096 frames without a word that is 0, below a root with a reserved bit: what can be kept of the fewest calls."""
+    tables = {number: {index: 0x87 for index in range(512)} for number in range(1, 4097)}
+    out.write(trace(4, 64, 4096, [], [], [dump(0, tables)] * 4))
+
+
 def most_leaves(out):
     """65,536 pages, and a dump of 2,092,032 leaves: the first that the space does not have is that of 0x10000000."""
     run = Run(1, 1)
@@ -113,7 +134,7 @@ def most_reads(out):
     run.write(out)
 
 
-KINDS = {kind.__name__: kind for kind in (greatest, most_leaves, most_pages, one_page, most_unmaps, most_reads)}
+KINDS = {kind.__name__: kind for kind in (greatest, both_ends, dense, most_leaves, most_pages, one_page, most_unmaps, most_reads)}
 
 if __name__ == "__main__":
     if len(sys.argv) != 2 or sys.argv[1] not in KINDS:

@@ -20,9 +20,9 @@ use std::time::{Duration, Instant};
 use self::table::{Answer, Op, Space};
 use self::unverified_log::{Apart, Entry, Log, OneVersion, PLACES, RING, Waits};
 
-const PAGES: u64 = 16_384;
+pub const PAGES: u64 = 16_384;
 
-fn entry_of(op: Op) -> Entry {
+pub fn entry_of(op: Op) -> Entry {
     match op {
         Op::Map(base, _, phys, rights) => Entry { operation: base | rights << 4, frame: phys / 4096 },
         Op::Unmap(base) => Entry { operation: base | 1, frame: 0 },
@@ -30,7 +30,7 @@ fn entry_of(op: Op) -> Entry {
     }
 }
 
-fn op_of(entry: Entry) -> Op {
+pub fn op_of(entry: Entry) -> Op {
     let (base, rights) = (entry.operation & !4095, (entry.operation >> 4) % 8);
     match entry.operation % 4 {
         0 => Op::Map(base, 1, entry.frame * 4096, rights),
@@ -41,7 +41,7 @@ fn op_of(entry: Entry) -> Op {
 
 impl Waits {
     /// Sleeps too, for longer each time, where it has waited for some time.
-    fn wait_long(&mut self) {
+    pub fn wait_long(&mut self) {
         if self.0 > 10 {
             std::thread::sleep(Duration::from_micros(1 << (self.0 - 10).min(6)));
         }
@@ -50,7 +50,7 @@ impl Waits {
 }
 
 /// A value under a lock, which is only tried.
-struct Lock<T> {
+pub struct Lock<T> {
     taken: AtomicBool,
     value: UnsafeCell<T>,
 }
@@ -58,19 +58,27 @@ struct Lock<T> {
 // SAFETY: the value is used under a guard alone, of which there is one at a time.
 unsafe impl<T: Send> Sync for Lock<T> {}
 
-struct Guard<'a, T>(&'a Lock<T>);
+pub struct Guard<'a, T>(&'a Lock<T>);
 
 impl<T> Lock<T> {
-    fn new(value: T) -> Lock<T> {
+    pub fn new(value: T) -> Lock<T> {
         Lock { taken: AtomicBool::new(false), value: UnsafeCell::new(value) }
     }
 
-    fn attempt(&self) -> Option<Guard<'_, T>> {
+    pub fn attempt(&self) -> Option<Guard<'_, T>> {
         let taken = self.taken.load(Ordering::Relaxed) || self.taken.swap(true, Ordering::Acquire);
         if taken { None } else { Some(Guard(self)) }
     }
 
-    fn hold(&self) -> Guard<'_, T> {
+    /// # Safety
+    ///
+    /// Nobody has the lock meanwhile.
+    pub unsafe fn shared(&self) -> &T {
+        // SAFETY: so says the caller.
+        unsafe { &*self.value.get() }
+    }
+
+    pub fn hold(&self) -> Guard<'_, T> {
         let mut waits = Waits(0);
         loop {
             match self.attempt() {
@@ -104,7 +112,7 @@ impl<T> Drop for Guard<'_, T> {
 
 /// Where a thread leaves its update and finds the answer. The state says which of them is there, and whose turn it is.
 #[repr(align(64))]
-struct Slot {
+pub struct Slot {
     state: AtomicU64,
     left: UnsafeCell<Left>,
 }
@@ -124,30 +132,30 @@ const POSTED: u64 = 1;
 const READY: u64 = 2;
 
 impl Slot {
-    fn new() -> Slot {
+    pub fn new() -> Slot {
         let left = Left { entry: Entry::default(), place: 0, answer: Answer::Done };
         Slot { state: AtomicU64::new(EMPTY), left: UnsafeCell::new(left) }
     }
 
-    fn post(&self, entry: Entry) {
+    pub fn post(&self, entry: Entry) {
         // SAFETY: it is empty, and its thread alone fills it.
         unsafe { (*self.left.get()).entry = entry };
         self.state.store(POSTED, Ordering::Release);
     }
 
     /// What is posted, for a combiner, which holds its replica's lock.
-    fn posted(&self) -> Option<Entry> {
+    pub fn posted(&self) -> Option<Entry> {
         // SAFETY: it is posted, and its thread waits.
         (self.state.load(Ordering::Acquire) == POSTED).then(|| unsafe { (*self.left.get()).entry })
     }
 
-    fn answer(&self, place: u64, answer: Answer) {
+    pub fn answer(&self, place: u64, answer: Answer) {
         // SAFETY: it is posted, and its thread waits.
         unsafe { ((*self.left.get()).place, (*self.left.get()).answer) = (place, answer) };
         self.state.store(READY, Ordering::Release);
     }
 
-    fn poll(&self) -> Option<(u64, Answer)> {
+    pub fn poll(&self) -> Option<(u64, Answer)> {
         if self.state.load(Ordering::Acquire) != READY {
             return None;
         }
@@ -308,7 +316,7 @@ impl<L: Log, const KEEPS: bool> Replicas<L, KEEPS> {
 
 /// What a thread did: how many reads and updates, and the sum of the physical addresses that it read.
 #[derive(Clone, Copy, Default)]
-struct Done {
+pub struct Done {
     reads: u64,
     updates: u64,
     sum: u64,
@@ -316,7 +324,7 @@ struct Done {
 
 /// How many calls each thread makes, how many of a hundred read, and whether the others map and unmap.
 #[derive(Clone, Copy)]
-struct Work {
+pub struct Work {
     calls: u64,
     reads: u64,
     maps: bool,
@@ -338,7 +346,7 @@ fn update(work: Work, thread: u64, drawn: u64, mapped: &mut Option<u64>) -> (Op,
 }
 
 /// The calls of a thread, drawn from its number.
-fn calls(thread: usize, work: Work, mut call: impl FnMut(Option<Op>, u64) -> Answer) -> Done {
+pub fn calls(thread: usize, work: Work, mut call: impl FnMut(Option<Op>, u64) -> Answer) -> Done {
     let mut done = Done::default();
     let mut state = 0x9E37_79B9_7F4A_7C15u64.wrapping_mul(thread as u64 + 1);
     let mut mapped = None;
@@ -361,12 +369,12 @@ fn calls(thread: usize, work: Work, mut call: impl FnMut(Option<Op>, u64) -> Ans
 }
 
 /// The pages that are read and protected, and one of each table of those that are mapped and unmapped.
-fn maps() -> impl Iterator<Item = Op> {
+pub fn maps() -> impl Iterator<Item = Op> {
     (0..PAGES).chain((PAGES..2 * PAGES).step_by(512)).map(|n| Op::Map(n * 4096, 1, n * 4096, 7))
 }
 
 /// What so many threads did, and the time of all together.
-fn in_threads(threads: usize, work: impl Fn(usize) -> Done + Sync) -> (Vec<Done>, Duration) {
+pub fn in_threads(threads: usize, work: impl Fn(usize) -> Done + Sync) -> (Vec<Done>, Duration) {
     let work = &work;
     let start = Instant::now();
     let done = std::thread::scope(|scope| {
@@ -391,7 +399,7 @@ fn on_replicas<L: Log, const KEEPS: bool>(threads: usize, replicas: usize, work:
 }
 
 /// The calls on one page table: how an update is made on it, and how a read.
-fn on_one(
+pub fn on_one(
     threads: usize,
     work: Work,
     update: impl Fn(Op) -> Answer + Sync,
@@ -408,23 +416,28 @@ fn on_one(
     })
 }
 
-fn main() {
-    let words: Vec<String> = std::env::args().collect();
+/// Makes the calls that the words after the first say, on so many threads and replicas: what each thread did, and the rate of all.
+pub fn report(words: &[String], on: impl FnOnce(usize, usize, Work) -> (Vec<Done>, Duration)) {
     let number = |n: usize| words[n].parse::<u64>().expect("a number");
     let (threads, replicas) = (number(2) as usize, number(3) as usize);
     let work = Work { calls: number(4), reads: number(5), maps: words.get(6).is_some() };
-    let (mutex, rwlock) = (Mutex::new(Space::new(4)), RwLock::new(Space::new(4)));
-    let (done, time) = match words[1].as_str() {
-        "tuned" => on_replicas::<Apart, false>(threads, replicas, work),
-        "same" => on_replicas::<OneVersion, true>(threads, replicas, work),
-        "mutex" => on_one(threads, work, |op| mutex.lock().unwrap().apply(op), |address| mutex.lock().unwrap().resolve(address)),
-        "rwlock" => on_one(threads, work, |op| rwlock.write().unwrap().apply(op), |address| rwlock.read().unwrap().resolve(address)),
-        _ => panic!("tuned, same, mutex or rwlock"),
-    };
+    let (done, time) = on(threads, replicas, work);
     for done in done {
         println!("reads {} updates {} sum {}", done.reads, done.updates, done.sum);
     }
     let kind = if work.maps { "maps" } else { "reads" };
     eprintln!("operations a second  {:>12}", "call");
     eprintln!("{kind}_{}_{threads}_{replicas}  {:>12}", work.reads, (threads as f64 * work.calls as f64 / time.as_secs_f64()) as u64);
+}
+
+fn main() {
+    let words: Vec<String> = std::env::args().collect();
+    let (mutex, rwlock) = (Mutex::new(Space::new(4)), RwLock::new(Space::new(4)));
+    report(&words, |threads, replicas, work| match words[1].as_str() {
+        "tuned" => on_replicas::<Apart, false>(threads, replicas, work),
+        "same" => on_replicas::<OneVersion, true>(threads, replicas, work),
+        "mutex" => on_one(threads, work, |op| mutex.lock().unwrap().apply(op), |address| mutex.lock().unwrap().resolve(address)),
+        "rwlock" => on_one(threads, work, |op| rwlock.write().unwrap().apply(op), |address| rwlock.read().unwrap().resolve(address)),
+        _ => panic!("tuned, same, mutex or rwlock"),
+    });
 }

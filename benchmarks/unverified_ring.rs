@@ -1,4 +1,4 @@
-//! The same calls on logs in plain Rust, with no proof, to compare with `ring_benchmark`:
+//! The same calls on logs in plain Rust, with no proof, to compare with `nrvs_benchmark log`:
 //!     rustc -O -C target-cpu=x86-64-v2 benchmarks/unverified_ring.rs && ./unverified_ring apart|cell looks|appends THREADS CALLS
 //! The tails of the log of `apart` have a cache line each; that of `cell` lies in one cell, as that of the proved program does.
 mod unverified_log;

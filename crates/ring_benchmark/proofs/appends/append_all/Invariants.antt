@@ -1,5 +1,0 @@
-use Rattle.std.specs.Prelude.{◌≡◌}
-use Rattle.ring_benchmark.proofs.appends.append_all.Given as goal
-
-abbrev pub invariant-loop : goal.invariant-loop
-invariant-loop g l = (l.pass.log ≡ l.fn.pass.log) × (l.pass.view.owns ≡ l.fn.pass.view.owns)

@@ -1,6 +1,0 @@
-use Rattle.std.proofs.Common.{◌+◌}
-use Rattle.vs_types.specs.declared.depth.Depth.TheVariants.{Four}
-use Rattle.ring_benchmark.proofs.command.try_run.Given as goal
-
-abbrev pub ghosts-look : goal.ghosts-look
-ghosts-look g a = record { depth = Four; replicas = a.threads; passes = a.threads + 1 }

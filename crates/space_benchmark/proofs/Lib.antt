@@ -1,2 +1,0 @@
-mod Sums
-mod Rounds

@@ -1,6 +1,0 @@
-use Rattle.space_benchmark.specs.Work.{after_rounds, no_progress}
-use Rattle.space_benchmark.proofs.Rounds.{IsAt}
-use Rattle.space_benchmark.proofs.measure.measure.Given as goal
-
-abbrev pub invariant-loop-done : goal.invariant-loop-done
-invariant-loop-done g l = IsAt l.load.depth 4096 (after_rounds l.load.depth 4096 l.load l.done no_progress) l.space l.measured.sum.value
