@@ -59,18 +59,21 @@ class Chain:
         self.verdict = self.audit.stdout.read().decode().splitlines()
         return self.audit.wait()
 
-    def segment(self, number: int) -> bytes | None:
-        """One of those that are kept."""
+    def segments_to(self, number: int) -> list[bytes]:
+        """Those that are kept, up to one of them; none where that isn't among them."""
         at = number - (self.converter.ended - len(self.segments))
-        return self.segments[at] if 0 <= at < len(self.segments) else None
+        return list(self.segments)[:at + 1] if 0 <= at < len(self.segments) else []
 
 
-def begin(path: str, place: Callable[[int], tuple[str, int]], tag: str, updates: int, keep: bool) -> Chain:
-    """A chain of segments of some so many updates. Who made its calls is written to PATH.calls and, to be kept, its bytes to PATH.chain."""
+def begin(path: str, place: Callable[[int], tuple[str, int]], tag: str, updates: int, keep: bool, before: Chain | None = None) -> Chain:
+    """A chain of segments of some so many updates. Who made its calls is written to PATH.calls and, to be kept, its bytes to PATH.chain.
+    Of a chain `before` of the same boot it is known where its kernel has the processors' own tables."""
     audit = subprocess.Popen([explain.program(), "audit", "--chain", "--quiet"], stdin=subprocess.PIPE, stdout=subprocess.PIPE)
     converter = convert.Converter(convert.Options(chain=updates))
     kept = open(f"{path}.chain", "wb") if keep else None
     chain = Chain(log_lines.Slimmer(place, tag), converter, audit, open(f"{path}.calls", "w"), kept)
+    if before:
+        chain.slimmer.task_states = before.slimmer.task_states
     converter.put_segment, converter.put_calls = chain.put, chain.calls.write
     return chain
 

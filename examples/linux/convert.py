@@ -7,8 +7,8 @@ LOG is a file, or - for standard input. One that ends with .xz is unpacked.
 --no-intent: what mprotect and munmap promised is left to the tables.   --every-access: also those between a store and its flush.
 --chain: a chain of segments of some N updates each, with all accesses as touches; it may begin with tables that have pages.
 --most: stop after so many updates.   --calls: where each call comes from, a line each, parted by tabs: its number, the processor or
-the task, and the instructions, each an address and its place in the kernel: that of the store or the access, and those to which
-the calls return that led there.
+the task, what ended the time of an update that takes away, and the instructions, each an address and its place in the kernel: that of
+the store or the access, and those to which the calls return that led there.
 
 How, and why so, is in README.md. Nothing here is verified, and nothing depends on it.
 """
@@ -24,14 +24,15 @@ from typing import NamedTuple, TextIO
 sys.dont_write_bytecode = True
 import log_lines
 from log_lines import Access, Born, Dumped, End, Entered, Entry, Fault, Flushed, InUser, Line, Note, Returned, Store, Symbol, Table, Word
-from page_tables import BYTES, EXEC, USER, WRITE, Change, Page, PageTables
+from page_tables import BYTES, Change, Page, PageTables
 from chain_bytes import Segment
+from promises import MUNMAP, PROTECTS, Promises, allowed_by, rounded
 from trace_bytes import ACCESS, ALLOWED, CHANGED, DONE, FAULT, MAP, PROTECT, REMOVED, UNMAP, Frames, Trace
 
 PROCESSORS = 8                  # threads 0 to 7 are the processors' accesses, the others updates under way
-MPROTECT, MUNMAP = 10, 11
-PROT_WRITE, PROT_EXEC, PROT_ALL = 2, 4, 7
 MORE = "pages that allow more than a system call said"
+LATER = "pages that were stored later, and allow more than a system call said"
+MOST_STORED = 4096              # pages of a task that isn't seen in user mode: of a thread of the kernel's own, say
 EVERYTHING = (1 << 64) - 1
 
 Window = tuple[int, int]        # a page's size and base: its entry was stored to, and isn't flushed
@@ -56,6 +57,7 @@ class Source(NamedTuple):
     call: str               # its number; of a chain with the segment's before it
     who: str
     instructions: tuple[int, ...]
+    until: str = ""         # of an update that takes away: what ended its time
 
 
 @dataclass
@@ -65,6 +67,7 @@ class Update:
     place: int
     thread: int
     change: Change
+    source: int             # among the sources
 
 
 @dataclass
@@ -78,6 +81,8 @@ class Converter:
     windows: dict[Window, dict[int, list[Update]]] = field(default_factory=dict)    # by task that owes the flush
     owed: dict[int, set[Window]] = field(default_factory=lambda: collections.defaultdict(set))      # by task
     entered: dict[int, int] = field(default_factory=dict)                   # by task: places when its system call began
+    promises: Promises = field(default_factory=Promises)
+    stored: dict[int, set[int]] = field(default_factory=lambda: collections.defaultdict(set))      # by task: bases, not looked at yet
     free: list[int] = field(default_factory=list)                           # threads for updates that aren't answered yet
     start: Frames = field(default_factory=dict)
     dump: Frames = field(default_factory=dict)
@@ -115,7 +120,7 @@ class Converter:
         waits = (takes_away or window in self.windows) and len(self.free) > 1
         thread = self.free.pop() if waits else self.free[-1]
         call = self.trace.call(thread, kind, change.base, size, after.rights if kind == PROTECT else rights, physical)
-        update = Update(call, self.trace.place(call), thread, change)
+        update = Update(call, self.trace.place(call), thread, change, len(self.sources))
         self.sources.append(Source(self.name(call), f"task {task:x}", pcs))
         self.latest[change.base] = (self.placed + update.place, task)
         if takes_away:
@@ -145,8 +150,8 @@ class Converter:
         else:
             self.trace.reply(update.call, update.place, CHANGED, 0, before.rights)
 
-    def close(self, task: int, begin: int, end: int) -> None:
-        """The task's flush of these addresses is over."""
+    def close(self, task: int, begin: int, end: int, why: str) -> None:
+        """The task's flush of these addresses is over, or something else that ends the time of its updates there."""
         for window in sorted(self.owed.get(task, ())):
             size, base = window
             if base >= end or base + BYTES[size] <= begin:
@@ -154,6 +159,7 @@ class Converter:
             self.owed[task].discard(window)
             for update in self.windows[window].pop(task):
                 self.reply(update)
+                self.sources[update.source] = self.sources[update.source]._replace(until=why)
                 self.free.append(update.thread)
             if not self.windows[window]:
                 del self.windows[window]
@@ -167,6 +173,7 @@ class Converter:
         for change in changes:
             for each in self.split(change):
                 self.update(each, line.task, line.pcs)
+                self.note_stored(each, line.task)
 
     def split(self, change: Change) -> list[Change]:
         """One change of a page as updates."""
@@ -214,25 +221,59 @@ class Converter:
 
     # ---- what system calls promise ----
 
+    def note_stored(self, change: Change, task: int) -> None:
+        """A page that appears, or allows more than before, is looked at when its task is back in user mode."""
+        if change.after and (not change.before or change.after.rights & ~change.before.rights):
+            self.stored[task].add(change.base)
+            if len(self.stored[task]) > MOST_STORED:
+                self.stored[task].clear()
+
+    def keep_promise(self, base: int, allowed: int, task: int, why: str) -> None:
+        """The log has what was promised, though no store made it: what a processor does that contradicts it is found."""
+        page = self.pages[base]
+        self.counts[why] += 1
+        if self.options.intent:
+            after = page._replace(rights=page.rights & allowed) if allowed else None
+            self.promised.add(base)
+            self.update(Change(base, page, after), task, ())
+            self.close(task, base, base + 1, "promised by the system call's return")
+
+    def look_at_stored(self, task: int) -> None:
+        """Of what a task has stored no page allows more than was promised before, and wasn't changed by another call since."""
+        for base in sorted(self.stored.pop(task, ())):
+            page = self.pages.get(base)
+            for allowed in self.promises.exceeded(base, base + BYTES[page.size], page.rights, task) if page else ():
+                self.keep_promise(base, allowed, task, LATER)
+                break
+
     def returned(self, line: Returned) -> None:
         """After mprotect or munmap no page of its range allows more than it said: where one does, the log has what was promised."""
-        if line.number not in (MPROTECT, MUNMAP) or line.result:
-            return
-        begin, length, protection = line.arguments
-        protection = protection & PROT_ALL if line.number == MPROTECT else 0
-        allowed = USER | (WRITE if protection & PROT_WRITE else 0) | (EXEC if protection & PROT_EXEC else 0)
-        end, entered = begin + (length + 4095 & -4096), self.entered.get(line.task, 0)
+        self.promises.returned(*line)
+        if line.number in (*PROTECTS, MUNMAP) and not line.result:
+            self.look_at_range(line)
+        self.look_at_stored(line.task)
+
+    def look_at_range(self, line: Returned) -> None:
+        begin, length, protection, *_ = line.arguments
+        allowed = allowed_by(protection) if line.number in PROTECTS else 0
+        end, entered = begin + rounded(length), self.entered.get(line.task, 0)
         for base in sorted(each for each in self.pages if begin <= each < end):
             page, (place, task) = self.pages[base], self.latest.get(base, (-1, line.task))     # none: of the start
             is_of_another = task != line.task and place >= entered
-            if base + BYTES[page.size] > end or is_of_another or (protection and not page.rights & ~allowed):
+            if base + BYTES[page.size] > end or is_of_another or (allowed and not page.rights & ~allowed):
                 continue
-            self.counts[MORE] += 1
-            if self.options.intent:
-                after = page._replace(rights=page.rights & allowed) if protection else None
-                self.promised.add(base)
-                self.update(Change(base, page, after), line.task, ())
-                self.close(line.task, base, base + 1)
+            self.keep_promise(base, allowed, line.task, MORE)
+
+    def enter(self, line: Entered) -> None:
+        self.promises.left(line.task)
+        self.look_at_stored(line.task)
+        self.entered[line.task] = self.placed + len(self.trace.log)
+        self.promises.entered(*line)
+
+    def in_user(self, task: int) -> None:
+        self.promises.left(task)
+        if task in self.stored:
+            self.look_at_stored(task)
 
     # ---- the log ----
 
@@ -240,16 +281,19 @@ class Converter:
         match line:
             case Store():
                 self.store(line)
-            case Access(processor, is_user, access, address, physical, pc):
+            case Access(processor, task, is_user, access, address, physical, pc):
+                if is_user:
+                    self.in_user(task)
                 self.access(processor, is_user, access, address, Answer(ALLOWED, physical), pc)
             case Fault():
                 self.fault(line)
-            case Flushed(task, begin, end):
-                self.close(task, begin, EVERYTHING if end == EVERYTHING else end)
-            case InUser(task):
-                self.close(task, 0, EVERYTHING)
-            case Entered(task):
-                self.entered[task] = self.placed + len(self.trace.log)
+            case Flushed(processor, task, begin, end):
+                self.close(task, begin, end, f"flushed by its task on processor {processor}")
+            case InUser(processor, task):
+                self.close(task, 0, EVERYTHING, f"not flushed, and its task in user mode on processor {processor}")
+                self.in_user(task)
+            case Entered():
+                self.enter(line)
             case Returned():
                 self.returned(line)
             case _:
@@ -316,7 +360,7 @@ class Converter:
     def finish(self) -> None:
         """The log is over; where it was cut, or ends in between, the tables as the stores made them are the dump."""
         for task in list(self.owed):
-            self.close(task, 0, EVERYTHING)
+            self.close(task, 0, EVERYTHING, "not flushed when the recording ended")
         if self.is_cut or not self.is_over:
             self.notes.append("the log is cut: the dump is that of the stores")
             self.dump = self.tables.frames()
@@ -337,8 +381,8 @@ class Converter:
 
     def calls(self) -> str:
         rows = []
-        for call, who, pcs in self.sources:
-            rows.append("\t".join([call, who, *(f"{pc:#x} {self.symbols.get(pc, '')}".rstrip() for pc in pcs)]) + "\n")
+        for call, who, pcs, until in self.sources:
+            rows.append("\t".join([call, who, until, *(f"{pc:#x} {self.symbols.get(pc, '')}".rstrip() for pc in pcs)]) + "\n")
         return "".join(rows)
 
 

@@ -31,14 +31,14 @@ def check_program() -> None:
 
 
 def read_calls(path: str) -> dict[int, list[str]]:
-    """By call: who made it, and the instructions, the innermost first."""
+    """By call: who made it, what ended its time or nothing, and the instructions, the innermost first."""
     rows = (line.rstrip("\n").split("\t") for line in open(path))
     return {int(number): words for number, *words in rows}
 
 
 def origin(words: list[str]) -> str:
     """Who made a call, and by which instruction of which function, called by which."""
-    who, *instructions = words
+    who, _, *instructions = words
     if not instructions:
         return f"{who}, a page fault" if who.startswith("processor") else f"{who}, what its system call promised"
     address, _, place = instructions[0].partition(" ")
@@ -46,9 +46,14 @@ def origin(words: list[str]) -> str:
     return f"{who}, at {address} {place}".rstrip() + "".join(f", called by {each}" for each in callers)
 
 
+def until(words: list[str], indent: str) -> list[str]:
+    """What ended the time in which a processor may still have the page as it was before this update."""
+    return [f"{indent}{words[1]}"] if words[1] else []
+
+
 def source_lines(words: list[str], debug: str) -> list[str]:
     """The kernel's lines at the instructions of a call, the innermost first, with those whose functions were inlined."""
-    addresses = [int(each.partition(" ")[0], 16) - (number > 0) for number, each in enumerate(words[1:])]      # in the call, not behind it
+    addresses = [int(each.partition(" ")[0], 16) - (number > 0) for number, each in enumerate(words[2:])]      # in the call, not behind it
     kernel = [hex(each) for each in addresses if each >> 63]
     return places(said("addr2line", "-f", "-i", "-e", debug, *kernel)) if kernel else []
 
@@ -68,6 +73,7 @@ def explained(lines: list[str], calls: dict[int, list[str]], debug: str = "") ->
             number = int(text)
             if number in calls and number not in told and not line.startswith("no "):
                 found.append(f"  call {number} is of {origin(calls[number])}")
+                found += until(calls[number], "    ")
                 found += source_lines(calls[number], debug) if debug else []
                 told.add(number)
     return found

@@ -22,6 +22,7 @@ class Store(NamedTuple):
 
 class Access(NamedTuple):
     processor: int
+    task: int
     is_user: bool
     access: int         # 0 read, 1 write, 2 fetch
     address: int
@@ -36,23 +37,27 @@ class Fault(NamedTuple):
 
 
 class Flushed(NamedTuple):
+    processor: int
     task: int
     begin: int
     end: int
 
 
 class InUser(NamedTuple):
+    processor: int
     task: int
 
 
 class Entered(NamedTuple):
     task: int
+    number: int | None              # of its system call; older logs don't have it, nor the arguments
+    arguments: tuple[int, ...]
 
 
 class Returned(NamedTuple):
     task: int
     number: int
-    arguments: tuple[int, int, int]
+    arguments: tuple[int, ...]      # three, and from newer logs four
     result: int
 
 
@@ -102,8 +107,12 @@ def number(text: str) -> int:
 
 
 def returned(words: list[str]) -> Returned:
-    first, second, third, result = map(number, words[4:8])
-    return Returned(number(words[2]), int(words[3]), (first, second, third), result)
+    first, second, third, result, *fourth = map(number, words[4:9])
+    return Returned(number(words[2]), int(words[3]), (first, second, third, *fourth), result)
+
+
+def entered(words: list[str]) -> Entered:
+    return Entered(number(words[2]), int(words[3]) if words[3:] else None, tuple(map(number, words[4:])))
 
 
 def store(words: list[str]) -> Store:
@@ -111,16 +120,16 @@ def store(words: list[str]) -> Store:
 
 
 def access(words: list[str]) -> Access:
-    return Access(int(words[1]), words[3] == "u", "rwx".index(words[4]), number(words[5]), number(words[6]), number(words[7]))
+    return Access(int(words[1]), number(words[2]), words[3] == "u", "rwx".index(words[4]), *map(number, words[5:8]))
 
 
 PARSERS: dict[str, Callable[[list[str]], Line]] = {
     "@store": store,
     "@access": access,
     "@fault": lambda words: Fault(int(words[1]), number(words[2]), number(words[3])),
-    "@flushed": lambda words: Flushed(*map(number, words[2:5])),
-    "@user": lambda words: InUser(number(words[2])),
-    "@entered": lambda words: Entered(number(words[2])),
+    "@flushed": lambda words: Flushed(int(words[1]), *map(number, words[2:5])),
+    "@user": lambda words: InUser(int(words[1]), number(words[2])),
+    "@entered": entered,
     "@returned": returned,
     "@born": lambda words: Born(number(words[2])),
     "@table": lambda words: Table(number(words[1]), int(words[2])),

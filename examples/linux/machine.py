@@ -1,5 +1,8 @@
 """The guest: an initrd, QEMU with the plugin, and code that is overwritten while it runs."""
+import functools
+import lzma
 import os
+import select
 import shutil
 import socket
 import subprocess
@@ -7,17 +10,19 @@ import threading
 import time
 from collections.abc import Callable, Iterable
 from dataclasses import dataclass
+from typing import TextIO
 
 import debian
 import kernel_image
 from debian import Missing, said
-from kernel_image import COMMAND_LINE, MODULES, Kernel
-from plants import Replaced, Silenced
+from kernel_image import COMMAND_LINE, Files, Kernel
+from plants import Code
 from stub import Stub
 
 HERE = os.path.dirname(os.path.abspath(__file__))
 OUT = f"{HERE}/out"
 LIMIT = 600                     # seconds that a guest may take
+LINES = 5_000_000               # of a log that is kept: a trace has room for fewer
 PROCESSOR = "max,pku=off,smep=off,smap=off"     # as docs/FORMATS.md has it
 INIT = """#!/bin/busybox sh
 b=/bin/busybox
@@ -27,12 +32,14 @@ $b mount -t devtmpfs dev /dev
 $b mount -t tmpfs tmp /tmp
 echo 1 >/proc/sys/kernel/printk
 %s
-$b poweroff -f
+$b reboot -f
 """
-INSERT = "".join(f"$b insmod /bin/{os.path.basename(each)}.ko\n" for each in MODULES)
+# Functions, and the variables that the plugin asks for: what /proc/kallsyms has in all is twice as much.
+TELL_SYMBOLS = "$b grep -E ' [tTwW] |__per_cpu_offset|cpu_tlbstate|current_task|pcpu_hot|flush_tlb_info' /proc/kallsyms >/dev/ttyS1\n"
+SYMBOLS_END = "the symbols end"
 UNUSED = shutil.ignore_patterns("doc", "man", "locale", "gconv", "info", "icons", "libLLVM*", "dri")      # of Debian's packages
 WORKLOAD = "workload"
-PLUGIN, SECOND = "watch.so", "watch-second.so"      # the second copy watches a process while the first watches nested tables
+SECOND = "watch-second.so"      # a second copy of the plugin watches a process while the first watches nested tables
 TAG, SECOND_TAG = "@", "%"                          # with which their lines begin
 
 
@@ -45,13 +52,29 @@ class Guest:
     isolated: bool = False
     rest: int = 0
     memory: int = 1024              # MiB; below 3,584, where QEMU's machine has all of it from 0 on
-    code: tuple[Replaced | Silenced, ...] = ()      # what is overwritten when the guest says so
+    code: tuple[Code, ...] = ()     # what is overwritten when the guest says so
     package: str = ""               # of Debian, unpacked in the guest with all that it depends on
     nested: bool = False            # KVM is there, and the nested tables of a guest's guest are watched
     monitor: bool = False           # .. and a process too, by a second copy of the plugin
     files: tuple[str, ...] = ()     # more files, for its /bin
     options: str = ""               # of the kernel's command line, with one before them
     maps: bool = False              # what its kernel says of a process's mappings comes by a serial line, to NAME.maps
+    has_line: bool = False          # there is a line to it, and a debugger's stub, without such code too
+
+
+def put(file: str, folder: str) -> None:
+    """Copies a file; of one that ends with .xz what is in it."""
+    if file.endswith(".xz"):
+        with lzma.open(file) as packed, open(f"{folder}/{os.path.basename(file).removesuffix('.xz')}", "wb") as plain:
+            shutil.copyfileobj(packed, plain)
+    else:
+        shutil.copy(file, folder)
+
+
+def insert(modules: list[str]) -> str:
+    """What init does with these modules of the kernel. What one needs to begin is freed a moment later: where the next one lies is the same
+    in each boot when that is over."""
+    return "".join(f"$b insmod /bin/{os.path.basename(each).removesuffix('.xz')}\n$b sleep 1\n" for each in modules)
 
 
 def pack(name: str, command: str, files: list[str], package: str = "") -> str:
@@ -64,7 +87,7 @@ def pack(name: str, command: str, files: list[str], package: str = "") -> str:
     for folder in ("bin", "proc", "sys", "dev", "tmp"):
         os.makedirs(f"{root}/{folder}", exist_ok=True)
     for file in [shutil.which("busybox"), *files]:
-        shutil.copy(file, f"{root}/bin/")
+        put(file, f"{root}/bin")
     with open(f"{root}/init", "w") as init:
         init.write(INIT % command)
     os.chmod(f"{root}/init", 0o755)
@@ -80,53 +103,64 @@ def is_newer(path: str, sources: list[str]) -> bool:
     return os.path.exists(path) and all(os.path.getmtime(each) < os.path.getmtime(path) for each in sources)
 
 
+def plugin() -> str:
+    """The plugin's name, for this QEMU."""
+    return f"watch-{kernel_image.plugin_version()}.so"
+
+
 def compile_parts() -> None:
     """The plugin, a second copy of it, and the workload, built where they aren't."""
     flags = ["-std=c11", "-D_DEFAULT_SOURCE", "-Wall", "-Wextra", "-Wpedantic", "-Werror"]
-    for name, folder, more in ((PLUGIN, "plugin", ["-O2", "-shared", "-fPIC", "-fvisibility=hidden"]),
+    version = f"-DPLUGIN_VERSION={kernel_image.plugin_version()}"
+    for name, folder, more in ((plugin(), "plugin", ["-O2", "-shared", "-fPIC", "-fvisibility=hidden", version]),
                                (WORKLOAD, "guest", ["-O1", "-static", "-pthread"])):
         sources = sorted(f"{HERE}/{folder}/{each}" for each in os.listdir(f"{HERE}/{folder}") if each.endswith((".c", ".h")))
         if not is_newer(f"{OUT}/{name}", sources):
             said("gcc", *flags, *more, "-o", f"{OUT}/{name}", *(each for each in sources if each.endswith(".c")))
-    shutil.copy(f"{OUT}/{PLUGIN}", f"{OUT}/{SECOND}")
+    shutil.copy(f"{OUT}/{plugin()}", f"{OUT}/{SECOND}")
 
 
 def plain_command(image: str, initrd: str) -> list[str]:
-    return ["qemu-system-x86_64", "-accel", "tcg,thread=single", "-display", "none", "-monitor", "none", "-no-reboot", "-kernel", image,
+    return [kernel_image.qemu(), "-accel", "tcg,thread=single", "-display", "none", "-monitor", "none", "-no-reboot", "-kernel", image,
             "-initrd", initrd]
 
 
-def told_symbols(image: str, version: str, modules: list[str]) -> str:
-    """What the guest says of the symbols of its kernel, with KVM's modules: it is booted for that once."""
-    path = f"{OUT}/kallsyms-{version}"
+def told_symbols(files: Files) -> str:
+    """What the guest says of the symbols of its kernel, with KVM's modules: it is booted for that once. What it says is kept when all of
+    it has come."""
+    path = f"{OUT}/symbols-{files.name}"
     if not os.path.exists(path):
-        print(f"booting Linux {version} once, for its symbols", flush=True)
-        initrd = pack("symbols", INSERT + "$b cat /proc/kallsyms >/dev/ttyS1", modules)
-        said(*plain_command(image, initrd), "-m", "1G", "-cpu", f"{PROCESSOR},la57=off", "-append", COMMAND_LINE, "-serial", "null",
-             "-serial", f"file:{path}.part")
+        print(f"booting Linux {files.version} once, for its symbols", flush=True)
+        name = f"symbols-{os.getpid()}"
+        initrd = pack(name, insert(files.modules) + TELL_SYMBOLS + f"echo {SYMBOLS_END} >/dev/ttyS1", files.modules)
+        said(*plain_command(files.image, initrd), "-m", "1G", "-cpu", f"{PROCESSOR},la57=off", "-append", COMMAND_LINE, "-serial",
+             f"file:{OUT}/{name}.serial", "-serial", f"file:{OUT}/{name}.part")
         remove(initrd)
-        os.rename(f"{path}.part", path)
+        text, _, rest = text_of(f"{OUT}/{name}.part").partition(f"{SYMBOLS_END}")
+        if not rest or not text:
+            raise Missing(f"the guest didn't say all of its kernel's symbols: --vmlinux FILE, or CONFIG_KALLSYMS_ALL and what init uses; "
+                          f"it said: {text_of(f'{OUT}/{name}.serial')[-300:]}")
+        with open(f"{OUT}/{name}.part", "w") as file:
+            file.write(text)
+        os.rename(f"{OUT}/{name}.part", path)
+        remove(f"{OUT}/{name}.serial")
     return open(path).read()
 
 
-def kernel() -> Kernel:
-    """Debian's kernel, ready to be booted; Missing where it can't be."""
+def kernel(image: str = "", vmlinux: str = "", config: str = "") -> Kernel:
+    """Debian's kernel, or that of an image, ready to be booted; Missing where it can't be."""
     kernel_image.check_commands()
-    kernel_image.check_qemu()
+    kernel_image.plugin_version()
     os.makedirs(OUT, exist_ok=True)
-    folder = kernel_image.fetch(OUT)
-    version = sorted(name[len("vmlinuz-"):] for name in os.listdir(f"{folder}/boot") if name.startswith("vmlinuz-"))[-1]
-    image, elf = f"{folder}/boot/vmlinuz-{version}", f"{OUT}/vmlinux-{version}"
-    modules = [f"{folder}/lib/modules/{version}/kernel/{each}.ko" for each in MODULES]
-    if not os.path.exists(elf):
-        kernel_image.unpack(image, elf)
-    return Kernel(version, image, elf, modules, kernel_image.parse_symbols(told_symbols(image, version, modules)))
+    if config:
+        kernel_image.check_config(config)
+    files = kernel_image.files_of(image, vmlinux, OUT) if image else kernel_image.debian_files(OUT)
+    return kernel_image.kernel_of(files, files.symbols or kernel_image.parse_symbols(told_symbols(files)))
 
 
 @dataclass(frozen=True)
 class Recording:
-    """What a guest left: QEMU's log, and what was printed on the serial line."""
-    log: str
+    """What a guest left: what was printed on the serial line."""
     serial: str
     is_over: bool               # it ended by itself
 
@@ -159,7 +193,7 @@ def plant(name: str, guest: Guest, kernel: Kernel, qemu: subprocess.Popen[bytes]
 def plugins(memory: str, guest: Guest, kernel: Kernel) -> list[str]:
     """The plugins, with what each gets to know."""
     told = [f"memory={memory}", f"levels={guest.levels}", f"isolated={int(guest.isolated)}", f"rest={guest.rest}", *kernel.settings()]
-    words = ["-plugin", ",".join([f"{OUT}/{PLUGIN}", *told, *(kernel.nested_settings() if guest.nested else [])])]
+    words = ["-plugin", ",".join([f"{OUT}/{plugin()}", *told, *(kernel.nested_settings() if guest.nested else [])])]
     if guest.monitor:
         words += ["-plugin", ",".join([f"{OUT}/{SECOND}", *told, f"tag={SECOND_TAG}"])]
     return words
@@ -172,47 +206,75 @@ def command(name: str, guest: Guest, kernel: Kernel, initrd: str) -> list[str]:
     words += ["-object", f"memory-backend-file,id=memory,size={guest.memory}M,mem-path={memory},share=on", "-machine",
               "pc,memory-backend=memory", "-append", COMMAND_LINE + (" pti=on" if guest.isolated else "") + guest.options, "-serial",
               f"file:{OUT}/{name}.serial", "-d", "int,plugin", "-D", f"{OUT}/{name}.raw", *plugins(memory, guest, kernel)]
-    if guest.code:
+    if guest.code or guest.has_line:
         words += ["-serial", f"unix:{OUT}/{name}.line,server,nowait", "-gdb", f"unix:{OUT}/{name}.debug,server,nowait"]
     if guest.maps:
         words += ["-serial", f"file:{OUT}/{name}.maps"]
     return words
 
 
-def hand_over(name: str, guest: Guest, kernel: Kernel, limit: int, qemu: subprocess.Popen[bytes],
-              take: Callable[[Iterable[str]], None]) -> None:
-    """The log, line by line, while the guest runs."""
-    if guest.code:
-        threading.Thread(target=plant, args=(name, guest, kernel, qemu), daemon=True).start()
+def opened(path: str, qemu: subprocess.Popen[bytes]) -> TextIO:
+    """The pipe with QEMU's log, when something has come by it."""
+    pipe = os.open(path, os.O_RDONLY | os.O_NONBLOCK)
+    poll = select.poll()
+    poll.register(pipe, select.POLLIN)
+    while not any(event & select.POLLIN for _, event in poll.poll(100)):
+        if qemu.poll() is not None:
+            os.close(pipe)
+            raise Missing(f"QEMU ended with status {qemu.returncode} before it logged anything")
+    os.set_blocking(pipe, True)
+    return open(pipe, errors="replace")
+
+
+Attend = Callable[[subprocess.Popen[bytes]], None]
+
+
+def hand_over(name: str, limit: int, qemu: subprocess.Popen[bytes], take: Callable[[Iterable[str]], None], attend: Attend | None) -> None:
+    """The log, line by line, while the guest runs; what is done with the guest meanwhile ends it where it fails."""
+    failures: list[Exception] = []
+
+    def attend_or_end() -> None:
+        try:
+            attend(qemu)
+        except (Missing, OSError) as why:
+            failures.append(why)
+            qemu.kill()
+
+    if attend:
+        threading.Thread(target=attend_or_end, daemon=True).start()
     timer = threading.Timer(limit, qemu.kill)
     timer.start()
-    with open(f"{OUT}/{name}.raw", errors="replace") as lines:
-        take(lines)
-    timer.cancel()
+    try:
+        with opened(f"{OUT}/{name}.raw", qemu) as lines:
+            take(lines)
+    finally:
+        timer.cancel()
+    if failures:
+        raise Missing(str(failures[0]))
 
 
-def record(name: str, guest: Guest, kernel: Kernel, limit: int = LIMIT, take: Callable[[Iterable[str]], None] | None = None) -> Recording:
-    """Boots a guest, and waits until it is over; its log stays, or is taken while it runs."""
+def record(name: str, guest: Guest, kernel: Kernel, limit: int, take: Callable[[Iterable[str]], None],
+           attend: Attend | None = None) -> Recording:
+    """Boots a guest, and waits until it is over; its log is taken while it runs. QEMU writes it into a pipe: with all registers of each
+    exception it would be a gigabyte in four minutes of a process that is paged out."""
     compile_parts()
+    if guest.nested and not kernel.modules and "svm_load_mmu_pgd" not in kernel.by_name:
+        raise Missing(f"no modules of KVM for {kernel.image}, and none in it: they are looked for where Debian's package has them")
     files = [f"{OUT}/{WORKLOAD}", f"{HERE}/guest/script.py", *guest.files] + (kernel.modules if guest.nested else [])
-    initrd = pack(name, (INSERT if guest.nested else "") + guest.command, files, guest.package)
+    initrd = pack(name, (insert(kernel.modules) if guest.nested else "") + guest.command, files, guest.package)
     for ending in ("raw", "serial", "memory", "line", "debug", "maps"):
         remove(f"{OUT}/{name}.{ending}")
-    if take:
-        os.mkfifo(f"{OUT}/{name}.raw")
+    os.mkfifo(f"{OUT}/{name}.raw")
     qemu = subprocess.Popen(command(name, guest, kernel, initrd))
+    is_over = False
     try:
-        if take:
-            hand_over(name, guest, kernel, limit, qemu, take)
-        elif guest.code:
-            plant(name, guest, kernel, qemu)
-        qemu.wait(1 if take else limit)
+        hand_over(name, limit, qemu, take, attend or (functools.partial(plant, name, guest, kernel) if guest.code else None))
+        is_over = qemu.wait(1) == 0
     except subprocess.TimeoutExpired:
         pass
     finally:
-        is_over = qemu.poll() is not None
         qemu.kill()
         qemu.wait()
-        for ending in ("memory", "line", "debug", "initrd"):
+        for ending in ("raw", "memory", "line", "debug", "initrd"):
             remove(f"{OUT}/{name}.{ending}")
-    return Recording(f"{OUT}/{name}.raw", text_of(f"{OUT}/{name}.serial"), is_over)
+    return Recording(text_of(f"{OUT}/{name}.serial"), is_over)

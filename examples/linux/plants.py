@@ -8,7 +8,12 @@ from stub import Stub
 RETURN = bytes.fromhex("c3")                    # ret
 RETURN_NOTHING = bytes.fromhex("31c0c3")        # xor %eax, %eax; ret
 RETURN_WRITABLE = bytes.fromhex("48b82700000000000080c3")   # movabs $0x8000000000000027, %rax: present, written, of users; ret
+# What a page of such a mapping allows, but that it may be executed: 0x120 for none, 0x27 where it is shared and writable, and else 0x25
+RETURN_EXECUTABLE = bytes.fromhex("40f6c7077506b820010000c3" "b82500000089f983e10a83f90a750383c802c3")
 NOTHING = bytes.fromhex("0f1f440000")           # a nop as long as a call
+BRANCH_TARGET = bytes.fromhex("f30f1efa")       # endbr64
+# lea -0x1000(%rcx), %rax; cmp %rdx, %rax; cmova %rax, %rcx; ret: the fourth argument is a page less where it stays above the third
+PAGE_SHORT = bytes.fromhex("488d8100f0ffff4839d0480f47c8c3")
 CALL = 0xE8
 
 
@@ -20,6 +25,24 @@ class Replaced:
 
     def plant(self, kernel: Kernel, stub: Stub) -> None:
         stub.write(kernel.address(self.function), self.code)
+
+
+@dataclass(frozen=True)
+class Detoured:
+    """The function begins with a call of other code, which is put where a function was that nobody calls here. The kernel leaves five bytes
+    at the begin of a function for such a call (CONFIG_DYNAMIC_FTRACE)."""
+    function: str
+    code: bytes
+    place: str = "orderly_reboot"
+
+    def plant(self, kernel: Kernel, stub: Stub) -> None:
+        begin, place = kernel.address(self.function), kernel.address(self.place)
+        at = stub.read(begin, 16).find(NOTHING)
+        if at not in (0, len(BRANCH_TARGET)) or kernel.end(self.place) - place < len(self.code):
+            raise Missing(f"{self.function} of this kernel, {kernel.version}, has no room for a call at its begin")
+        stub.write(place, self.code)
+        distance = place - (begin + at + len(NOTHING))
+        stub.write(begin + at, bytes([CALL]) + distance.to_bytes(4, "little", signed=True))
 
 
 @dataclass(frozen=True)
@@ -49,21 +72,25 @@ class Silenced:
             stub.write(place, NOTHING)
 
 
+Code = Replaced | Detoured | Silenced
+
+
 @dataclass(frozen=True)
 class Plant:
     """A bug, and the process that meets it."""
     what: str
-    code: tuple[Replaced | Silenced, ...]
+    code: tuple[Code, ...]
     parts: str
     rounds: int = 5
     processors: int = 1         # with one, nothing but the kernel's own flushes comes between a store and what the process does next
     tick: int = 0
     nested: str = ""            # a monitor of KVM meets it: what this does
+    is_seen: bool = True        # by a processor: else the verdict is yes
 
 
 PLANTS = {
-    "no-ipi": Plant("no other processor is told to flush", (Replaced("native_flush_tlb_multi", RETURN),), "shootdown", 100, 3, 50),
-    "no-flush-func": Plant("a processor that is told to flush doesn't", (Replaced("flush_tlb_func", RETURN),), "shootdown", 50, 3, 50),
+    "no-ipi": Plant("no other processor is asked to flush", (Replaced("native_flush_tlb_multi", RETURN),), "shootdown", 100, 3, 50),
+    "no-flush-func": Plant("a processor that is asked to flush doesn't", (Replaced("flush_tlb_func", RETURN),), "shootdown", 50, 3, 50),
     "no-invlpg": Plant("the flush of one page does nothing", (Replaced("native_flush_tlb_one_user", RETURN),), "shootdown", 100, 3, 50),
     "mremap": Plant("mremap moves entries and doesn't flush", (Silenced("move_page_tables", "flush_tlb_mm_range"),), "moved"),
     "unmap": Plant("munmap, madvise and mprotect don't flush",
@@ -72,12 +99,16 @@ PLANTS = {
     "fork": Plant("fork doesn't flush: the parent still writes what it shares with its child",
                   (Silenced("dup_mmap", "flush_tlb_mm_range"),), "cow"),
     "cow": Plant("the copy of a page on a write isn't flushed", (Silenced("ptep_clear_flush", "flush_tlb_mm_range"),), "copied", 5, 3, 50),
-    "split": Plant("a large page that is split isn't flushed", (Silenced("pmdp_invalidate", "flush_tlb_mm_range"),), "huge", 5, 3, 50),
+    "split": Plant("a large page that is split isn't flushed", (Silenced("pmdp_invalidate", "flush_tlb_mm_range"),), "huge", 5, 3, 50,
+                   is_seen=False),
     "collapse": Plant("pages that become a large one aren't flushed", (Silenced("pmdp_collapse_flush", "flush_tlb_mm_range"),), "huge"),
     "freed-table": Plant("a table is freed, and stays linked", (Silenced("free_pgd_range", "native_set_pmd"),), "emptied"),
     "no-protect": Plant("mprotect changes nothing", (Replaced("change_protection", RETURN_NOTHING),), "threads shootdown", 10, 3, 50),
+    "page-short": Plant("mprotect changes a page less than it was asked to", (Detoured("change_protection", PAGE_SHORT),), "threads", 10),
     "all-rights": Plant("a page that is mapped may be written, whatever was asked",
                         (Replaced("vm_get_page_prot", RETURN_WRITABLE),), "threads"),
+    "no-nx": Plant("a page that is mapped may be executed, whatever was asked",
+                   (Replaced("vm_get_page_prot", RETURN_EXECUTABLE),), "emptied"),
     "kvm-flush": Plant("KVM doesn't flush what it made read-only", (Replaced("kvm_flush_remote_tlbs", RETURN),), "", 100, 2,
                        nested="logged"),
     "kvm-kick": Plant("KVM notes that its processors have to flush, and interrupts none",

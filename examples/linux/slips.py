@@ -74,7 +74,7 @@ def verdict(lines: list[str]) -> tuple[bytes, str]:
         return trace, "what a system call promised" if converter.counts[convert.MORE] else NOTHING
     if words[2] != "WrongAnswer":
         return trace, "the tables at the end"
-    by_processor = {int(call) for call, who, _ in converter.sources if who.startswith("processor")}
+    by_processor = {int(source.call) for source in converter.sources if source.who.startswith("processor")}
     return trace, "an access" if int(words[3]) in by_processor else "a later store"
 
 

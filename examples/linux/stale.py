@@ -1,16 +1,18 @@
 #!/usr/bin/env python3
 """Shows what a stale access of a chain saw, and who changed its page: what `run` prints where a chain's fault is a Stale.
 
-    stale.py SEGMENT NUMBER CALL CALLS
+    stale.py SEGMENTS NUMBER CALL CALLS
 
-SEGMENT is a file with the segment's bytes, NUMBER which one of its chain it is, CALL the call that the fault names, CALLS what the
-converter wrote beside the chain. Nothing here is verified: the verdict is the auditor's.
+SEGMENTS is a file with the bytes of segments of a chain, one behind the other: the last is the one with the fault, number NUMBER. CALL is
+the call that the fault names, CALLS what the converter wrote beside the chain. Nothing here is verified: the verdict is the auditor's.
 """
+import re
 import struct
 import sys
 from typing import NamedTuple
 
 sys.dont_write_bytecode = True
+import chains
 import explain
 from page_tables import BYTES
 from trace_bytes import ALLOWED, MAP, PROTECT, UNMAP
@@ -36,10 +38,27 @@ class Reply(NamedTuple):
     value: int
 
 
+def begin_of_events(segment: bytes) -> tuple[int, int]:
+    """Where the events of a segment begin, and how many they are."""
+    _, _, _, _, _, places, count, frames = struct.unpack_from(">HBBHHIII", segment, 4)
+    return 24 + (8 + 4104 * frames if frames else 0) + 4 * places, count
+
+
+def split(data: bytes) -> list[bytes]:
+    """The segments that come one behind the other."""
+    found, at = [], 0
+    while at < len(data):
+        begin, count = begin_of_events(data[at:at + 24])
+        end = at + begin + 24 * count
+        end += 16 + 4104 * struct.unpack_from(">I", data, end + 4)[0]
+        found.append(data[at:end])
+        at = end
+    return found
+
+
 def events(segment: bytes) -> tuple[list[Call], dict[int, Reply]]:
     """The calls of a segment, and their replies by number."""
-    _, _, _, _, _, places, count, frames = struct.unpack_from(">HBBHHIII", segment, 4)
-    begin = 24 + (8 + 4104 * frames if frames else 0) + 4 * places
+    begin, count = begin_of_events(segment)
     calls, replies = [], {}
     for number in range(count):
         unit = segment[begin + 24 * number:begin + 24 * number + 24]
@@ -52,10 +71,9 @@ def events(segment: bytes) -> tuple[list[Call], dict[int, Reply]]:
     return calls, replies
 
 
-def updates_of(address: int, calls: list[Call], replies: dict[int, Reply]) -> list[Call]:
-    """The answered updates of pages that cover an address. Of a protect whose page isn't mapped in the segment the page is taken for a
-    small one."""
-    sizes: dict[int, int] = {}
+def updates_of(address: int, calls: list[Call], replies: dict[int, Reply], sizes: dict[int, int]) -> list[Call]:
+    """The answered updates of pages that cover an address. `sizes` are those of the pages before, and afterwards those behind; a page of
+    which nothing is known is taken for a small one."""
     found = []
     for call in calls:
         reply = replies.get(call.number)
@@ -84,17 +102,30 @@ def answer_text(reply: Reply) -> str:
     return f"allowed {reply.value:#x}" if reply.answer == ALLOWED else f"fault {reply.value}"
 
 
-def shown(segment: bytes, number: int, touch: int, sources: dict[str, list[str]]) -> list[str]:
-    """The touch, and the updates of its page that were answered before it, the last two of them."""
-    calls, replies = events(segment)
+def made_by(name: str, sources: dict[str, list[str]]) -> list[str]:
+    """Who made a call, and what ended the time of an update."""
+    words = sources.get(name)
+    return [f"  of {explain.origin(words)}", *explain.until(words, "  ")] if words else []
+
+
+def shown(segments: list[bytes], number: int, touch: int, sources: dict[str, list[str]]) -> list[str]:
+    """The touch, and the updates of its page that were answered before it, the last two of them, each with its segment's number where it is
+    of an earlier one. Segment `number` is the last of these."""
+    calls, replies = events(segments[-1])
     found = next(each for each in calls if each.number == touch)
-    updates = [each for each in updates_of(found.address, calls, replies) if replies[each.number].event < touch]
+    updates: list[tuple[int, Call]] = []
+    sizes: dict[int, int] = {}
+    for at, (each_calls, each_replies) in enumerate(map(events, segments), number - len(segments) + 1):
+        of_page = updates_of(found.address, each_calls, each_replies, sizes)
+        updates += [(at, each) for each in of_page if at < number or each_replies[each.number].event < touch]
     lines = [f"call {touch}, thread {found.thread}: {request(found)}, answered `{answer_text(replies[touch])}`"]
-    lines += [f"  of {explain.origin(sources[f'{number}.{touch}'])}"] if f"{number}.{touch}" in sources else []
-    for update in updates[-2:]:
-        lines.append(f"answered before it: call {update.number}, thread {update.thread}: {request(update)}")
-        lines += [f"  of {explain.origin(sources[f'{number}.{update.number}'])}"] if f"{number}.{update.number}" in sources else []
-    return lines if updates else [*lines, "no update of its page was answered before it in this segment"]
+    lines += made_by(f"{number}.{touch}", sources)
+    for at, update in updates[-2:]:
+        where = f"segment {at}, " if at < number else ""
+        lines.append(f"answered before it: {where}call {update.number}, thread {update.thread}: {request(update)}")
+        lines += made_by(f"{at}.{update.number}", sources)
+    begin = f" from segment {number - len(segments) + 1} on" if len(segments) <= number else ""
+    return lines if updates else [*lines, f"no update of its page was answered before it{begin}"]
 
 
 def read_sources(path: str) -> dict[str, list[str]]:
@@ -102,12 +133,23 @@ def read_sources(path: str) -> dict[str, list[str]]:
     return {name: words for name, *words in rows}
 
 
+def of_chain(chain: chains.Chain, path: str) -> list[str]:
+    """The same of a chain that was judged, where its fault is a stale access. The segments go to PATH.segments; PATH.calls is there."""
+    found = re.fullmatch("segment ([0-9]+)\nno 24 Stale ([0-9]+)", "\n".join(chain.verdict))
+    segments = chain.segments_to(int(found.group(1))) if found else []
+    if not found or not segments:
+        return []
+    with open(f"{path}.segments", "wb") as file:
+        file.write(b"".join(segments))
+    return shown(segments, int(found.group(1)), int(found.group(2)), read_sources(f"{path}.calls"))
+
+
 def main() -> int:
     if len(sys.argv) != 5:
         print(__doc__, file=sys.stderr)
         return 2
     path, number, touch, calls = sys.argv[1:]
-    print("\n".join(shown(open(path, "rb").read(), int(number), int(touch), read_sources(calls))))
+    print("\n".join(shown(split(open(path, "rb").read()), int(number), int(touch), read_sources(calls))))
     return 0
 
 

@@ -13,6 +13,7 @@ class Stub:
         self.socket.connect(path)
         self.socket.settimeout(60)
         self.received = b""
+        self.acknowledges = True
         self.ask("?")       # the guest is stopped from here on
 
     def ask(self, text: str) -> str:
@@ -24,7 +25,8 @@ class Stub:
                 self.received += self.socket.recv(65536)
                 continue
             self.received = self.received[found.end():]
-            self.socket.sendall(b"+")
+            if self.acknowledges:
+                self.socket.sendall(b"+")
             answer = found.group(1).decode("latin-1")
             if text == "?" or not answer.startswith("T"):
                 return answer
@@ -40,6 +42,7 @@ class Stub:
             raise Missing(f"{address:#x} of the guest's memory can't be overwritten")
 
     def leave(self) -> None:
-        """The guest goes on."""
+        """The guest goes on. QEMU stops it again at whatever comes after that, be it the acknowledgement of its answer: none is sent."""
+        self.acknowledges = False
         self.ask("D")
         self.socket.close()

@@ -15,6 +15,7 @@
  *     workload logged SEED ROUNDS PART..   .. of one that writes all the time, while the log of its writes is taken; after these parts
  *     workload pair SEED ROUNDS PART..     .. of one with two processors that read and write all the time, while its memory is changed or,
  *                                          after parts, the log of its writes is taken; its monitor is watched too
+ *     workload again                       what is watched isn't any more, and another address space may be
  *     workload tick MICROSECONDS           sleeps and wakes for ever: at each of these interrupts QEMU goes to the next processor
  *
  * A store to the page of marks is a word to the plugin (plugin/watch.c). A line WRONG says that the process saw something
@@ -34,7 +35,8 @@
 #include <unistd.h>
 
 #define MARKS ((volatile uint64_t *)0x6e7276730000)
-enum mark { MARK_NONE = 0, MARK_NEXT = 1, MARK_END = 2, MARK_WHEN_EMPTY = 3, MARK_HERE = 4, MARK_LATER = 0x100, MARK_CHOSEN = 0x200 };
+enum mark { MARK_NONE = 0, MARK_NEXT = 1, MARK_END = 2, MARK_WHEN_EMPTY = 3, MARK_HERE = 4, MARK_AGAIN = 5 };
+enum later_mark { MARK_LATER = 0x100, MARK_CHOSEN = 0x200 };
 
 /* A word to the plugin, which follows no code until it is asked to: from the block on that comes after a nop of its own. */
 static void say(uint64_t value)
@@ -236,6 +238,10 @@ int main(int count, char **words)
 		for (;;)
 			usleep((unsigned)seed);
 	map_at((uint64_t)MARKS, PAGE, READ_WRITE, PRIVATE, -1);
+	if (count == 2 && !strcmp(words[1], "again")) {
+		say(MARK_AGAIN);
+		return 0;
+	}
 	if (!strcmp(what, "exec"))
 		return exec_watched(1, MARK_NEXT, words + 2);
 	if (!strcmp(what, "later") && count > 3)

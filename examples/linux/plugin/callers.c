@@ -6,8 +6,6 @@
 #include <inttypes.h>
 #include <stdio.h>
 
-#define TEXT 0xffffffff81000000u
-#define TEXT_END 0xffffffff82000000u
 #define MODULES 0xffffffffc0000000u
 #define MODULES_END 0xffffffffff000000u
 #define CALL 0xe8
@@ -17,16 +15,27 @@
 #define WORDS 256
 #define MOST 12
 
-static uint64_t latest[PROCESSORS];
+static uint64_t latest[PROCESSORS], calls[PROCESSORS];
 
-void callers_called(unsigned cpu, uint64_t at)
+void callers_called(unsigned cpu, uint64_t at, uint64_t pc)
 {
 	latest[cpu % PROCESSORS] = at;
+	calls[cpu % PROCESSORS] = pc;
+}
+
+uint64_t callers_stack(unsigned cpu)
+{
+	return latest[cpu % PROCESSORS];
+}
+
+uint64_t callers_call(unsigned cpu)
+{
+	return calls[cpu % PROCESSORS];
 }
 
 static int is_code(uint64_t address)
 {
-	return (address >= TEXT + CALL_BYTES && address < TEXT_END) || (address >= MODULES + CALL_BYTES && address < MODULES_END);
+	return (address >= guest.text + CALL_BYTES && address < guest.text_end) || (address >= MODULES + CALL_BYTES && address < MODULES_END);
 }
 
 /* What the call before a return address calls, or NOWHERE. */

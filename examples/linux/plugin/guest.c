@@ -4,11 +4,6 @@
 #include <stdlib.h>
 #include <string.h>
 
-#define STRUCT_PAGE_BYTES 64
-#define PAGE_TYPE 48          /* of struct page: where its kind is, */
-#define PAGE_TYPE_MASK 0xf0000200u
-#define PAGE_TYPE_TABLE 0xf0000000u /* and what is there while it is a page table */
-
 struct guest guest = { .levels = 4 };
 
 static const uint8_t *memory;
@@ -28,6 +23,30 @@ static uint64_t struct_pages(void)
 int guest_is_found(void)
 {
 	return memory != NULL;
+}
+
+static const struct {
+	const char *name;
+	uint64_t *number;
+} settings[] = {
+	{ "levels", &guest.levels }, { "isolated", &guest.isolated }, { "percpu", &guest.percpu }, { "loaded", &guest.loaded },
+	{ "current", &guest.current }, { "flushing", &guest.flushing }, { "birth", &guest.birth }, { "pgd", &guest.pgd },
+	{ "entry", &guest.entry }, { "entry_end", &guest.entry_end }, { "text", &guest.text }, { "text_end", &guest.text_end },
+	{ "page_bytes", &guest.page_bytes }, { "page_type", &guest.page_type }, { "table_mask", &guest.table_mask },
+	{ "table_kind", &guest.table_kind }, { "rest", &guest.rest }, { "nested", &guest.nested }, { "nested_end", &guest.nested_end },
+};
+
+int guest_set(const char *name, const char *value)
+{
+	if (!strcmp(name, "memory"))
+		return snprintf(guest.memory, sizeof guest.memory, "%s", value) < (int)sizeof guest.memory;
+	for (size_t k = 0; k < sizeof settings / sizeof settings[0]; k++) {
+		if (strcmp(name, settings[k].name))
+			continue;
+		*settings[k].number = strtoull(value, NULL, 0);
+		return 1;
+	}
+	return 0;
 }
 
 /* The memory is the largest map of its file in QEMU's own address space. */
@@ -73,10 +92,15 @@ uint64_t guest_of_host(const void *byte)
 	return offset < size ? offset : NOWHERE;
 }
 
+uint64_t guest_own_base(unsigned cpu)
+{
+	return guest_word(guest.percpu - KERNEL_TEXT + 8 * cpu);
+}
+
 /* The physical address of a processor's copy of a variable. */
 static uint64_t own(unsigned cpu, uint64_t variable)
 {
-	return guest_word(guest.percpu - KERNEL_TEXT + 8 * cpu) - direct_map() + variable;
+	return guest_own_base(cpu) - direct_map() + variable;
 }
 
 uint64_t guest_loaded(unsigned cpu)
@@ -107,6 +131,11 @@ struct flush guest_flush(unsigned cpu)
 	return flush;
 }
 
+int guest_is_of_flush(unsigned cpu, uint64_t address)
+{
+	return address - guest_own_base(cpu) - guest.flushing < sizeof(struct flush);
+}
+
 uint64_t guest_walk(uint64_t address)
 {
 	uint64_t word, bytes, table = kernel_root;
@@ -131,9 +160,9 @@ uint64_t guest_kernel_word(uint64_t address)
 
 int guest_holds_table(uint64_t frame)
 {
-	uint64_t at = guest_walk(struct_pages() + frame * STRUCT_PAGE_BYTES + PAGE_TYPE);
+	uint64_t address = struct_pages() + frame * guest.page_bytes + guest.page_type, at = guest_walk(address & ~(uint64_t)7);
 
 	if (at == NOWHERE)
 		return 1;
-	return (guest_word(at) & PAGE_TYPE_MASK) == PAGE_TYPE_TABLE;
+	return (guest_word(at) >> 8 * (address & 7) & guest.table_mask) == guest.table_kind;
 }

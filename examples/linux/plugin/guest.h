@@ -15,16 +15,21 @@ struct guest {
 	uint64_t isolated;     /* 1: the user's table comes after the kernel's (page-table isolation) */
 	uint64_t percpu;       /* __per_cpu_offset */
 	uint64_t loaded;       /* cpu_tlbstate, whose first word is the address space that a processor has loaded */
-	uint64_t current;      /* current_task */
+	uint64_t current;      /* where a processor's current task is */
 	uint64_t flushing;     /* flush_tlb_info: the address space and the range of a processor's latest flush */
-	uint64_t birth, pgd;   /* the instruction that stores the table of a new address space, and where in mm_struct it does so */
-	uint64_t entry, leave; /* do_syscall_64, and the instruction in it that stores a call's result */
-	uint64_t thunk;        /* __x86_return_thunk */
+	uint64_t birth, pgd;   /* pgd_alloc, which makes the table of a new address space, and where in mm_struct its caller stores that */
+	uint64_t entry, entry_end; /* do_syscall_64 */
+	uint64_t text, text_end;   /* the kernel's code, without its modules' */
+	uint64_t page_bytes, page_type; /* of struct page, and where in it the kind of the frame is, */
+	uint64_t table_mask, table_kind; /* and what of that word is what, while the frame is a page table */
 	uint64_t rest;         /* 0, or: at each so many stores that take rights away, let QEMU go to the next processor */
 	uint64_t nested, nested_end;   /* 0, or the function of KVM that loads a guest's nested tables: these are watched, no process */
 };
 
 extern struct guest guest;
+
+/* Takes one of these; whether there is one of that name. */
+int guest_set(const char *name, const char *value);
 
 /* Finds the guest's memory; ends QEMU where it isn't there. Afterwards it is found. */
 void guest_find(void);
@@ -38,6 +43,9 @@ uint64_t guest_direct(uint64_t address);
 
 /* The physical address of a byte that QEMU holds, or NOWHERE. */
 uint64_t guest_of_host(const void *byte);
+
+/* Where a processor's own variables are: what is added to an address of the kernel. */
+uint64_t guest_own_base(unsigned cpu);
 
 uint64_t guest_loaded(unsigned cpu);
 uint64_t guest_task(unsigned cpu);
@@ -56,6 +64,9 @@ struct flush {
 	uint64_t space, begin, end;
 };
 struct flush guest_flush(unsigned cpu);
+
+/* Whether the processor's own words of a flush are at that address of the kernel. */
+int guest_is_of_flush(unsigned cpu, uint64_t address);
 
 /* Whether the kernel holds a frame as a page table, by its struct page. Of tables of levels 1 and 2 alone it does. */
 int guest_holds_table(uint64_t frame);

@@ -13,9 +13,12 @@ struct numbers {
 	} entries[ROOM];
 };
 
-struct numbers *numbers_new(void)
+struct numbers *numbers_new(struct numbers *old)
 {
-	struct numbers *numbers = calloc(1, sizeof *numbers);
+	struct numbers *numbers;
+
+	free(old);
+	numbers = calloc(1, sizeof *numbers);
 
 	if (!numbers) {
 		fprintf(stderr, "watch: out of memory\n");

@@ -12,6 +12,11 @@ static struct {
 } owing[TASKS];
 static unsigned tasks;
 
+void owing_begin(void)
+{
+	tasks = 0;
+}
+
 static unsigned find(uint64_t task)
 {
 	unsigned k = 0;

@@ -4,6 +4,9 @@
 
 #include <stdint.h>
 
+/* None does. */
+void owing_begin(void);
+
 /* A task changed the word at a physical address; NOWHERE means more than one. */
 void owing_add(uint64_t task, uint64_t word);
 

@@ -1,6 +1,6 @@
 /*
- * What the plugin uses of QEMU's interface for plugins of its translator, version 1, as QEMU documents it ("QEMU TCG Plugins").
- * QEMU resolves these names when it loads the plugin.
+ * What the plugin uses of QEMU's interface for plugins of its translator, as QEMU documents it ("QEMU TCG Plugins"): of version
+ * PLUGIN_VERSION, which is 1 up to QEMU 8.2, 2 for 9.0, and 3 for 9.1 and later. QEMU resolves these names when it loads the plugin.
  */
 #ifndef QEMU_PLUGIN_H
 #define QEMU_PLUGIN_H
@@ -10,7 +10,9 @@
 #include <stdint.h>
 
 #define EXPORTED __attribute__((visibility("default")))
+#ifndef PLUGIN_VERSION
 #define PLUGIN_VERSION 1
+#endif
 
 typedef uint64_t qemu_plugin_id_t;
 typedef uint32_t qemu_plugin_meminfo_t;
@@ -19,7 +21,7 @@ struct qemu_plugin_tb;     /* a block of instructions that is translated */
 struct qemu_plugin_insn;   /* an instruction of it */
 struct qemu_plugin_hwaddr; /* where an access went */
 
-enum qemu_plugin_cb_flags { QEMU_PLUGIN_CB_NO_REGS };
+enum qemu_plugin_cb_flags { QEMU_PLUGIN_CB_NO_REGS, QEMU_PLUGIN_CB_R_REGS };
 enum qemu_plugin_mem_rw { QEMU_PLUGIN_MEM_RW = 3 };
 
 typedef void qemu_plugin_simple(qemu_plugin_id_t id);
@@ -38,7 +40,11 @@ void qemu_plugin_register_vcpu_mem_cb(struct qemu_plugin_insn *instruction, qemu
 
 size_t qemu_plugin_tb_n_insns(const struct qemu_plugin_tb *block);
 struct qemu_plugin_insn *qemu_plugin_tb_get_insn(const struct qemu_plugin_tb *block, size_t index);
+#if PLUGIN_VERSION >= 3
+size_t qemu_plugin_insn_data(const struct qemu_plugin_insn *instruction, void *bytes, size_t count);
+#else
 const void *qemu_plugin_insn_data(const struct qemu_plugin_insn *instruction);
+#endif
 size_t qemu_plugin_insn_size(const struct qemu_plugin_insn *instruction);
 uint64_t qemu_plugin_insn_vaddr(const struct qemu_plugin_insn *instruction);
 void *qemu_plugin_insn_haddr(const struct qemu_plugin_insn *instruction);
@@ -50,5 +56,33 @@ bool qemu_plugin_hwaddr_is_io(const struct qemu_plugin_hwaddr *where);
 uint64_t qemu_plugin_hwaddr_phys_addr(const struct qemu_plugin_hwaddr *where);
 
 void qemu_plugin_outs(const char *text);
+
+#if PLUGIN_VERSION >= 2
+/* Registers are read into arrays of GLib, which QEMU has loaded. */
+typedef struct {
+	char *data;
+	unsigned len;
+} GArray;
+typedef struct {
+	uint8_t *data;
+	unsigned len;
+} GByteArray;
+
+struct qemu_plugin_register;
+typedef struct {
+	struct qemu_plugin_register *handle;
+	const char *name;
+	const char *feature;
+} qemu_plugin_reg_descriptor;
+typedef void qemu_plugin_new_cpu(qemu_plugin_id_t id, unsigned cpu);
+
+char *g_array_free(GArray *array, int frees_data);
+GByteArray *g_byte_array_new(void);
+GByteArray *g_byte_array_set_size(GByteArray *array, unsigned length);
+
+void qemu_plugin_register_vcpu_init_cb(qemu_plugin_id_t id, qemu_plugin_new_cpu *call);
+GArray *qemu_plugin_get_registers(void);
+int qemu_plugin_read_register(struct qemu_plugin_register *from, GByteArray *bytes);
+#endif
 
 #endif

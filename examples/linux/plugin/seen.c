@@ -10,9 +10,10 @@ static uint64_t count, of_all;
 
 void seen_begin(void)
 {
-	told = numbers_new();
-	changed = numbers_new();
+	told = numbers_new(told);
+	changed = numbers_new(changed);
 	count = 1;
+	of_all = 0;
 }
 
 void seen_changed(uint64_t word)

@@ -79,8 +79,18 @@ static void leave(uint64_t frame, unsigned level)
 	words_of[frame] = NULL;
 }
 
+static void forget(void)
+{
+	for (uint64_t frame = 0; words_of && frame < guest_frames(); frame++)
+		free(words_of[frame]);
+	free(level_of);
+	free(links_of);
+	free(words_of);
+}
+
 void tables_begin(uint64_t from)
 {
+	forget();
 	level_of = checked(calloc(guest_frames(), 1));
 	links_of = checked(calloc(guest_frames(), sizeof *links_of));
 	words_of = checked(calloc(guest_frames(), sizeof *words_of));

@@ -18,8 +18,8 @@
  *     @access CPU TASK MODE ACCESS ADDRESS PHYSICAL PC  an access went through; MODE s or u, ACCESS r, w or x
  *     @flushed CPU TASK BEGIN END                     a flush of BEGIN to END of this address space is over
  *     @user CPU TASK                                  a task that had taken something away is in user mode again
- *     @entered CPU TASK                               a system call begins
- *     @returned CPU TASK NUMBER A0 A1 A2 RESULT       one that changes mappings ends
+ *     @entered CPU TASK NUMBER A0 A1 A2 A3            a system call begins
+ *     @returned CPU TASK NUMBER A0 A1 A2 RESULT A3    one that changes mappings ends
  *     @marked CPU TASK VALUE                          the guest stored to the page of marks
  *     @dump FRAME, @entry FRAME INDEX WORD            a table at the end, from memory
  *     @freed FRAME LEVEL                              one that is linked and that the kernel doesn't hold as a table
@@ -27,11 +27,15 @@
  *     @note TEXT                                      something that shouldn't be
  */
 #include "callers.h"
+#include "flushes.h"
 #include "guest.h"
+#include "instructions.h"
 #include "owing.h"
+#include "processor.h"
 #include "qemu_plugin.h"
 #include "say.h"
 #include "seen.h"
+#include "system_calls.h"
 #include "tables.h"
 
 #include <inttypes.h>
@@ -41,7 +45,8 @@
 #include <unistd.h>
 
 #define MARKS 0x6e7276730000u /* the page of marks: what the guest stores there is a word to the plugin */
-enum mark { MARK_NEXT = 1, MARK_END = 2, MARK_WHEN_EMPTY = 3, MARK_HERE = 4, MARK_LATER = 0x100, MARK_CHOSEN = 0x200 };
+enum mark { MARK_NEXT = 1, MARK_END = 2, MARK_WHEN_EMPTY = 3, MARK_HERE = 4, MARK_AGAIN = 5 };
+enum later_mark { MARK_LATER = 0x100, MARK_CHOSEN = 0x200 };
 #define NESTED_CODE 0x100000u /* the guest in the guest runs below, and no process does */
 #define NESTED_ROOT 0xb0      /* of the page that controls it (AMD's VMCB): the address of its nested tables */
 #define FRAME 0x000ffffffffff000u
@@ -49,7 +54,8 @@ enum mark { MARK_NEXT = 1, MARK_END = 2, MARK_WHEN_EMPTY = 3, MARK_HERE = 4, MAR
 #define HIGH_HALF(address) ((address) >> 63)
 #define PRESENT 1u
 #define WRITABLE 2u
-#define REGISTERS_RESULT 0x50 /* of struct pt_regs: rax */
+#define BIRTH_BYTES 512 /* of code behind the call of pgd_alloc: there its result is stored */
+#define STACK_BYTES 16384u
 #define FLUSHERS 4
 #define REST 110000 /* microseconds: QEMU goes to the next processor 10 times a second */
 
@@ -62,6 +68,9 @@ static uint64_t earlier; /* so many address spaces are made before the one that 
 static int is_later;     /* .. which isn't from its birth on, but from a mark on that comes later */
 static uint64_t chosen;  /* that address space, once it is born; 0: there is none */
 static uint64_t losses;
+static uint64_t asking_task; /* by which the address space is made that is watched; 0: by any */
+static uint64_t birth_call;  /* the latest call of pgd_alloc */
+static uint64_t result_slot; /* where on a stack a system call's result goes */
 
 static qemu_plugin_id_t plugin;
 static int follows; /* code is followed; else, as until the guest asks for it, it runs as without the plugin: so it boots faster */
@@ -79,13 +88,25 @@ static void end(const char *why)
 	state = ENDED;
 }
 
-/* Whether a store gives an address space its tables: a process's root to its mm_struct, or the root of nested tables to where the
- * processor finds it. */
-static int is_birth(uint64_t address, uint64_t pc)
+static int is_same_stack(uint64_t address, uint64_t other)
 {
+	return address / STACK_BYTES == other / STACK_BYTES;
+}
+
+/* Whether a store gives an address space its tables: a process's root to its mm_struct, which is where the caller of pgd_alloc stores a
+ * table that isn't to its stack, or the root of nested tables to where the processor finds it. */
+static int is_birth(unsigned cpu, uint64_t address, uint64_t pc)
+{
+	uint64_t physical = guest_direct(address), table;
+
 	if (guest.nested)
 		return pc >= guest.nested && pc < guest.nested_end && (address & 4095) == NESTED_ROOT;
-	return pc == guest.birth && (!earlier || !earlier--);
+	if (pc - birth_call >= BIRTH_BYTES || physical == NOWHERE || is_same_stack(address, callers_stack(cpu)))
+		return 0;
+	if (asking_task && guest_task(cpu) != asking_task)
+		return 0;
+	table = guest_word(physical);
+	return !(table & 4095) && guest_direct(table) != NOWHERE && (!earlier || !earlier--);
 }
 
 /* An address space is watched from here on: its tables are logged. */
@@ -93,6 +114,7 @@ static void begin(uint64_t watched, uint64_t root)
 {
 	space = watched;
 	seen_begin();
+	owing_begin();
 	state = WATCHING;
 	say("@born %" PRIx64 " %" PRIx64 " %" PRIx64 "\n", space, root, guest.nested ? 0 : root - guest.isolated);
 	tables_begin(root);
@@ -218,9 +240,15 @@ static void marked(unsigned cpu, qemu_plugin_meminfo_t info, uint64_t address)
 		state = ARMED;
 		is_later = value >= MARK_CHOSEN;
 		earlier = value == MARK_NEXT ? 0 : value & (MARK_LATER - 1);
+		asking_task = value == MARK_NEXT ? guest_task(cpu) : 0;
 	}
 	if (value == MARK_HERE && state == WAITING && !guest.nested)
 		begin_process(chosen ? chosen : guest_loaded(cpu));
+	if (value == MARK_AGAIN) {
+		state = WAITING;
+		ends_when_empty = 0;
+		chosen = earlier = 0;
+	}
 	if (value == MARK_WHEN_EMPTY)
 		ends_when_empty = 1;
 	if (value == MARK_END && state == WATCHING && (guest_loaded(cpu) == space || chosen))
@@ -229,6 +257,7 @@ static void marked(unsigned cpu, qemu_plugin_meminfo_t info, uint64_t address)
 
 static void on_user_memory(unsigned cpu, qemu_plugin_meminfo_t info, uint64_t address, void *pc)
 {
+	cpu = processor_that_runs(cpu);
 	if (address == MARKS && qemu_plugin_mem_is_store(info))
 		marked(cpu, info, address);
 	else if (state == WATCHING)
@@ -236,36 +265,34 @@ static void on_user_memory(unsigned cpu, qemu_plugin_meminfo_t info, uint64_t ad
 }
 
 /* The result of a system call is stored to the registers that it returns with. */
-static void returns(unsigned cpu, qemu_plugin_meminfo_t info, uint64_t address)
+static int is_result(uint64_t address, uint64_t pc)
 {
-	enum { MMAP = 9, MPROTECT = 10, MUNMAP = 11, BRK = 12, MREMAP = 25, MADVISE = 28 };
-	const struct qemu_plugin_hwaddr *where = qemu_plugin_get_hwaddr(info, address);
-	uint64_t registers, number;
-
-	if (!where || !is_of_process(cpu))
-		return;
-	registers = qemu_plugin_hwaddr_phys_addr(where) - REGISTERS_RESULT;
-	number = guest_word(registers + 0x78);
-	if (number != MMAP && number != MPROTECT && number != MUNMAP && number != BRK && number != MREMAP && number != MADVISE)
-		return;
-	say("@returned %u %" PRIx64 " %" PRIu64 " %" PRIx64 " %" PRIx64 " %" PRIx64 " %" PRIx64 "\n", cpu, guest_task(cpu), number,
-		guest_word(registers + 0x70), guest_word(registers + 0x68), guest_word(registers + 0x60),
-		guest_word(registers + REGISTERS_RESULT));
+	return pc >= guest.entry && pc < guest.entry_end && address % STACK_BYTES == result_slot;
 }
 
-static void on_kernel_memory(unsigned cpu, qemu_plugin_meminfo_t info, uint64_t address, void *data)
+static void returns(unsigned cpu, qemu_plugin_meminfo_t info, uint64_t address)
 {
-	uint64_t pc = (uint64_t)data, physical;
+	const struct qemu_plugin_hwaddr *where = qemu_plugin_get_hwaddr(info, address);
+
+	if (where && is_of_process(cpu) && system_calls_returns(cpu, qemu_plugin_hwaddr_phys_addr(where) - RESULT))
+		seen_all_changed();
+}
+
+static void kernel_accessed(unsigned cpu, qemu_plugin_meminfo_t info, uint64_t address, uint64_t pc)
+{
+	uint64_t physical;
 	int is_store = qemu_plugin_mem_is_store(info);
 
-	if (state == ARMED && is_store && is_birth(address, pc))
+	if (state == ARMED && is_store && is_birth(cpu, address, pc))
 		born(cpu, address);
 	if (state != WATCHING)
 		return;
-	if (pc == guest.leave && is_store) {
+	if (is_store && is_result(address, pc)) {
 		returns(cpu, info, address);
 		return;
 	}
+	if (is_store && guest_is_of_flush(cpu, address))
+		flushes_stored(cpu);
 	physical = guest_direct(address);
 	if (physical != NOWHERE && is_store)
 		kernel_stored(cpu, physical, 1u << qemu_plugin_mem_size_shift(info), pc);
@@ -273,11 +300,17 @@ static void on_kernel_memory(unsigned cpu, qemu_plugin_meminfo_t info, uint64_t 
 		process_accessed(cpu, info, address, pc);
 }
 
+static void on_kernel_memory(unsigned cpu, qemu_plugin_meminfo_t info, uint64_t address, void *pc)
+{
+	kernel_accessed(processor_that_runs(cpu), info, address, (uint64_t)pc);
+}
+
 static void on_call(unsigned cpu, qemu_plugin_meminfo_t info, uint64_t address, void *pc)
 {
+	cpu = processor_that_runs(cpu);
 	if (qemu_plugin_mem_is_store(info))
-		callers_called(cpu, address);
-	on_kernel_memory(cpu, info, address, pc);
+		callers_called(cpu, address, (uint64_t)pc);
+	kernel_accessed(cpu, info, address, (uint64_t)pc);
 }
 
 /* ---- instructions ---- */
@@ -290,6 +323,7 @@ static void on_user_code(unsigned cpu, void *data)
 {
 	const struct code *code = data;
 
+	cpu = processor_that_runs(cpu);
 	if (state != WATCHING || guest_loaded(cpu) != space)
 		return;
 	in_user_mode(cpu);
@@ -304,55 +338,50 @@ static void on_flushed(unsigned cpu, void *unused)
 	(void)unused;
 	if (state != WATCHING || guest.nested)
 		return;
-	flush = guest_flush(cpu);
+	cpu = processor_that_runs(cpu);
+	flush = flushes_of_task(cpu);
 	if (flush.space && flush.space != space) /* none: all that the processors have */
 		return;
 	owing_flushed(guest_task(cpu));
 	say("@flushed %u %" PRIx64 " %" PRIx64 " %" PRIx64 "\n", cpu, guest_task(cpu), flush.begin, flush.end);
 }
 
+/* The registers lie behind the return address of the call of do_syscall_64. */
 static void on_entry(unsigned cpu, void *unused)
 {
+	uint64_t registers;
+
 	(void)unused;
+	cpu = processor_that_runs(cpu);
+	registers = callers_stack(cpu) + 8;
+	result_slot = (registers + RESULT) % STACK_BYTES;
 	if (is_of_process(cpu))
-		say("@entered %u %" PRIx64 "\n", cpu, guest_task(cpu));
+		system_calls_begins(cpu, guest_walk(registers));
+}
+
+static void on_birth(unsigned cpu, void *unused)
+{
+	(void)unused;
+	birth_call = callers_call(processor_that_runs(cpu));
 }
 
 static void ask(struct qemu_plugin_insn *instruction, qemu_plugin_ran *call)
 {
-	qemu_plugin_register_vcpu_insn_exec_cb(instruction, call, QEMU_PLUGIN_CB_NO_REGS, NULL);
-}
-
-/* A return, or the jump to the kernel's place of returns. */
-static int is_return(const struct qemu_plugin_insn *instruction)
-{
-	const uint8_t *bytes = qemu_plugin_insn_data(instruction);
-	int32_t distance;
-
-	if (bytes[0] != 0xe9)
-		return bytes[0] == 0xc3;
-	memcpy(&distance, bytes + 1, sizeof distance);
-	return qemu_plugin_insn_vaddr(instruction) + 5 + (uint64_t)(int64_t)distance == guest.thunk;
-}
-
-/* By a distance, or by a register or memory. */
-static int is_call(const struct qemu_plugin_insn *instruction)
-{
-	const uint8_t *bytes = qemu_plugin_insn_data(instruction);
-
-	return bytes[0] == 0xe8 || (bytes[0] == 0xff && (bytes[1] >> 3 & 7) == 2);
+	qemu_plugin_register_vcpu_insn_exec_cb(instruction, call, PROCESSOR_FLAGS, NULL);
 }
 
 static void translate_kernel(struct qemu_plugin_insn *instruction)
 {
 	uint64_t pc = qemu_plugin_insn_vaddr(instruction);
 
-	qemu_plugin_register_vcpu_mem_cb(instruction, is_call(instruction) ? on_call : on_kernel_memory, QEMU_PLUGIN_CB_NO_REGS,
+	qemu_plugin_register_vcpu_mem_cb(instruction, instructions_is_call(instruction) ? on_call : on_kernel_memory, PROCESSOR_FLAGS,
 		QEMU_PLUGIN_MEM_RW, (void *)pc);
 	if (pc == guest.entry)
 		ask(instruction, on_entry);
+	if (pc == guest.birth)
+		ask(instruction, on_birth);
 	for (unsigned k = 0; k < flusher_count; k++)
-		if (pc >= flushers[k].begin && pc < flushers[k].end && is_return(instruction))
+		if (pc >= flushers[k].begin && pc < flushers[k].end && instructions_is_return(instruction, flushers[k].begin, flushers[k].end))
 			ask(instruction, on_flushed);
 }
 
@@ -369,7 +398,7 @@ static void translate_user(struct qemu_plugin_tb *block, struct qemu_plugin_insn
 		return;
 	code->address = qemu_plugin_insn_vaddr(first);
 	code->physical = physical;
-	qemu_plugin_register_vcpu_tb_exec_cb(block, on_user_code, QEMU_PLUGIN_CB_NO_REGS, code);
+	qemu_plugin_register_vcpu_tb_exec_cb(block, on_user_code, PROCESSOR_FLAGS, code);
 }
 
 static void on_translate(qemu_plugin_id_t id, struct qemu_plugin_tb *block)
@@ -387,7 +416,7 @@ static void on_translate(qemu_plugin_id_t id, struct qemu_plugin_tb *block)
 		if (is_kernel)
 			translate_kernel(instruction);
 		else
-			qemu_plugin_register_vcpu_mem_cb(instruction, on_user_memory, QEMU_PLUGIN_CB_NO_REGS, QEMU_PLUGIN_MEM_RW,
+			qemu_plugin_register_vcpu_mem_cb(instruction, on_user_memory, PROCESSOR_FLAGS, QEMU_PLUGIN_MEM_RW,
 				(void *)qemu_plugin_insn_vaddr(instruction));
 	}
 }
@@ -410,35 +439,22 @@ static void on_asked(unsigned cpu, void *unused)
 
 static void on_translate_at_first(qemu_plugin_id_t id, struct qemu_plugin_tb *block)
 {
-	static const uint8_t asking[] = { 0x0f, 0x1f, 0x84, 0x00, 0x4e, 0x52, 0x56, 0x53 }; /* a nop with an operand that nobody uses */
 	struct qemu_plugin_insn *instruction;
 
 	(void)id;
 	for (size_t k = 0; k < qemu_plugin_tb_n_insns(block); k++) {
 		instruction = qemu_plugin_tb_get_insn(block, k);
-		if (qemu_plugin_insn_size(instruction) == sizeof asking && !memcmp(qemu_plugin_insn_data(instruction), asking, sizeof asking))
+		if (instructions_is_asking(instruction))
 			ask(instruction, on_asked);
 	}
 }
 
 /* ---- what the plugin gets to know ---- */
 
-static const struct {
-	const char *name;
-	uint64_t *number;
-} settings[] = {
-	{ "levels", &guest.levels }, { "isolated", &guest.isolated }, { "percpu", &guest.percpu }, { "loaded", &guest.loaded },
-	{ "current", &guest.current }, { "flushing", &guest.flushing }, { "birth", &guest.birth }, { "pgd", &guest.pgd },
-	{ "entry", &guest.entry }, { "leave", &guest.leave }, { "thunk", &guest.thunk },
-	{ "rest", &guest.rest }, { "nested", &guest.nested }, { "nested_end", &guest.nested_end },
-};
-
 static int set(const char *name, const char *value)
 {
 	char *rest;
 
-	if (!strcmp(name, "memory"))
-		return snprintf(guest.memory, sizeof guest.memory, "%s", value) < (int)sizeof guest.memory;
 	if (!strcmp(name, "tag"))
 		return say_tag(value[0]);
 	if (!strcmp(name, "flusher") && flusher_count < FLUSHERS) {
@@ -446,13 +462,7 @@ static int set(const char *name, const char *value)
 		flushers[flusher_count].end = *rest == '-' ? strtoull(rest + 1, NULL, 0) : 0;
 		return flushers[flusher_count++].end != 0;
 	}
-	for (size_t k = 0; k < sizeof settings / sizeof settings[0]; k++) {
-		if (strcmp(name, settings[k].name))
-			continue;
-		*settings[k].number = strtoull(value, NULL, 0);
-		return 1;
-	}
-	return 0;
+	return guest_set(name, value);
 }
 
 EXPORTED int qemu_plugin_install(qemu_plugin_id_t id, const void *info, int count, char **words)
@@ -469,6 +479,7 @@ EXPORTED int qemu_plugin_install(qemu_plugin_id_t id, const void *info, int coun
 		}
 	}
 	plugin = id;
+	processor_begin(id);
 	qemu_plugin_register_vcpu_tb_trans_cb(id, on_translate_at_first);
 	return 0;
 }
