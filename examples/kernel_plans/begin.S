@@ -1,6 +1,7 @@
 /* From QEMU's -kernel to C: on the first processor over an address space of 4 GiB that is left behind, on the others by a trampoline at
  * 0x8000, over the address space that the kernel has made by then. The levels are the first letter of the command line, since CR4.LA57
- * can't change while paging is on. Then accesses that may fault, and the two handlers.
+ * can't change while paging is on. Then accesses that may fault, and the two handlers, which ask C what to do. The kernels of
+ * examples/kernel_plans and examples/kernel_nodes begin here.
  */
 #include "../kernel/machine.h"
 
@@ -21,9 +22,9 @@ boot_root_of_four:
 	.skip	4096
 boot_pointers:
 	.skip	4096
+	.globl	stacks, processors
 stacks:
 	.skip	4 * STACK_BYTES
-	.globl	processors
 processors:
 	.skip	8
 
@@ -43,6 +44,7 @@ start:
 	cld
 	mov	$stacks + STACK_BYTES, %esp
 	mov	24(%ebx), %ebp		/* the command line */
+	mov	32(%ebx), %esi		/* where ACPI's tables begin */
 	movl	$boot_root_of_four + 3, boot_root_of_five
 	movl	$boot_pointers + 3, boot_root_of_four
 	mov	$boot_pointers, %edi
@@ -110,12 +112,14 @@ trampoline_long:
 	mov	%eax, %es
 	mov	%eax, %ss
 	lgdt	boot_gdt_pointer
-	mov	$1, %edi
-	lock xadd %edi, processors	/* its number */
+	mov	$0xfee00020, %eax
+	mov	(%rax), %edi
+	shr	$24, %edi		/* its number is that of its local interrupt controller */
 	lea	1(%rdi), %eax
 	imul	$STACK_BYTES, %eax
 	lea	stacks(%rax), %rsp
 	xor	%ebp, %ebp
+	lock incl processors
 	mov	$processor, %eax
 	call	*%rax
 	hlt
@@ -144,15 +148,40 @@ try_failed:
 	lea	(%rdi,%rdi), %eax
 	ret
 
-	/* A page fault of an access goes on at try_failed; another stops all. The stack has code, RIP, CS, RFLAGS, RSP, SS. */
-	.globl	page_fault, other_fault, shoot_down_handler
+	/* C is called with the registers that it may change kept on the stack. */
+	.macro	keep
+	.irp	register, rax, rcx, rdx, rsi, rdi, r8, r9, r10, r11
+	push	%\register
+	.endr
+	cld
+	.endm
+	.macro	give_back
+	.irp	register, r11, r10, r9, r8, rdi, rsi, rdx, rcx, rax
+	pop	%\register
+	.endr
+	.endm
+
+	/* A page fault of an access: C says whether it is made again (1), or goes on at try_failed; another stops all. The stack has code,
+	 * RIP, CS, RFLAGS, RSP, SS.
+	 */
+	.globl	page_fault, other_fault, interrupt
 page_fault:
 	cmpq	$try_read, 8(%rsp)
 	je	1f
 	cmpq	$try_write, 8(%rsp)
 	jne	other_fault
-1:	pop	%rdi
-	movq	$try_failed, (%rsp)
+1:	keep
+	mov	72(%rsp), %rdi
+	mov	%cr2, %rsi
+	sub	$8, %rsp
+	call	page_faulted
+	add	$8, %rsp
+	test	%eax, %eax
+	give_back
+	jnz	2f
+	mov	(%rsp), %rdi
+	movq	$try_failed, 8(%rsp)
+2:	lea	8(%rsp), %rsp
 	iretq
 other_fault:
 	pop	%rdi
@@ -161,19 +190,11 @@ other_fault:
 	and	$-16, %rsp
 	call	unexpected
 
-	/* A shootdown: the page is invalidated, and the processor says so. */
-shoot_down_handler:
-	push	%rax
-	mov	shoot_base, %rax
-	invlpg	(%rax)
-	mov	%cr3, %rax
-	cmpl	$0, shoot_all
-	je	1f
-	mov	%rax, %cr3
-1:	mov	$0xfee000b0, %eax
-	movl	$0, (%rax)		/* the end of the interrupt */
-	lock incl shot
-	pop	%rax
+	/* A shootdown: another processor asks this one for a flush. The stack has no code. */
+interrupt:
+	keep
+	call	interrupted
+	give_back
 	iretq
 
 	.section .note.GNU-stack, "", @progbits

@@ -6,22 +6,46 @@
 #include "../kernel/leave.h"
 #include "../kernel/machine.h"
 #include "../kernel/say.h"
-#include "plans.h"
+#include "changes.h"
 #include "plant.h"
 #include "processors.h"
 #include "record.h"
 #include "slots.h"
 
-static struct nrvs_target targets[SPACES];
+#define FIRST_FRAME UINT64_C(0x2000) /* at 32 MiB */
+
 _Noreturn void kernel(const char *line);
+
+unsigned processor_group(unsigned processor)
+{
+	(void)processor;
+	return 0;
+}
+
+uint64_t processor_root(unsigned processor)
+{
+	return targets[processor % SPACES].root * 4096;
+}
+
+void processor_turn(unsigned processor, uint64_t *seed)
+{
+	slots_access(processor % SPACES, 0, processor, seed);
+}
+
+/* No fault is of a table that lags. */
+int page_faulted(uint64_t code, uint64_t address)
+{
+	(void)code, (void)address;
+	return 0;
+}
 
 /* A root without an entry: its upper half is one table, or that of another root. */
 static uint64_t begin_root(uint64_t upper)
 {
-	const uint64_t root = plans_take_frame();
+	const uint64_t root = pool_take(&pool);
 	for (unsigned i = 0; i < 512; i++)
-		plans_words(root)[i] = 0;
-	plans_words(root)[256] = upper << 12 | 7;
+		frame_words(root)[i] = 0;
+	frame_words(root)[256] = upper << 12 | 7;
 	return root;
 }
 
@@ -29,15 +53,15 @@ static uint64_t begin_root(uint64_t upper)
 static void begin_spaces(uint32_t levels)
 {
 	uint64_t upper;
-	plans_begin();
-	upper = plans_take_frame();
+	pool_begin(&pool, FIRST_FRAME, MOST_FRAMES, 0);
+	upper = pool_take(&pool);
 	for (unsigned i = 0; i < 512; i++)
-		plans_words(upper)[i] = 0;
+		frame_words(upper)[i] = 0;
 	for (unsigned k = 0; k < SPACES; k++) {
 		targets[k] = (struct nrvs_target){ .root = begin_root(upper), .levels = levels, .phys_bits = 40 };
 		for (uint64_t g = 0; g < 4; g++) {
 			struct nrvs_plan plan;
-			plans_run(&plan, nrvs_plan_map(&plan, &targets[k], g << 30, NRVS_1G, g << 30, NRVS_WRITE | NRVS_EXEC, 0));
+			plans_run(&pool, &plan, nrvs_plan_map(&plan, &targets[k], g << 30, NRVS_1G, g << 30, NRVS_WRITE | NRVS_EXEC, 0));
 			if (plan.reply.code != NRVS_DONE)
 				stop("a map is answered", plan.reply.code);
 		}
@@ -49,7 +73,7 @@ static void begin_spaces(uint32_t levels)
 static void cut(void)
 {
 	processors_hold();
-	record_cut();
+	changes_cut();
 	processors_release();
 }
 
@@ -60,9 +84,9 @@ static void change_twice(uint64_t *seed)
 {
 	unsigned slot;
 	processors_hold();
-	slot = slots_change(SLOTS, seed);
+	slot = changes_make(SLOTS, seed);
 	plans_meanwhile = 200;
-	slots_change(slot, seed);
+	changes_make(slot, seed);
 	plans_meanwhile = 0;
 	processors_release();
 }
@@ -86,7 +110,7 @@ static void change_all(uint64_t changes)
 		if (k % 4 == 0)
 			change_twice(&seed);
 		else
-			slots_change(SLOTS, &seed);
+			changes_make(SLOTS, &seed);
 		wait_for_accesses(draw(&seed, 32));
 	}
 }
@@ -108,17 +132,20 @@ _Noreturn void kernel(const char *line)
 	ports_begin();
 	processors_set_gates();
 	begin_spaces((uint32_t)levels);
-	slots_begin(targets);
+	slots_begin((unsigned)levels);
+	slots_fill();
 	for (unsigned k = 0; k < SPACES; k++)
-		record_begin(k, &targets[k], is_sent != 0);
-	processors_start(targets);
-	say("%u processors, two address spaces of %u levels, %u frames\n", (uint64_t)PROCESSORS, levels, (uint64_t)FRAMES);
+		record_begin(k, 1, &targets[k], is_sent != 0);
+	processors_start();
+	say("%u processors, two address spaces of %u levels, %u frames\n", (uint64_t)PROCESSORS, levels, (uint64_t)MOST_FRAMES);
 	change_all(changes);
 	processors_stop();
-	for (unsigned k = 0; k < SPACES; k++)
-		record_end(k, &targets[k]);
-	say("%u changes, %u of them splits, %u shootdowns, %u flags met, %u frames left\n", changes, plans_fills, plans_shootdowns,
-	    plans_flags_met, (uint64_t)plans_frames_left());
+	for (unsigned k = 0; k < SPACES; k++) {
+		record_dump(k, 0, changes_placed(k), targets[k].root);
+		record_end(k);
+	}
+	say("%u changes, %u of them splits, %u shootdowns, %u flags met, %u frames left\n", changes, pool.fills, pool.shootdowns,
+	    pool.flags_met, (uint64_t)pool.left);
 	slots_say();
 	machine_leave(slots_differ() + slots_lost() == 0 ? LEAVE_PASSED : LEAVE_DIFFERS);
 }

@@ -4,21 +4,30 @@
 
 #include "nrvs_plan.h"
 
-enum { FRAMES = 512 };
-#define FIRST_FRAME UINT64_C(0x2000) /* at 32 MiB */
+enum { MOST_FRAMES = 512 };
 
-/* All frames are free. */
-void plans_begin(void);
+/* The free frames for the tables of one owner, whose lock is held when they are changed; the processors that walk these tables; and how
+ * its plans were carried out.
+ */
+struct pool {
+	uint64_t none[MOST_FRAMES];
+	unsigned left, group;
+	uint64_t shootdowns, fills, flags_met;
+	struct flush {
+		uint64_t base;
+		int all;
+	} late; /* of a mistake */
+};
 
-/* A frame of zeros; how many are left. */
-uint64_t plans_take_frame(void);
-unsigned plans_frames_left(void);
-uint64_t *plans_words(uint64_t frame);
+/* So many frames from a first one on are free. */
+void pool_begin(struct pool *pool, uint64_t first, unsigned count, unsigned group);
+
+/* A frame of zeros. */
+uint64_t pool_take(struct pool *pool);
+uint64_t *frame_words(uint64_t frame);
 
 /* Goes on from what the first call returned, and carries the plan out. */
-void plans_run(struct nrvs_plan *plan, uint32_t step);
-
-extern uint64_t plans_shootdowns, plans_fills, plans_flags_met;
+void plans_run(struct pool *pool, struct nrvs_plan *plan, uint32_t step);
 
 /* The other processors make so many accesses between the last words that are shown and the first store. */
 extern uint64_t plans_meanwhile;

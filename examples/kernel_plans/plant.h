@@ -13,6 +13,15 @@ enum plant {
 	PLANT_EXCHANGED, /* of a split, the new table is filled after the store that links it */
 	PLANT_SWAPPED,   /* of two stores each writes the word of the other */
 	PLANT_UNFILLED,  /* of a split, the new table isn't filled */
+	PLANT_GAP,       /* where parts of a page are unmapped, one more is */
+
+	/* in examples/kernel_nodes */
+	PLANT_REPLY, /* a reply before each node is done with the update */
+	PLANT_LATE,  /* a node is done with an update before its processors have flushed: they do with the next one */
+	PLANT_RING,  /* a node's ring has room for 15 entries */
+	PLANT_LINK,  /* an entry names another node as the one that appended the entry before it */
+	PLANT_FAULT, /* the handler of faults looks at its node's table as it is */
+	PLANT_TWICE, /* a node applies each update twice */
 };
 
 #ifndef PLANT

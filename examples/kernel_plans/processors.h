@@ -1,26 +1,40 @@
-/* The other processors: their begin, their accesses, and what the first one lets them do. */
+/* The processors: how they begin, what each does by turns, how they flush, and how they are held up. Those that flush together, as they
+ * walk the same tables, are a group.
+ */
 #ifndef PROCESSORS_H
 #define PROCESSORS_H
 
-#include "nrvs_plan.h"
+#include <stdint.h>
 
-enum { SPACES = 2, PROCESSORS = 4 };
+enum { PROCESSORS = 4 };
+
+/* What a kernel says of a processor: which group it is of, and the root that it loads; and what it does next. */
+unsigned processor_group(unsigned processor);
+uint64_t processor_root(unsigned processor);
+void processor_turn(unsigned processor, uint64_t *seed);
+
+/* The number of the processor that calls it. */
+unsigned processor_here(void);
 
 /* The handlers of faults and shootdowns, for the processor that calls it. */
 void processors_set_gates(void);
 
-/* The others run, each in one of the address spaces, and begin to make accesses. */
-void processors_start(const struct nrvs_target targets[SPACES]);
+/* The others begin, and go on by turns. */
+void processors_start(void);
 int processors_run(void);
 
-/* They flush: a page, or all. */
-void processors_shoot_down(uint64_t base, int all);
+/* All of a group flush: a page, or all. One shootdown of a group at a time. */
+void processors_shoot_down(unsigned group, uint64_t base, int all);
 
-/* They make no accesses until they are released. */
+/* Waits a little, and answers a shootdown: wherever one waits for another, interrupts may be off. */
+void processors_pause(void);
+
+/* The others take no turn until they are released; whether they are to be held. */
 void processors_hold(void);
 void processors_release(void);
+int processors_are_held(void);
 
-/* They make no more. */
+/* They take no more. */
 void processors_stop(void);
 
 #endif

@@ -1,38 +1,38 @@
-/* What is recorded: a chain for each address space, by recorders/nrvs_trace.h, of its changes and of accesses as touches. A chain has maps,
- * unmaps and protects: a remap is an unmap and a map, a split an unmap and 512 maps, a join the other way round, all of which are open
- * from before the first store until after the flush.
- */
+/* What is recorded, by recorders/nrvs_trace.h: chains of calls and of accesses as touches. What is wrong stops all. */
 #ifndef RECORD_H
 #define RECORD_H
 
 #include "nrvs_plan.h"
 #include "nrvs_trace.h"
-#include "processors.h"
 
-enum { PARTS = 512 };
+enum { CHAINS = 2, MOST_THREADS = 516 };
 
-/* The serial ports, by which it is sent. */
+/* The serial ports, by which chains are sent. */
 void ports_begin(void);
 
-/* Begins the chain of an address space, with its tables as they are. It is sent by the serial port 1 + space, or nobody listens. */
-void record_begin(unsigned space, const struct nrvs_target *target, int is_sent);
-
-/* Before the first store of a change: one more update of this space, or of all (SPACES), and what is answered to it. After the flush: that
- * it was answered so, which the kernel has seen to.
+/* Begins a chain of so many copies of a page table, with its tables as they are. It is sent by the serial port 1 + chain, or nobody
+ * listens.
  */
-void record_update(unsigned space, nrvs_request request, nrvs_answer answer);
-void record_replies(void);
+void record_begin(unsigned chain, unsigned copies, const struct nrvs_target *target, int is_sent);
+
+/* Before a call of a thread at a copy; its place; after it. */
+uint32_t record_call(unsigned chain, unsigned copy, unsigned thread, nrvs_request request);
+void record_place(unsigned chain, uint32_t place, uint32_t call);
+void record_reply(unsigned chain, uint32_t call, uint32_t at, nrvs_answer answer);
 
 /* So many accesses of each processor are recorded from here on. */
 void record_allow(unsigned number);
 
 /* Before an access of a processor: the call's number, or NRVS_NONE where it isn't recorded. After it: what came. */
-uint32_t record_touch(unsigned space, unsigned processor, uint64_t address, int write);
-void record_touched(unsigned space, uint32_t call, nrvs_answer answer);
+uint32_t record_touch(unsigned chain, unsigned copy, unsigned processor, uint64_t address, int write);
+void record_touched(unsigned chain, uint32_t call, nrvs_answer answer);
 
-/* Whether a segment should end; it ends while no processor makes accesses. At the end, with the tables as they are. */
+/* Whether a segment should end; all chains have their next one, which begins while no call is open. */
 int record_is_full(void);
 void record_cut(void);
-void record_end(unsigned space, const struct nrvs_target *target);
+
+/* At the end: a copy as its tables are, with so many updates of the last segment; then the end of a chain. */
+void record_dump(unsigned chain, unsigned copy, uint32_t applied, uint64_t root);
+void record_end(unsigned chain);
 
 #endif

@@ -1,0 +1,92 @@
+/* A kernel with a copy of its page tables on each memory node, on four processors: two of them change pages at once, on different nodes,
+ * while all access them, each by the tables of its own node. Each access has to find what the pages were before the call under way, or what
+ * they are after it; after the call, the latter. All changes and some of the accesses are recorded, as one chain of all nodes.
+ */
+#include "../kernel/leave.h"
+#include "../kernel/machine.h"
+#include "../kernel/say.h"
+#include "nodes.h"
+#include "plant.h"
+#include "record.h"
+#include "slots.h"
+#include "updates.h"
+
+static uint64_t changes, made[CHANGERS];
+static uint32_t accesses_left[CHANGERS];
+_Noreturn void kernel(const char *line, const void *tables);
+
+unsigned processor_group(unsigned processor)
+{
+	return node_of(processor);
+}
+
+uint64_t processor_root(unsigned processor)
+{
+	return node_target(node_of(processor))->root * 4096;
+}
+
+/* Of a changer a change between some accesses; of the others accesses alone. */
+void processor_turn(unsigned processor, uint64_t *seed)
+{
+	if (processor >= CHANGERS || accesses_left[processor]-- > 0 || made[processor] >= changes) {
+		slots_access(0, node_of(processor), processor, seed);
+		return;
+	}
+	accesses_left[processor] = (uint32_t)draw(seed, 48);
+	updates_make(processor, seed);
+	__atomic_fetch_add(&made[processor], 1, __ATOMIC_SEQ_CST);
+}
+
+static int is_over(void)
+{
+	for (unsigned k = 0; k < CHANGERS; k++)
+		if (__atomic_load_n(&made[k], __ATOMIC_SEQ_CST) < changes)
+			return 0;
+	return 1;
+}
+
+/* The first processor takes its turns here. A segment ends while no processor makes a call or an access. */
+static void work(void)
+{
+	uint64_t seed = 1;
+	while (!is_over()) {
+		processor_turn(0, &seed);
+		if (!record_is_full())
+			continue;
+		processors_hold();
+		updates_cut();
+		processors_release();
+	}
+	processors_stop();
+}
+
+static uint64_t number_in(const char **line)
+{
+	uint64_t number = 0;
+	for (; **line >= '0' && **line <= '9'; ++*line)
+		number = number * 10 + (uint64_t)(**line - '0');
+	while (**line == ' ')
+		++*line;
+	return number;
+}
+
+/* The line has the levels, the number of changes of each changer, and 1 where what is recorded is sent. */
+_Noreturn void kernel(const char *line, const void *tables)
+{
+	const uint64_t levels = number_in(&line), number = number_in(&line), is_sent = number_in(&line);
+	ports_begin();
+	processors_set_gates();
+	nodes_begin((unsigned)levels, tables);
+	write_cr3(processor_root(0));
+	updates_begin((unsigned)levels, is_sent != 0);
+	changes = number;
+	processors_start();
+	say("%u processors on %u memory nodes, %u levels\n", (uint64_t)PROCESSORS, (uint64_t)nodes_count(), levels);
+	work();
+	updates_end();
+	nodes_say();
+	say("%u changes, %u updates, %u wrong answers, %u faults made again, %u waits for a full ring\n", CHANGERS * changes, nodes_completed(),
+	    updates_wrong(), nodes_again, nodes_held_up);
+	slots_say();
+	machine_leave(slots_differ() + slots_lost() + updates_wrong() == 0 ? LEAVE_PASSED : LEAVE_DIFFERS);
+}

@@ -1,0 +1,24 @@
+/* What becomes of the slots' pages, by two processors at once: each changes slots of its own, whose accesses are compared with what it did,
+ * and both change some that nobody keeps a list of: what is answered there, and found, the auditor judges. All is recorded as one chain.
+ */
+#ifndef UPDATES_H
+#define UPDATES_H
+
+#include <stdint.h>
+
+enum { CHANGERS = 2 };
+
+/* The slots, and the chain. */
+void updates_begin(unsigned levels, int is_sent);
+
+/* One change of a changer, or one look at an address. */
+void updates_make(unsigned processor, uint64_t *seed);
+
+/* Ends the segment, while no processor makes a call; and the chain, with the tables of each node. */
+void updates_cut(void);
+void updates_end(void);
+
+/* How many calls of the log were answered otherwise than they had to be. */
+uint64_t updates_wrong(void);
+
+#endif
