@@ -5,7 +5,7 @@
 
 A part is the file FOLDER/part.K, where K is the number of its first segment, of seven digits at least; it has LEAST segments (1) or more.
 FOLDER is made. Bytes that are no whole segment go to the last part, of whose end the auditor then says so. It isn't verified, and nothing
-depends on it: examples/judge_in_parts compares the ends of the parts.
+depends on it: examples/judge_in_parts/ends compares the ends of the parts.
 """
 import os
 import struct

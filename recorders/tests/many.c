@@ -46,7 +46,7 @@ static int are_rising(uint32_t count)
 	uint64_t last = 0;
 	uint32_t met = 0;
 
-	for (uint16_t k = nrvs_least(frames, dump->top); k != NRVS_NO_FRAME; k = nrvs_following(frames, k)) {
+	for (uint16_t k = nrvs_least(frames, dump->top); k != NRVS_NO_NODE; k = nrvs_following(frames, k)) {
 		if (frames[k].number <= last)
 			return 0;
 		last = frames[k].number;
