@@ -23,6 +23,15 @@ FIRST = "segment 0\nyes\norder 0 2\n"               # what is said of the first 
 BLOCK = 4096
 SECONDS = 20
 
+# why an input can't be read, as the system says it
+NO_FILE = "cannot read: No such file or directory (os error 2)\n"
+IS_FOLDER = "cannot read: Is a directory (os error 21)\n"
+IS_CLOSED = "cannot read: Bad file descriptor (os error 9)\n"
+HAS_FAILED = "cannot read: Input/output error (os error 5)\n"
+
+IS_TRACE = "this is a trace: leave out --chain\n"        # what is said of the other kind of input
+IS_CHAIN = "this is a chain: use --chain\n"
+
 
 def data_of(name):
     with open(f"{CHAINS}/{name}.chain", "rb") as file:
@@ -140,9 +149,9 @@ def reads_no_more(program):
         with open(path, "rb", buffering=0) as file:
             seen = program.run(file)
             left = os.lseek(file.fileno(), 0, os.SEEK_CUR)
-        yield is_said(f"{name}, and more", seen, 1, text)
+        yield is_said(f"{name}, and more", seen, 1, text, IS_TRACE if data.startswith(b"NRVT") else "")
         yield f"{name}: no more than its block is read", left == -(-shows // BLOCK) * BLOCK, left
-        ran = subprocess.Popen(program.words(), stdin=subprocess.PIPE, stdout=subprocess.PIPE, bufsize=0)
+        ran = subprocess.Popen(program.words(), stdin=subprocess.PIPE, stdout=subprocess.PIPE, stderr=subprocess.DEVNULL, bufsize=0)
         put_open(ran.stdin, data)
         try:
             yield f"{name}: no end of the input is awaited", ran.wait(SECONDS) == 1, ()
@@ -168,21 +177,21 @@ def failing_reads(program):
         for more in ((), ("--quiet",)):
             seen = program.run(data, "--chain", *more, env=program.shimmed(FAIL_AT=at))
             text = "" if more or at < first else FIRST
-            yield is_said(f"a read that fails at byte {at}, {more}", seen, 2, text, "cannot read\n")
+            yield is_said(f"a read that fails at byte {at}, {more}", seen, 2, text, HAS_FAILED)
     with open(path, "rb") as file:
         seen = program.run(file, env=program.shimmed(FAIL_READ=2))
-    yield is_said("a second read that fails", seen, 2, "", "cannot read\n")
+    yield is_said("a second read that fails", seen, 2, "", HAS_FAILED)
     seen = program.run(subprocess.DEVNULL, "--chain", path)
     yield is_said("a chain by its name", seen, 0, wanted("two_segments"))
     yield is_said("standard input by its name", program.run(data, "--chain", "-"), 0, wanted("two_segments"))
     none = f"{program.work}/none"
-    yield is_said("a file that there is not", program.run(subprocess.DEVNULL, "--chain", none), 2, "", f"{none}: cannot read\n")
-    yield is_said("a folder by its name", program.run(subprocess.DEVNULL, "--chain", "--quiet", "."), 2, "", ".: cannot read\n")
+    yield is_said("a file that there is not", program.run(subprocess.DEVNULL, "--chain", none), 2, "", f"{none}: {NO_FILE}")
+    yield is_said("a folder by its name", program.run(subprocess.DEVNULL, "--chain", "--quiet", "."), 2, "", f".: {IS_FOLDER}")
     folder = os.open(".", os.O_RDONLY)
-    yield is_said("an input that is a folder", program.run(folder), 2, "", "cannot read\n")
+    yield is_said("an input that is a folder", program.run(folder), 2, "", IS_FOLDER)
     os.close(folder)
     closed = shell(program, "exec \"$0\" audit --chain <&-")
-    yield is_said("a closed input", closed, 2, "", "cannot read\n")
+    yield is_said("a closed input", closed, 2, "", IS_CLOSED)
 
 
 def shell(program, line):
@@ -211,10 +220,11 @@ def words(program):
         status, text, errors = program.run(data_of("two_segments"), *more)
         yield f"the words {more}", status == 2 and not text and errors, (status, text, errors)
     with open(TRACE, "rb") as trace:
-        yield is_said("a trace as a chain", program.run(trace), 1, "segment 0\nno 1 Format BadMagic\n")
+        yield is_said("a trace as a chain", program.run(trace), 1, "segment 0\nno 1 Format BadMagic\n", IS_TRACE)
     chain = data_of("map_then_resolve")
     done = subprocess.run([program.path, "audit"], input=chain, capture_output=True)
-    yield "a chain as a trace", (done.returncode, done.stdout) == (1, b"no 1 Format BadMagic\n"), done.stdout
+    said = done.returncode, done.stdout.decode(), done.stderr.decode()
+    yield is_said("a chain as a trace", said, 1, "no 1 Format BadMagic\n", IS_CHAIN)
 
 
 def refused_growths(program):
@@ -283,14 +293,14 @@ def pages_at_failing_ends(program):
         for at in (0, 20, len(data) // 2):
             if at < len(data) or at == 0:
                 seen = program.run(data, *asked, env=program.shimmed(FAIL_AT=at, SHORT_READ=10))
-                yield is_said(f"{name}, {asked}, a read that fails at byte {at}", seen, 2, "", "cannot read\n")
+                yield is_said(f"{name}, {asked}, a read that fails at byte {at}", seen, 2, "", HAS_FAILED)
         if text:
             yield is_said(f"{name}, {asked}, a write that fails", program.run(data, *asked, env=program.shimmed(FAIL_WRITE=1)), 2, "", "cannot write\n")
             with open("/dev/full", "wb") as full:
                 yield is_said(f"{name}, {asked}, a full device", program.run(data, *asked, stdout=full), 2, "", "cannot write\n")
     none = f"{program.work}/none"
     seen = program.run(subprocess.DEVNULL, "pages", "--chain", "--end", none)
-    yield is_said("pages of a chain in a file that there is not", seen, 2, "", f"{none}: cannot read\n")
+    yield is_said("pages of a chain in a file that there is not", seen, 2, "", f"{none}: {NO_FILE}")
     for more in (("--chain",), ("--start",), ("--end",), ("--chain", "--start", "--end"), ("--chain", "--start", none, none)):
         status, text, errors = program.run(data_of("two_segments"), "pages", *more)
         yield f"the words pages {more}", status == 2 and not text and errors, (status, text, errors)

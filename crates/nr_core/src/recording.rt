@@ -16,7 +16,7 @@ use vs_walk::Dump;
 
 impl Core {
     /// A recording of the state as it is: the events, the call at each place of the log, and a dump of each replica, in the first
-    /// version of the format that has all of it. It allocates memory: 24 bytes for each event, 4 for each place and 4,128 for each table.
+    /// version of the format that has all of it. It allocates memory: 24 bytes for each event, 4 for each place and 5,160 for each table.
     ///
     /// # Errors
     ///
