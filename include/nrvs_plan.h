@@ -128,8 +128,9 @@
  *     Where a change of an executable page's size may raise a machine check (IA32_ARCH_CAPABILITIES, PSCHANGE_MC_NO is 0), split, join and
  *     collapse no such page, and unmap no parts of one: unmap, flush and map instead. Address bits that encrypt memory (AMD's C, TDX's
  *     shared) are left out: links have none;
- *   - the archive: XMM registers and linking are as in nrvs.h. The stack is aligned to 16 and has 5 KiB left: some 4 KiB are used, whatever
- *     is asked. No word is kept below RSP. There are jumps by tables and no calls by register; none is marked for CET, so CR4.CET is 0.
+ *   - the archive: XMM registers and linking are as in nrvs.h. The stack is aligned to 16 and has 5 KiB left, for ranges 7 KiB: some 4 and
+ *     6 KiB are used, whatever is asked. No word is kept below RSP. There are jumps by tables and no calls by register; none is marked for
+ *     CET, so CR4.CET is 0.
  *
  */
 #ifndef NRVS_PLAN_H
@@ -321,7 +322,7 @@ uint32_t nrvs_plan_ask(struct nrvs_plan *plan, const struct nrvs_target *target,
  * lie there [seen]. So, where it isn't refused, it returns NRVS_PLANNED; NRVS_GIVE; or NRVS_SEE of a frame that lies elsewhere, after which
  * nrvs_plan_see goes on [HasSeen: waits, elsewhere, kept]. The plan is right for each memory that has these frames [HasSeen: next].
  *
- * Where the way leads to a table of level 1 there, and no table is linked or unlinked, the plan is made by one way down, in some 220
+ * Where the way leads to a table of level 1 there, and no table is linked or unlinked, the plan is made by one way down, in some 190
  * instructions. All else is planned as by the calls one by one; the words of the first way down are then read once more, and what they
  * were is not used. That it is just the plan of the calls one by one is tested (tests/plans); that no frame is read but those on the way
  * was read in the code. So only these have to stay as they are while the call runs, but for flags: others may change, as under other
@@ -350,6 +351,153 @@ uint32_t nrvs_plan_give_none(struct nrvs_plan *plan);
  * Where it fills a frame, that has to be filled again.
  */
 uint32_t nrvs_plan_again(struct nrvs_plan *plan, uint64_t index, uint64_t found);
+
+/* Ranges: pages that follow one another, in one run of words for each table. A call deals with pages of one table, from the base of the
+ * range on, as the calls page by page would in their order, up to the first that is refused. It is asked for words and frames as a plan is,
+ * and ends with one of the codes below. The caller carries that out and goes on with the rest of the range:
+ *
+ *     while (bytes) {
+ *             step = nrvs_plan_unmap_range(&run, &target, base, bytes);
+ *             while (step == NRVS_SEE)
+ *                     step = nrvs_run_see(&run, words_of(run.plan.frame));
+ *             switch (step) {                                                  // by a map NRVS_GIVE too: nrvs_run_give, nrvs_run_give_none
+ *             case NRVS_RUN:
+ *                     nrvs_run_carry_out(&run, words_of(run.frame), NULL);
+ *                     covered = run.covered;
+ *                     break;
+ *             case NRVS_ABSENT:
+ *                     covered = run.covered;                                   // may go beyond the range
+ *                     break;
+ *             case NRVS_PLANNED:
+ *                     carry_out_and_keep(&run.plan);                           // as any plan, but flushed with all, and only then what
+ *                     covered = ..;                                            // it unlinks is free. The bytes of its page, if done
+ *                     break;
+ *             default:
+ *                     return step;                                             // a refusal, or NRVS_ENDS_BEYOND
+ *             }
+ *             base += covered; bytes -= min(covered, bytes);
+ *     }
+ *     shoot_down(..);                                                          // once, for all runs and plans
+ *
+ * What is promised of a run, under all that has to be kept for plans [next of nrvs_run_see and of the calls over frames: IsRangeNextOf]:
+ *   - it has a page, lies within the range and within its table, and is as long as it can be [some, within, longest; room];
+ *   - what comes of it is what comes of the calls page by page: each has a plan that is right for the memory and the space that those
+ *     before it have left, and is done; together they leave the memory that the run leaves, and unlink nothing [calls, asked, right, done,
+ *     ended, unlinked, of IsRunRight];
+ *   - each store finds the word that was shown, but for flags that were set since [found]; each address is walked as before up to one of
+ *     the stores at most, and from that one on as after them all [switches]: so a processor never finds a page that is half changed;
+ *   - a processor that was up to date before the run is so again after it and the flush of each of its pages, or none [flushed, suffices;
+ *     forgets]. Runs and plans may follow one another before one flush that drops all that theirs drop; an access that is made meanwhile
+ *     finds what a walk finds before the first or after one of them [the law flushes_of_several_plans_suffice: after, between];
+ *   - a harvest finds present entries of pages, clears their flags 5 and 6 and nothing else, and its flush drops what is kept of its pages,
+ *     so that a processor sets the flags again [IsHarvestNext: cleared, found, dropped].
+ *
+ * No table is linked or unlinked by a run: the first page for which a table is new, and the last of a table, come as plans [NRVS_PLANNED].
+ */
+struct nrvs_run {
+	uint64_t frame;        /* after NRVS_RUN and NRVS_HARVEST: the table; it and all up to `covered` */
+	uint64_t index;        /* of the first word */
+	uint64_t count;        /* how many words: index + count is at most 512 */
+	uint64_t keep;         /* word i of them becomes (word & keep) + first_word + i * step [IsRunTold: words] */
+	uint64_t first_word;
+	uint64_t step;
+	uint32_t size;         /* of the pages, or after NRVS_ENDS_BEYOND of the page: NRVS_4K .. */
+	uint32_t flush;        /* NRVS_FLUSH_NOTHING, or NRVS_FLUSH_PAGE of each of `count` pages of this size from `base` on */
+	uint64_t covered;      /* the bytes of the pages; after NRVS_ABSENT those of which no page has any */
+	uint64_t base;         /* where the range begins */
+	uint64_t bytes;        /* how many it has */
+	uint64_t own;          /* the library's */
+	struct nrvs_plan plan; /* after NRVS_SEE `plan.frame` is to be shown; after NRVS_PLANNED it is the plan */
+};
+
+/* What comes next, beside NRVS_SEE and NRVS_GIVE [IsRangeStatus; IsRangeNextOf]. */
+enum {
+	/* NRVS_PLANNED: `plan` is the plan of the page at the base alone: it links or unlinks tables, or the page is refused or isn't there;
+	 * of a harvest what nrvs_plan_ask answers of a page that begins before the base [planned] */
+	NRVS_RUN = 34,     /* a run of pages from the base on [runs] */
+	NRVS_HARVEST = 35, /* the same, whose exchanges find flags and clear them [harvests] */
+	NRVS_ABSENT = 36,  /* no page has any of the first `covered` bytes, of which there are some; nothing is to be done [absent] */
+	NRVS_ENDS_BEYOND = 37 /* the page that begins at the base has this `size` and ends beyond the range; nothing is to be done, and none is
+			    * split [beyond] */
+};
+
+/* Begins a range of so many bytes: NRVS_SEE, or what nrvs_plan_map of its first page, nrvs_plan_unmap, nrvs_plan_protect and nrvs_plan_ask
+ * of its base are refused for; the struct is then as it was [status, begun, refused]. By a map the pages follow one another physically
+ * too, and `bytes` is a multiple of their size: what is left is mapped as a whole page. An unmap, a protect and a harvest take pages of
+ * all sizes; a run has those of one.
+ */
+uint32_t nrvs_plan_map_range(struct nrvs_run *run, const struct nrvs_target *target, uint64_t base, uint32_t size, uint64_t physical,
+			     uint32_t rights, uint64_t bits, uint64_t bytes);
+uint32_t nrvs_plan_unmap_range(struct nrvs_run *run, const struct nrvs_target *target, uint64_t base, uint64_t bytes);
+uint32_t nrvs_plan_protect_range(struct nrvs_run *run, const struct nrvs_target *target, uint64_t base, uint64_t bytes, uint32_t rights);
+uint32_t nrvs_plan_harvest_range(struct nrvs_run *run, const struct nrvs_target *target, uint64_t base, uint64_t bytes);
+
+/* Shows the words of `run->plan.frame` [next]; one frame a level at most is asked for, and that of the lowest table once more where an
+ * unmap would leave it empty [fewer]. NRVS_NOT_ASKED where no words are waited for [asked].
+ */
+uint32_t nrvs_run_see(struct nrvs_run *run, const uint64_t words[512]);
+
+/* As nrvs_plan_give and nrvs_plan_give_none [next, given]. NRVS_NOT_ASKED where no frame is waited for [asked]. */
+uint32_t nrvs_run_give(struct nrvs_run *run, uint64_t frame);
+uint32_t nrvs_run_give_none(struct nrvs_run *run);
+
+/* Ranges over frames that lie one after another, as in a direct map: as nrvs_plan_map_in and those beside it are [refused, seen:
+ * HasSeenRange].
+ */
+uint32_t nrvs_plan_map_range_in(struct nrvs_run *run, const struct nrvs_target *target, const struct nrvs_words *frames, size_t count,
+				uint64_t first, uint64_t base, uint32_t size, uint64_t physical, uint32_t rights, uint64_t bits,
+				uint64_t bytes);
+uint32_t nrvs_plan_unmap_range_in(struct nrvs_run *run, const struct nrvs_target *target, const struct nrvs_words *frames, size_t count,
+				  uint64_t first, uint64_t base, uint64_t bytes);
+uint32_t nrvs_plan_protect_range_in(struct nrvs_run *run, const struct nrvs_target *target, const struct nrvs_words *frames, size_t count,
+				    uint64_t first, uint64_t base, uint64_t bytes, uint32_t rights);
+uint32_t nrvs_plan_harvest_range_in(struct nrvs_run *run, const struct nrvs_target *target, const struct nrvs_words *frames, size_t count,
+				    uint64_t first, uint64_t base, uint64_t bytes);
+
+/* What word i of a run becomes, where it is `word`. */
+static inline uint64_t nrvs_run_word(const struct nrvs_run *run, uint64_t i, uint64_t word)
+{
+	return (word & run->keep) + run->first_word + i * run->step;
+}
+
+/* One word by an exchange: what was there. */
+static inline uint64_t nrvs_run_exchange(uint64_t *at, uint64_t keep, uint64_t next)
+{
+	uint64_t was = __atomic_load_n(at, __ATOMIC_RELAXED);
+	while (!__atomic_compare_exchange_n(at, &was, (was & keep) + next, 0, __ATOMIC_SEQ_CST, __ATOMIC_RELAXED))
+		;
+	return was;
+}
+
+/* Carries a run out in the words of its frame, from the first to the last, each by one exchange of what is there: flags that a processor
+ * has set meanwhile are kept, or found. By a map, whose words aren't present, a store does: no processor writes those. What each finds
+ * goes to `found`, room for run->count words, or NULL. This is C, and not proved; it is tested (tests/plans).
+ */
+static inline void nrvs_run_carry_out(const struct nrvs_run *run, uint64_t *words, uint64_t *found)
+{
+	uint64_t *at = words + run->index, *end = at + run->count, keep = run->keep, next = run->first_word, i;
+	const uint64_t count = run->count, step = run->step;
+
+	if (step) {
+		for (i = 0; i < count; i++, next += step) {
+			if (found)
+				found[i] = __atomic_load_n(at + i, __ATOMIC_RELAXED);
+			__atomic_store_n(at + i, next, __ATOMIC_RELEASE);
+		}
+	} else if (keep && found) {
+		for (i = 0; i < count; i++)
+			found[i] = nrvs_run_exchange(at + i, keep, next);
+	} else if (keep) {
+		for (; at != end; at++)
+			nrvs_run_exchange(at, keep, next);
+	} else {
+		for (i = 0; i < count; i++) {
+			uint64_t was = __atomic_exchange_n(at + i, next, __ATOMIC_SEQ_CST);
+			if (found)
+				found[i] = was;
+		}
+	}
+}
 
 #ifdef __cplusplus
 }

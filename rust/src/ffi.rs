@@ -93,6 +93,26 @@ pub(crate) struct Plan {
     own: [u64; 19],
 }
 
+/// A range, how far it is, and a run of words of one table.
+#[cfg(feature = "plans")]
+#[derive(Debug, Default)]
+#[repr(C)]
+pub(crate) struct Run {
+    pub(crate) frame: u64,
+    pub(crate) index: u64,
+    pub(crate) count: u64,
+    pub(crate) keep: u64,
+    pub(crate) first_word: u64,
+    pub(crate) step: u64,
+    pub(crate) size: u32,
+    pub(crate) flush: u32,
+    pub(crate) covered: u64,
+    pub(crate) base: u64,
+    bytes: u64,
+    own: u64,
+    pub(crate) plan: Plan,
+}
+
 extern "C" {
     pub(crate) fn nrvs_table_new(
         table: *mut Table,
@@ -238,6 +258,52 @@ extern "C" {
 
     #[cfg(feature = "plans")]
     pub(crate) fn nrvs_plan_give_none(plan: *mut Plan) -> u32;
+
+    #[cfg(feature = "plans")]
+    pub(crate) fn nrvs_plan_map_range(
+        run: *mut Run,
+        target: *const Target,
+        base: u64,
+        size: u32,
+        physical: u64,
+        rights: u32,
+        bits: u64,
+        bytes: u64,
+    ) -> u32;
+
+    #[cfg(feature = "plans")]
+    pub(crate) fn nrvs_plan_unmap_range(
+        run: *mut Run,
+        target: *const Target,
+        base: u64,
+        bytes: u64,
+    ) -> u32;
+
+    #[cfg(feature = "plans")]
+    pub(crate) fn nrvs_plan_protect_range(
+        run: *mut Run,
+        target: *const Target,
+        base: u64,
+        bytes: u64,
+        rights: u32,
+    ) -> u32;
+
+    #[cfg(feature = "plans")]
+    pub(crate) fn nrvs_plan_harvest_range(
+        run: *mut Run,
+        target: *const Target,
+        base: u64,
+        bytes: u64,
+    ) -> u32;
+
+    #[cfg(feature = "plans")]
+    pub(crate) fn nrvs_run_see(run: *mut Run, words: *const u64) -> u32;
+
+    #[cfg(feature = "plans")]
+    pub(crate) fn nrvs_run_give(run: *mut Run, frame: u64) -> u32;
+
+    #[cfg(feature = "plans")]
+    pub(crate) fn nrvs_run_give_none(run: *mut Run) -> u32;
 
     #[cfg(feature = "plans")]
     pub(crate) fn nrvs_plan_again(plan: *mut Plan, index: u64, found: u64) -> u32;

@@ -48,6 +48,8 @@ pub mod nodes;
 mod page;
 #[cfg(feature = "plans")]
 mod plan;
+#[cfg(feature = "plans")]
+mod range;
 mod table;
 
 #[cfg(feature = "audit")]
@@ -59,4 +61,6 @@ pub use plan::{
     Answer, BadPlan, Fill, Flush, Give, NotAsked, Plan, Planner, Request, See, Step, Store, Target,
     ATTRIBUTES,
 };
+#[cfg(feature = "plans")]
+pub use range::{GiveRange, RangePlanner, RangeRequest, RangeStep, Run, SeeRange};
 pub use table::PageTable;

@@ -274,7 +274,7 @@ pub struct Give<'p>(&'p mut ffi::Plan);
 
 /// A plan that is there, to be carried out under the same lock: the fill, the stores, the flush; then the unlinked frames are free.
 #[derive(Debug)]
-pub struct Plan<'p>(&'p mut ffi::Plan);
+pub struct Plan<'p>(pub(crate) &'p mut ffi::Plan);
 
 /// The step that a status means.
 fn step(plan: &mut ffi::Plan, status: u32) -> Step<'_> {
@@ -298,24 +298,37 @@ impl Planner {
     ///
     /// What is wrong with the target or the request.
     pub fn begin(&mut self, target: &Target, request: Request) -> Result<Step<'_>, BadPlan> {
-        let target = ffi::Target {
-            root: target.root,
-            levels: target.depth as u32,
-            phys_bits: target.phys_bits,
-            pinned: target.pinned,
-        };
-        match begin(&mut self.0, &target, request) {
-            10 => Err(BadPlan::Request(BadRequest::NotCanonical)),
-            11 => Err(BadPlan::Request(BadRequest::Unaligned)),
-            12 => Err(BadPlan::Request(BadRequest::PhysUnaligned)),
-            13 => Err(BadPlan::Request(BadRequest::PhysRange)),
-            14 => Err(BadPlan::PhysBits),
-            15 => Err(BadPlan::Bits),
-            16 => Err(BadPlan::Root),
-            18 => Err(BadPlan::Part),
-            status => Ok(step(&mut self.0, status)),
+        let status = begin(&mut self.0, &of_target(target), request);
+        match fault(status) {
+            Some(bad) => Err(bad),
+            None => Ok(step(&mut self.0, status)),
         }
     }
+}
+
+/// The target, as C has it.
+pub(crate) fn of_target(target: &Target) -> ffi::Target {
+    ffi::Target {
+        root: target.root,
+        levels: target.depth as u32,
+        phys_bits: target.phys_bits,
+        pinned: target.pinned,
+    }
+}
+
+/// What is wrong, by the status of a call that begins something.
+pub(crate) fn fault(status: u32) -> Option<BadPlan> {
+    Some(match status {
+        10 => BadPlan::Request(BadRequest::NotCanonical),
+        11 => BadPlan::Request(BadRequest::Unaligned),
+        12 => BadPlan::Request(BadRequest::PhysUnaligned),
+        13 => BadPlan::Request(BadRequest::PhysRange),
+        14 => BadPlan::PhysBits,
+        15 => BadPlan::Bits,
+        16 => BadPlan::Root,
+        18 => BadPlan::Part,
+        _ => return None,
+    })
 }
 
 fn begin(plan: &mut ffi::Plan, target: &ffi::Target, request: Request) -> u32 {

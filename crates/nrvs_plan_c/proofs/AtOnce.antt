@@ -12,7 +12,7 @@ use Rattle.vs_plan.specs.Request.{IsRequest, request_fault}
 use Rattle.nrvs_plan_c.specs.declared.kept.Plan.{Plan}
 use Rattle.nrvs_plan_c.specs.declared.kept.Target.{Target}
 use Rattle.nrvs_plan_c.specs.declared.kept.Words.{Words}
-use Rattle.nrvs_plan_c.specs.Direct.{HasFrames, HasSeen}
+use Rattle.nrvs_plan_c.specs.Direct.{HasFramesWithin, HasSeen}
 use Rattle.nrvs_plan_c.specs.Kept.{IsWaiting, page_in, phase_in, planner_in, target_of}
 use Rattle.nrvs_plan_c.specs.Next.{IsPlanned, status_in}
 use Rattle.nrvs_plan_c.specs.Status.{begun_status, target_status}
@@ -20,7 +20,7 @@ use Rattle.nrvs_plan_c.specs.inside.End.{IsAskable, IsMade}
 use Rattle.nrvs_plan_c.proofs.Faults.{no_fault}
 
 pub seen_at_once : {target : targets.Target} {request : Request} {first : ℕ} {frames : List Words} {plan : Plan} → IsMade plan
-    → ((memory : Memory) → HasFrames memory first frames → IsPlanned target request memory plan []) → HasSeen target request first frames plan 0
+    → ((memory : Memory) → HasFramesWithin target memory first frames → IsPlanned target request memory plan []) → HasSeen target request first frames plan 0
 seen_at_once {plan = plan} made planned = record {
   sound = record {
     room = omega (arith, made.few);

@@ -79,7 +79,8 @@ module _ {depth : Depth} {memory : Memory} {root address : ℕ} where
 
   module _ {level number word : ℕ} {rights : Rights} (way : IsWay depth memory root address level number rights)
       (there : word_at memory number (index_at level address) ≡ Some word) where
-    met_on : (k : ℕ) → level ≤ k → k ≤ levels depth → IsTableMet depth memory root address k (number_on depth memory root address k) (word_on depth memory root address k)
+    met_on : (k : ℕ) → level ≤ k → k ≤ levels depth
+        → IsTableMet depth memory root address k (number_on depth memory root address k) (word_on depth memory root address k)
     met_on k from to =
         let at = met_at level number rights way word there k from to in
         let met = at.2 in

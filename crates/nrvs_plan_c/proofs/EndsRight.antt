@@ -121,7 +121,8 @@ module _ {target : Target} {memory : Memory} {base : ℕ} {end : End} where
       → RightFor memory [] (made (replies.Answer (answers.Mapped (end.word % 2 ^ 52 / 2 ^ 12 * 2 ^ 12 + base % 4096) K4
       (intersection (rights_at end.allowed) (rights_of end.word)))) (bits_in K4 end.word) [] flushes.Nothing) target (Ask base)
   ask_page good is odd space premise =
-      ask_right {p = gone target (Ask base) memory end 0} (at_end target (Ask base) memory end 0 refl (omega arith) good) (leaf_here end.word odd) refl _ (none_made _ _) memory
+      ask_right {p = gone target (Ask base) memory end 0} (at_end target (Ask base) memory end 0 refl (omega arith) good)
+      (leaf_here end.word odd) refl _ (none_made _ _) memory
       (has_ended target (Ask base) memory end 0 refl (omega arith) is (omega arith) (λ b eq low. absurd (cc))) space premise
 
   module _ {rights : Rights} (good : IsRequest target (Protect base rights)) (is : IsEndOf target memory base end) (odd : end.word % 2 ≡ 1) where
@@ -195,12 +196,14 @@ module _ {target : Target} {memory : Memory} {base : ℕ} {end : End} where
     unmap_to : (stop : ℕ) → stop ≤ 1 → HasEnded memory (gone target (Unmap base) memory end stop) end.word → Removed
     unmap_to stop low ended space premise =
         let none : 0 ≡ stop - 1 = omega (arith, low) in
-        unmap_right {p = gone target (Unmap base) memory end stop} (at_end target (Unmap base) memory end stop refl low good) (leaf_here end.word odd) refl good.whole _ 0 none refl refl refl
+        unmap_right {p = gone target (Unmap base) memory end stop} (at_end target (Unmap base) memory end stop refl low good)
+        (leaf_here end.word odd) refl good.whole _ 0 none refl refl refl
         (ap (λ i. store_at end.number i end.word 0 ∷ []) is.index) refl refl memory ended space premise
 
     pub unmap_page : Stays target memory base end → Removed
     unmap_page stays = ⊎_elim
-        (λ (more : 1 < highest_link target). unmap_to 1 (omega arith) (has_ended target (Unmap base) memory end 1 refl (omega arith) is (omega (arith, more)) (λ b eq low. (
+        (λ (more : 1 < highest_link target). unmap_to 1 (omega arith)
+        (has_ended target (Unmap base) memory end 1 refl (omega arith) is (omega (arith, more)) (λ b eq low. (
           omega arith,
           ⊎_elim (λ le. absurd (omega (arith, le, more))) (λ other. other) stays,
         ))))

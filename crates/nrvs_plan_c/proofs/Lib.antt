@@ -7,3 +7,5 @@ mod EndsTold
 mod AllowedBits
 mod Walking
 mod AtOnce
+mod RunNumbers
+mod RangesMoved

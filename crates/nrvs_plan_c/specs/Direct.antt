@@ -6,6 +6,7 @@ use Rattle.vs_plan.specs.declared.plan.TheConstants.{MOST_UNLINKED}
 use Rattle.vs_plan.specs.declared.request.Request.{Request}
 use Rattle.vs_plan.specs.declared.target.Target.{Target}
 use Rattle.vs_plan.specs.Planner.{frames_given}
+use Rattle.vs_plan.specs.Target.{frames_end}
 use Rattle.nrvs_plan_c.specs.declared.codes.TheConstants.{ENDED}
 use Rattle.nrvs_plan_c.specs.declared.kept.Plan.{Plan}
 use Rattle.nrvs_plan_c.specs.declared.kept.Words.{Words}
@@ -16,6 +17,11 @@ use Rattle.nrvs_plan_c.specs.Next.{IsNextFor, status_in}
 abbrev pub HasFrames : Memory → ℕ → List Words → Type 0
 HasFrames memory first frames = (i : ℕ) (words : Words) → i < length frames → words ≡ slice_index_or frames i words
     → finite.get memory (first + i) ≡ Some words.word
+
+-- the memory has those of these frames that lie within the physical addresses
+abbrev pub HasFramesWithin : Target → Memory → ℕ → List Words → Type 0
+HasFramesWithin target memory first frames = (i : ℕ) (words : Words) → i < length frames → first + i < frames_end target
+    → words ≡ slice_index_or frames i words → finite.get memory (first + i) ≡ Some words.word
 
 -- a frame is none of so many, from a number on
 abbrev pub IsElsewhere : ℕ → ℕ → ℕ → Type 0
@@ -30,4 +36,4 @@ pub record HasSeen (target : Target) (request : Request) (first : ℕ) (frames :
   pub ended : status ≡ 0 → plan.way.phase ≡ ENDED
   pub named : status ≡ 0 → plan.unlinked_count ≤ MOST_UNLINKED
   pub kept : status ≢ 0 → (target_in plan.call ≡ target) × (request_in plan.call ≡ request)
-  pub next : (memory : Memory) → HasFrames memory first frames → IsNextFor target request memory plan [] status
+  pub next : (memory : Memory) → HasFramesWithin target memory first frames → IsNextFor target request memory plan [] status

@@ -3,4 +3,6 @@ pub mod Kept
 pub mod Told
 pub mod Next
 pub mod Direct
+pub mod Range
+pub mod RangeIn
 pub mod inside

@@ -1,11 +1,12 @@
 //! Plans that are made by one way down, over frames that lie one after another in memory: of pages of 4 KiB, where no table is linked or
 //! unlinked.
-ghost use Rattle.std.specs.Prelude.{◌≡◌, ◌%◌, ◌<◌, ℕ, IsFalse, IsTrue, nat_lt, if◌then◌else◌};
+ghost use Rattle.std.specs.Prelude.{◌≡◌, ◌+◌, ◌%◌, ◌<◌, ◌≤◌, ℕ, IsFalse, IsTrue, length, nat_lt, if◌then◌else◌};
 ghost use Rattle.vs_types.specs.Depth.{index_at};
 ghost use Rattle.vs_walk.specs.Memory.{Memory};
 ghost use Rattle.vs_plan.specs.declared.request.Request.{Request};
 ghost use Rattle.vs_plan.specs.Request.{request_fault};
-ghost use Rattle.nrvs_plan_c.specs.Direct.{HasFrames, HasSeen};
+ghost use Rattle.vs_plan.specs.Target.{frames_end};
+ghost use Rattle.nrvs_plan_c.specs.Direct.{HasFramesWithin, HasSeen};
 ghost use Rattle.nrvs_plan_c.specs.Kept.{page_in, rights_in, target_of};
 ghost use Rattle.nrvs_plan_c.specs.Status.{begun_status, target_status};
 ghost use Rattle.nrvs_plan_c.specs.inside.End.{Stays};
@@ -162,8 +163,10 @@ pub(crate) fn asks_at_once(
 /// Whether the entry at the end can be cleared, and its table stays linked: it is no page, or the table has another word or stays whatever it
 /// has.
 fn may_clear(frames: &[Words], first: u64, target: &Target, end: End) -> bool
-    requires { end.index < 512 }
-    ensures { IsTrue result → (memory : Memory) (address : ℕ) → HasFrames memory first frames.now
+    requires index { end.index < 512 }
+    requires within { first + length frames.now ≤ frames_end (target_of target.now) }
+    ensures { IsTrue result → (memory : Memory) (address : ℕ)
+        → HasFramesWithin (target_of target.now) memory first frames.now
         → end.index ≡ index_at 1 address → end.word % 2 ≡ 1
         → Stays (target_of target.now) memory address end }
 {

@@ -9,9 +9,10 @@ ghost use Rattle.nrvs_plan_c.specs.Status.{begun_status, target_status};
 use crate::at_once::{
     asks_at_once, maps_at_once, protects_at_once, remaps_at_once, unmaps_at_once,
 };
-use crate::in_steps::{
-    ask_in_steps, map_in_steps, protect_in_steps, remap_in_steps, unmap_in_steps,
+use crate::exports::{
+    nrvs_plan_ask, nrvs_plan_map, nrvs_plan_protect, nrvs_plan_remap, nrvs_plan_unmap,
 };
+use crate::in_steps::go_on_in;
 use crate::kept::{Plan, Target, Words};
 use crate::status::PLANNED;
 
@@ -45,9 +46,8 @@ pub extern "C" fn nrvs_plan_map_in(
     ) {
         return PLANNED;
     }
-    map_in_steps(
-        plan, target, frames, first, base, size, physical, rights, bits,
-    )
+    let begun = nrvs_plan_map(plan, target, base, size, physical, rights, bits);
+    go_on_in(plan, begun, frames, first)
 }
 
 /// The plan of an unmap, as far as the frames that are asked for lie here.
@@ -70,7 +70,8 @@ pub extern "C" fn nrvs_plan_unmap_in(
     if unmaps_at_once(plan, target, frames, first, base) {
         return PLANNED;
     }
-    unmap_in_steps(plan, target, frames, first, base)
+    let begun = nrvs_plan_unmap(plan, target, base);
+    go_on_in(plan, begun, frames, first)
 }
 
 /// The plan of a protect, as far as the frames that are asked for lie here.
@@ -96,7 +97,8 @@ pub extern "C" fn nrvs_plan_protect_in(
     if protects_at_once(plan, target, frames, first, base, rights) {
         return PLANNED;
     }
-    protect_in_steps(plan, target, frames, first, base, rights)
+    let begun = nrvs_plan_protect(plan, target, base, rights);
+    go_on_in(plan, begun, frames, first)
 }
 
 /// The plan of a remap, as far as the frames that are asked for lie here.
@@ -123,7 +125,8 @@ pub extern "C" fn nrvs_plan_remap_in(
     if remaps_at_once(plan, target, frames, first, base, physical, rights) {
         return PLANNED;
     }
-    remap_in_steps(plan, target, frames, first, base, physical, rights)
+    let begun = nrvs_plan_remap(plan, target, base, physical, rights);
+    go_on_in(plan, begun, frames, first)
 }
 
 /// The plan of a question, as far as the frames that are asked for lie here.
@@ -146,5 +149,6 @@ pub extern "C" fn nrvs_plan_ask_in(
     if asks_at_once(plan, target, frames, first, address) {
         return PLANNED;
     }
-    ask_in_steps(plan, target, frames, first, address)
+    let begun = nrvs_plan_ask(plan, target, address);
+    go_on_in(plan, begun, frames, first)
 }

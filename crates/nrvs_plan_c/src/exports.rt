@@ -27,6 +27,7 @@ use vs_plan::FrameWords;
 use vs_types::index_at;
 
 /// Begins the plan of a map.
+#[inline(never)]
 #[unsafe(no_mangle)]
 pub extern "C" fn nrvs_plan_map(
     plan: &mut Plan,
@@ -68,6 +69,7 @@ pub extern "C" fn nrvs_plan_map(
 }
 
 /// Begins the plan of an unmap.
+#[inline(never)]
 #[unsafe(no_mangle)]
 pub extern "C" fn nrvs_plan_unmap(plan: &mut Plan, target: &Target, base: u64) -> u32
     ensures status { result ≡ target_status target.now.levels target.now.phys_bits
@@ -84,6 +86,7 @@ pub extern "C" fn nrvs_plan_unmap(plan: &mut Plan, target: &Target, base: u64) -
 }
 
 /// Begins the plan of a protect.
+#[inline(never)]
 #[unsafe(no_mangle)]
 pub extern "C" fn nrvs_plan_protect(plan: &mut Plan, target: &Target, base: u64, rights: u32) -> u32
     ensures status { result ≡ target_status target.now.levels target.now.phys_bits
@@ -110,6 +113,7 @@ pub extern "C" fn nrvs_plan_protect(plan: &mut Plan, target: &Target, base: u64,
 }
 
 /// Begins the plan of a remap.
+#[inline(never)]
 #[unsafe(no_mangle)]
 pub extern "C" fn nrvs_plan_remap(
     plan: &mut Plan,
@@ -175,6 +179,7 @@ pub extern "C" fn nrvs_plan_join(plan: &mut Plan, target: &Target, base: u64) ->
 }
 
 /// Begins to look at an address.
+#[inline(never)]
 #[unsafe(no_mangle)]
 pub extern "C" fn nrvs_plan_ask(plan: &mut Plan, target: &Target, address: u64) -> u32
     ensures status { result ≡ target_status target.now.levels target.now.phys_bits

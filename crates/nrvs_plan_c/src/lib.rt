@@ -17,10 +17,14 @@ mod kept;
 pub mod laws;
 mod next;
 mod parts;
+mod range;
+mod range_in;
+mod run_told;
 mod status;
 mod told;
 mod walk;
 mod written;
 
 pub use kept::{Call, Met, Plan, Target, Way, Words};
+pub use range::Run;
 pub use told::Reply;

@@ -49,6 +49,18 @@ pub(crate) const BAD_PART: u32 = 18;
 /// A frame is to be given.
 pub(crate) const GIVE: u32 = 33;
 
+/// A run is there.
+pub(crate) const RUN: u32 = 34;
+
+/// A run that takes flags away is there.
+pub(crate) const HARVEST: u32 = 35;
+
+/// No page lies there.
+pub(crate) const ABSENT: u32 = 36;
+
+/// The page that begins there ends beyond the range.
+pub(crate) const BEYOND: u32 = 37;
+
 /// The status of a request for which there is no plan.
 pub(crate) fn status_of(fault: BadRequest) -> u32
     ensures { result ≡ status_of fault }

@@ -1,10 +1,11 @@
 //! The way of an address down to a table of level 1, over frames that lie one after another in memory.
-ghost use Rattle.std.specs.Prelude.{◌≡◌, ◌≢◌, ◌-◌, ◌/◌, ◌%◌, ◌<◌, ◌≤◌, ◌^◌, ℕ, IfNone, IfSome, IsTrue, length, slice_index, slice_index_or};
+ghost use Rattle.std.specs.Prelude.{◌≡◌, ◌≢◌, ◌+◌, ◌-◌, ◌/◌, ◌%◌, ◌<◌, ◌≤◌, ◌^◌, ℕ, IfNone, IfSome, IsTrue, length, slice_index, slice_index_or};
 ghost use Rattle.vs_types.specs.Entry.{meaning, rights_of};
 ghost use Rattle.vs_types.specs.declared.entry.Meaning.{Meaning};
 ghost use Rattle.vs_types.specs.declared.frame.TheConstants.{FRAME_WORDS};
 ghost use Rattle.vs_walk.specs.Memory.{Memory};
-ghost use Rattle.nrvs_plan_c.specs.Direct.{HasFrames, IsElsewhere};
+ghost use Rattle.vs_plan.specs.Target.{frames_end};
+ghost use Rattle.nrvs_plan_c.specs.Direct.{HasFramesWithin, IsElsewhere};
 ghost use Rattle.nrvs_plan_c.specs.Kept.{target_of};
 ghost use Rattle.nrvs_plan_c.specs.inside.End.{IsAskable, IsEndOf};
 
@@ -16,10 +17,14 @@ use vs_types::{FRAME_WORDS, index_at};
 
 /// The end of the way of an address, where target and address may be asked for, and it leads to a table of level 1 by frames that all
 /// lie here.
+#[inline(always)]
 pub(crate) fn end_in(frames: &[Words], first: u64, target: &Target, address: u64) -> Option<End>
     ensures askable { IfSome result (λ end. IsAskable target.now address) }
     ensures index { IfSome result (λ end. end.index < 512) }
-    ensures end { IfSome result (λ end. (memory : Memory) → HasFrames memory first frames.now
+    ensures within { IfSome result (λ end. first + length frames.now
+        ≤ frames_end (target_of target.now)) }
+    ensures end { IfSome result (λ end. (memory : Memory)
+        → HasFramesWithin (target_of target.now) memory first frames.now
         → IsEndOf (target_of target.now) memory address end) }
 {
     if !is_askable(target, address) {
@@ -71,6 +76,7 @@ fn is_askable(target: &Target, address: u64) -> bool
 fn are_within(frames: &[Words], first: u64, phys_bits: u32) -> bool
     requires from { 36 ≤ phys_bits }
     requires to { phys_bits ≤ 52 }
+    ensures { IsTrue result → first + length frames.now ≤ 2 ^ (phys_bits - 12) }
 {
     let end = 1u64 << (phys_bits - 12);
     first <= end && frames.len() as u64 <= end - first

@@ -16,7 +16,7 @@ use Rattle.vs_plan.specs.Stores.{stored, FindTheirWords}
 use Rattle.vs_plan.proofs.Stored.{used_word}
 use Rattle.vs_range.specs.declared.planner.RangePlanner.{RangePlanner}
 use Rattle.vs_range.specs.declared.run.Run.{Run}
-use Rattle.vs_range.specs.Planner.{IsPageWord, IsHarvestNext, harvest_run}
+use Rattle.vs_range.specs.Planner.{IsPageWord, IsLongest, IsHarvestNext, harvest_run}
 use Rattle.vs_range.specs.Run.{store_of, stores_from}
 use Rattle.vs_range.proofs.PageFlushes.{one_of}
 
@@ -72,14 +72,17 @@ module _ (size : Size) (base frame index level : ℕ) (words : List ℕ) where
 pub harvest_next : (memory : Memory) (range : RangePlanner) (words : List ℕ) (size : Size) (index count : ℕ)
     → finite.get memory range.planner.number ≡ Some words → 1 ≤ count → count * bytes_of size ≤ range.bytes
     → ((k : ℕ) → k < count → IsPageWord range.planner.level (slice_index words (index + k)))
+    → IsLongest memory range (harvest_run size range.base count range.planner.number index)
     → IsHarvestNext memory range (harvest_run size range.base count range.planner.number index)
-harvest_next memory range words size index count got some within pages =
+harvest_next memory range words size index count got some within pages longest =
     let same : stores_from (harvest_run size range.base count range.planner.number index) words 0 count
     ≡ stores_from (harvest_run size range.base count range.planner.number index) (unwrap_or (finite.get memory range.planner.number) []) 0 count =
     ap (λ (o : Option (List ℕ)). stores_from (harvest_run size range.base count range.planner.number index) (unwrap_or o []) 0 count) (sym got) in
     record {
       some = some;
       within = within;
+      longest = longest;
+      forgets = refl;
       found = subst (FindTheirWords memory) same
           (stores_find (harvest_run size range.base count range.planner.number index) words count 0 memory
           (λ k from below. word_of memory range.planner.number (index + k) (Some words) got));

@@ -1,6 +1,7 @@
 pub mod Stands
 pub mod Unlinked
 pub mod Several
+pub mod Between
 pub mod OnTable
 pub mod Moments
 pub mod Sequence
@@ -13,3 +14,4 @@ pub mod Seeing
 pub mod Rooms
 pub mod Holes
 pub mod Harvesting
+pub mod Fours

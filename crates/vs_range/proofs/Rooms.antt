@@ -1,5 +1,6 @@
 -- How far pages reach.
-use Rattle.std.proofs.Common.{◌≡◌, ℕ, ◌+◌, ◌*◌, ◌-◌, ◌^◌, ◌≤◌, min, arith}
+use Rattle.std.proofs.Common.{◌≡◌, ℕ, ◌+◌, ◌*◌, ◌-◌, ◌^◌, ◌<◌, ◌≤◌, ◌⊎◌, inl, inr, ⊎_elim, subst, min, arith}
+use Rattle.std.proofs.lemmas.Bool.{cases_lt}
 use Rattle.vs_types.specs.Page.{bytes_of}
 use Rattle.vs_types.specs.declared.page.Size.{Size}
 use lib.Pow.{pow_mono}
@@ -17,3 +18,36 @@ module _ (size : Size) (phys end bits count : ℕ) (end_is : end ≡ 2 ^ min bit
       let le : min bits 51 ≤ bits = omega arith in
       let own : 2 ^ min bits 51 ≤ 2 ^ bits = pow_mono {j = bits} le in
       omega arith
+
+-- where fewer than 512 are said, one more would go beyond the last physical address
+pub room_most : (size : Size) (phys end bits counted result : ℕ) → end ≡ 2 ^ min bits 51 → phys ≤ end → end - phys < (counted + 1) * bytes_of size
+    → (result < 512 → counted ≡ result) → result ≤ 512 → (result ≡ 512) ⊎ (2 ^ min bits 51 < phys + (result + 1) * bytes_of size)
+room_most size phys end bits counted result end_is within most same few = ⊎_elim
+    (λ (low : result < 512).
+    let less : end - phys < (result + 1) * bytes_of size = subst (λ n. end - phys < (n + 1) * bytes_of size) (same low) most in
+    inr (subst (λ e. e < phys + (result + 1) * bytes_of size) end_is (omega (arith, less, within))))
+    (λ (high : 512 ≤ result). inl (omega arith))
+    (cases_lt result 512)
+
+-- the table ends, or the range
+pub here_most : (index result left bytes one : ℕ) → (index + result < 512 → left ≡ result) → index + result ≤ 512 → bytes < (left + 1) * one
+    → (index + result ≡ 512) ⊎ (bytes < (result + 1) * one)
+here_most index result left bytes one same few most = ⊎_elim
+    (λ (low : index + result < 512). inr (subst (λ n. bytes < (n + 1) * one) (same low) most))
+    (λ (high : 512 ≤ index + result). inl (omega arith))
+    (cases_lt (index + result) 512)
+
+-- the table ends, or the range, or the physical addresses
+pub mapped_most : (index here own result bytes one phys end : ℕ) → (here ≤ own → here ≡ result) → (own < here → own ≡ result)
+    → index + here ≤ 512 → (index + here ≡ 512) ⊎ (bytes < (here + 1) * one) → (own ≡ 512) ⊎ (end < phys + (own + 1) * one)
+    → (index + result ≡ 512) ⊎ ((bytes < (result + 1) * one) ⊎ (end < phys + (result + 1) * one))
+mapped_most index here own result bytes one phys end first second few table last = ⊎_elim
+    (λ (less : own < here). ⊎_elim
+    (λ (e : own ≡ 512). inl (omega (arith, few, less, second less)))
+    (λ (e : end < phys + (own + 1) * one). inr (inr (subst (λ n. end < phys + (n + 1) * one) (second less) e)))
+    last)
+    (λ (le : here ≤ own). ⊎_elim
+    (λ (e : index + here ≡ 512). inl (subst (λ n. index + n ≡ 512) (first le) e))
+    (λ (e : bytes < (here + 1) * one). inr (inl (subst (λ n. bytes < (n + 1) * one) (first le) e)))
+    table)
+    (cases_lt own here)

@@ -1,6 +1,6 @@
 -- What the planner of a range has seen makes its run right.
-use Rattle.std.proofs.Common.{◌≡◌, ◌≢◌, ℕ, ◌+◌, ◌-◌, ◌*◌, ◌%◌, ◌<◌, ◌≤◌, List, Option, Some, ⊎_elim, refl, sym, ap, subst, ◌∙◌, arith}
-use Rattle.std.specs.Prelude.{slice_index}
+use Rattle.std.proofs.Common.{◌≡◌, ◌≢◌, ℕ, ◌+◌, ◌-◌, ◌*◌, ◌%◌, ◌<◌, ◌≤◌, ◌⊎◌, List, [], Bool, true, false, Option, Some, inl, inr, ⊎_elim, refl, sym, ap, subst, ◌∙◌, arith}
+use Rattle.std.specs.Prelude.{IsFalse, cond, slice_index, unwrap_or}
 use Rattle.std.specs.FinMap as finite
 use Rattle.std.proofs.lemmas.Bool.{cases_lt}
 use Rattle.vs_types.specs.Depth.{levels, index_at, entry_bytes, IsCanonical}
@@ -19,7 +19,8 @@ use Rattle.vs_plan.specs.declared.plan.Step.{Step}
 use Rattle.vs_plan.specs.declared.plan.Step.TheVariants as steps
 use Rattle.vs_plan.specs.declared.planner.Phase.TheVariants.{Descent}
 use Rattle.vs_plan.specs.declared.planner.Planner.{Planner}
-use Rattle.vs_plan.specs.declared.request.Request.TheVariants.{Map, Unmap, Protect}
+use Rattle.vs_plan.specs.declared.request.Request.{Request}
+use Rattle.vs_plan.specs.declared.request.Request.TheVariants.{Map, Unmap, Protect, Ask}
 use Rattle.vs_plan.specs.Planner.{Awaits}
 use Rattle.vs_plan.specs.Premise.{IsPremise}
 use Rattle.vs_plan.specs.Request.{IsRequest, address_of}
@@ -30,7 +31,8 @@ use Rattle.vs_plan.proofs.Pages.{page_here}
 use Rattle.vs_plan.proofs.Stored.{even_absent}
 use Rattle.vs_range.specs.declared.planner.RangePlanner.{RangePlanner}
 use Rattle.vs_range.specs.Planner.{IsRanged, AwaitsRange, AwaitsNext, as_range, IsPageWord, IsPageAt, IsMapRoom, HasOther, map_run, protect_run, unmap_run}
-use Rattle.vs_range.specs.Planner.{EndsBeyond, IsAbsentFor, IsRunNext, IsRangeNext}
+use Rattle.vs_range.specs.declared.run.Run.{Run}
+use Rattle.vs_range.specs.Planner.{EndsBeyond, EndsWith, IsLongest, IsAbsentFor, IsRunNext, IsRangeNext}
 use Rattle.vs_range.specs.Run.{IsRunRight}
 use Rattle.vs_range.proofs.Holes.{rest_low, some_left, hole}
 use Rattle.vs_range.proofs.MapRun.{map_run_right}
@@ -73,9 +75,75 @@ last_word words before level index count same some pages nothing =
     let both : entry.Leaf is.phys is.own ≡ entry.Absent = sym is.says ∙ ap (meaning level) none ∙ even_absent level 0 refl in
     cc
 
+-- dealt with by itself, the first page's table is asked for once less
+pub alone_fewer : (level : ℕ) (alone : Bool) → IsFalse alone → level + cond true 0 1 < level + cond alone 0 1
+alone_fewer level true is = absurd (cc)
+alone_fewer level false is = omega arith
+
 pub few_levels : (depth : Depth) → levels depth ≤ 5
 few_levels Four = omega arith
 few_levels Five = omega arith
+
+-- ---- how long a run is
+
+-- so many pages, where there is room for more: the word behind them ends the run, or else what ends the room
+pub ends_here : {A : Type 0} (index count most bytes one : ℕ) → count ≤ most → (count < most → A)
+    → (index + most ≡ 512) ⊎ (bytes < (most + 1) * one) → (index + count ≡ 512) ⊎ ((bytes < (count + 1) * one) ⊎ A)
+ends_here {A} index count most bytes one few word room = ⊎_elim
+    (λ (less : count < most). inr (inr (word less)))
+    (λ (all : most ≤ count).
+    let same : most ≡ count = omega arith in
+    ⊎_elim
+    (λ (e : index + most ≡ 512). inl (omega arith))
+    (λ (e : bytes < (most + 1) * one). inr (inl (subst (λ n. bytes < (n + 1) * one) same e)))
+    room)
+    (cases_lt count most)
+
+-- the same for a map, whose pages may end at the last physical address
+pub map_ends : {A : Type 0} (index count most bytes one phys end : ℕ) → count ≤ most → (count < most → A)
+    → (index + most ≡ 512) ⊎ ((bytes < (most + 1) * one) ⊎ (end < phys + (most + 1) * one))
+    → (index + count ≡ 512) ⊎ ((bytes < (count + 1) * one) ⊎ (A ⊎ (end < phys + (count + 1) * one)))
+map_ends {A} index count most bytes one phys end few word room = ⊎_elim
+    (λ (less : count < most). inr (inr (inl (word less))))
+    (λ (all : most ≤ count).
+    let same : most ≡ count = omega arith in
+    ⊎_elim
+    (λ (e : index + most ≡ 512). inl (omega arith))
+    (λ (e : (bytes < (most + 1) * one) ⊎ (end < phys + (most + 1) * one)). ⊎_elim
+    (λ (f : bytes < (most + 1) * one). inr (inl (subst (λ n. bytes < (n + 1) * one) same f)))
+    (λ (f : end < phys + (most + 1) * one). inr (inr (inr (subst (λ n. end < phys + (n + 1) * one) same f))))
+    e)
+    room)
+    (cases_lt count most)
+
+-- the same for an unmap, which may leave the last page of the table
+pub unmap_ends : (A : ℕ → Type 0) (words : List ℕ) (index count pages most bytes one : ℕ) → count ≤ pages → pages ≤ count + 1 → pages ≤ most
+    → (pages < most → A pages) → (index + most ≡ 512) ⊎ (bytes < (most + 1) * one)
+    → (count < pages → (i : ℕ) → i < 512 → (i < index) ⊎ (index + pages ≤ i) → slice_index words i ≡ 0)
+    → (index + count ≡ 512) ⊎ ((bytes < (count + 1) * one)
+    ⊎ (A count ⊎ ((i : ℕ) → i < 512 → (i < index) ⊎ (index + count < i) → slice_index words i ≡ 0)))
+unmap_ends A words index count pages most bytes one few least within word room alone = ⊎_elim
+    (λ (less : count < pages). inr (inr (inr (λ i low apart. alone less i low (⊎_elim
+    (λ (a : i < index). inl a)
+    (λ (b : index + count < i). let past : index + pages ≤ i = omega arith in inr past)
+    apart)))))
+    (λ (all : pages ≤ count).
+    let same : pages ≡ count = omega arith in
+    ⊎_elim
+    (λ (e : index + pages ≡ 512). inl (omega arith))
+    (λ (e : (bytes < (pages + 1) * one) ⊎ A pages). ⊎_elim
+    (λ (f : bytes < (pages + 1) * one). inr (inl (subst (λ n. bytes < (n + 1) * one) same f)))
+    (λ (a : A pages). inr (inr (inl (subst A same a))))
+    e)
+    (ends_here {A = A pages} index pages most bytes one within word room))
+    (cases_lt count pages)
+
+-- what ends a run of these words, for this request
+pub longest_as : (memory : Memory) (range : RangePlanner) (words : List ℕ) (run : Run) (request : Request) → range.planner.request ≡ request
+    → finite.get memory run.frame ≡ Some words → EndsWith range run words request → IsLongest memory range run
+longest_as memory range words run request same got ends =
+    subst (λ (q : Request). EndsWith range run (unwrap_or (finite.get memory run.frame) []) q) (sym same)
+    (subst (λ (ws : List ℕ). EndsWith range run ws request) (ap (λ (o : Option (List ℕ)). unwrap_or o []) (sym got)) ends)
 
 -- ---- the table in which the way ends
 
@@ -119,8 +187,10 @@ module _ (memory : Memory) (range : RangePlanner) (awaits : AwaitsRange range) (
 
   pub map_next : (page : Page) (bits word index count most : ℕ) → range.planner.request ≡ Map page bits → IsMapRoom range page word most
       → index ≡ index_at range.planner.level range.base → 1 ≤ count → count ≤ most
-      → ((k : ℕ) → k < count → slice_index words (index + k) % 2 ≡ 0) → IsRunNext memory range (map_run page bits count range.planner.number index)
-  map_next page bits word index count most request room index_is some few absent =
+      → ((k : ℕ) → k < count → slice_index words (index + k) % 2 ≡ 0)
+      → EndsWith range (map_run page bits count range.planner.number index) words (Map page bits)
+      → IsRunNext memory range (map_run page bits count range.planner.number index)
+  map_next page bits word index count most request room index_is some few absent ends =
       let asked : IsRequest range.planner.target (Map page bits) = subst (IsRequest range.planner.target) request awaits.words.request in
       let place : page.base ≡ range.base = sym (ap address_of request) ∙ awaits.base in
       let here : index ≡ index_at (level_of page.size) page.base =
@@ -128,6 +198,8 @@ module _ (memory : Memory) (range : RangePlanner) (awaits : AwaitsRange range) (
       record {
         some = some;
         within = room.within count few;
+        longest = longest_as memory range words (map_run page bits count range.planner.number index) (Map page bits) request got ends;
+        forgets = inl refl;
         right = λ space premise. subst (λ q. IsRunRight range.planner.target q memory space (map_run page bits count range.planner.number index)) (sym request)
             (map_run_right range.planner.target page bits count range.planner.number index words range.planner.rights asked here (omega (arith, room.room, index_is, few)) room.allows absent (room.low count few) (room.phys count few) memory space got
             (subst (λ a. IsAtTable range.planner.target memory space page.size a range.planner.number range.planner.rights) (sym place)
@@ -144,10 +216,13 @@ module _ (memory : Memory) (range : RangePlanner) (awaits : AwaitsRange range) (
   pub protect_next : (size : Size) (rights : Rights) (word index count : ℕ) → range.planner.request ≡ Protect range.base rights → IsPageAt range word size
       → intersection range.planner.rights rights ≡ rights → index ≡ index_at range.planner.level range.base → 1 ≤ count → index + count ≤ 512
       → count * bytes_of size ≤ range.bytes → ((k : ℕ) → k < count → IsPageWord range.planner.level (slice_index words (index + k)))
+      → EndsWith range (protect_run size range.base rights count range.planner.number index) words (Protect range.base rights)
       → IsRunNext memory range (protect_run size range.base rights count range.planner.number index)
-  protect_next size rights word index count request at allows index_is some room within pages = record {
+  protect_next size rights word index count request at allows index_is some room within pages ends = record {
     some = some;
     within = within;
+    longest = longest_as memory range words (protect_run size range.base rights count range.planner.number index) (Protect range.base rights) request got ends;
+    forgets = inr refl;
     right = λ space premise. subst (λ q. IsRunRight range.planner.target q memory space (protect_run size range.base rights count range.planner.number index))
         (sym request)
         (protect_run_right range.planner.target size range.base count range.planner.number index rights range.planner.rights words (subst (IsRequest range.planner.target) request awaits.words.request) at.aligned (index_is ∙ ap (λ l. index_at l range.base) at.level)
@@ -168,10 +243,13 @@ module _ (memory : Memory) (range : RangePlanner) (awaits : AwaitsRange range) (
       → index ≡ index_at range.planner.level range.base → 1 ≤ count → index + count ≤ 512
       → count * bytes_of size ≤ range.bytes → ((k : ℕ) → k < count → IsPageWord range.planner.level (slice_index words (index + k)))
       → (range.planner.level < highest_link range.planner.target → HasOther words index count)
+      → EndsWith range (unmap_run size range.base count range.planner.number index) words (Unmap range.base)
       → IsRunNext memory range (unmap_run size range.base count range.planner.number index)
-  unmap_next size word index count request at index_is some room within pages busy = record {
+  unmap_next size word index count request at index_is some room within pages busy ends = record {
     some = some;
     within = within;
+    longest = longest_as memory range words (unmap_run size range.base count range.planner.number index) (Unmap range.base) request got ends;
+    forgets = inr refl;
     right = λ space premise. subst (λ q. IsRunRight range.planner.target q memory space (unmap_run size range.base count range.planner.number index))
         (sym request)
         (unmap_run_right range.planner.target size range.base count range.planner.number index range.planner.rights words (subst (IsRequest range.planner.target) request awaits.words.request) at.aligned (index_is ∙ ap (λ l. index_at l range.base) at.level)

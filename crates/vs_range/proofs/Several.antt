@@ -49,30 +49,30 @@ unfilled memory (Some fill) stores number spared = get-insert_other memory fill.
     (subst (Contains (fill.frame ∷ frames_of stores)) (sym same) (Contains-head fill.frame (frames_of stores))))
 
 module _ (target : Target) (memory : Memory) (space : Space) (gone : List ℕ) (call : Call) (then : IsRightThen target memory space gone call) where
-  abbrev start : Memory
+  abbrev pub start : Memory
   start = begun call.memory call.plan
 
-  abbrev after : Memory
+  abbrev pub after : Memory
   after = ended call.memory call.plan
 
-  given : IsGiven target call.request call.memory start space call.offered call.plan.reply call.plan.fill call.plan.stores.items
+  pub given : IsGiven target call.request call.memory start space call.offered call.plan.reply call.plan.fill call.plan.stores.items
       call.plan.unlinked.items call.plan.flush
   given = parts_of then.premise then.right
 
   -- the frames that are gone are as they were
-  stays_gone : (number : ℕ) → Contains gone number → finite.get start number ≡ finite.get memory number
+  pub stays_gone : (number : ℕ) → Contains gone number → finite.get start number ≡ finite.get memory number
   stays_gone number named =
       unfilled call.memory call.plan.fill call.plan.stores.items number (then.spared number named) ∙ then.stays number named
 
-  spared_gone : (number : ℕ) → Contains gone number → Contains (frames_of call.plan.stores.items) number → ⊥
+  pub spared_gone : (number : ℕ) → Contains gone number → Contains (frames_of call.plan.stores.items) number → ⊥
   spared_gone number named among = then.spared number named (store_written call.plan.fill call.plan.stores.items number among)
 
-  unwritten_gone : (number : ℕ) → Contains gone number → finite.get after number ≡ finite.get memory number
+  pub unwritten_gone : (number : ℕ) → Contains gone number → finite.get after number ≡ finite.get memory number
   unwritten_gone number named =
       stored_elsewhere start call.plan.stores.items number (spared_gone number named) ∙ stays_gone number named
 
   -- the tables that are reached are as they were
-  same : HasSameTables target.depth target.root memory start
+  pub same : HasSameTables target.depth target.root memory start
   same level address number at =
       given.same level address number (table_as target.depth target.root memory call.memory then.tables level address ∙ at)
       ∙ then.tables level address number at
@@ -82,7 +82,7 @@ module _ (target : Target) (memory : Memory) (space : Space) (gone : List ℕ) (
   here : List Moment
   here = Is memory ∷ []
 
-  up_to_date : IsUpToDate target.depth target.root start (Is memory ∷ [])
+  pub up_to_date : IsUpToDate target.depth target.root start (Is memory ∷ [])
   up_to_date kept held = unread_keeps target.depth target.root memory start same (Is memory ∷ []) (λ k reads. reads) kept (KeptBefore kept held)
 
   -- what began so is what the memory after the stores says, but for what is flushed

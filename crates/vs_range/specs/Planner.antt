@@ -1,5 +1,6 @@
 -- What the planner of a range waits for, and what its next step means.
-use Rattle.std.specs.Prelude.{◌≡◌, ◌≢◌, ℕ, ◌+◌, ◌*◌, ◌%◌, ◌^◌, ◌<◌, ◌≤◌, ◌⊎◌, List, All, Option, Some, slice_index}
+use Rattle.std.specs.Prelude.{◌≡◌, ◌≢◌, ℕ, ◌+◌, ◌*◌, ◌%◌, ◌^◌, ◌<◌, ◌≤◌, ◌⊎◌, List, [], All, Option, Some, cond, min, slice_index, unwrap_or}
+use Rattle.std.specs.FinMap as finite
 use Rattle.vs_types.specs.Entry.{meaning}
 use Rattle.vs_types.specs.Depth.{index_at, IsCanonical}
 use Rattle.vs_types.specs.Page.{level_of, bytes_of, intersection}
@@ -16,7 +17,7 @@ use Rattle.vs_plan.specs.declared.plan.Step.TheVariants as steps
 use Rattle.vs_plan.specs.declared.request.Request.{Request}
 use Rattle.vs_plan.specs.declared.request.Request.TheVariants.{Map, Unmap, Protect, Ask}
 use Rattle.vs_plan.specs.Bits.{page_word, unflagged}
-use Rattle.vs_plan.specs.Planner.{AwaitsWords, AwaitsFrame}
+use Rattle.vs_plan.specs.Planner.{AwaitsWords, AwaitsFrame, frames_given}
 use Rattle.vs_plan.specs.Premise.{IsPremise}
 use Rattle.vs_plan.specs.Processor.{page_number, Translation}
 use Rattle.vs_plan.specs.Request.{address_of}
@@ -63,6 +64,40 @@ abbrev pub as_range : Step → RangeStep
 as_range (steps.See number) = See number
 as_range steps.Give = Give
 as_range (steps.Planned plan) = Planned plan
+
+-- the words of how many frames it asks for at most: of one a level, and of the lowest once more, unless the first page is dealt with by itself
+abbrev pub range_sees : RangePlanner → ℕ
+range_sees range = range.planner.level + cond range.alone 0 1
+
+-- and after a step
+abbrev pub range_sees_left : RangePlanner → RangeStep → ℕ
+range_sees_left range (See number) = range_sees range
+range_sees_left range Give = 0
+range_sees_left range (Runs run) = 0
+range_sees_left range (Harvests run) = 0
+range_sees_left range (Planned plan) = 0
+range_sees_left range (Absent bytes) = 0
+range_sees_left range (Beyond size) = 0
+
+-- where a frame is waited for, these were given
+abbrev pub HasGivenFor : RangePlanner → List ℕ → RangeStep → Type 0
+HasGivenFor range frames (See number) = Unit {0}
+HasGivenFor range frames Give = frames_given range.planner ≡ frames
+HasGivenFor range frames (Runs run) = Unit {0}
+HasGivenFor range frames (Harvests run) = Unit {0}
+HasGivenFor range frames (Planned plan) = Unit {0}
+HasGivenFor range frames (Absent bytes) = Unit {0}
+HasGivenFor range frames (Beyond size) = Unit {0}
+
+-- a run lies in its table, whatever words were shown
+abbrev pub HasRoom : RangeStep → Type 0
+HasRoom (See number) = Unit {0}
+HasRoom Give = Unit {0}
+HasRoom (Runs run) = run.index + run.count ≤ 512
+HasRoom (Harvests run) = run.index + run.count ≤ 512
+HasRoom (Planned plan) = Unit {0}
+HasRoom (Absent bytes) = Unit {0}
+HasRoom (Beyond size) = Unit {0}
 
 -- ---- what a run is of
 
@@ -155,10 +190,30 @@ pub record IsAbsentFor (memory : Memory) (range : RangePlanner) (bytes : ℕ) : 
   pub nothing : (address : ℕ) → IsCanonical range.planner.target.depth address → range.base ≤ address → address < range.base + bytes
       → walk range.planner.target.depth memory range.planner.target.root address ≡ NotMapped
 
--- a run that is right for each space, and within the range
+-- behind a run nothing follows that the request takes too: for a map the entry is present, or the page would not lie within the physical addresses;
+-- else no page begins there; or it is the only other word of the table, which an unmap leaves for the last
+abbrev pub EndsAtWord : RangePlanner → Run → List ℕ → Request → Type 0
+EndsAtWord range run words (Map page bits) = (slice_index words (run.index + run.count) % 2 ≢ 0)
+    ⊎ (2 ^ min range.planner.target.phys_bits 51 < page.phys + (run.count + 1) * bytes_of run.size)
+EndsAtWord range run words (Unmap base) = (IsPageWord range.planner.level (slice_index words (run.index + run.count)) → ⊥)
+    ⊎ ((i : ℕ) → i < 512 → (i < run.index) ⊎ (run.index + run.count < i) → slice_index words i ≡ 0)
+EndsAtWord range run words request = IsPageWord range.planner.level (slice_index words (run.index + run.count)) → ⊥
+
+-- a run ends where its table ends, or the range, or at such a word
+abbrev pub EndsWith : RangePlanner → Run → List ℕ → Request → Type 0
+EndsWith range run words request =
+    (run.index + run.count ≡ 512) ⊎ ((range.bytes < (run.count + 1) * bytes_of run.size) ⊎ EndsAtWord range run words request)
+
+-- so it is as long as it can be
+abbrev pub IsLongest : Memory → RangePlanner → Run → Type 0
+IsLongest memory range run = EndsWith range run (unwrap_or (finite.get memory run.frame) []) range.planner.request
+
+-- a run that is right for each space, and within the range; nothing has to be forgotten after it, or its pages
 pub record IsRunNext (memory : Memory) (range : RangePlanner) (run : Run) : Type 0 where
   pub some : 1 ≤ run.count
   pub within : run.count * bytes_of run.size ≤ range.bytes
+  pub longest : IsLongest memory range run
+  pub forgets : (run.forget ≡ forget.Nothing) ⊎ (run.forget ≡ forget.Pages range.base run.size run.count)
   pub right : (space : Space) → IsPremise range.planner.target.depth memory range.planner.target.root range.base space
       → IsRunRight range.planner.target range.planner.request memory space run
 
@@ -167,6 +222,8 @@ pub record IsRunNext (memory : Memory) (range : RangePlanner) (run : Run) : Type
 pub record IsHarvestNext (memory : Memory) (range : RangePlanner) (run : Run) : Type 0 where
   pub some : 1 ≤ run.count
   pub within : run.count * bytes_of run.size ≤ range.bytes
+  pub longest : IsLongest memory range run
+  pub forgets : run.forget ≡ forget.Pages range.base run.size run.count
   pub found : FindTheirWords memory (stores_of memory run)
   pub cleared : All (λ store. IsPageWord range.planner.level store.old × (store.new ≡ unflagged store.old)) (stores_of memory run)
   pub dropped : (number frame level : ℕ) (rights : Rights) → number < run.count → IsDroppedByOne (flushes_in run.forget)

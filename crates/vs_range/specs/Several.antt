@@ -2,7 +2,10 @@
 use Rattle.std.specs.Prelude.{◌≡◌, ℕ, ◌⊎◌, List, [], ◌∷◌, ◌++◌, Contains, Option}
 use Rattle.std.specs.FinMap as finite
 use Rattle.vs_types.specs.Space.{Space}
+use Rattle.vs_types.specs.declared.depth.Depth.{Depth}
 use Rattle.vs_walk.specs.Memory.{Memory}
+use Rattle.vs_walk.specs.Walk.{walk}
+use Rattle.vs_walk.specs.declared.walk.Walk.{Walk}
 use Rattle.vs_plan.specs.declared.plan.Flush.{Flush}
 use Rattle.vs_plan.specs.declared.plan.Plan.{Plan}
 use Rattle.vs_plan.specs.declared.request.Request.{Request}
@@ -71,3 +74,9 @@ IsDroppedByOne (flush ∷ flushes) kept = IsDropped flush kept ⊎ IsDroppedByOn
 abbrev pub HaveAll : List Flush → List Call → Type 0
 HaveAll flushes [] = Unit {0}
 HaveAll flushes (call ∷ calls) = ((kept : Kept) → IsDropped call.plan.flush kept → IsDroppedByOne flushes kept) × HaveAll flushes calls
+
+-- an access finds what a walk finds before these plans, or after one of them
+abbrev pub FindsOneOf : Depth → ℕ → Memory → List Call → ℕ → Walk → Type 0
+FindsOneOf depth root memory [] address end = end ≡ walk depth memory root address
+FindsOneOf depth root memory (call ∷ calls) address end =
+    (end ≡ walk depth memory root address) ⊎ FindsOneOf depth root (ended call.memory call.plan) calls address end

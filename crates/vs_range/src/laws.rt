@@ -1,20 +1,25 @@
 //! Laws of the definitions in `specs/`. Each function does nothing: its clauses say what holds of all processors and plans.
 
-ghost use Rattle.std.specs.Prelude.{◌≡◌, ◌≢◌, ℕ, List, [], Contains, Some};
-ghost use Rattle.vs_types.specs.Depth.{levels};
+ghost use Rattle.std.specs.Prelude.{◌≡◌, ◌≢◌, ◌≤◌, ◌++◌, ◌∷◌, ℕ, List, [], Contains, Some, length, take};
+ghost use Rattle.vs_types.specs.Depth.{levels, IsCanonical};
 ghost use Rattle.vs_types.specs.Space.{Space};
 ghost use Rattle.vs_types.specs.declared.page.Rights.{Rights};
 ghost use Rattle.vs_walk.specs.Memory.{Memory};
+ghost use Rattle.vs_walk.specs.declared.walk.Walk.{Walk};
 ghost use Rattle.vs_space.specs.Path.{table_at};
 ghost use Rattle.vs_plan.specs.declared.plan.Flush.{Flush};
 ghost use Rattle.vs_plan.specs.declared.target.Target.{Target};
-ghost use Rattle.vs_plan.specs.Processor.{Moment, PagingEntry, MayKeep, IsUpToDate};
-ghost use Rattle.vs_range.specs.Several.{Call, AreRight, ended_all, while_planned, HaveAll, flushed_by, unlinked_by};
+ghost use Rattle.vs_plan.specs.Processor.{Moment, PagingEntry, MayFind, MayKeep, IsUpToDate};
+ghost use Rattle.vs_plan.specs.Flushed.{while_stored};
+ghost use Rattle.vs_plan.specs.Right.{begun};
+ghost use Rattle.vs_plan.specs.Stores.{stored_all};
+ghost use Rattle.vs_range.specs.Several.{Call, AreRight, FindsOneOf, ended_all, while_planned, HaveAll, flushed_by, unlinked_by};
 
 /// Plans one after another need no flush between them. A processor that was up to date before the first is so again once the stores of all
 /// are made and it has flushed all that each of their flushes drops. No way leads to a frame that one of them has unlinked; but until
 /// that flush a processor may read it, and so no later plan may write into it. After the flush nothing that is kept leads into one:
-/// then the frames are free.
+/// then the frames are free. And each access that is made meanwhile, after any number of a plan's stores, finds what a walk finds before the
+/// first plan, or after one of them: no page that never was.
 pub fn flushes_of_several_plans_suffice()
     ensures after { (target : Target) (memory : Memory) (space : Space) (calls : List Call)
         (flushes : List Flush) (earlier : List Moment) → AreRight target memory space [] calls
@@ -32,4 +37,14 @@ pub fn flushes_of_several_plans_suffice()
         → IsUpToDate target.depth target.root (ended_all memory calls) moments
         → Contains (unlinked_by calls) number
         → MayKeep target.depth target.root moments (PagingEntry level region number rights) → ⊥ }
+    ensures between { (target : Target) (memory : Memory) (space : Space) (calls : List Call)
+        (call : Call) (earlier : List Moment) (done address : ℕ) (end : Walk)
+        → AreRight target memory space [] (calls ++ call ∷ [])
+        → IsUpToDate target.depth target.root memory earlier
+        → done ≤ length call.plan.stores.items → IsCanonical target.depth address
+        → MayFind target.depth target.root
+        (stored_all (begun call.memory call.plan) (take done call.plan.stores.items))
+        (while_stored (begun call.memory call.plan) (take done call.plan.stores.items)
+        (while_planned calls earlier)) address end
+        → FindsOneOf target.depth target.root memory (calls ++ call ∷ []) address end }
 {}

@@ -2,9 +2,12 @@
 #![tactic(auto)]
 
 pub mod laws;
+mod made;
 mod planner;
+mod room;
 mod run;
 mod search;
+mod table;
 mod word;
 
 pub use planner::{RangePlanner, RangeStep};

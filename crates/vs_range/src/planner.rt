@@ -1,25 +1,19 @@
 //! The planner of a range: the way of its first page, and then a run of pages in the table in which that ends.
-ghost use Rattle.std.specs.Prelude.{◌≡◌, ◌≢◌, ◌+◌, ◌-◌, ◌*◌, ◌<◌, ◌≤◌, ◌⊎◌, ◌%◌, ◌^◌, ℕ, [], Option, Some, IfSome, IfNone, IsTrue, MatchResult, min, List, ◌∷◌, slice_index};
+ghost use Rattle.std.specs.Prelude.{◌≡◌, ◌≢◌, ◌+◌, ◌<◌, ◌≤◌, ℕ, [], Some, IfSome, List, MatchResult, ◌∷◌, cond, slice_index};
 ghost use Rattle.std.specs.FinMap as finite;
 ghost use Rattle.vs_types.specs.declared.frame.TheConstants.{FRAME_WORDS};
-ghost use Rattle.vs_types.specs.Depth.{index_at, entry_bytes};
-ghost use Rattle.vs_types.specs.Page.{level_of, bytes_of, intersection};
-ghost use Rattle.vs_types.specs.declared.page.Page.{Page};
-ghost use Rattle.vs_types.specs.declared.page.Rights.{Rights};
+ghost use Rattle.vs_types.specs.Depth.{index_at};
 ghost use Rattle.vs_walk.specs.Memory.{Memory};
-ghost use Rattle.vs_plan.specs.Planner.{AwaitsFrame, IsSpareFor};
+ghost use Rattle.vs_plan.specs.Planner.{AwaitsFrame, HasGiven, IsSpareFor, sees_left};
 ghost use Rattle.vs_plan.specs.Request.{IsRequest, request_fault, address_of};
 ghost use Rattle.vs_plan.specs.Shown.{IsShown};
 ghost use Rattle.vs_plan.specs.declared.request.Request.{Request};
 ghost use Rattle.vs_plan.specs.declared.planner.Phase.{Phase};
-ghost use Rattle.vs_plan.specs.Bits.{AreBits};
-ghost use Rattle.vs_range.specs.Planner.{IsRanged, AwaitsRange, AwaitsNext, as_range, IsRangeNext, IsMapRoom, IsPageAt, HasOther, map_run, protect_run, unmap_run, harvest_run};
+ghost use Rattle.vs_range.specs.Planner.{IsRanged, AwaitsRange, AwaitsNext, as_range, HasGivenFor, HasRoom, IsRangeNext, range_sees, range_sees_left};
 
-use crate::run::{Change, Forget, Run};
-use crate::search::{count_absent, count_pages, has_other};
-use crate::word::{is_page, page_word, permits};
+use crate::run::Run;
 use vs_plan::{BadRequest, FrameWords, Phase, Plan, Planner, Request, Step, Target};
-use vs_types::{FRAME_WORDS, Page, Rights, Size, index_at};
+use vs_types::{Page, Rights, Size, index_at};
 
 /// A range of pages of a page table: what is done to them, how far they go, and how far the planner of the first one has come.
 ///
@@ -169,14 +163,43 @@ impl RangePlanner {
             × (self.new.planner.request ≡ self.old.planner.request)
             × (self.new.base ≡ self.old.base) × (self.new.bytes ≡ self.old.bytes) }
         ensures awaits { AwaitsNext self.new result }
+        ensures fewer { range_sees_left self.new result < range_sees self.old }
+        ensures given { HasGivenFor self.new [] result }
+        ensures room { HasRoom result }
         ensures next { (memory : Memory) → IsShown memory self.old.planner
             → finite.get memory self.old.planner.number ≡ Some (W.words words.old)
             → IsRangeNext memory self.new [] result }
     {
-        if self.alone || self.planner.phase != Phase::Descent {
-            return step_of(self.planner.see(words));
+        if self.planner.phase != Phase::Descent {
+            let step = self.planner.see(words);
+            return self.step_of(step);
         }
         let word = words.read(index_at(self.planner.level, self.base));
+        self.follow(word, words)
+    }
+
+    /// Takes the words of the frame that was asked for on the way down, by the word of its entry, which was read already. As `see` does.
+    pub fn follow<W: FrameWords>(&mut self, word: u64, words: &mut W) -> RangeStep
+        requires awaits { AwaitsRange self.old }
+        requires phase { self.old.planner.phase ≡ Phase.Descent }
+        requires read { word ≡ slice_index (W.words words.old)
+            (index_at self.old.planner.level self.old.base) }
+        requires unread { (i : ℕ) → i < FRAME_WORDS
+            → i ≢ index_at self.old.planner.level self.old.base → W.is_unread words.old i }
+        ensures same { (self.new.planner.target ≡ self.old.planner.target)
+            × (self.new.planner.request ≡ self.old.planner.request)
+            × (self.new.base ≡ self.old.base) × (self.new.bytes ≡ self.old.bytes) }
+        ensures awaits { AwaitsNext self.new result }
+        ensures fewer { range_sees_left self.new result < range_sees self.old }
+        ensures given { HasGivenFor self.new [] result }
+        ensures room { HasRoom result }
+        ensures next { (memory : Memory) → IsShown memory self.old.planner
+            → finite.get memory self.old.planner.number ≡ Some (W.words words.old)
+            → IsRangeNext memory self.new [] result }
+    {
+        if self.alone {
+            return self.follow_alone(word, words);
+        }
         match self.planner.request {
             Request::Map(page, bits) => self.see_map(page, bits, word, words),
             Request::Protect(_, _) | Request::Unmap(_) | Request::Ask(_) if word % 2 == 0 => {
@@ -202,119 +225,13 @@ impl RangePlanner {
             → IfSome frame (λ number. IsSpareFor memory self.old.planner number)
             → IsRangeNext memory self.new (frame ∷ []) result }
     {
-        step_of(self.planner.give(frame))
+        let step = self.planner.give(frame);
+        self.step_of(step)
     }
 
-    /// A run of absent entries from this word on, or the next step of the first page's planner.
-    fn see_map<W: FrameWords>(
-        &mut self,
-        page: Page,
-        bits: u64,
-        word: u64,
-        words: &mut W,
-    ) -> RangeStep
-        requires awaits { AwaitsRange self.old }
-        requires phase { self.old.planner.phase ≡ Phase.Descent }
-        requires request { self.old.planner.request ≡ Request.Map page bits }
-        requires read { word ≡ slice_index (W.words words.old)
-            (index_at self.old.planner.level self.old.base) }
-        requires unread { (i : ℕ) → i < FRAME_WORDS
-            → i ≢ index_at self.old.planner.level self.old.base → W.is_unread words.old i }
-        ensures same { (self.new.planner.target ≡ self.old.planner.target)
-            × (self.new.planner.request ≡ self.old.planner.request)
-            × (self.new.base ≡ self.old.base) × (self.new.bytes ≡ self.old.bytes) }
-        ensures awaits { AwaitsNext self.new result }
-        ensures next { (memory : Memory) → IsShown memory self.old.planner
-            → finite.get memory self.old.planner.number ≡ Some (W.words words.old)
-            → IsRangeNext memory self.new [] result }
-    {
-        let most = self.most_mapped(page, word);
-        if most == 0 {
-            return step_of(self.planner.follow(word, words));
-        }
-        let index = index_at(self.planner.level, self.base);
-        let count = count_absent(words, index, most);
-        RangeStep::Runs(run_of_map(page, bits, count, self.planner.number, index))
-    }
-
-    /// How many pages of a map may follow one another from this entry on: 0 where the first of them is not written here.
-    fn most_mapped(&self, page: Page, word: u64) -> usize
-        requires awaits { AwaitsRange self.now }
-        requires request { (bits : ℕ) × (self.now.planner.request ≡ Request.Map page bits) }
-        ensures { 1 ≤ result → IsMapRoom self.now page word result }
-    {
-        let level = self.planner.level;
-        if level != page.size.level() || word % 2 != 0 || self.bytes < page.size.bytes() {
-            return 0;
-        }
-        if !permits(self.planner.rights, page.rights) {
-            return 0;
-        }
-        self.most_here(page.size, index_at(level, self.base))
-            .min(phys_room(page, self.planner.target.phys_bits))
-    }
-
-    /// How far no page lies, where the entry for the base is absent.
-    fn see_absent<W: FrameWords>(&self, words: &mut W) -> RangeStep
-        requires awaits { AwaitsRange self.now }
-        requires phase { self.now.planner.phase ≡ Phase.Descent }
-        requires absent { slice_index (W.words words.old)
-            (index_at self.now.planner.level self.now.base) % 2 ≡ 0 }
-        requires unread { (i : ℕ) → i < FRAME_WORDS
-            → i ≢ index_at self.now.planner.level self.now.base → W.is_unread words.old i }
-        ensures awaits { AwaitsNext self.now result }
-        ensures next { (memory : Memory) → IsShown memory self.now.planner
-            → finite.get memory self.now.planner.number ≡ Some (W.words words.old)
-            → IsRangeNext memory self.now [] result }
-    {
-        let level = self.planner.level;
-        let index = index_at(level, self.base);
-        let count = count_absent(words, index, FRAME_WORDS - index);
-        let bytes = entry_bytes(level);
-        RangeStep::Absent(count as u64 * bytes - self.base % bytes)
-    }
-
-    /// A run of pages that get other rights, from this word on, or the next step of the first page's planner.
-    fn see_protect<W: FrameWords>(&mut self, rights: Rights, word: u64, words: &mut W) -> RangeStep
-        requires awaits { AwaitsRange self.old }
-        requires phase { self.old.planner.phase ≡ Phase.Descent }
-        requires request { self.old.planner.request ≡ Request.Protect self.old.base rights }
-        requires read { word ≡ slice_index (W.words words.old)
-            (index_at self.old.planner.level self.old.base) }
-        requires unread { (i : ℕ) → i < FRAME_WORDS
-            → i ≢ index_at self.old.planner.level self.old.base → W.is_unread words.old i }
-        ensures same { (self.new.planner.target ≡ self.old.planner.target)
-            × (self.new.planner.request ≡ self.old.planner.request)
-            × (self.new.base ≡ self.old.base) × (self.new.bytes ≡ self.old.bytes) }
-        ensures awaits { AwaitsNext self.new result }
-        ensures next { (memory : Memory) → IsShown memory self.old.planner
-            → finite.get memory self.old.planner.number ≡ Some (W.words words.old)
-            → IsRangeNext memory self.new [] result }
-    {
-        let Some(size) = self.page_begins(word) else {
-            return step_of(self.planner.follow(word, words));
-        };
-        if self.bytes < size.bytes() {
-            return RangeStep::Beyond(size);
-        }
-        if !permits(self.planner.rights, rights) {
-            return step_of(self.planner.follow(word, words));
-        }
-        let level = self.planner.level;
-        let index = index_at(level, self.base);
-        let found = count_pages(words, level, index, self.most_here(size, index));
-        RangeStep::Runs(run_of_protect(
-            size,
-            self.base,
-            rights,
-            found.0,
-            self.planner.number,
-            index,
-        ))
-    }
-
-    /// A run of pages whose flags are taken away, from this word on, or the next step of the first page's planner.
-    fn see_harvest<W: FrameWords>(&mut self, word: u64, words: &mut W) -> RangeStep
+    /// The next step of the first page's planner. It keeps its plan in a place of its own.
+    #[inline(never)]
+    pub(crate) fn follow_alone<W: FrameWords>(&mut self, word: u64, words: &mut W) -> RangeStep
         requires awaits { AwaitsRange self.old }
         requires phase { self.old.planner.phase ≡ Phase.Descent }
         requires read { word ≡ slice_index (W.words words.old)
@@ -325,245 +242,30 @@ impl RangePlanner {
             × (self.new.planner.request ≡ self.old.planner.request)
             × (self.new.base ≡ self.old.base) × (self.new.bytes ≡ self.old.bytes) }
         ensures awaits { AwaitsNext self.new result }
+        ensures fewer { range_sees_left self.new result < range_sees self.old }
+        ensures given { HasGivenFor self.new [] result }
+        ensures room { HasRoom result }
         ensures next { (memory : Memory) → IsShown memory self.old.planner
             → finite.get memory self.old.planner.number ≡ Some (W.words words.old)
             → IsRangeNext memory self.new [] result }
     {
-        let Some(size) = self.page_begins(word) else {
-            return step_of(self.planner.follow(word, words));
-        };
-        if self.bytes < size.bytes() {
-            return RangeStep::Beyond(size);
-        }
-        let level = self.planner.level;
-        let index = index_at(level, self.base);
-        let found = count_pages(words, level, index, self.most_here(size, index));
-        RangeStep::Harvests(run_of_harvest(size, self.base, found.0, self.planner.number, index))
+        let step = self.planner.follow(word, words);
+        self.step_of(step)
     }
 
-    /// A run of pages that are removed, from this word on, or the next step of the first page's planner. Where the table would be left empty,
-    /// the last page is left to the next planner, or the first one is planned alone.
-    fn see_unmap<W: FrameWords>(&mut self, word: u64, words: &mut W) -> RangeStep
-        requires awaits { AwaitsRange self.old }
-        requires phase { self.old.planner.phase ≡ Phase.Descent }
-        requires request { self.old.planner.request ≡ Request.Unmap self.old.base }
-        requires read { word ≡ slice_index (W.words words.old)
-            (index_at self.old.planner.level self.old.base) }
-        requires unread { (i : ℕ) → i < FRAME_WORDS
-            → i ≢ index_at self.old.planner.level self.old.base → W.is_unread words.old i }
-        ensures same { (self.new.planner.target ≡ self.old.planner.target)
-            × (self.new.planner.request ≡ self.old.planner.request)
-            × (self.new.base ≡ self.old.base) × (self.new.bytes ≡ self.old.bytes) }
-        ensures awaits { AwaitsNext self.new result }
-        ensures next { (memory : Memory) → IsShown memory self.old.planner
-            → finite.get memory self.old.planner.number ≡ Some (W.words words.old)
-            → IsRangeNext memory self.new [] result }
+    /// The step of the first page's planner.
+    pub(crate) fn step_of(&self, step: Step) -> RangeStep
+        ensures is { result ≡ as_range step }
+        ensures few { range_sees_left self.now result ≤ sees_left self.now.planner step
+            + cond self.now.alone 0 1 }
+        ensures given { (frames : List ℕ) → HasGiven self.now.planner frames step
+            → HasGivenFor self.now frames result }
+        ensures room { HasRoom result }
     {
-        let Some(size) = self.page_begins(word) else {
-            return step_of(self.planner.follow(word, words));
-        };
-        if self.bytes < size.bytes() {
-            return RangeStep::Beyond(size);
+        match step {
+            Step::See(number) => RangeStep::See(number),
+            Step::Give => RangeStep::Give,
+            Step::Planned(plan) => RangeStep::Planned(plan),
         }
-        let level = self.planner.level;
-        let index = index_at(level, self.base);
-        let pages = count_pages(words, level, index, self.most_here(size, index));
-        let count = removed(words, index, pages, level < self.planner.stop);
-        if count == 0 {
-            self.alone = true;
-            return RangeStep::See(self.planner.number);
-        }
-        RangeStep::Runs(run_of_unmap(size, self.base, count, self.planner.number, index))
-    }
-
-    /// The size of the page that begins at the base, where this is the word of its entry.
-    fn page_begins(&self, word: u64) -> Option<Size>
-        requires { AwaitsRange self.now }
-        ensures { IfSome result (IsPageAt self.now word) }
-    {
-        let level = self.planner.level;
-        if !is_page(level, word) {
-            return None;
-        }
-        let size = Size::at_level(level);
-        if self.base % size.bytes() != 0 {
-            return None;
-        }
-        Some(size)
-    }
-
-    /// How many pages of this size the table and the range have room for, from an index on.
-    fn most_here(&self, size: Size, index: usize) -> usize
-        requires low { index < FRAME_WORDS }
-        requires some { bytes_of size ≤ self.now.bytes }
-        ensures some { 1 ≤ result }
-        ensures room { index + result ≤ FRAME_WORDS }
-        ensures within { (count : ℕ) → count ≤ result → count * bytes_of size ≤ self.now.bytes }
-    {
-        let left = pages_in(size, self.bytes);
-        let table = (FRAME_WORDS - index) as u64;
-        table.min(left) as usize
-    }
-}
-
-/// How many pages of a run are removed, so that the table has a word besides them if that is asked.
-fn removed<W: FrameWords>(
-    words: &mut W,
-    index: usize,
-    pages: (usize, Option<u64>),
-    stays: bool,
-) -> usize
-    requires some { 1 ≤ pages.0 }
-    requires room { index + pages.0 ≤ FRAME_WORDS }
-    requires last { slice_index (W.words words.old) (index + pages.0 - 1) ≢ 0 }
-    requires behind { IfSome pages.1 (λ word. (index + pages.0 < FRAME_WORDS)
-        × (word ≡ slice_index (W.words words.old) (index + pages.0))) }
-    requires unread { (i : ℕ) → i < FRAME_WORDS → (i < index) → W.is_unread words.old i }
-    requires unread_after { (i : ℕ) → i < FRAME_WORDS → index + pages.0 < i
-        → W.is_unread words.old i }
-    requires unread_here { IfNone pages.1 ((i : ℕ) → i < FRAME_WORDS → index + pages.0 ≤ i
-        → W.is_unread words.old i) }
-    ensures few { result ≤ pages.0 }
-    ensures other { IsTrue stays → HasOther (W.words words.old) index result }
-{
-    if !stays {
-        return pages.0;
-    }
-    let other = match pages.1 {
-        Some(word) => word != 0 || has_other(words, index, index + pages.0 + 1),
-        None => has_other(words, index, index + pages.0),
-    };
-    if other { pages.0 } else { pages.0 - 1 }
-}
-
-/// How many pages of this size so many bytes have room for.
-fn pages_in(size: Size, bytes: u64) -> u64
-    ensures within { (count : ℕ) → count ≤ result → count * bytes_of size ≤ bytes }
-    ensures some { bytes_of size ≤ bytes → 1 ≤ result }
-{
-    match size {
-        Size::K4 => bytes >> 12,
-        Size::M2 => bytes >> 21,
-        Size::G1 => bytes >> 30,
-    }
-}
-
-/// How many pages that follow on from this one lie within the physical addresses and below 2^51: at most 512.
-fn phys_room(page: Page, phys_bits: u8) -> usize
-    requires { phys_bits ≤ 52 }
-    ensures low { 1 ≤ result → (count : ℕ) → count ≤ result
-        → page.phys + count * bytes_of page.size ≤ 2 ^ 51 }
-    ensures own { 1 ≤ result → (count : ℕ) → count ≤ result
-        → page.phys + count * bytes_of page.size ≤ 2 ^ phys_bits }
-{
-    let end = phys_end(phys_bits);
-    if page.phys > end {
-        return 0;
-    }
-    pages_in(page.size, end - page.phys).min(512) as usize
-}
-
-/// The first physical address that no page may have.
-fn phys_end(phys_bits: u8) -> u64
-    requires { phys_bits ≤ 52 }
-    ensures { result ≡ 2 ^ min phys_bits 51 }
-{
-    1u64 << phys_bits.min(51)
-}
-
-/// What an entry of a table of this level represents, in bytes.
-fn entry_bytes(level: u8) -> u64
-    requires some { 1 ≤ level }
-    requires few { level ≤ 5 }
-    ensures is { result ≡ entry_bytes level }
-    ensures some { 1 ≤ result }
-    ensures most { result ≤ 2 ^ 48 }
-{
-    match level {
-        1 => 1 << 12,
-        2 => 1 << 21,
-        3 => 1 << 30,
-        4 => 1 << 39,
-        _ => 1 << 48,
-    }
-}
-
-/// The run that maps so many pages.
-fn run_of_map(page: Page, bits: u64, count: usize, frame: u64, index: usize) -> Run
-    requires bits { AreBits bits }
-    requires aligned { page.phys % bytes_of page.size ≡ 0 }
-    requires in_range { page.phys < 2 ^ 52 }
-    ensures { result ≡ map_run page bits count frame index }
-{
-    Run {
-        size: page.size,
-        count,
-        frame,
-        index,
-        change: Change::Write(page_word(page, bits), page.size.bytes()),
-        forget: Forget::Nothing,
-    }
-}
-
-/// The run that gives so many pages these rights.
-fn run_of_protect(
-    size: Size,
-    base: u64,
-    rights: Rights,
-    count: usize,
-    frame: u64,
-    index: usize,
-) -> Run
-    ensures { result ≡ protect_run size base rights count frame index }
-{
-    let forget = Forget::Pages(base, size, count);
-    Run {
-        size,
-        count,
-        frame,
-        index,
-        change: Change::Allow(rights),
-        forget,
-    }
-}
-
-/// The run that removes so many pages.
-fn run_of_unmap(size: Size, base: u64, count: usize, frame: u64, index: usize) -> Run
-    ensures { result ≡ unmap_run size base count frame index }
-{
-    Run {
-        size,
-        count,
-        frame,
-        index,
-        change: Change::Clear,
-        forget: Forget::Pages(base, size, count),
-    }
-}
-
-/// The run that takes the flags from so many pages.
-fn run_of_harvest(size: Size, base: u64, count: usize, frame: u64, index: usize) -> Run
-    ensures { result ≡ harvest_run size base count frame index }
-{
-    let forget = Forget::Pages(base, size, count);
-    let change = Change::Unflag;
-    Run {
-        size,
-        count,
-        frame,
-        index,
-        change,
-        forget,
-    }
-}
-
-/// The step of the first page's planner.
-fn step_of(step: Step) -> RangeStep
-    ensures { result ≡ as_range step }
-{
-    match step {
-        Step::See(number) => RangeStep::See(number),
-        Step::Give => RangeStep::Give,
-        Step::Planned(plan) => RangeStep::Planned(plan),
     }
 }

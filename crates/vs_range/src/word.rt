@@ -1,5 +1,5 @@
 //! Entries as numbers.
-ghost use Rattle.std.specs.Prelude.{◌≡◌, ◌<◌, ◌≤◌, ◌%◌, ◌^◌, IsTrue};
+ghost use Rattle.std.specs.Prelude.{◌≡◌, ◌<◌, ◌≤◌, ◌%◌, ◌^◌, IsFalse, IsTrue};
 ghost use Rattle.vs_types.specs.Page.{bytes_of, intersection};
 ghost use Rattle.vs_plan.specs.Bits.{AreBits, page_word, placed};
 ghost use Rattle.vs_range.specs.Planner.{IsPageWord};
@@ -17,7 +17,8 @@ pub(crate) fn permits(above: Rights, wanted: Rights) -> bool
 pub(crate) fn is_page(level: u8, word: u64) -> bool
     requires some { 1 ≤ level }
     requires few { level ≤ 5 }
-    ensures { IsTrue result → IsPageWord level word }
+    ensures page { IsTrue result → IsPageWord level word }
+    ensures none { IsFalse result → IsPageWord level word → ⊥ }
 {
     match Entry::new(word).read(level) {
         Meaning::Leaf(_, _) => true,

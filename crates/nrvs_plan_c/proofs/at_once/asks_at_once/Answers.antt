@@ -7,12 +7,14 @@ use Rattle.nrvs_plan_c.proofs.at_once.asks_at_once.Goals as goal
 pub returns-clause-asked : goal.returns-clause-asked
 returns-clause-asked c = λ done.
     let ask = c.in-Some.ensures.askable in
-    let good : IsRequest (target_of c.args.target.now) (Ask c.args.address) = record { phys_bits = ask.phys_bits; root = ask.root; canonical = ask.canonical; whole = tt } in
+    let good : IsRequest (target_of c.args.target.now) (Ask c.args.address) =
+    record { phys_bits = ask.phys_bits; root = ask.root; canonical = ask.canonical; whole = tt } in
     begun_well ask _ good
 
 pub returns-clause-seen : goal.returns-clause-seen
 returns-clause-seen c = λ done.
     let ask = c.in-Some.ensures.askable in
-    let good : IsRequest (target_of c.args.target.now) (Ask c.args.address) = record { phys_bits = ask.phys_bits; root = ask.root; canonical = ask.canonical; whole = tt } in
+    let good : IsRequest (target_of c.args.target.now) (Ask c.args.address) =
+    record { phys_bits = ask.phys_bits; root = ask.root; canonical = ask.canonical; whole = tt } in
     seen_at_once c.end_ask.ensures.made
     (λ memory has. c.end_ask.ensures.right _ memory good (c.in-Some.ensures.end memory has))

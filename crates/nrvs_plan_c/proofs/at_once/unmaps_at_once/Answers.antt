@@ -7,13 +7,15 @@ use Rattle.nrvs_plan_c.proofs.at_once.unmaps_at_once.Goals as goal
 pub returns-clause-asked : goal.returns-clause-asked
 returns-clause-asked c = λ done.
     let ask = c.in-Some.ensures.askable in
-    let good : IsRequest (target_of c.args.target.now) (Unmap c.args.base) = record { phys_bits = ask.phys_bits; root = ask.root; canonical = ask.canonical; whole = c.if-base-ne0.false } in
+    let good : IsRequest (target_of c.args.target.now) (Unmap c.args.base) =
+    record { phys_bits = ask.phys_bits; root = ask.root; canonical = ask.canonical; whole = c.if-base-ne0.false } in
     begun_well ask _ good
 
 pub returns-clause-seen : goal.returns-clause-seen
 returns-clause-seen c = λ done.
     let ask = c.in-Some.ensures.askable in
-    let good : IsRequest (target_of c.args.target.now) (Unmap c.args.base) = record { phys_bits = ask.phys_bits; root = ask.root; canonical = ask.canonical; whole = c.if-base-ne0.false } in
+    let good : IsRequest (target_of c.args.target.now) (Unmap c.args.base) =
+    record { phys_bits = ask.phys_bits; root = ask.root; canonical = ask.canonical; whole = c.if-base-ne0.false } in
     seen_at_once c.end_unmap.ensures.made
     (λ memory has.
     let is = c.in-Some.ensures.end memory has in

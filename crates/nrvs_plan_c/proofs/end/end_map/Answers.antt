@@ -8,7 +8,8 @@ use Rattle.nrvs_plan_c.proofs.end.end_map.Goals as goal
 
 pub returns-then-is_page-clause-right : goal.returns-then-is_page-clause-right
 returns-then-is_page-clause-right c = λ target memory good is.
-    planned_none c.with-overlaps.ensures refl refl c.write_none.ensures.none (map_overlaps c.args.physical c.args.bits c.args.rights good is (c.is_page.ensures.page c.if-is_page.true))
+    planned_none c.with-overlaps.ensures refl refl c.write_none.ensures.none
+    (map_overlaps c.args.physical c.args.bits c.args.rights good is (c.is_page.ensures.page c.if-is_page.true))
 
 pub returns-then-not-permits-clause-right : goal.returns-then-not-permits-clause-right
 returns-then-not-permits-clause-right c = λ target memory good is.

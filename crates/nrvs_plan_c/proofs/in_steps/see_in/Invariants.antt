@@ -4,8 +4,8 @@ use Rattle.vs_walk.specs.Memory.{Memory}
 use Rattle.vs_plan.specs.declared.plan.TheConstants.{MOST_UNLINKED}
 use Rattle.vs_plan.specs.Planner.{frames_given}
 use Rattle.nrvs_plan_c.specs.declared.codes.TheConstants.{ENDED}
-use Rattle.nrvs_plan_c.specs.Direct.{HasFrames}
-use Rattle.nrvs_plan_c.specs.Kept.{IsSound, phase_in, planner_in}
+use Rattle.nrvs_plan_c.specs.Direct.{HasFramesWithin}
+use Rattle.nrvs_plan_c.specs.Kept.{IsSound, phase_in, planner_in, target_in}
 use Rattle.nrvs_plan_c.specs.Next.{IsNextOf, status_in}
 use Rattle.nrvs_plan_c.proofs.in_steps.see_in.Given as goal
 
@@ -16,7 +16,7 @@ invariant-loop-status l = IsSound l.plan
     × (l.status ≡ 33 → frames_given (planner_in l.plan) ≡ [])
     × (l.status ≡ 0 → l.plan.way.phase ≡ ENDED)
     × (l.status ≡ 0 → l.plan.unlinked_count ≤ MOST_UNLINKED)
-    × ((memory : Memory) → HasFrames memory l.fn.first l.fn.frames → IsNextOf memory l.plan [] l.status)
+    × ((memory : Memory) → HasFramesWithin (target_in l.fn.plan.call) memory l.fn.first l.fn.frames → IsNextOf memory l.plan [] l.status)
 
 abbrev pub decreases-loop-status : goal.decreases-loop-status
 decreases-loop-status l = if nat_eq l.status 32 then l.plan.way.level + 1 else 0

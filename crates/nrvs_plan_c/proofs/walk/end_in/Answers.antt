@@ -1,6 +1,6 @@
 use Rattle.std.proofs.Common.{◌≡◌, ⊎_elim, subst, arith}
 use Rattle.vs_plan.specs.Way.{IsWay}
-use Rattle.nrvs_plan_c.specs.Kept.{depth_in, rights_at}
+use Rattle.nrvs_plan_c.specs.Kept.{depth_in, rights_at, target_of}
 use Rattle.nrvs_plan_c.proofs.Walking.{frame_shown, way_begins, way_goes_on, word_shown}
 use Rattle.nrvs_plan_c.proofs.walk.end_in.Goals as goal
 
@@ -19,7 +19,9 @@ loop-level-preserved c =
       omega (arith, before.1),
       λ memory has. way_goes_on _ _ (before.2 memory has) before.0
           (word_shown memory c.loop-level.number c.loop-level.level c.args.address _ c.in-Some.words.now.word
-          (frame_shown memory c.args.first c.loop-level.number c.args.frames.now has c.in-Some.words.now c.in-Some.ensures.there) c.index_at.ensures.is)
+          (frame_shown (target_of c.args.target.now) memory c.args.first c.loop-level.number c.args.frames.now has
+          (c.are_within.ensures c.if-not-are_within.false)
+          c.in-Some.words.now c.in-Some.ensures.there) c.index_at.ensures.is)
           (c.is_link.ensures c.if-not-is_link.false c.loop-level.level (omega (arith, c.loop-level-test.true))) c.narrowed-allowed.ensures,
     )
 
@@ -32,6 +34,8 @@ returns-clause-end c = λ memory has.
           (rights_at c.loop-level.allowed)) one (before.2 memory has);
       index = c.index_at-index.ensures.is;
       word = word_shown memory c.loop-level.number 1 c.args.address _ c.in-Some-frame_at.last.now.word
-          (frame_shown memory c.args.first c.loop-level.number c.args.frames.now has c.in-Some-frame_at.last.now c.in-Some-frame_at.ensures.there)
+          (frame_shown (target_of c.args.target.now) memory c.args.first c.loop-level.number c.args.frames.now has
+          (c.are_within.ensures c.if-not-are_within.false)
+          c.in-Some-frame_at.last.now c.in-Some-frame_at.ensures.there)
           c.index_at-index.ensures.is;
     }

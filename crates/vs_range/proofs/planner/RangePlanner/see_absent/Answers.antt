@@ -5,6 +5,6 @@ use Rattle.vs_range.proofs.planner.RangePlanner.see_absent.Goals as goal
 pub returns-clause-next : goal.returns-clause-next
 returns-clause-next g c = λ memory shown got.
     absent_next memory c.args.self.now c.requires.awaits c.requires.phase shown (g.W.FrameWords.words c.args.words.now) got c.index_at-index.result
-    c.count_absent-count.result c.entry_bytes-bytes.result c.index_at-index.ensures.is c.count_absent-count.ensures.some
-    (omega (arith, c.count_absent-count.ensures.most, c.index_at-index.ensures.low)) c.count_absent-count.ensures.absent c.entry_bytes-bytes.ensures.is
+    c.count_alike-alike.result.count c.entry_bytes-bytes.result c.index_at-index.ensures.is c.count_alike-alike.ensures.some
+    (omega (arith, c.count_alike-alike.ensures.most, c.index_at-index.ensures.low)) c.count_alike-alike.ensures.alike c.entry_bytes-bytes.ensures.is
     (omega (arith, c.requires.awaits.words.few, few_levels c.args.self.now.planner.target.depth))

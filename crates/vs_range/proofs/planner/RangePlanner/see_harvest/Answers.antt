@@ -1,7 +1,9 @@
 use Rattle.std.proofs.Common.{sym, subst, arith}
-use Rattle.vs_range.specs.Planner.{IsHarvestNext, IsPageAt}
+use Rattle.vs_range.specs.Planner.{IsHarvestNext, IsPageAt, harvest_run}
+use Rattle.vs_types.specs.Page.{bytes_of}
+use Rattle.vs_plan.specs.declared.request.Request.TheVariants.{Ask}
 use Rattle.vs_range.proofs.Harvesting.{harvest_next}
-use Rattle.vs_range.proofs.Seeing.{ends_beyond, beyond_bytes}
+use Rattle.vs_range.proofs.Seeing.{ends_beyond, ends_here, longest_as, beyond_bytes}
 use Rattle.vs_range.proofs.planner.RangePlanner.see_harvest.Goals as goal
 
 pub returns-then-self-bytes-clause-next : goal.returns-then-self-bytes-clause-next
@@ -13,6 +15,11 @@ returns-then-self-bytes-clause-next g c = λ memory shown got.
 pub returns-clause-next : goal.returns-clause-next
 returns-clause-next g c = λ memory shown got.
     subst (IsHarvestNext memory c.args.self.now) (sym c.run_of_harvest.ensures)
-    (harvest_next memory c.args.self.now (g.W.FrameWords.words c.args.words.now) c.in-Some.size c.index_at-index.result c.count_pages-found.result.0 got
-    c.count_pages-found.ensures.some (c.most_here.ensures.within c.count_pages-found.result.0 c.count_pages-found.ensures.most)
-    c.count_pages-found.ensures.pages)
+    (harvest_next memory c.args.self.now (g.W.FrameWords.words c.args.words.now) c.in-Some.size c.index_at-index.result c.count_pages-found.result.count got
+    c.count_pages-found.ensures.some (c.most_here.ensures.within c.count_pages-found.result.count c.count_pages-found.ensures.most)
+    c.count_pages-found.ensures.pages
+    (longest_as memory c.args.self.now (g.W.FrameWords.words c.args.words.now)
+    (harvest_run c.in-Some.size c.args.self.now.base c.count_pages-found.result.count c.args.self.now.planner.number c.index_at-index.result)
+    (Ask c.args.self.now.base) c.requires.request got
+    (ends_here c.index_at-index.result c.count_pages-found.result.count c.most_here.result c.args.self.now.bytes (bytes_of c.in-Some.size)
+    c.count_pages-found.ensures.most c.count_pages-found.ensures.ends c.most_here.ensures.most)))

@@ -1,12 +1,19 @@
-use Rattle.std.proofs.Common.{sym, subst, arith}
+use Rattle.std.proofs.Common.{◌≡◌, ◌+◌, ◌*◌, ◌^◌, ◌<◌, ◌⊎◌, min, sym, subst, arith}
+use Rattle.vs_types.specs.Page.{bytes_of}
 use Rattle.vs_range.specs.Planner.{IsRunNext}
-use Rattle.vs_range.proofs.Seeing.{map_next}
+use Rattle.vs_range.proofs.Seeing.{map_next, map_ends}
 use Rattle.vs_range.proofs.planner.RangePlanner.see_map.Goals as goal
 
 pub returns-clause-next : goal.returns-clause-next
 returns-clause-next g c = λ memory shown got.
     subst (IsRunNext memory c.args.self.now) (sym c.run_of_map.ensures)
     (map_next memory c.args.self.now c.requires.awaits c.requires.phase shown (g.W.FrameWords.words c.args.words.now) got c.args.page c.args.bits c.args.word
-    c.index_at-index.result c.count_absent-count.result c.most_mapped-most.result c.requires.request
-    (c.most_mapped-most.ensures (omega (arith, c.if-most-eq0.false))) c.index_at-index.ensures.is c.count_absent-count.ensures.some
-    c.count_absent-count.ensures.most c.count_absent-count.ensures.absent)
+    c.index_at-index.result c.count_alike-alike.result.count c.most_mapped-most.result c.requires.request
+    (c.most_mapped-most.ensures.room (omega (arith, c.if-most-eq0.false))) c.index_at-index.ensures.is c.count_alike-alike.ensures.some
+    c.count_alike-alike.ensures.most c.count_alike-alike.ensures.alike
+    (map_ends c.index_at-index.result c.count_alike-alike.result.count c.most_mapped-most.result c.args.self.now.bytes (bytes_of c.args.page.size)
+    c.args.page.phys (2 ^ min c.args.self.now.planner.target.phys_bits 51) c.count_alike-alike.ensures.most c.count_alike-alike.ensures.ends
+    (subst (λ i. (i + c.most_mapped-most.result ≡ 512)
+    ⊎ ((c.args.self.now.bytes < (c.most_mapped-most.result + 1) * bytes_of c.args.page.size)
+    ⊎ (2 ^ min c.args.self.now.planner.target.phys_bits 51 < c.args.page.phys + (c.most_mapped-most.result + 1) * bytes_of c.args.page.size)))
+    (sym c.index_at-index.ensures.is) (c.most_mapped-most.ensures.most (omega (arith, c.if-most-eq0.false))))))

@@ -1,7 +1,7 @@
-use Rattle.std.proofs.Common.{[], sym, subst, arith}
-use Rattle.vs_range.specs.declared.planner.RangePlanner.{RangePlanner}
-use Rattle.vs_range.specs.Planner.{IsRunNext, IsRangeNext, IsPageAt}
-use Rattle.vs_range.proofs.Seeing.{ends_beyond, range_next, protect_next, beyond_bytes, descended}
+use Rattle.std.proofs.Common.{sym, subst, arith}
+use Rattle.vs_types.specs.Page.{bytes_of}
+use Rattle.vs_range.specs.Planner.{IsRunNext, IsPageAt}
+use Rattle.vs_range.proofs.Seeing.{ends_beyond, ends_here, protect_next, beyond_bytes}
 use Rattle.vs_range.proofs.planner.RangePlanner.see_protect.Goals as goal
 
 pub returns-then-self-bytes-clause-next : goal.returns-then-self-bytes-clause-next
@@ -10,23 +10,13 @@ returns-then-self-bytes-clause-next g c = λ memory shown got.
     (subst (λ w. IsPageAt c.args.self.now w c.in-Some.size) c.requires.read c.in-Some.ensures)
     (beyond_bytes c.in-Some.size c.bytes.result c.args.self.now.bytes c.bytes.ensures (omega (arith, c.if-self-bytes.true)))
 
-pub returns-then-not-permits-clause-next : goal.returns-then-not-permits-clause-next
-returns-then-not-permits-clause-next g c = λ memory shown got.
-    let range : RangePlanner = record {
-      planner = c.follow-then-not-permits.new.self;
-      base = c.args.self.now.base;
-      bytes = c.args.self.now.bytes;
-      alone = c.args.self.now.alone;
-    } in
-    subst (IsRangeNext memory range []) (sym c.step_of-then-not-permits.ensures)
-    (range_next memory range [] c.follow-then-not-permits.result
-    (c.follow-then-not-permits.ensures.next memory (descended c.args.self.now.planner c.requires.phase shown) got))
-
 pub returns-clause-next : goal.returns-clause-next
 returns-clause-next g c = λ memory shown got.
     subst (IsRunNext memory c.args.self.now) (sym c.run_of_protect.ensures)
     (protect_next memory c.args.self.now c.requires.awaits c.requires.phase shown (g.W.FrameWords.words c.args.words.now) got c.in-Some.size
-    c.args.rights c.args.word c.index_at-index.result c.count_pages-found.result.0 c.requires.request c.in-Some.ensures
+    c.args.rights c.args.word c.index_at-index.result c.count_pages-found.result.count c.requires.request c.in-Some.ensures
     (c.permits.ensures.all c.if-not-permits.false) c.index_at-index.ensures.is c.count_pages-found.ensures.some
     (omega (arith, c.most_here.ensures.room, c.count_pages-found.ensures.most))
-    (c.most_here.ensures.within c.count_pages-found.result.0 c.count_pages-found.ensures.most) c.count_pages-found.ensures.pages)
+    (c.most_here.ensures.within c.count_pages-found.result.count c.count_pages-found.ensures.most) c.count_pages-found.ensures.pages
+    (ends_here c.index_at-index.result c.count_pages-found.result.count c.most_here.result c.args.self.now.bytes (bytes_of c.in-Some.size)
+    c.count_pages-found.ensures.most c.count_pages-found.ensures.ends c.most_here.ensures.most))

@@ -1,0 +1,64 @@
+use Rattle.std.proofs.Common.{sym, ap, subst, ◌∙◌, arith}
+use Rattle.vs_range.specs.declared.planner.RangeStep.{RangeStep}
+use Rattle.vs_range.specs.Planner.{IsRangeNext}
+use Rattle.nrvs_plan_c.specs.Kept.{request_in, target_in}
+use Rattle.nrvs_plan_c.specs.Range.{range_in}
+use Rattle.nrvs_plan_c.proofs.Keeping.{right_as}
+use Rattle.nrvs_plan_c.proofs.RangesMoved.{run_as, harvest_as}
+use Rattle.nrvs_plan_c.proofs.run_told.go_on_range.Goals as goal
+
+pub returns-in-Planned-clause-next : goal.returns-in-Planned-clause-next
+returns-in-Planned-clause-next c = λ memory offered next. record {
+  sees = λ e. absurd (omega (arith, e));
+  gives = λ e. absurd (omega (arith, e));
+  planned = λ e. λ space premise. (
+    c.in-Planned.made,
+    right_as memory offered c.in-Planned.made c.args.range.now.planner.target (target_in c.write.new.plan.call) c.args.range.now.planner.request
+        (request_in c.write.new.plan.call) (c.requires.target ∙ ap target_in (sym c.write.ensures.call))
+        (c.requires.request ∙ ap request_in (sym c.write.ensures.call))
+        (subst (λ (s : RangeStep). IsRangeNext memory c.args.range.now offered s) c.in-Planned.is next) space premise,
+    c.write.ensures.says,
+  );
+  runs = λ e. absurd (omega (arith, e));
+  harvests = λ e. absurd (omega (arith, e));
+  absent = λ e. absurd (omega (arith, e));
+  beyond = λ e. absurd (omega (arith, e));
+}
+
+pub returns-in-Runs-clause-next : goal.returns-in-Runs-clause-next
+returns-in-Runs-clause-next c = λ memory offered next. record {
+  sees = λ e. absurd (omega (arith, e));
+  gives = λ e. absurd (omega (arith, e));
+  planned = λ e. absurd (omega (arith, e));
+  runs = λ e. (
+    c.in-Runs.made,
+    run_as memory c.args.range.now (range_in c.write_run.new.run) (c.requires.target ∙ ap target_in (sym c.write_run.ensures.kept.call))
+        (c.requires.request ∙ ap request_in (sym c.write_run.ensures.kept.call)) (c.requires.base ∙ sym c.write_run.ensures.kept.base)
+        (c.requires.bytes ∙ sym c.write_run.ensures.kept.bytes) c.in-Runs.made (sym c.write_run.ensures.level)
+        (subst (λ (s : RangeStep). IsRangeNext memory c.args.range.now offered s) c.in-Runs.is next),
+    c.write_run.ensures.told,
+  );
+  harvests = λ e. absurd (omega (arith, e));
+  absent = λ e. absurd (omega (arith, e));
+  beyond = λ e. absurd (omega (arith, e));
+}
+
+pub returns-in-Harvests-clause-next : goal.returns-in-Harvests-clause-next
+returns-in-Harvests-clause-next c = λ memory offered next.
+    let wrote = c.write_run-in-Harvests.ensures in
+    record {
+      sees = λ e. absurd (omega (arith, e));
+      gives = λ e. absurd (omega (arith, e));
+      planned = λ e. absurd (omega (arith, e));
+      runs = λ e. absurd (omega (arith, e));
+      harvests = λ e. (
+        c.in-Harvests.made,
+        harvest_as memory c.args.range.now (range_in c.write_run-in-Harvests.new.run) (c.requires.target ∙ ap target_in (sym wrote.kept.call))
+            (c.requires.request ∙ ap request_in (sym wrote.kept.call)) (c.requires.base ∙ sym wrote.kept.base)
+            (c.requires.bytes ∙ sym wrote.kept.bytes) c.in-Harvests.made (sym wrote.level)
+            (subst (λ (s : RangeStep). IsRangeNext memory c.args.range.now offered s) c.in-Harvests.is next),
+        wrote.told,
+      );
+      absent = λ e. absurd (omega (arith, e));
+      beyond = λ e. absurd (omega (arith, e));
+    }

@@ -1,0 +1,94 @@
+-- A range's planner that is kept in C's struct between two calls, and its runs in numbers.
+use Rattle.std.specs.Prelude.{◌≡◌, ◌≢◌, ℕ, ◌+◌, ◌*◌, ◌^◌, ◌<◌, ◌≤◌, ◌⊎◌, List, Option, cond, nat_eq}
+use Rattle.std.specs.Int.Bits.{bit_and}
+use Rattle.vs_types.specs.Codes.{size_code}
+use Rattle.vs_types.specs.Page.{bytes_of}
+use Rattle.vs_types.specs.Space.{Space}
+use Rattle.vs_types.specs.declared.page.Rights.{Rights}
+use Rattle.vs_walk.specs.Memory.{Memory}
+use Rattle.vs_plan.specs.declared.plan.TheConstants.{MOST_UNLINKED}
+use Rattle.vs_plan.specs.declared.request.Request.{Request}
+use Rattle.vs_plan.specs.declared.target.Target.{Target}
+use Rattle.vs_plan.specs.Premise.{IsPremise}
+use Rattle.vs_plan.specs.Request.{address_of}
+use Rattle.vs_plan.specs.Shown.{IsShown}
+use Rattle.vs_range.specs.declared.planner.RangePlanner.{RangePlanner}
+use Rattle.vs_range.specs.declared.run.Forget.{Forget}
+use Rattle.vs_range.specs.declared.run.Forget.TheVariants.{Nothing, Pages}
+use Rattle.vs_range.specs.declared.run.Run as ranged
+use Rattle.vs_range.specs.Planner.{IsRanged, IsRunNext, IsHarvestNext, IsAbsentFor, EndsBeyond, range_sees}
+use Rattle.vs_range.specs.Run.{word_after}
+use Rattle.nrvs_plan_c.specs.declared.codes.TheConstants.{ENDED}
+use Rattle.nrvs_plan_c.specs.declared.range.Run.{Run}
+use Rattle.nrvs_plan_c.specs.Kept.{IsSound, phase_in, planner_in, request_in, size_in, target_in}
+use Rattle.nrvs_plan_c.specs.Next.{IsPlanned, status_in}
+
+-- the planner of the range
+abbrev pub range_in : Run → RangePlanner
+range_in run = record { planner = planner_in run.plan; base = run.base; bytes = run.bytes; alone = nat_eq run.own 1 }
+
+-- the range is as a call left it
+pub record IsSoundRange (run : Run) : Type 0 where
+  pub plan : IsSound run.plan
+  pub base : address_of (request_in run.plan.call) ≡ run.base
+  pub kind : IsRanged (request_in run.plan.call)
+
+-- the words of how many frames it asks for at most
+abbrev pub range_sees_in : Run → ℕ
+range_sees_in run = range_sees (range_in run)
+
+-- a range has begun: it waits for the words of a frame, and what is kept is so in any memory, of which nothing was shown yet
+pub record HasBegunRange (target : Target) (request : Request) (bytes : ℕ) (run : Run) : Type 0 where
+  pub sound : IsSoundRange run
+  pub waits : status_in (phase_in run.plan.way.phase) ≡ 32
+  pub of_target : target_in run.plan.call ≡ target
+  pub of_request : request_in run.plan.call ≡ request
+  pub of_bytes : run.bytes ≡ bytes
+  pub shown : (memory : Memory) → IsShown memory (planner_in run.plan)
+
+-- what is asked is kept
+pub record KeepsRange (before after : Run) : Type 0 where
+  pub call : after.plan.call ≡ before.plan.call
+  pub base : after.base ≡ before.base
+  pub bytes : after.bytes ≡ before.bytes
+
+-- a status: 32 and 33 of what is waited for; and of what has ended 0 with a plan, 34 with a run, 35 with one that takes flags, 36 where no page
+-- lies and 37 where one ends beyond the range. A run lies in its table, and a plan unlinks no more frames than there is room for
+pub record IsRangeStatus (run : Run) (status : ℕ) : Type 0 where
+  pub one : (status ≡ 0) ⊎ ((32 ≤ status) × (status ≤ 37))
+  pub sees : status ≡ 32 → status_in (phase_in run.plan.way.phase) ≡ 32
+  pub gives : status ≡ 33 → status_in (phase_in run.plan.way.phase) ≡ 33
+  pub ended : status ≢ 32 → status ≢ 33 → run.plan.way.phase ≡ ENDED
+  pub named : status ≡ 0 → run.plan.unlinked_count ≤ MOST_UNLINKED
+  pub room : (status ≡ 34) ⊎ (status ≡ 35) → run.index + run.count ≤ 512
+
+-- what the word of the page with this number becomes, by the numbers of a run
+abbrev pub word_told : Run → ℕ → ℕ → ℕ
+word_told run number word = bit_and word run.keep + run.first_word + number * run.step
+
+-- what has to be forgotten, by its code
+abbrev pub IsForgetTold : ℕ → Forget → Type 0
+IsForgetTold code Nothing = code ≡ 0
+IsForgetTold code (Pages base size count) = code ≡ 1
+
+-- the numbers of the run are those of this one
+pub record IsRunTold (run : Run) (made : ranged.Run) : Type 0 where
+  pub frame : run.frame ≡ made.frame
+  pub index : run.index ≡ made.index
+  pub count : run.count ≡ made.count
+  pub size : run.size ≡ size_code made.size
+  pub words : (number word : ℕ) → word < 2 ^ 64 → word_told run number word ≡ word_after made.change number word
+  pub flush : IsForgetTold run.flush made.forget
+  pub covered : run.covered ≡ made.count * bytes_of made.size
+
+-- of 32 and 33 what is kept is so in the memory; of all else what the planner of the range says is there, in numbers
+pub record IsRangeNextOf (memory : Memory) (run : Run) (offered : List (Option ℕ)) (status : ℕ) : Type 0 where
+  pub sees : status ≡ 32 → IsShown memory (planner_in run.plan)
+  pub gives : status ≡ 33 → IsShown memory (planner_in run.plan)
+  pub planned : status ≡ 0 → IsPlanned (target_in run.plan.call) (request_in run.plan.call) memory run.plan offered
+  pub runs : status ≡ 34 → (made : ranged.Run) × IsRunNext memory (range_in run) made × IsRunTold run made
+  pub harvests : status ≡ 35 → (made : ranged.Run) × IsHarvestNext memory (range_in run) made × IsRunTold run made
+  pub absent : status ≡ 36 → IsAbsentFor memory (range_in run) run.covered
+  pub beyond : status ≡ 37 → (space : Space)
+      → IsPremise (target_in run.plan.call).depth memory (target_in run.plan.call).root run.base space
+      → EndsBeyond space run.base run.bytes (size_in run.size)

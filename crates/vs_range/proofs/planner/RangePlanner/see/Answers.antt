@@ -1,0 +1,15 @@
+use Rattle.std.proofs.Common.{[], sym, subst}
+use Rattle.vs_range.specs.declared.planner.RangePlanner.{RangePlanner}
+use Rattle.vs_range.specs.Planner.{IsRangeNext}
+use Rattle.vs_range.proofs.Seeing.{range_next}
+use Rattle.vs_range.proofs.planner.RangePlanner.see.Goals as goal
+
+pub returns-then-ne-clause-next : goal.returns-then-ne-clause-next
+returns-then-ne-clause-next g c = λ memory shown got.
+    let range : RangePlanner = record {
+      planner = c.see-step.new.self;
+      base = c.args.self.now.base;
+      bytes = c.args.self.now.bytes;
+      alone = c.args.self.now.alone;
+    } in
+    subst (IsRangeNext memory range []) (sym c.step_of.ensures.is) (range_next memory range [] c.see-step.result (c.see-step.ensures.next memory shown got))

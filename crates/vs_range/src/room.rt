@@ -1,0 +1,61 @@
+//! How many pages there is room for.
+ghost use Rattle.std.specs.Prelude.{◌≡◌, ◌+◌, ◌*◌, ◌<◌, ◌≤◌, ◌⊎◌, ◌^◌, ℕ, min};
+ghost use Rattle.vs_types.specs.Depth.{entry_bytes};
+ghost use Rattle.vs_types.specs.Page.{bytes_of};
+
+use vs_types::{Page, Size};
+
+/// How many pages of this size so many bytes have room for.
+pub(crate) fn pages_in(size: Size, bytes: u64) -> u64
+    ensures within { (count : ℕ) → count ≤ result → count * bytes_of size ≤ bytes }
+    ensures some { bytes_of size ≤ bytes → 1 ≤ result }
+    ensures most { bytes < (result + 1) * bytes_of size }
+{
+    match size {
+        Size::K4 => bytes >> 12,
+        Size::M2 => bytes >> 21,
+        Size::G1 => bytes >> 30,
+    }
+}
+
+/// How many pages that follow on from this one lie within the physical addresses and below 2^51: at most 512.
+pub(crate) fn phys_room(page: Page, phys_bits: u8) -> usize
+    requires { phys_bits ≤ 52 }
+    ensures low { 1 ≤ result → (count : ℕ) → count ≤ result
+        → page.phys + count * bytes_of page.size ≤ 2 ^ 51 }
+    ensures own { 1 ≤ result → (count : ℕ) → count ≤ result
+        → page.phys + count * bytes_of page.size ≤ 2 ^ phys_bits }
+    ensures most { 1 ≤ result → (result ≡ 512)
+        ⊎ (2 ^ min phys_bits 51 < page.phys + (result + 1) * bytes_of page.size) }
+{
+    let end = phys_end(phys_bits);
+    if page.phys > end {
+        return 0;
+    }
+    pages_in(page.size, end - page.phys).min(512) as usize
+}
+
+/// The first physical address that no page may have.
+pub(crate) fn phys_end(phys_bits: u8) -> u64
+    requires { phys_bits ≤ 52 }
+    ensures { result ≡ 2 ^ min phys_bits 51 }
+{
+    1u64 << phys_bits.min(51)
+}
+
+/// What an entry of a table of this level represents, in bytes.
+pub(crate) fn entry_bytes(level: u8) -> u64
+    requires some { 1 ≤ level }
+    requires few { level ≤ 5 }
+    ensures is { result ≡ entry_bytes level }
+    ensures some { 1 ≤ result }
+    ensures most { result ≤ 2 ^ 48 }
+{
+    match level {
+        1 => 1 << 12,
+        2 => 1 << 21,
+        3 => 1 << 30,
+        4 => 1 << 39,
+        _ => 1 << 48,
+    }
+}

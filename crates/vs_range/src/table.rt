@@ -1,0 +1,256 @@
+//! What a table says in which the way of a range's first page ends: a run of pages, or how far none lies.
+ghost use Rattle.std.specs.Prelude.{◌≡◌, ◌≢◌, ◌+◌, ◌*◌, ◌<◌, ◌≤◌, ◌%◌, ◌^◌, ◌⊎◌, ℕ, [], Some, IfSome, IsFalse, min, slice_index};
+ghost use Rattle.std.specs.FinMap as finite;
+ghost use Rattle.vs_types.specs.declared.frame.TheConstants.{FRAME_WORDS};
+ghost use Rattle.vs_types.specs.Depth.{index_at};
+ghost use Rattle.vs_types.specs.Page.{bytes_of};
+ghost use Rattle.vs_walk.specs.Memory.{Memory};
+ghost use Rattle.vs_plan.specs.Shown.{IsShown};
+ghost use Rattle.vs_plan.specs.declared.request.Request.{Request};
+ghost use Rattle.vs_plan.specs.declared.planner.Phase.{Phase};
+ghost use Rattle.vs_range.specs.Planner.{AwaitsRange, AwaitsNext, HasGivenFor, HasRoom, IsRangeNext, IsMapRoom, IsPageAt, range_sees, range_sees_left};
+
+use crate::made::{run_of_harvest, run_of_map, run_of_protect, run_of_unmap};
+use crate::planner::{RangePlanner, RangeStep};
+use crate::room::{entry_bytes, pages_in, phys_room};
+use crate::search::{count_alike, count_pages, removed};
+use crate::word::{is_page, permits};
+use vs_plan::FrameWords;
+use vs_types::{FRAME_WORDS, Page, Rights, Size, index_at};
+
+impl RangePlanner {
+    /// A run of absent entries from this word on, or the next step of the first page's planner.
+    pub(crate) fn see_map<W: FrameWords>(
+        &mut self,
+        page: Page,
+        bits: u64,
+        word: u64,
+        words: &mut W,
+    ) -> RangeStep
+        requires awaits { AwaitsRange self.old }
+        requires phase { self.old.planner.phase ≡ Phase.Descent }
+        requires request { self.old.planner.request ≡ Request.Map page bits }
+        requires read { word ≡ slice_index (W.words words.old)
+            (index_at self.old.planner.level self.old.base) }
+        requires unread { (i : ℕ) → i < FRAME_WORDS
+            → i ≢ index_at self.old.planner.level self.old.base → W.is_unread words.old i }
+        ensures same { (self.new.planner.target ≡ self.old.planner.target)
+            × (self.new.planner.request ≡ self.old.planner.request)
+            × (self.new.base ≡ self.old.base) × (self.new.bytes ≡ self.old.bytes) }
+        ensures awaits { AwaitsNext self.new result }
+        ensures fewer { range_sees_left self.new result < range_sees self.old }
+        ensures given { HasGivenFor self.new [] result }
+        ensures room { HasRoom result }
+        ensures next { (memory : Memory) → IsShown memory self.old.planner
+            → finite.get memory self.old.planner.number ≡ Some (W.words words.old)
+            → IsRangeNext memory self.new [] result }
+    {
+        let most = self.most_mapped(page, word);
+        if most == 0 {
+            return self.follow_alone(word, words);
+        }
+        let index = index_at(self.planner.level, self.base);
+        let alike = count_alike(words, index, most, 0);
+        RangeStep::Runs(run_of_map(page, bits, alike.count, self.planner.number, index))
+    }
+
+    /// How many pages of a map may follow one another from this entry on: 0 where the first of them is not written here.
+    fn most_mapped(&self, page: Page, word: u64) -> usize
+        requires awaits { AwaitsRange self.now }
+        requires request { (bits : ℕ) × (self.now.planner.request ≡ Request.Map page bits) }
+        ensures room { 1 ≤ result → IsMapRoom self.now page word result }
+        ensures most { 1 ≤ result
+            → (index_at self.now.planner.level self.now.base + result ≡ FRAME_WORDS)
+            ⊎ ((self.now.bytes < (result + 1) * bytes_of page.size)
+            ⊎ (2 ^ min self.now.planner.target.phys_bits 51
+            < page.phys + (result + 1) * bytes_of page.size)) }
+    {
+        let level = self.planner.level;
+        if level != page.size.level() || word % 2 != 0 || self.bytes < page.size.bytes() {
+            return 0;
+        }
+        if !permits(self.planner.rights, page.rights) {
+            return 0;
+        }
+        self.most_here(page.size, index_at(level, self.base))
+            .min(phys_room(page, self.planner.target.phys_bits))
+    }
+
+    /// How far no page lies, where the entry for the base is absent.
+    pub(crate) fn see_absent<W: FrameWords>(&self, words: &mut W) -> RangeStep
+        requires awaits { AwaitsRange self.now }
+        requires phase { self.now.planner.phase ≡ Phase.Descent }
+        requires absent { slice_index (W.words words.old)
+            (index_at self.now.planner.level self.now.base) % 2 ≡ 0 }
+        requires unread { (i : ℕ) → i < FRAME_WORDS
+            → i ≢ index_at self.now.planner.level self.now.base → W.is_unread words.old i }
+        ensures awaits { AwaitsNext self.now result }
+        ensures fewer { range_sees_left self.now result ≡ 0 }
+        ensures given { HasGivenFor self.now [] result }
+        ensures room { HasRoom result }
+        ensures next { (memory : Memory) → IsShown memory self.now.planner
+            → finite.get memory self.now.planner.number ≡ Some (W.words words.old)
+            → IsRangeNext memory self.now [] result }
+    {
+        let level = self.planner.level;
+        let index = index_at(level, self.base);
+        let alike = count_alike(words, index, FRAME_WORDS - index, 0);
+        let bytes = entry_bytes(level);
+        RangeStep::Absent(alike.count as u64 * bytes - self.base % bytes)
+    }
+
+    /// A run of pages that get other rights, from this word on, or the next step of the first page's planner.
+    pub(crate) fn see_protect<W: FrameWords>(
+        &mut self,
+        rights: Rights,
+        word: u64,
+        words: &mut W,
+    ) -> RangeStep
+        requires awaits { AwaitsRange self.old }
+        requires phase { self.old.planner.phase ≡ Phase.Descent }
+        requires request { self.old.planner.request ≡ Request.Protect self.old.base rights }
+        requires read { word ≡ slice_index (W.words words.old)
+            (index_at self.old.planner.level self.old.base) }
+        requires unread { (i : ℕ) → i < FRAME_WORDS
+            → i ≢ index_at self.old.planner.level self.old.base → W.is_unread words.old i }
+        ensures same { (self.new.planner.target ≡ self.old.planner.target)
+            × (self.new.planner.request ≡ self.old.planner.request)
+            × (self.new.base ≡ self.old.base) × (self.new.bytes ≡ self.old.bytes) }
+        ensures awaits { AwaitsNext self.new result }
+        ensures fewer { range_sees_left self.new result < range_sees self.old }
+        ensures given { HasGivenFor self.new [] result }
+        ensures room { HasRoom result }
+        ensures next { (memory : Memory) → IsShown memory self.old.planner
+            → finite.get memory self.old.planner.number ≡ Some (W.words words.old)
+            → IsRangeNext memory self.new [] result }
+    {
+        let Some(size) = self.page_begins(word) else {
+            return self.follow_alone(word, words);
+        };
+        if self.bytes < size.bytes() {
+            return RangeStep::Beyond(size);
+        }
+        if !permits(self.planner.rights, rights) {
+            return self.follow_alone(word, words);
+        }
+        let level = self.planner.level;
+        let index = index_at(level, self.base);
+        let found = count_pages(words, level, index, self.most_here(size, index));
+        RangeStep::Runs(run_of_protect(
+            size,
+            self.base,
+            rights,
+            found.count,
+            self.planner.number,
+            index,
+        ))
+    }
+
+    /// A run of pages whose flags are taken away, from this word on, or the next step of the first page's planner.
+    pub(crate) fn see_harvest<W: FrameWords>(&mut self, word: u64, words: &mut W) -> RangeStep
+        requires awaits { AwaitsRange self.old }
+        requires phase { self.old.planner.phase ≡ Phase.Descent }
+        requires request { self.old.planner.request ≡ Request.Ask self.old.base }
+        requires read { word ≡ slice_index (W.words words.old)
+            (index_at self.old.planner.level self.old.base) }
+        requires unread { (i : ℕ) → i < FRAME_WORDS
+            → i ≢ index_at self.old.planner.level self.old.base → W.is_unread words.old i }
+        ensures same { (self.new.planner.target ≡ self.old.planner.target)
+            × (self.new.planner.request ≡ self.old.planner.request)
+            × (self.new.base ≡ self.old.base) × (self.new.bytes ≡ self.old.bytes) }
+        ensures awaits { AwaitsNext self.new result }
+        ensures fewer { range_sees_left self.new result < range_sees self.old }
+        ensures given { HasGivenFor self.new [] result }
+        ensures room { HasRoom result }
+        ensures next { (memory : Memory) → IsShown memory self.old.planner
+            → finite.get memory self.old.planner.number ≡ Some (W.words words.old)
+            → IsRangeNext memory self.new [] result }
+    {
+        let Some(size) = self.page_begins(word) else {
+            return self.follow_alone(word, words);
+        };
+        if self.bytes < size.bytes() {
+            return RangeStep::Beyond(size);
+        }
+        let level = self.planner.level;
+        let index = index_at(level, self.base);
+        let found = count_pages(words, level, index, self.most_here(size, index));
+        RangeStep::Harvests(run_of_harvest(
+            size,
+            self.base,
+            found.count,
+            self.planner.number,
+            index,
+        ))
+    }
+
+    /// A run of pages that are removed, from this word on, or the next step of the first page's planner. Where the table would be left empty,
+    /// the last page is left to the next planner, or the first one is planned alone.
+    pub(crate) fn see_unmap<W: FrameWords>(&mut self, word: u64, words: &mut W) -> RangeStep
+        requires awaits { AwaitsRange self.old }
+        requires alone { IsFalse self.old.alone }
+        requires phase { self.old.planner.phase ≡ Phase.Descent }
+        requires request { self.old.planner.request ≡ Request.Unmap self.old.base }
+        requires read { word ≡ slice_index (W.words words.old)
+            (index_at self.old.planner.level self.old.base) }
+        requires unread { (i : ℕ) → i < FRAME_WORDS
+            → i ≢ index_at self.old.planner.level self.old.base → W.is_unread words.old i }
+        ensures same { (self.new.planner.target ≡ self.old.planner.target)
+            × (self.new.planner.request ≡ self.old.planner.request)
+            × (self.new.base ≡ self.old.base) × (self.new.bytes ≡ self.old.bytes) }
+        ensures awaits { AwaitsNext self.new result }
+        ensures fewer { range_sees_left self.new result < range_sees self.old }
+        ensures given { HasGivenFor self.new [] result }
+        ensures room { HasRoom result }
+        ensures next { (memory : Memory) → IsShown memory self.old.planner
+            → finite.get memory self.old.planner.number ≡ Some (W.words words.old)
+            → IsRangeNext memory self.new [] result }
+    {
+        let Some(size) = self.page_begins(word) else {
+            return self.follow_alone(word, words);
+        };
+        if self.bytes < size.bytes() {
+            return RangeStep::Beyond(size);
+        }
+        let level = self.planner.level;
+        let index = index_at(level, self.base);
+        let pages = count_pages(words, level, index, self.most_here(size, index));
+        let count = removed(words, index, pages, level < self.planner.stop);
+        if count == 0 {
+            self.alone = true;
+            return RangeStep::See(self.planner.number);
+        }
+        RangeStep::Runs(run_of_unmap(size, self.base, count, self.planner.number, index))
+    }
+
+    /// The size of the page that begins at the base, where this is the word of its entry.
+    fn page_begins(&self, word: u64) -> Option<Size>
+        requires { AwaitsRange self.now }
+        ensures { IfSome result (IsPageAt self.now word) }
+    {
+        let level = self.planner.level;
+        if !is_page(level, word) {
+            return None;
+        }
+        let size = Size::at_level(level);
+        if self.base % size.bytes() != 0 {
+            return None;
+        }
+        Some(size)
+    }
+
+    /// How many pages of this size the table and the range have room for, from an index on.
+    fn most_here(&self, size: Size, index: usize) -> usize
+        requires low { index < FRAME_WORDS }
+        requires some { bytes_of size ≤ self.now.bytes }
+        ensures some { 1 ≤ result }
+        ensures room { index + result ≤ FRAME_WORDS }
+        ensures within { (count : ℕ) → count ≤ result → count * bytes_of size ≤ self.now.bytes }
+        ensures most { (index + result ≡ FRAME_WORDS)
+            ⊎ (self.now.bytes < (result + 1) * bytes_of size) }
+    {
+        let left = pages_in(size, self.bytes);
+        let table = (FRAME_WORDS - index) as u64;
+        table.min(left) as usize
+    }
+}
