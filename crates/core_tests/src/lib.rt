@@ -22,6 +22,8 @@ mod recorder_threads;
 #[cfg(test)]
 mod scripts;
 #[cfg(test)]
+mod scripts_in_pieces;
+#[cfg(test)]
 mod scripts_read;
 #[cfg(test)]
 mod words;

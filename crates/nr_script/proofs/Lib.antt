@@ -4,3 +4,4 @@ pub mod Gathered
 pub mod Shares
 pub mod OneReading
 pub mod OneScript
+pub mod LinesFed

@@ -1,4 +1,5 @@
 pub mod Lines
+pub mod Fed
 pub mod Script
 pub mod Examples
 pub mod inside

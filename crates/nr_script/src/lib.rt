@@ -4,10 +4,13 @@
 pub mod examples;
 pub mod laws;
 mod line;
+mod line_feed;
 mod number;
 mod parts;
 mod reading;
 mod script;
 mod step;
 
+pub use line::Line;
+pub use line_feed::{Fed, LineFeed};
 pub use script::{BadLine, SCRIPT_BYTES, SCRIPT_REQUESTS, SCRIPT_STEPS, Script, read_script};
