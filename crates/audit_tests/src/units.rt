@@ -3,7 +3,7 @@
 ghost use Rattle.std.specs.Prelude.{◌<◌};
 
 use crate::bytes::{changed, map_then_resolve};
-use nr_explain::{BadField, BadUnit, EventField, FieldFault, Numbers, TraceUnit, UnitFeed, Unread};
+use nr_explain::{BadField, BadUnit, EventField, FieldFault, Next, TraceUnit, UnitFeed, Unread};
 use nr_trace::{Format, Trace};
 use std::alloc::Global;
 use std::process::Abort;
@@ -161,19 +161,24 @@ fn what_stands_behind_the_last_unit(rt: HostRuntime) {
 #[test]
 fn what_comes_behind_the_counts(rt: HostRuntime) {
     let bytes = map_then_resolve(&rt, rt.alloc());
+    let next = behind_header(&bytes);
+    assert!(rt; next.unit == TraceUnit::Place(0));
+    let numbers = next.numbers;
+    assert!(rt; !numbers.segment);
+    assert!(rt; (numbers.places, numbers.events) == (1, 4));
+    assert!(rt; (numbers.replicas, numbers.frames) == (1, 0));
+    let event = next.after(&[0; 4]);
+    assert!(rt; event.unit == TraceUnit::Event(0));
+}
+
+/// What comes behind the first twenty bytes.
+fn behind_header(bytes: &[u8]) -> Next {
     let header = &bytes[..bytes.len().min(20)];
-    let counts = &header[header.len().min(6)..];
-    let numbers = Numbers::none().after(TraceUnit::Counts, counts);
-    let wanted = Numbers {
-        places: 1,
-        events: 4,
-        replicas: 1,
-        frames: 0,
-    };
-    assert!(rt; numbers == wanted);
-    assert!(rt; numbers.unit_after(TraceUnit::Counts) == TraceUnit::Place(0));
-    assert!(rt; numbers.place_unit(1) == TraceUnit::Event(0));
-    assert!(rt; Numbers::none().place_unit(0) == TraceUnit::Behind);
+    let (magic, rest) = header.split_at(header.len().min(4));
+    let (version, counts) = rest.split_at(rest.len().min(2));
+    let second = Next::first().after(magic);
+    let third = second.after(version);
+    third.after(counts)
 }
 
 /// Where a byte of a trace of version 1 is another: the index, the byte, the field that is named, its value and what is wrong with it.

@@ -7,11 +7,11 @@ use Rattle.nr_trace.specs.Faults.{HasFaultFrom}
 use Rattle.nr_trace.specs.Laws.{IsFaultlessFrom}
 use Rattle.nr_trace.specs.Orders.{recorded_order, space_from}
 use Rattle.nr_trace.proofs.LawsOfDumps.{clean_if_faultless}
-use Rattle.nr_segment.specs.Start.{first_space}
-use Rattle.nr_segment.specs.Touches.{HasRightTouches, IsStale}
-use Rattle.nr_segment.specs.Faults.{HasNoFaultAfter, IsSoundAfter}
-use Rattle.nr_segment.specs.Verdict.{last_space}
-use Rattle.nr_segment.specs.declared.fault.SegmentFault.TheVariants.{Start, Within, Stale}
+use Rattle.nr_audit.specs.Start.{first_space}
+use Rattle.nr_audit.specs.Touches.{HasRightTouches, IsStale}
+use Rattle.nr_audit.specs.Faults.{HasNoFaultAfter, IsSoundAfter}
+use Rattle.nr_audit.specs.Segments.{last_space}
+use Rattle.nr_audit.specs.declared.fault.SegmentFault.TheVariants.{Start, Within, Stale}
 use Rattle.nr_chain.specs.Bytes.{kept_after, layout_before, space_before, SpellAll, SpellsChain, GoesOnSo}
 use Rattle.chain_cuts.specs.Cut.{orders_of, AreCut, AreRecorded, AreSoundAfter, HasNoDumps, HaveNoStarts, IsClosed, IsSameRun}
 use Rattle.nr_chain.specs.Fed.{Kept}

@@ -9,10 +9,10 @@ use Rattle.nr_trace.specs.Laws.{IsFaultlessFrom}
 use Rattle.nr_trace.specs.declared.fault.Fault.{Fault}
 use Rattle.nr_trace.specs.declared.fault.Fault.TheVariants.{ThreadOpen, WrongAnswer, PrefixPastLog, PrefixShort, MissingFrame, SharedFrame, ReservedBit}
 use Rattle.nr_trace.specs.declared.fault.Fault.TheVariants.{StrayFrame, Differs}
-use Rattle.nr_segment.specs.Start.{first_space}
-use Rattle.nr_segment.specs.Touches.{HasTouch, HasRightTouches}
-use Rattle.nr_segment.specs.Faults.{HasNoFaultAfter, IsSoundAfter}
-use Rattle.nr_segment.specs.declared.fault.SegmentFault.TheVariants.{Start, Within, Stale}
+use Rattle.nr_audit.specs.Start.{first_space}
+use Rattle.nr_audit.specs.Touches.{HasTouch, HasRightTouches}
+use Rattle.nr_audit.specs.Faults.{HasNoFaultAfter, IsSoundAfter}
+use Rattle.nr_audit.specs.declared.fault.SegmentFault.TheVariants.{Start, Within, Stale}
 use Rattle.chain_cuts.specs.Cut.{without_dumps, HasNoDumps, IsSameRun}
 
 -- the dumps that are there among some are among others

@@ -13,7 +13,7 @@ use Rattle.nr_trace.proofs.LawsOfCalls.{answers_within, placed_is_update, reply_
 use Rattle.nr_touch.specs.Touches.{page_after, ChangesLook, IsAnsweredBefore, IsMadeAfter, IsRightTouch}
 use Rattle.nr_touch.specs.declared.touch.Touch.{Touch}
 use Rattle.nr_touch.proofs.QuietPages.{same_look}
-use Rattle.nr_segment.specs.Touches.{HasTouch, HasRightTouches}
+use Rattle.nr_audit.specs.Touches.{HasTouch, HasRightTouches}
 use Rattle.chain_cuts.specs.Cut.{IsClosed}
 use Rattle.nr_chain.specs.Joined.{joined_traces}
 use Rattle.chain_cuts.proofs.CutRest.{log_within}

@@ -6,8 +6,8 @@ use Rattle.vs_walk.specs.Dump.{Image}
 use Rattle.nr_trace.specs.Recording.{IsThere, Recording}
 use Rattle.nr_trace.specs.Calls.{IsCall, Answers}
 use Rattle.nr_trace.specs.Orders.{recorded_order}
-use Rattle.nr_segment.specs.Faults.{IsSoundAfter}
-use Rattle.nr_segment.specs.Verdict.{last_space}
+use Rattle.nr_audit.specs.Faults.{IsSoundAfter}
+use Rattle.nr_audit.specs.Segments.{last_space}
 use Rattle.nr_chain.specs.Joined.{Segment}
 
 -- no call of the run is open at its end, since each has a reply, and its log has no calls but its own: so that another may begin there

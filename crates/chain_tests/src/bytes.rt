@@ -1,6 +1,6 @@
 //! The worked chains.
 
-use nr_segment::{SegmentFault, StartFault};
+use nr_audit::{SegmentFault, StartFault};
 use nr_trace::{Fault, Format};
 use std::alloc::{AllocError, Global};
 use std::process::Abort;

@@ -1,8 +1,7 @@
 //! The engines of chains, over ends that give little at a time, or that fail.
 
 use crate::bytes::NOTHING_RECORDED;
-use nr_chain_engines::{audit_chain_io, chain_end_io, chain_start_io};
-use nr_engines::{Input, ProgFault};
+use audit_readers::{Input, ProgFault, audit_chain_io, chain_end_io, chain_start_io};
 use std::alloc::Global;
 use std::io::{Chain, Error, ErrorKind, Read, Write};
 use std::process::Abort;

@@ -1,6 +1,6 @@
 //! A flush that fails.
 
-use nr_engines::{Input, ProgFault, audit_io, resolve_io};
+use audit_readers::{Input, ProgFault, audit_io, resolve_io};
 use std::io::{Error, ErrorKind, Read, Write};
 use std::process::Abort;
 

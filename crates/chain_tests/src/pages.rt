@@ -1,8 +1,8 @@
 //! The pages of dumps and of spaces.
 
 use crate::bytes::{TABLES, push_frames};
-use nr_engines::{ProgFault, Report};
-use nr_pages::{dump_text, pages_read, space_text};
+use audit_readers::{ProgFault, Report, pages_read};
+use audit_texts::{dump_text, space_text};
 use nr_trace::{Format, Trace, read};
 use std::alloc::Global;
 use std::process::Abort;

@@ -1,10 +1,10 @@
 //! Segments, each by itself.
 
 ghost use Rattle.std.specs.Prelude.{◌≡◌, IfSome};
-ghost use Rattle.nr_segment.specs.Verdict.{FitsLayout};
+ghost use Rattle.nr_audit.specs.Segments.{FitsLayout};
 
 use crate::bytes::{CASES, bytes_of};
-use nr_segment::{SegmentFault, SegmentVerdict, StartFault, judge_segment};
+use nr_audit::{SegmentFault, SegmentVerdict, StartFault, judge_segment};
 use nr_trace::{Fault, SegmentFeed, Trace};
 use std::alloc::Global;
 use std::process::Abort;

@@ -17,3 +17,11 @@ pub mod DumpFaults
 pub mod ComparedDumps
 pub mod PassedPlaces
 pub mod PartsOfVerdicts
+pub mod FilledSpaces
+pub mod Starts
+pub mod SegmentOrder
+pub mod Judgements
+pub mod RightSegments
+pub mod TouchLists
+pub mod FirstFaults
+pub mod StartSpaces

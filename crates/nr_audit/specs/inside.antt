@@ -1,7 +1,9 @@
 -- Loop invariants and the insides of models: no public clause cites them.
+pub mod Begun
 pub mod Chains
 pub mod Dumps
 pub mod Indexes
+pub mod Judged
 pub mod LastCalls
 pub mod LastEvents
 pub mod Passes

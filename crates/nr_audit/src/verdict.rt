@@ -1,5 +1,6 @@
 //! What an audit finds.
 
+use crate::fault::SegmentFault;
 use nr_trace::Fault;
 use std::marker::Model;
 use vs_plain::PlainSpace;
@@ -60,4 +61,13 @@ pub enum Verdict {
     Yes(Order),
     /// The first fault.
     No(Fault),
+}
+
+/// What is found of a segment.
+#[derive(Debug, Drop)]
+pub enum SegmentVerdict {
+    /// The segment is right, with this order of its calls, and leads to this space: that after its whole log.
+    Right(Order, PlainSpace),
+    /// The first fault.
+    Wrong(SegmentFault),
 }

@@ -8,8 +8,8 @@ use Rattle.nr_trace.specs.Feed.Fed.{Taken}
 use Rattle.nr_trace.specs.declared.fault.Fault.TheVariants.{Format}
 use Rattle.nr_trace.specs.declared.fault.Format.TheVariants.{Truncated}
 use Rattle.nr_trace.specs.declared.version.Form.TheVariants as forms
-use Rattle.nr_segment.specs.declared.fault.SegmentFault.{SegmentFault}
-use Rattle.nr_segment.specs.declared.fault.SegmentFault.TheVariants.{Within}
+use Rattle.nr_audit.specs.declared.fault.SegmentFault.{SegmentFault}
+use Rattle.nr_audit.specs.declared.fault.SegmentFault.TheVariants.{Within}
 use Rattle.nr_chain.specs.Bytes.{layout_before, EndsWith}
 use Rattle.nr_chain.specs.Fed.{ChainFed}
 use Rattle.nr_chain.specs.declared.chain.Last.{Last}

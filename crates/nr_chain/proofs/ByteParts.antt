@@ -5,7 +5,7 @@ use Rattle.vs_types.specs.Config.{Layout}
 use Rattle.vs_types.specs.Space.{Space}
 use Rattle.nr_trace.specs.Recording.{Recording}
 use Rattle.nr_trace.specs.Orders.{space_from}
-use Rattle.nr_segment.specs.Faults.{IsSoundAfter}
+use Rattle.nr_audit.specs.Faults.{IsSoundAfter}
 use Rattle.nr_chain.specs.Bytes.{kept_after, layout_before, BeginsWith, EndsWith, GoesOnSo}
 use Rattle.nr_chain.specs.Fed.{Kept}
 use Rattle.nr_chain.specs.Parts.{ComesTo, MayFollow, SpellUpTo}

@@ -1,7 +1,7 @@
 -- What a piece makes of a chain, of all its bytes.
 use Rattle.std.proofs.Common.{◌≡◌, ℕ, List, [], ◌∷◌, ◌++◌, take, drop, append_assoc, Option, Some, None, sym, ap, ◌∙◌, subst}
 use Rattle.std.proofs.lemmas.List.{append-nil, take-append-drop}
-use Rattle.nr_segment.specs.declared.fault.SegmentFault.{SegmentFault}
+use Rattle.nr_audit.specs.declared.fault.SegmentFault.{SegmentFault}
 use Rattle.nr_chain.specs.Fed.{ChainFed}
 use Rattle.nr_chain.specs.Bytes.{EndsWith, GoesOnSo, IsFirstNext}
 use Rattle.nr_chain.specs.Verdict.{FeedsChain}

@@ -3,7 +3,7 @@ use Rattle.std.proofs.Common.{◌≡◌, ℕ, List, [], Option, Some, None, is_s
 use Rattle.nr_trace.specs.FirstFault.{HasFaultAs}
 use Rattle.nr_trace.specs.declared.fault.Format.TheVariants.{Truncated}
 use Rattle.nr_trace.specs.declared.version.Form.{Form}
-use Rattle.nr_segment.specs.declared.fault.SegmentFault.{SegmentFault}
+use Rattle.nr_audit.specs.declared.fault.SegmentFault.{SegmentFault}
 use Rattle.nr_chain.specs.Fed.{Kept}
 use Rattle.nr_chain.specs.Bytes.{EndsWith, IsFirstNext}
 

@@ -9,9 +9,9 @@ use Rattle.nr_trace.specs.declared.fault.Fault.TheVariants as faults
 use Rattle.nr_trace.specs.declared.fault.Format.{Format}
 use Rattle.nr_trace.specs.declared.version.Form.TheVariants as forms
 use Rattle.nr_trace.proofs.LawsOfFormat.{no_fault_of_segment, one_fault}
-use Rattle.nr_segment.specs.Faults.{IsFirstAfter, IsSoundAfter}
-use Rattle.nr_segment.specs.declared.fault.SegmentFault.{SegmentFault}
-use Rattle.nr_segment.specs.declared.fault.SegmentFault.TheVariants.{Start, Within, Stale}
+use Rattle.nr_audit.specs.Faults.{IsFirstAfter, IsSoundAfter}
+use Rattle.nr_audit.specs.declared.fault.SegmentFault.{SegmentFault}
+use Rattle.nr_audit.specs.declared.fault.SegmentFault.TheVariants.{Start, Within, Stale}
 use Rattle.nr_chain.specs.Bytes.{kept_after, layout_before, space_before, BeginsWith, EndsWith, HasFirstNext, IsFirstNext, GoesOnSo}
 use Rattle.nr_chain.specs.Fed.{Kept}
 use Rattle.nr_chain.proofs.OneChain.{begins_some, one_front}

@@ -7,10 +7,10 @@ use Rattle.vs_types.specs.Space.{Space, IsSpace}
 use Rattle.nr_trace.specs.Recording.{Recording}
 use Rattle.nr_trace.specs.Calls.{IsWellFormedHistory}
 use Rattle.nr_trace.proofs.LawsOfHistories.{history_if_faultless}
-use Rattle.nr_segment.specs.Start.{first_space}
-use Rattle.nr_segment.specs.Faults.{IsSoundAfter}
-use Rattle.nr_segment.specs.Touches.{HasRightTouches}
-use Rattle.nr_segment.specs.declared.fault.SegmentFault.TheVariants.{Within}
+use Rattle.nr_audit.specs.Start.{first_space}
+use Rattle.nr_audit.specs.Faults.{IsSoundAfter}
+use Rattle.nr_audit.specs.Touches.{HasRightTouches}
+use Rattle.nr_audit.specs.declared.fault.SegmentFault.TheVariants.{Within}
 use Rattle.nr_chain.specs.Fed.{Kept}
 use Rattle.nr_chain.specs.Bytes.{kept_after, SpellAll, EndsWith, GoesOnSo}
 use Rattle.nr_chain.specs.Headline.{traces, GoesOnIn, IsRightChain}

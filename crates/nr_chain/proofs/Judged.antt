@@ -11,8 +11,8 @@ use Rattle.nr_trace.specs.Feed.{FedSegment, FeedsSegment, IsWhole}
 use Rattle.nr_trace.specs.declared.fault.Format.{Format}
 use Rattle.nr_trace.specs.declared.fault.Format.TheVariants.{Truncated}
 use Rattle.nr_trace.specs.declared.fault.Fault.TheVariants as faults
-use Rattle.nr_segment.specs.declared.fault.SegmentFault.{SegmentFault}
-use Rattle.nr_segment.specs.declared.fault.SegmentFault.TheVariants.{Start, Within, Stale}
+use Rattle.nr_audit.specs.declared.fault.SegmentFault.{SegmentFault}
+use Rattle.nr_audit.specs.declared.fault.SegmentFault.TheVariants.{Start, Within, Stale}
 use Rattle.nr_chain.specs.Fed.{ChainFed, Kept}
 use Rattle.nr_chain.specs.Bytes.{layout_before, HasFirstNext, IsFirstNext}
 use Rattle.nr_chain.specs.Verdict.{FeedsChain, LastsNext}

@@ -27,16 +27,16 @@ use Rattle.nr_dump.specs.declared.fault.DumpFault.{DumpFault}
 use Rattle.nr_dump.specs.declared.fault.DumpFault.TheVariants as dumps
 use Rattle.nr_trace.specs.Recording.{IsRecording, IsStart, Recording}
 use Rattle.nr_trace.specs.Faults.{HasFaultFrom}
-use Rattle.nr_segment.specs.Start.{space_of_pages, start_space, HasPageBeyond, HoldsOfStart}
-use Rattle.nr_segment.specs.Touches.{HasRightTouches, IsStale}
-use Rattle.nr_segment.specs.Faults.{HasNoFaultAfter, IsSoundAfter}
-use Rattle.nr_segment.specs.declared.fault.StartFault.{StartFault}
-use Rattle.nr_segment.specs.declared.fault.StartFault.TheVariants.{Missing, Shared, Reserved, Stray, Beyond, Differs}
-use Rattle.nr_segment.specs.declared.fault.SegmentFault.TheVariants.{Start, Within, Stale}
-use Rattle.nr_segment.specs.inside.Begun.{HasNoneBeyond, HasRightTables}
-use Rattle.nr_segment.proofs.FilledSpaces.{of_own_pages}
+use Rattle.nr_audit.specs.Start.{space_of_pages, start_space, HasPageBeyond, HoldsOfStart}
+use Rattle.nr_audit.specs.Touches.{HasRightTouches, IsStale}
+use Rattle.nr_audit.specs.Faults.{HasNoFaultAfter, IsSoundAfter}
+use Rattle.nr_audit.specs.declared.fault.StartFault.{StartFault}
+use Rattle.nr_audit.specs.declared.fault.StartFault.TheVariants.{Missing, Shared, Reserved, Stray, Beyond, Differs}
+use Rattle.nr_audit.specs.declared.fault.SegmentFault.TheVariants.{Start, Within, Stale}
+use Rattle.nr_audit.specs.inside.Begun.{HasNoneBeyond, HasRightTables}
+use Rattle.nr_audit.proofs.FilledSpaces.{of_own_pages}
 use Rattle.nr_chain.specs.Headline.{BeginsIn}
-use Rattle.nr_segment.proofs.Starts.{found_apart, none_differs, right_tables}
+use Rattle.nr_audit.proofs.Starts.{found_apart, none_differs, right_tables}
 
 -- what is found at a number is one of the values
 valued : (q : ℕ) (es : List (ℕ × List ℕ)) (words : List ℕ) → entries.find nat_cmp q es ≡ Some words → Contains (map (λ (e : ℕ × List ℕ). e.1) es) words

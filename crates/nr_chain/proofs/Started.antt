@@ -18,8 +18,8 @@ use Rattle.nr_trace.specs.Orders.{operations, space_from}
 use Rattle.nr_trace.specs.declared.event.Event.{Event}
 use Rattle.nr_trace.specs.declared.event.Event.TheVariants.{Call, Reply, Touch}
 use Rattle.nr_trace.specs.declared.version.Version.{Version}
-use Rattle.nr_segment.specs.Faults.{IsSoundAfter}
-use Rattle.nr_segment.proofs.StartSpaces.{first_translates}
+use Rattle.nr_audit.specs.Faults.{IsSoundAfter}
+use Rattle.nr_audit.proofs.StartSpaces.{first_translates}
 use Rattle.nr_chain.specs.Headline.{GoesOnIn}
 use Rattle.nr_chain.specs.Joined.{Segment, both, joined}
 use Rattle.nr_chain.specs.Run.{AreRightFrom, IsRightFrom, space_behind}

@@ -11,7 +11,7 @@ use Rattle.nr_trace.specs.Orders.{space_from}
 use Rattle.nr_trace.proofs.LawsOfLists.{In}
 use Rattle.nr_touch.specs.Touches.{page_after, ChangesLook, IsAnsweredBefore, IsMadeAfter, IsRightTouch}
 use Rattle.nr_touch.specs.declared.touch.Touch.{Touch}
-use Rattle.nr_segment.specs.Touches.{HasTouch, HasRightTouches}
+use Rattle.nr_audit.specs.Touches.{HasTouch, HasRightTouches}
 use Rattle.nr_chain.specs.Joined.{calls_behind, joined_traces}
 use Rattle.nr_chain.proofs.Lists.{split_at, take_behind}
 use Rattle.nr_chain.proofs.Orders.{AreOf, space_left, space_both}

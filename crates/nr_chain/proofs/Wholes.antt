@@ -15,10 +15,10 @@ use Rattle.nr_trace.specs.declared.fault.Format.TheVariants.{Truncated}
 use Rattle.nr_trace.specs.declared.version.Form.TheVariants as forms
 use Rattle.nr_trace.proofs.LawsOfFormat.{no_fault}
 use Rattle.nr_audit.specs.Verdict.{space_of}
-use Rattle.nr_segment.specs.Faults.{IsFirstAfter, IsSoundAfter}
-use Rattle.nr_segment.specs.Verdict.{last_space, pages_before, FitsLayout, IsVerdictAfter}
-use Rattle.nr_segment.specs.declared.fault.SegmentFault.{SegmentFault}
-use Rattle.nr_segment.specs.declared.verdict.SegmentVerdict.TheVariants as verdicts
+use Rattle.nr_audit.specs.Faults.{IsFirstAfter, IsSoundAfter}
+use Rattle.nr_audit.specs.Segments.{last_space, pages_before, FitsLayout, IsVerdictAfter}
+use Rattle.nr_audit.specs.declared.fault.SegmentFault.{SegmentFault}
+use Rattle.nr_audit.specs.declared.verdict.SegmentVerdict.TheVariants as verdicts
 use Rattle.nr_chain.specs.Bytes.{layout_before, space_before}
 use Rattle.nr_chain.specs.declared.chain.Last.{Last}
 use Rattle.nr_chain.specs.declared.chain.Step.TheVariants.{Right, Wrong}

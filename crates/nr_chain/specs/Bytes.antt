@@ -8,10 +8,10 @@ use Rattle.nr_trace.specs.FirstFault.{HasSegmentFault}
 use Rattle.nr_trace.specs.Orders.{recorded_order}
 use Rattle.nr_trace.specs.declared.fault.Fault.TheVariants.{Format}
 use Rattle.nr_chain.specs.Fed.{Kept}
-use Rattle.nr_segment.specs.Faults.{IsFirstAfter, IsSoundAfter}
-use Rattle.nr_segment.specs.Verdict.{last_space}
-use Rattle.nr_segment.specs.declared.fault.SegmentFault.{SegmentFault}
-use Rattle.nr_segment.specs.declared.fault.SegmentFault.TheVariants.{Within}
+use Rattle.nr_audit.specs.Faults.{IsFirstAfter, IsSoundAfter}
+use Rattle.nr_audit.specs.Segments.{last_space}
+use Rattle.nr_audit.specs.declared.fault.SegmentFault.{SegmentFault}
+use Rattle.nr_audit.specs.declared.fault.SegmentFault.TheVariants.{Within}
 
 abbrev pub layout_before : Option Kept → Option Layout
 layout_before kept = option_map (λ last. last.layout) kept

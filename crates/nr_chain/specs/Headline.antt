@@ -6,7 +6,7 @@ use Rattle.vs_walk.specs.Dump.{Image}
 use Rattle.vs_walk.specs.Walk.{TranslatesAs}
 use Rattle.nr_trace.specs.Recording.{Recording}
 use Rattle.nr_trace.specs.Calls.{IsWellFormedHistory}
-use Rattle.nr_segment.specs.Touches.{HasRightTouches}
+use Rattle.nr_audit.specs.Touches.{HasRightTouches}
 use Rattle.nr_chain.specs.Bytes.{SpellsChain}
 use Rattle.nr_chain.specs.Joined.{Segment, joined}
 use Rattle.nr_chain.specs.Run.{space_behind, IsRightRun}

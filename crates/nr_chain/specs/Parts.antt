@@ -1,7 +1,7 @@
 -- Parts of the bytes of a chain: what one comes to, and which other may come behind it.
 use Rattle.std.specs.Prelude.{◌≡◌, ℕ, List, [], ◌∷◌, Option, Some, None}
 use Rattle.nr_trace.specs.Recording.{Recording}
-use Rattle.nr_segment.specs.Start.{start_space}
+use Rattle.nr_audit.specs.Start.{start_space}
 use Rattle.nr_chain.specs.Bytes.{kept_after, layout_before, BeginsWith}
 use Rattle.nr_chain.specs.Fed.{Kept}
 

@@ -6,9 +6,9 @@ use Rattle.nr_trace.specs.FirstFault.{HasSegmentFault}
 use Rattle.nr_trace.specs.Orders.{recorded_order}
 use Rattle.nr_trace.specs.Spelling.{SpellsSegment}
 use Rattle.nr_trace.specs.declared.fault.Format.TheVariants.{Truncated}
-use Rattle.nr_segment.specs.Faults.{IsSoundAfter}
-use Rattle.nr_segment.specs.Verdict.{FitsLayout}
-use Rattle.nr_segment.specs.declared.fault.SegmentFault.{SegmentFault}
+use Rattle.nr_audit.specs.Faults.{IsSoundAfter}
+use Rattle.nr_audit.specs.Segments.{FitsLayout}
+use Rattle.nr_audit.specs.declared.fault.SegmentFault.{SegmentFault}
 use Rattle.nr_chain.specs.Bytes.{kept_after, layout_before, space_before, IsFirstNext, GoesOnSo}
 use Rattle.nr_chain.specs.declared.verdict.ChainVerdict.{ChainVerdict}
 use Rattle.nr_chain.specs.declared.verdict.ChainVerdict.TheVariants.{Yes, No}

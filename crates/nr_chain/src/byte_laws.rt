@@ -1,7 +1,7 @@
 //! Laws of chains as bytes, and of touches. Each function does nothing: its clauses say what holds of all bytes.
 
 ghost use Rattle.std.specs.Prelude.{◌≡◌, ◌++◌, ℕ, List, Option, None};
-ghost use Rattle.nr_segment.specs.declared.fault.SegmentFault.{SegmentFault};
+ghost use Rattle.nr_audit.specs.declared.fault.SegmentFault.{SegmentFault};
 ghost use Rattle.nr_chain.specs.Bytes.{GoesOnSo};
 ghost use Rattle.nr_chain.specs.Fed.{Kept};
 ghost use Rattle.nr_chain.specs.Headline.{IsRightChain};

@@ -2,14 +2,13 @@
 
 ghost use Rattle.std.specs.Prelude.{◌≡◌, ◌⊎◌, [], IfOk, IfSome, Some, None, true, false, option_copied, option_map};
 ghost use Rattle.nr_trace.specs.Feed.{IsWhole};
-ghost use Rattle.nr_segment.specs.Verdict.{pages_before, FitsLayout, IsVerdictAfter};
+ghost use Rattle.nr_audit.specs.Segments.{pages_before, FitsLayout, IsVerdictAfter};
 ghost use Rattle.nr_chain.specs.Bytes.{layout_before, EndsWith};
 ghost use Rattle.nr_chain.specs.Verdict.{FeedsChain, IsSpaceAfter};
 ghost use Rattle.nr_chain.specs.inside.Between.{bytes_in, kept_by, FitsLast};
 ghost use Rattle.nr_chain.specs.inside.Steps.{JudgesWhole, RefusesWith};
 
-use nr_audit::Order;
-use nr_segment::{SegmentFault, SegmentVerdict, judge_segment};
+use nr_audit::{Order, SegmentFault, SegmentVerdict, judge_segment};
 use nr_trace::{Fault, Format, SegmentFeed, Trace, TraceLayout};
 use std::alloc::Global;
 use std::marker::Model;

@@ -1,7 +1,6 @@
 //! What an audit of a chain finds.
 
-use nr_audit::Order;
-use nr_segment::SegmentFault;
+use nr_audit::{Order, SegmentFault};
 
 /// What an audit of a chain finds.
 #[derive(Debug, Drop)]

@@ -16,7 +16,7 @@ pub mod Leads
 pub mod Shown
 pub mod Bounds
 pub mod Runs
-pub mod Fed
+pub mod FedUnits
 pub mod OneBadUnit
 pub mod Walked
 pub mod ReservedBits
@@ -24,3 +24,15 @@ pub mod RightFields
 pub mod BadFields
 pub mod DumpsFound
 pub mod DumpsTold
+pub mod Cuts
+pub mod Walking
+pub mod Firsts
+pub mod Feeding
+pub mod Differing
+pub mod Wholes
+pub mod StartsShown
+pub mod Windows
+pub mod Looking
+pub mod Answering
+pub mod OriginsShown
+pub mod Verdicts

@@ -11,7 +11,7 @@ use Rattle.nr_trace.specs.FirstFault.{HasFormatFault}
 use Rattle.nr_trace.specs.Feed.{HasLastingFault, HasNoFaultYet}
 use Rattle.nr_trace.specs.declared.fault.Format.{Format}
 use Rattle.nr_trace.specs.declared.fault.Format.TheVariants.{BadEvent, Truncated}
-use Rattle.nr_explain.specs.Units.{after, dump_unit, event_unit, own_fault, place_unit, size, GoesOn, IsWithin}
+use Rattle.nr_explain.specs.Units.{after, dump_unit, event_unit, own_fault, place_unit, size, GoesOn, IsWithin, LeadOn}
 use Rattle.nr_explain.specs.inside.UnitsFed.{bad_unit, last_unit, AreUnits, IsBadIn, IsPart, IsRefused, IsRun}
 use Rattle.nr_explain.specs.declared.next_unit.Next.{Next}
 use Rattle.nr_explain.specs.declared.next_unit.Numbers.{Numbers}
@@ -19,7 +19,7 @@ use Rattle.nr_explain.specs.declared.unit_feed.Walk.{Walk}
 use Rattle.nr_explain.specs.declared.units.TraceUnit.{TraceUnit}
 use Rattle.nr_explain.specs.declared.units.TraceUnit.TheVariants.{Place, Event, Behind}
 use Rattle.nr_explain.proofs.Bounds.{never_cut}
-use Rattle.nr_explain.proofs.Leads.{apart, begins_with, goes_further, header_before, same_or_behind, some_size, IsFurther, LeadInTrace}
+use Rattle.nr_explain.proofs.Leads.{apart, begins_with, goes_further, header_before, same_or_behind, some_size, IsFurther}
 use Rattle.nr_explain.proofs.Shown.{shown, IsShown}
 
 -- ---- series of units
@@ -82,7 +82,7 @@ module _ (numbers : Numbers) (make at : ℕ → TraceUnit) (len limit : ℕ) (se
     pub long : length (concat units) ≡ len * before
     pub is : last ≡ Makes (n + before)
 
-  in_run : (count n : ℕ) (units : List (List ℕ)) (last : Next) → n + count ≤ limit → length (concat units) < len * count → LeadInTrace (Makes n) units last
+  in_run : (count n : ℕ) (units : List (List ℕ)) (last : Next) → n + count ≤ limit → length (concat units) < len * count → LeadOn (Makes n) units last
       → IsOneOf n count units last
   in_run zero n units last few room lead = absurd (omega (arith, room))
   in_run (suc count) n [] last few room lead =
@@ -94,7 +94,7 @@ module _ (numbers : Numbers) (make at : ℕ → TraceUnit) (len limit : ℕ) (se
       let left : length (concat units) < len * suc more =
       omega (arith, room, mul-suc len (suc more), long, series.long n, length-append unit (concat units)) in
       let next : after (Makes n) unit ≡ Makes (n + 1) = series.behind n unit ∙ comes (n + 1) (omega (arith, few)) in
-      let rest = in_run (suc more) (n + 1) units last (omega (arith, few)) left (subst (λ (m : Next). LeadInTrace m units last) next lead) in
+      let rest = in_run (suc more) (n + 1) units last (omega (arith, few)) left (subst (λ (m : Next). LeadOn m units last) next lead) in
       let further : n + 1 + rest.before ≡ n + suc rest.before = omega arith in
       record {
         before = suc rest.before;

@@ -5,4 +5,9 @@ pub mod Evidence
 pub mod Dumps
 pub mod Counts
 pub mod Explanation
+pub mod Progress
+pub mod ChainFacts
+pub mod ChainUnits
+pub mod ChainEvidence
+pub mod ChainExplanation
 pub mod inside

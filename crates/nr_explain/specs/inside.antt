@@ -3,3 +3,9 @@ pub mod Explained
 pub mod UnitsFed
 pub mod Searches
 pub mod Ways
+pub mod Itself
+pub mod Reading
+pub mod Starts
+pub mod Steps
+pub mod Walked
+pub mod Windows

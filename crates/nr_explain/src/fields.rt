@@ -103,7 +103,7 @@ fn number_64(bytes: &[u8], at: usize) -> u64
 }
 
 /// Whether a header is that of a segment.
-fn is_segment(header: &[u8]) -> bool
+pub(crate) fn is_segment(header: &[u8]) -> bool
     ensures { result ≡ is_segment header.now }
 {
     number_8(header, 3) == b'S'

@@ -1,6 +1,6 @@
 //! Laws of the definitions in `specs/`. Each function does nothing: its clauses say what holds of all bytes.
 
-ghost use Rattle.std.specs.Prelude.{◌≡◌, ◌<◌, ◌++◌, ℕ, All, List, None, length};
+ghost use Rattle.std.specs.Prelude.{◌≡◌, ◌<◌, ◌-◌, ◌^◌, ◌++◌, ℕ, All, List, None, Some, length, min};
 ghost use Rattle.nr_trace.specs.Recording.{IsEvent};
 ghost use Rattle.nr_trace.specs.FirstFault.{IsCounts};
 ghost use Rattle.nr_trace.specs.Spelling.{counts, event, magic, version_word};
@@ -10,6 +10,12 @@ ghost use Rattle.nr_trace.specs.declared.version.Version.{Version};
 ghost use Rattle.nr_explain.specs.Fields.{event_fault};
 ghost use Rattle.nr_explain.specs.Units.{IsBadUnit};
 ghost use Rattle.nr_explain.specs.declared.units.BadUnit.{BadUnit};
+ghost use Rattle.nr_audit.specs.declared.fault.SegmentFault.{SegmentFault};
+ghost use Rattle.nr_chain.specs.Bytes.{GoesOnSo};
+ghost use Rattle.nr_explain.specs.ChainExplanation.{IsExplanationOfChain};
+ghost use Rattle.nr_explain.specs.declared.chain.evidence.SegmentEvidence.{SegmentEvidence};
+ghost use Rattle.nr_explain.specs.declared.chain.explanation.ChainCounts.{ChainCounts};
+ghost use Rattle.nr_explain.specs.declared.chain.explanation.ChainExplanation.TheVariants.{Yes, No};
 
 /// Bytes have at most one bad unit: what it is, where it begins, what was read of it, which fault it shows and which field
 /// of an event is wrong are determined by them.
@@ -34,4 +40,15 @@ pub fn refused_events_have_a_bad_field()
         → header ≡ magic version ++ (version_word version ++ (counts version numbers ++ behind))
         → length unit ≡ 24 → All (λ byte. byte < 256) unit → event_fault header unit ≡ None
         → (one : Event) × IsEvent version numbers.layout one × (unit ≡ event one) }
+{}
+
+/// What explains the bytes of a chain has the verdict of an audit: all segments are right, with their orders; or so many are, and the
+/// next one has the fault.
+pub fn explanations_are_verdicts()
+    ensures yes { (bytes : List ℕ) (counts : ChainCounts) → IsExplanationOfChain bytes (Yes counts)
+        → (orders : List (List ℕ)) × GoesOnSo None bytes orders None }
+    ensures no { (bytes : List ℕ) (number : ℕ) (fault : SegmentFault) (shown : SegmentEvidence)
+        → IsExplanationOfChain bytes (No number fault shown)
+        → (orders : List (List ℕ)) × GoesOnSo None bytes orders (Some fault)
+        × (number ≡ min (length orders) (2 ^ 64 - 1)) }
 {}

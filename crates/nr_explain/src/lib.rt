@@ -1,9 +1,10 @@
-//! What shows the fault of a trace: the calls, replies, places and entries of tables that one has to look at.
+//! What shows the first fault of a trace or of a chain: the calls, replies, places and entries of tables that one has to look at.
 #![tactic(auto)]
 
 mod all_dumps;
 mod answers;
 mod calls;
+mod chain;
 mod counts;
 mod dumps;
 mod evidence;
@@ -22,6 +23,12 @@ mod units;
 
 pub use all_dumps::{DumpExplanation, FullExplanation, explain_all_read};
 pub use answers::{address_about, asked_address};
+pub use chain::evidence::{
+    BadSegment, Moment, Origin, SegmentEvidence, StaleTouch, StartBeyond, StartDiffers,
+    StartMissing, StartReserved, StartShared,
+};
+pub use chain::explanation::{ChainCounts, ChainExplanation};
+pub use chain::reader::{ChainReader, Fed};
 pub use counts::Counts;
 pub use dumps::{difference, explain_dump};
 pub use evidence::{
@@ -32,7 +39,7 @@ pub use evidence::{
 pub use explaining::{Explanation, explain, explain_read};
 pub use fields::{BadField, EventField, FieldFault, field_fault};
 pub use lookup::call_at;
-pub use next_unit::Numbers;
+pub use next_unit::{HEADER_BYTES, Next, Numbers};
 pub use paths::{
     Target, another_way, entries_read, entry_at, find_way, reserved_bit, way_to_frame,
     way_to_reserved,

@@ -97,7 +97,7 @@ fn walk_over(walk: &mut Walk, run: &[u8]) -> Result<(), AllocError>
         → OnOk result (IsFed walk.new (front ++ run.now) []) }
 {
     keep_header(&mut walk.header, run)?;
-    walk.next = walk.next.after(run);
+    walk.next = walk.next.after_run(run);
     walk.offset += run.len() as u64;
     Ok(())
 }

@@ -1,4 +1,4 @@
-//! The units of a trace, and the one that shows a fault of the format.
+//! The units of a trace or of a segment, and the one that shows a fault of the format.
 
 ghost use Rattle.std.specs.Prelude.{◌≡◌};
 ghost use Rattle.nr_explain.specs.Units.{size};
@@ -8,12 +8,21 @@ use crate::fields::BadField;
 use nr_trace::Format;
 use std::alloc::{AllocError, AllocFailed};
 
-/// A unit of a trace. Places, events, replicas and the frames of a dump are counted from 0.
+/// A unit of a trace, or of a segment. Places, events, replicas and the frames of a dump or a start are counted from 0.
 #[derive(Clone, Copy, Debug, PartialEq, Eq)]
 pub enum TraceUnit {
     Magic,
     Version,
+    /// The counts of a trace.
     Counts,
+    /// The counts of a segment, the frames of its start among them.
+    SegmentCounts,
+    /// The number of the root of a segment's start.
+    StartRoot,
+    /// The number of a frame of the start.
+    StartNumber(u32),
+    /// The words of a frame of the start.
+    StartWords(u32),
     Place(u32),
     Event(u32),
     /// The head of a replica's dump.
@@ -35,10 +44,11 @@ impl TraceUnit {
             TraceUnit::Magic | TraceUnit::Place(_) => 4,
             TraceUnit::Version => 2,
             TraceUnit::Counts => 14,
+            TraceUnit::SegmentCounts => 18,
+            TraceUnit::StartRoot | TraceUnit::StartNumber(_) | TraceUnit::FrameNumber(_, _) => 8,
             TraceUnit::Event(_) => 24,
             TraceUnit::DumpHead(_) => 16,
-            TraceUnit::FrameNumber(_, _) => 8,
-            TraceUnit::FrameWords(_, _) => 4096,
+            TraceUnit::StartWords(_) | TraceUnit::FrameWords(_, _) => 4096,
             TraceUnit::Behind => 1,
         }
     }

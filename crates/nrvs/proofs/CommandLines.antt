@@ -2,8 +2,8 @@
 use Rattle.std.proofs.Common.{◌≡◌, ℕ, Bool, List, Option, Some, sym, refl, subst, codes}
 use Rattle.clap.specs.Words.{Row, Text}
 use Rattle.clap.specs.Walk.{one_of}
-use Rattle.nr_commands.specs.Words.{AsksInspection, IsFlag}
-use Rattle.nr_commands.specs.declared.inspection.Inspection.{Inspection}
+use Rattle.audit_commands.specs.Words.{AsksInspection, IsFlag}
+use Rattle.audit_commands.specs.declared.inspection.Inspection.{Inspection}
 use Rattle.nrvs.specs.declared.runs.setup.Setup.{Setup}
 use Rattle.nrvs.specs.CommandLine.{Asks, IsNumber, IsSetup, IsTurns}
 use Rattle.nrvs.specs.declared.command.Command.TheVariants.{Inspect, Run, Simulate}

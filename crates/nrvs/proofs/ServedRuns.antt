@@ -7,9 +7,9 @@ use Rattle.nr_serve.specs.Run.{IfRunRefused, IfVerified, IsRefusedRun, IsVerifie
 use Rattle.nr_serve.specs.declared.outcome.Outcome.{Outcome}
 use Rattle.nr_serve.specs.declared.outcome.Outcome.TheVariants.{Verified, Refused}
 use Rattle.nrvs.specs.ServedRun.{HasRunnable, IsRunEnd, IsRunFault, TellsRun, outcome_status, told_of}
-use Rattle.nr_engines.specs.declared.fault.ProgFault.{ProgFault}
-use Rattle.nr_engines.specs.declared.fault.ProgFault.TheVariants.{BadAddress, NotCanonical, NoSuchReplica, InputTooLong, BadLine, NoThread}
-use Rattle.nr_engines.specs.declared.fault.ProgFault.TheVariants.{CannotRead, CannotWrite, Memory}
+use Rattle.audit_readers.specs.declared.fault.ProgFault.{ProgFault}
+use Rattle.audit_readers.specs.declared.fault.ProgFault.TheVariants.{BadAddress, NotCanonical, NoSuchReplica, InputTooLong, BadLine, NoThread}
+use Rattle.audit_readers.specs.declared.fault.ProgFault.TheVariants.{CannotRead, CannotWrite, Memory}
 
 -- what is written of an outcome is written of the run
 pub tells_run : {J : Type 0} (layout : Layout) (scripts : List (List Query)) (as_trace : Bool) (outcome : Outcome J) (status : ℕ)

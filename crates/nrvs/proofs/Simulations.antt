@@ -11,11 +11,11 @@ use Rattle.nr_audit.specs.Verdict.{verdict_status}
 use Rattle.nr_audit.specs.declared.verdict.Verdict.TheVariants.{Yes}
 use Rattle.nr_audit.proofs.PartsOfVerdicts.{same_of}
 use Rattle.nr_script.specs.declared.script.Script.{Script}
-use Rattle.nr_engines.specs.Answers.{IsAudit, WritesReport}
+use Rattle.audit_readers.specs.Answers.{IsAudit, WritesReport}
 use Rattle.nrvs.specs.Simulation.{HasReadScript, IsRecordingOfScript, IsSimulation, IsSimulationFault, IsTold}
 use Rattle.vs_types.specs.declared.depth.Depth.{Depth}
-use Rattle.nr_engines.specs.declared.fault.ProgFault.{ProgFault}
-use Rattle.nr_engines.specs.declared.fault.ProgFault.TheVariants.{CannotWrite}
+use Rattle.audit_readers.specs.declared.fault.ProgFault.{ProgFault}
+use Rattle.audit_readers.specs.declared.fault.ProgFault.TheVariants.{CannotWrite}
 use Rattle.nrvs.specs.declared.runs.setup.Setup.{Setup}
 
 pub as_bytes : (as_trace : Bool) (trace : Recording) (text : List ℕ) → as_trace ≡ true → text ≡ spelling trace → IsTold as_trace trace text 0

@@ -7,7 +7,7 @@ use Rattle.clap.specs.Walk.{one_of}
 use Rattle.clap.specs.declared.builder.value_parser.ValueParser.{ValueParser}
 use Rattle.clap.specs.declared.builder.value_parser.ValueParser.TheVariants as parsers
 use Rattle.clap.specs.declared.builder.action.ArgAction.TheVariants.{SetTrue}
-use Rattle.nr_commands.specs.Words.{AsksInspection, IsFlag, audit_app, explain_app, pages_app, resolve_app}
+use Rattle.audit_commands.specs.Words.{AsksInspection, IsFlag, audit_app, explain_app, pages_app, resolve_app}
 use Rattle.nrvs.specs.declared.runs.setup.Setup.{Setup}
 use Rattle.nrvs.specs.declared.command.Command.{Command}
 use Rattle.nrvs.specs.declared.command.Command.TheVariants.{Inspect, Simulate, Run}

@@ -13,9 +13,9 @@ pub use Rattle.nr_audit.specs.Headline
 pub use Rattle.nr_core.specs.State
 pub use Rattle.nr_core.specs.Run
 pub use Rattle.nr_script.specs.Script
-pub use Rattle.nr_engines.specs.Answers
-pub use Rattle.nr_engines.specs.Refusals
-pub use Rattle.nr_engines.specs.Text
-pub use Rattle.nr_commands.specs.Words as CommandWords
-pub use Rattle.nr_commands.specs.Tasks
+pub use Rattle.audit_readers.specs.Answers
+pub use Rattle.audit_readers.specs.Refusals
+pub use Rattle.audit_texts.specs.Text
+pub use Rattle.audit_commands.specs.Words as CommandWords
+pub use Rattle.audit_commands.specs.Tasks
 pub use Rattle.clap.specs.Words as ClapWords

@@ -1,11 +1,11 @@
 -- What the program does with the command that its words ask for.
 use Rattle.std.specs.Prelude.{ℕ, List, Option, Result, MatchResult}
-use Rattle.nr_engines.specs.Answers.{WritesReport}
-use Rattle.nr_engines.specs.Refusals.{WritesAnswersAlone}
+use Rattle.audit_readers.specs.Answers.{WritesReport}
+use Rattle.audit_readers.specs.Refusals.{WritesAnswersAlone}
 use Rattle.nrvs.specs.ServedRun.{IsRunFault, IsServedRun}
 use Rattle.nrvs.specs.Simulation.{IsSimulation, IsSimulationFault}
-use Rattle.nr_engines.specs.declared.fault.ProgFault.{ProgFault}
-use Rattle.nr_commands.specs.Tasks.{RunsInspection}
+use Rattle.audit_readers.specs.declared.fault.ProgFault.{ProgFault}
+use Rattle.audit_commands.specs.Tasks.{RunsInspection}
 use Rattle.nrvs.specs.declared.command.Command.{Command}
 use Rattle.nrvs.specs.declared.command.Command.TheVariants.{Inspect, Simulate, Run}
 

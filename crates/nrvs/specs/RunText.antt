@@ -5,7 +5,7 @@ use Rattle.vs_text.specs.Words.{space}
 use Rattle.nr_trace.specs.declared.fault.Fault.{Fault}
 use Rattle.nr_serve.specs.declared.said.Said.{Said}
 use Rattle.nr_serve.specs.declared.said.Said.TheVariants.{Answer as Answered, Stopped}
-use Rattle.nr_engines.specs.Text.{answer_text, fault_text, line_end}
+use Rattle.audit_texts.specs.Text.{answer_text, fault_text, line_end}
 
 -- the answer of a call, or that it was stopped
 abbrev pub said_text : Said → List ℕ

@@ -11,11 +11,11 @@ use Rattle.nr_serve.specs.declared.outcome.Outcome.TheVariants.{Verified, Refuse
 use Rattle.nr_serve.specs.declared.said.Said.{Said}
 use Rattle.nr_script.specs.Script.{IsScript}
 use Rattle.nr_script.specs.declared.script.Script.{Script}
-use Rattle.nr_engines.specs.Answers.{IsReadOf}
+use Rattle.audit_readers.specs.Answers.{IsReadOf}
 use Rattle.nrvs.specs.RunText.{refused_text, verified_text}
 use Rattle.nrvs.specs.Simulation.{HasBadLine, IsScriptFault, layout_of}
-use Rattle.nr_engines.specs.declared.fault.ProgFault.{ProgFault}
-use Rattle.nr_engines.specs.declared.fault.ProgFault.TheVariants.{BadLine, CannotWrite, Memory, NoThread}
+use Rattle.audit_readers.specs.declared.fault.ProgFault.{ProgFault}
+use Rattle.audit_readers.specs.declared.fault.ProgFault.TheVariants.{BadLine, CannotWrite, Memory, NoThread}
 use Rattle.nrvs.specs.declared.runs.setup.Setup.{Setup}
 
 -- the bytes of the trace, where these are asked for; else the text

@@ -13,9 +13,9 @@ use Rattle.nr_core.specs.Run.{after_steps, IsRecordingOf}
 use Rattle.nr_script.specs.Script.{IsBadLine, IsScript}
 use Rattle.nr_script.specs.declared.script.BadLine.{BadLine as BadLineOfScript}
 use Rattle.nr_script.specs.declared.script.Script.{Script}
-use Rattle.nr_engines.specs.Answers.{IsAudit, IsReadOf}
-use Rattle.nr_engines.specs.declared.fault.ProgFault.{ProgFault}
-use Rattle.nr_engines.specs.declared.fault.ProgFault.TheVariants.{InputTooLong, BadLine, CannotRead, CannotWrite, Memory}
+use Rattle.audit_readers.specs.Answers.{IsAudit, IsReadOf}
+use Rattle.audit_readers.specs.declared.fault.ProgFault.{ProgFault}
+use Rattle.audit_readers.specs.declared.fault.ProgFault.TheVariants.{InputTooLong, BadLine, CannotRead, CannotWrite, Memory}
 use Rattle.nrvs.specs.declared.runs.setup.Setup.{Setup}
 
 -- the layout of a setup with so many threads

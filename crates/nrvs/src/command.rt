@@ -1,7 +1,7 @@
 //! What the program can be asked to do.
 
 use crate::runs::Setup;
-use nr_commands::Inspection;
+use audit_commands::Inspection;
 
 /// What the program can be asked to do.
 #[derive(Debug, Drop)]

@@ -1,13 +1,13 @@
 //! The words that the program knows.
 ghost use Rattle.std.specs.Prelude.{◌≡◌, false, IfOk};
 ghost use Rattle.clap.specs.Words.{app_of, rule_of};
-ghost use Rattle.nr_commands.specs.Words.{IsLocal};
+ghost use Rattle.audit_commands.specs.Words.{IsLocal};
 ghost use Rattle.nrvs.specs.CommandLine.{command_line, levels_option, number_option, replicas_option, run_app, simulate_app};
 ghost use Rattle.nrvs.specs.CommandLine.{tables_option, trace_option, turns_option};
 
+use audit_commands::{VERSION, audit, explain, pages, resolve, with_command};
 use clap::builder::ValueParser;
 use clap::{Arg, ArgAction, Command};
-use nr_commands::{VERSION, audit, explain, pages, resolve, with_command};
 use std::alloc::{AllocError, Global};
 
 /// What `--help` prints after the commands.

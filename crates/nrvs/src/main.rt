@@ -8,7 +8,7 @@ mod program;
 mod runs;
 mod words;
 
-use nr_commands::program_words;
+use audit_commands::program_words;
 use std::io;
 use std::process::ExitCode;
 

@@ -1,13 +1,13 @@
 //! The program: from its words to its exit status.
 
-ghost use Rattle.nr_commands.specs.Tasks.{EndsWith, Runs};
+ghost use Rattle.audit_commands.specs.Tasks.{EndsWith, Runs};
 ghost use Rattle.nrvs.specs.Program.{RunsCommand};
 
 use crate::command::Command;
 use crate::runs::{run_io, simulate_io};
+use audit_commands::{FilesByName, exit_status, run_inspection, tell_outcome, tell_refusal};
+use audit_readers::{Input, ProgFault};
 use clap::Error;
-use nr_commands::{FilesByName, exit_status, run_inspection, tell_outcome, tell_refusal};
-use nr_engines::{Input, ProgFault};
 use std::alloc::Global;
 use std::io::{Read, Write};
 use std::sync::Wait;

@@ -4,15 +4,15 @@ ghost use Rattle.std.specs.Prelude.{◌≡◌, ◌≤◌, ◌⊎◌, ◌∷◌, 
 ghost use Rattle.vs_types.specs.declared.limits.TheConstants.{MOST_LEVELS};
 ghost use Rattle.vs_types.specs.Depth.{levels};
 ghost use Rattle.clap.specs.Words.{fault_of, found_of, kind_of, one_text, rows_of, subcommand_of, subcommand_rows_of, HasKind};
-ghost use Rattle.nr_commands.specs.Words.{kinds_of_no_words, IsMisused};
+ghost use Rattle.audit_commands.specs.Words.{kinds_of_no_words, IsMisused};
 ghost use Rattle.nrvs.specs.CommandLine.{command_line, Asks, IsNumber, IsSetup, IsTurns};
 
 use crate::command::Command;
 use crate::command_line::command_line;
 use crate::runs::Setup;
+use audit_commands::{NoWords, read_audit, read_explain, read_pages, read_resolve};
 use clap::error::ErrorKind;
 use clap::{ArgMatches, Error};
-use nr_commands::{NoWords, read_audit, read_explain, read_pages, read_resolve};
 use std::alloc::{AllocError, Global};
 use vs_types::Depth;
 

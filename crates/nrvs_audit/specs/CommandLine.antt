@@ -1,7 +1,7 @@
 -- The command line of the audit alone, as clap's definitions read words.
 use Rattle.std.specs.Prelude.{codes, true}
 use Rattle.clap.specs.Words.{App, new_app, with_subcommand}
-use Rattle.nr_commands.specs.Words.{audit_app, explain_app, pages_app, resolve_app}
+use Rattle.audit_commands.specs.Words.{audit_app, explain_app, pages_app, resolve_app}
 
 -- the program, which has a version, and of which one of its subcommands is required
 abbrev pub nrvs_audit_app : App

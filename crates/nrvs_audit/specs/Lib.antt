@@ -1,4 +1,4 @@
 pub mod CommandLine
-pub use Rattle.nr_commands.specs.Words
-pub use Rattle.nr_commands.specs.Tasks
+pub use Rattle.audit_commands.specs.Words
+pub use Rattle.audit_commands.specs.Tasks
 pub use Rattle.clap.specs.Words as ClapWords

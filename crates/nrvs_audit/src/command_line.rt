@@ -3,8 +3,8 @@ ghost use Rattle.std.specs.Prelude.{◌≡◌, IfOk};
 ghost use Rattle.clap.specs.Words.{app_of};
 ghost use Rattle.nrvs_audit.specs.CommandLine.{nrvs_audit_line};
 
+use audit_commands::{VERSION, audit, explain, pages, resolve, with_command};
 use clap::Command;
-use nr_commands::{VERSION, audit, explain, pages, resolve, with_command};
 use std::alloc::{AllocError, Global};
 
 /// What `--help` prints after the commands.

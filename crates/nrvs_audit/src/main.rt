@@ -6,7 +6,7 @@ mod command_line;
 mod program;
 mod words;
 
-use nr_commands::program_words;
+use audit_commands::program_words;
 use std::io;
 use std::process::ExitCode;
 

@@ -1,12 +1,12 @@
 //! The program of the audit alone: from its words to its exit status.
 
-ghost use Rattle.nr_commands.specs.Tasks.{EndsWith, Runs, RunsInspection};
+ghost use Rattle.audit_commands.specs.Tasks.{EndsWith, Runs, RunsInspection};
 
-use clap::Error;
-use nr_commands::{
+use audit_commands::{
     FilesByName, Inspection, exit_status, run_inspection, tell_outcome, tell_refusal,
 };
-use nr_engines::{Input, ProgFault};
+use audit_readers::{Input, ProgFault};
+use clap::Error;
 use std::alloc::Global;
 use std::io::{Read, Write};
 

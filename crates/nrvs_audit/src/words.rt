@@ -2,13 +2,13 @@
 
 ghost use Rattle.std.specs.Prelude.{◌≡◌, ◌⊎◌, ◌∷◌, [], IfOk, IfErr, IsSomeAnd, MatchResult, map, string_bytes};
 ghost use Rattle.clap.specs.Words.{fault_of, kind_of, subcommand_of, subcommand_rows_of, HasKind};
-ghost use Rattle.nr_commands.specs.Words.{kinds_of_no_words, AsksInspection, IsMisused};
+ghost use Rattle.audit_commands.specs.Words.{kinds_of_no_words, AsksInspection, IsMisused};
 ghost use Rattle.nrvs_audit.specs.CommandLine.{nrvs_audit_line};
 
 use crate::command_line::command_line;
+use audit_commands::{Inspection, NoWords, read_audit, read_explain, read_pages, read_resolve};
 use clap::error::ErrorKind;
 use clap::{ArgMatches, Command, Error};
-use nr_commands::{Inspection, NoWords, read_audit, read_explain, read_pages, read_resolve};
 use std::alloc::{AllocError, Global};
 
 /// What a subcommand and what was given with it ask for, or what is wrong with that.

@@ -5,7 +5,7 @@ use Rattle.nr_trace.specs.Feed.Fed.{Taken, Stopped}
 use Rattle.nr_trace.specs.FirstFault.{HasFaultAs}
 use Rattle.nr_trace.specs.declared.fault.Format.TheVariants.{Truncated}
 use Rattle.nr_trace.specs.declared.version.Form.TheVariants as forms
-use Rattle.nr_segment.specs.Verdict.{FitsLayout}
+use Rattle.nr_audit.specs.Segments.{FitsLayout}
 use Rattle.nr_chain.specs.Fed.{Kept}
 use Rattle.nr_chain.specs.Bytes.{layout_before}
 use Rattle.nr_chain.specs.declared.chain.Last.{Last}

@@ -7,8 +7,8 @@ use Rattle.nr_trace.specs.Orders.{recorded_order}
 use Rattle.nr_trace.specs.Spelling.{SpellsSegment}
 use Rattle.nr_trace.specs.declared.fault.Format.{Format}
 use Rattle.nr_trace.specs.declared.fault.Fault.TheVariants as faults
-use Rattle.nr_segment.specs.declared.fault.SegmentFault.TheVariants.{Within}
-use Rattle.nr_segment.specs.Faults.{IsFirstAfter, IsSoundAfter}
+use Rattle.nr_audit.specs.declared.fault.SegmentFault.TheVariants.{Within}
+use Rattle.nr_audit.specs.Faults.{IsFirstAfter, IsSoundAfter}
 use Rattle.nr_chain.specs.Bytes.{kept_after, layout_before, space_before}
 use Rattle.nr_chain.specs.Fed.{Kept}
 use Rattle.nr_chain.specs.declared.chain.Step.{Step}

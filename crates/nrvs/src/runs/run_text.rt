@@ -3,8 +3,8 @@ ghost use Rattle.std.specs.Prelude.{◌≡◌, ◌++◌, IfOk, OnOk, map, string
 ghost use Rattle.std.specs.List.{flat_map};
 ghost use Rattle.nrvs.specs.RunText.{said_line, refused_text, said_text, verified_text};
 
+use audit_texts::{fault_text, push_answer};
 use itoa::Buffer;
-use nr_engines::{fault_text, push_answer};
 use nr_serve::Said;
 use nr_trace::Fault;
 use std::alloc::{AllocError, Global};

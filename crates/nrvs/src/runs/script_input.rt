@@ -2,10 +2,10 @@
 ghost use Rattle.std.specs.Prelude.{◌≡◌, ◌≤◌, IfErr, IfOk, None, length, map};
 ghost use Rattle.vs_types.specs.Config.{Layout};
 ghost use Rattle.vs_types.specs.Query.{AreScripts};
-ghost use Rattle.nr_engines.specs.Answers.{IsReadOf};
+ghost use Rattle.audit_readers.specs.Answers.{IsReadOf};
 ghost use Rattle.nrvs.specs.Simulation.{HasReadAtMost, HasReadScript, IsInputFault, IsScriptFault, script_fault};
 
-use nr_engines::{BLOCK, ProgFault, Source, read_block};
+use audit_readers::{BLOCK, ProgFault, Source, read_block};
 use nr_script::{BadLine, Script, read_script};
 use std::alloc::Global;
 use vs_types::{Depth, Fail};

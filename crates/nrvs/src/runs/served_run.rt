@@ -2,15 +2,15 @@
 ghost use Rattle.std.specs.Prelude.{◌≡◌, ◌+◌, ℕ, List, IfErr, IfOk, None, false, map, string_bytes, true};
 ghost use Rattle.std.specs.Io.KnownBytes.{Appends};
 ghost use Rattle.vs_types.specs.Query.{AreScripts};
-ghost use Rattle.nr_engines.specs.Answers.{WritesReport};
-ghost use Rattle.nr_engines.specs.Refusals.{WritesAnswersAlone};
+ghost use Rattle.audit_readers.specs.Answers.{WritesReport};
+ghost use Rattle.audit_readers.specs.Refusals.{WritesAnswersAlone};
 ghost use Rattle.nrvs.specs.ServedRun.{IsRunEnd, IsRunFault, IsServedRun, TellsRun, outcome_status, told_of};
 ghost use Rattle.nrvs.specs.Simulation.{HasReadAtMost};
 
 use crate::runs::run_text::{refused_text, verified_text};
 use crate::runs::script_input::input_script;
 use crate::runs::setup::Setup;
-use nr_engines::{ProgFault, Source, write_text};
+use audit_readers::{ProgFault, Source, write_text};
 use nr_ring::LogName;
 use nr_serve::{AlwaysGo, NoThread, Outcome, run};
 use std::alloc::Global;

@@ -3,14 +3,14 @@ ghost use Rattle.std.specs.Prelude.{◌≡◌, ◌≤◌, IfErr, IfOk, None, map
 ghost use Rattle.vs_types.specs.Config.{Layout};
 ghost use Rattle.vs_types.specs.Query.{AreScripts};
 ghost use Rattle.nr_trace.specs.Laws.{IsFaultless};
-ghost use Rattle.nr_engines.specs.Answers.{WritesReport};
-ghost use Rattle.nr_engines.specs.Refusals.{WritesAnswersAlone};
+ghost use Rattle.audit_readers.specs.Answers.{WritesReport};
+ghost use Rattle.audit_readers.specs.Refusals.{WritesAnswersAlone};
 ghost use Rattle.nrvs.specs.Simulation.{HasReadAtMost, IsRecordingOfScript, IsSimulation, IsSimulationFault};
 
 use crate::runs::script_input::input_script;
 use crate::runs::setup::Setup;
+use audit_readers::{ProgFault, Source, audit_read, write_report, write_text};
 use nr_core::run_steps;
-use nr_engines::{ProgFault, Source, audit_read, write_report, write_text};
 use nr_script::Script;
 use nr_trace::{Trace, write};
 use std::alloc::Global;

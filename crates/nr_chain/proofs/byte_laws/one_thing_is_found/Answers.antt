@@ -1,4 +1,4 @@
-use Rattle.nr_segment.proofs.FirstFaults.{one_first_after}
+use Rattle.nr_audit.proofs.FirstFaults.{one_first_after}
 use Rattle.nr_chain.proofs.Exact.{found_once}
 use Rattle.nr_chain.proofs.byte_laws.one_thing_is_found.Goals as goal
 

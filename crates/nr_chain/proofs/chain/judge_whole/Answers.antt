@@ -1,6 +1,6 @@
 use Rattle.std.proofs.Common.{subst}
-use Rattle.nr_segment.specs.Verdict.{pages_before, IsVerdictAfter}
-use Rattle.nr_segment.specs.declared.verdict.SegmentVerdict.{SegmentVerdict}
+use Rattle.nr_audit.specs.Segments.{pages_before, IsVerdictAfter}
+use Rattle.nr_audit.specs.declared.verdict.SegmentVerdict.{SegmentVerdict}
 use Rattle.nr_chain.proofs.Betweens.{fresh_between}
 use Rattle.nr_chain.proofs.Pieces.{ended}
 use Rattle.nr_chain.proofs.Wholes.{fits_after, fits_before, judged_right, judged_wrong, not_refused}

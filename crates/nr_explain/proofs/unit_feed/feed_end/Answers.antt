@@ -1,6 +1,6 @@
 use Rattle.std.proofs.Common.{ℕ, ◌<◌}
 use Rattle.std.proofs.lemmas.List.Elements.{All-from_get_or}
-use Rattle.nr_explain.proofs.Fed.{fed_more, refusal_of}
+use Rattle.nr_explain.proofs.FedUnits.{fed_more, refusal_of}
 use Rattle.nr_explain.proofs.unit_feed.feed_end.Goals as goal
 
 pub refused-requires : goal.refused-requires

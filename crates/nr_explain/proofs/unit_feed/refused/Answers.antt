@@ -3,7 +3,7 @@ use Rattle.nr_explain.specs.Fields.{field_fault}
 use Rattle.nr_explain.specs.Units.{size}
 use Rattle.nr_explain.specs.inside.UnitsFed.{IsBadIn}
 use Rattle.nr_explain.specs.declared.units.TraceUnit.{TraceUnit}
-use Rattle.nr_explain.proofs.Fed.{run_refused}
+use Rattle.nr_explain.proofs.FedUnits.{run_refused}
 use Rattle.nr_explain.proofs.Runs.{bad_in_run}
 use Rattle.nr_explain.proofs.unit_feed.refused.Goals as goal
 

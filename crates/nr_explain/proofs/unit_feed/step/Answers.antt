@@ -3,7 +3,7 @@ use Rattle.std.proofs.lemmas.List.{length-append, nil_from_length}
 use Rattle.nr_explain.specs.Units.{size, IfBad, IsBadFor}
 use Rattle.nr_explain.specs.inside.UnitsFed.{taken, IsFed, IsRun}
 use Rattle.nr_explain.specs.declared.next_unit.Next.{Next}
-use Rattle.nr_explain.proofs.Fed.{bad_on, begun_none, fed_behind, fed_cut}
+use Rattle.nr_explain.proofs.FedUnits.{bad_on, begun_none, fed_behind, fed_cut}
 use Rattle.nr_explain.proofs.Runs.{one_run, some_run}
 use Rattle.nr_explain.proofs.unit_feed.step.Goals as goal
 

@@ -2,8 +2,8 @@ use Rattle.std.proofs.Common.{◌≡◌, ◌∙◌, ap, true}
 use Rattle.std.proofs.lemmas.Result.{IfOk-weaker}
 use Rattle.clap.specs.Words.{App, app_of, with_subcommand}
 use Rattle.clap.specs.Simple.{app_of_fields}
-use Rattle.nr_commands.specs.Words.{audit_app, explain_app, pages_app, resolve_app}
-use Rattle.nr_commands.proofs.CommandLines.{both}
+use Rattle.audit_commands.specs.Words.{audit_app, explain_app, pages_app, resolve_app}
+use Rattle.audit_commands.proofs.CommandLines.{both}
 use Rattle.nrvs.specs.CommandLine.{program_app, simulate_app, run_app}
 use Rattle.nrvs.proofs.command_line.command_line.Goals as goal
 

@@ -3,7 +3,7 @@ use Rattle.std.proofs.lemmas.Result.{IfOk-weaker}
 use Rattle.clap.specs.Simple.{app_of_fields}
 use Rattle.clap.specs.declared.builder.command.Command.{Command}
 use Rattle.clap.specs.declared.builder.command.Command.TheOpen.{Command-F}
-use Rattle.nr_commands.proofs.CommandLines.{so_far, with_option}
+use Rattle.audit_commands.proofs.CommandLines.{so_far, with_option}
 use Rattle.nrvs.proofs.command_line.run.Goals as goal
 
 pub returns : goal.returns

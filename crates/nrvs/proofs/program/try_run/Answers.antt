@@ -1,6 +1,6 @@
 use Rattle.std.proofs.Common.{◌≡◌, ℕ, List, Option, sym, ap, subst, Result, Ok, Err}
 use Rattle.std.specs.Prelude.{IfOk, IfErr, MatchResult}
-use Rattle.nr_commands.specs.Tasks.{Runs}
+use Rattle.audit_commands.specs.Tasks.{Runs}
 use Rattle.nrvs.specs.Simulation.{IsSimulation, IsSimulationFault}
 use Rattle.nrvs.specs.Program.{Reports, RunsCommand}
 use Rattle.nrvs.proofs.program.try_run.Goals as goal

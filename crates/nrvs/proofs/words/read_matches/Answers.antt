@@ -2,8 +2,8 @@ use Rattle.std.proofs.Common.{◌∙◌, ◌⊎◌, [], ◌∷◌, ap, inl, inr,
 use Rattle.clap.specs.Words.{rows_of, found_of, subcommand_rows_of, kind_of, HasKind}
 use Rattle.clap.specs.declared.error.kind.ErrorKind.TheVariants.{MissingSubcommand}
 use Rattle.clap.proofs.WalkLemmas.{one_text-rows}
-use Rattle.nr_commands.proofs.CommandLines.{entered, flag_of, of_audit, of_pages, passed_on}
-use Rattle.nr_commands.specs.Words.{IsMisused}
+use Rattle.audit_commands.proofs.CommandLines.{entered, flag_of, of_audit, of_pages, passed_on}
+use Rattle.audit_commands.specs.Words.{IsMisused}
 use Rattle.nrvs.specs.CommandLine.{IsTurns}
 use Rattle.nrvs.proofs.CommandLines.{asks_inspection, asks_run, asks_simulate}
 use Rattle.nrvs.proofs.words.read_matches.Goals as goal

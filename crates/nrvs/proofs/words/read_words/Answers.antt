@@ -3,8 +3,8 @@ use Rattle.std.proofs.lemmas.Result.{IfOk-weaker, IfErr-weaker}
 use Rattle.clap.specs.Words.{App, app_of, subcommand_of, subcommand_rows_of, is_simple, kind_of, HasKind}
 use Rattle.clap.specs.declared.error.kind.ErrorKind.TheVariants.{MissingSubcommand}
 use Rattle.clap.specs.Faults.{fault_of, is_simple_and_free}
-use Rattle.nr_commands.specs.Words.{IsMisused}
-use Rattle.nr_commands.proofs.CommandLines.{of_clap, one_more, same_error, told_of}
+use Rattle.audit_commands.specs.Words.{IsMisused}
+use Rattle.audit_commands.proofs.CommandLines.{of_clap, one_more, same_error, told_of}
 use Rattle.nrvs.specs.CommandLine.{command_line, Asks}
 use Rattle.nrvs.proofs.words.read_words.Goals as goal
 

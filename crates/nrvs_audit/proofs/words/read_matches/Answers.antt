@@ -3,8 +3,8 @@ use Rattle.std.proofs.lemmas.Result.{IfOk-weaker, IfErr-weaker}
 use Rattle.clap.specs.Words.{rows_of, found_of, subcommand_rows_of}
 use Rattle.clap.specs.declared.error.kind.ErrorKind.TheVariants.{MissingSubcommand}
 use Rattle.std.specs.Prelude.{IsSomeAnd}
-use Rattle.nr_commands.specs.Words.{AsksInspection}
-use Rattle.nr_commands.proofs.CommandLines.{entered, of_audit, of_pages}
+use Rattle.audit_commands.specs.Words.{AsksInspection}
+use Rattle.audit_commands.proofs.CommandLines.{entered, of_audit, of_pages}
 use Rattle.nrvs_audit.proofs.words.read_matches.Goals as goal
 
 pub returns-in-Some-audit-default-clause-asks : goal.returns-in-Some-audit-default-clause-asks

@@ -4,8 +4,8 @@ use Rattle.clap.specs.Words.{App, app_of, subcommand_of, subcommand_rows_of, is_
 use Rattle.clap.specs.declared.error.kind.ErrorKind.TheVariants.{MissingSubcommand}
 use Rattle.clap.specs.Faults.{fault_of, is_simple_and_free}
 use Rattle.std.specs.Prelude.{IsSomeAnd}
-use Rattle.nr_commands.specs.Words.{AsksInspection, IsMisused}
-use Rattle.nr_commands.proofs.CommandLines.{of_clap, one_more, same_error, told_of}
+use Rattle.audit_commands.specs.Words.{AsksInspection, IsMisused}
+use Rattle.audit_commands.proofs.CommandLines.{of_clap, one_more, same_error, told_of}
 use Rattle.nrvs_audit.specs.CommandLine.{nrvs_audit_line}
 use Rattle.nrvs_audit.proofs.words.read_words.Goals as goal
 

@@ -4,7 +4,7 @@ use Rattle.nr_trace.specs.Feed.{Fed, Ends}
 use Rattle.nr_trace.specs.Feed.Fed.{Taken}
 use Rattle.nr_trace.specs.declared.fault.Format.TheVariants.{Truncated}
 use Rattle.nr_explain.specs.Units.{IsBadUnit}
-use Rattle.nr_explain.proofs.Fed.{ends_cut, fed_so}
+use Rattle.nr_explain.proofs.FedUnits.{ends_cut, fed_so}
 use Rattle.nr_explain.proofs.unit_feed.UnitFeed.end.Goals as goal
 
 pub returns-clause-reads : goal.returns-clause-reads

@@ -3,7 +3,7 @@ use Rattle.std.proofs.lemmas.Bool.Decides.{nat_tests}
 use Rattle.std.proofs.lemmas.List.{append-nil, nil_from_length}
 use Rattle.nr_trace.specs.Feed.{HasNoFaultYet}
 use Rattle.nr_explain.specs.inside.UnitsFed.{taken}
-use Rattle.nr_explain.proofs.Fed.{fed_so}
+use Rattle.nr_explain.proofs.FedUnits.{fed_so}
 use Rattle.nr_explain.proofs.unit_feed.UnitFeed.feed.Goals as goal
 
 zero_of : (n : ℕ) → (n == 0) ≡ true → n ≡ 0

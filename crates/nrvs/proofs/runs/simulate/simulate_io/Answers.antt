@@ -5,7 +5,7 @@ use Rattle.nr_trace.specs.Recording.{IsRecording}
 use Rattle.nr_trace.specs.Spelling.{spelling}
 use Rattle.nrvs.proofs.Simulations.{as_bytes, as_verdict, fault_of_output, spells_itself, status_of_yes, told_with, writes_what_is_told}
 use Rattle.nrvs.specs.Simulation.{IsSimulationFault}
-use Rattle.nr_engines.specs.declared.fault.ProgFault.{ProgFault}
+use Rattle.audit_readers.specs.declared.fault.ProgFault.{ProgFault}
 use Rattle.nrvs.proofs.runs.simulate.simulate_io.Goals as goal
 
 pub returns-then-as_trace-clause-ok : goal.returns-then-as_trace-clause-ok

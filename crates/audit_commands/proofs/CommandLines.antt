@@ -1,0 +1,147 @@
+-- What a parse by clap says of the inspection that is asked for.
+use Rattle.std.proofs.Common.{◌≡◌, ◌∙◌, ◌≤◌, ◌⊎◌, ◌||◌, map, ℕ, Bool, true, false, List, [], ◌∷◌, Option, Some, None, Result, Ok, Err, ap, ap₂, inl}
+use Rattle.std.proofs.Common.{inr, sym, refl, subst, codes, option_map, unwrap_or}
+use Rattle.std.proofs.Common.{Bor, Box, IfErr, IfOk}
+use Rattle.std.specs.Result.{IsErrAnd}
+use Rattle.std.specs.Box.{box_value}
+use Rattle.std.specs.Str.Parse.{ParsesUnsigned}
+use Rattle.clap.specs.Words.{AddsArg, App, HasKind, Kinds, ReadsOne, Row, Rule, Text, app_of, kind_of, rule_of, subcommand_rows, with_rule}
+use Rattle.clap.specs.Walk.{one_of}
+use Rattle.std.proofs.lemmas.List.{length-map}
+use Rattle.clap.specs.declared.builder.arg.Arg.{Arg}
+use Rattle.clap.specs.declared.builder.command.Command.{Command}
+use Rattle.clap.specs.declared.error.Error.{Error}
+use Rattle.clap.specs.declared.error.kind.ErrorKind.{ErrorKind}
+use Rattle.clap.specs.declared.error.kind.ErrorKind.TheVariants.{OutOfMemory}
+use Rattle.clap.specs.declared.parser.matches.SubCommand.{SubCommand}
+use Rattle.clap.specs.declared.parser.matches.ArgMatches.TheViews.{out-SubCommand}
+use Rattle.audit_commands.specs.Words.{AsksAudit, AsksTraces, HasSeveralFiles, IsFlag, IsLocal, IsMisuse, IsMisused, IsPagesMisuse, IsReplica}
+use Rattle.audit_commands.specs.declared.inspection.Inspection.{Inspection}
+use Rattle.audit_commands.specs.declared.inspection.Inspection.TheVariants.{One, Each}
+use Rattle.audit_commands.specs.declared.task.Task.{Task}
+use Rattle.audit_commands.specs.declared.task.Task.TheVariants.{Audit, Explain, Resolve, Pages, AuditChain, ExplainChain, PagesOfChain}
+
+-- what the options of a command come to so far, none of them for its subcommands
+pub record IsSoFar (command : Command) (app : App) : Type 0 where
+  pub app_is : app_of command ≡ app
+  pub local : IsLocal command
+
+pub so_far : {command : Command} {app : App} → app_of command ≡ app → IsLocal command → IsSoFar command app
+so_far app_is local = record { app_is = app_is; local = local }
+
+pub with_option : {old new : Command} {arg : Arg} {app : App} {rule : Rule} → AddsArg old arg new → IsSoFar old app → rule_of arg ≡ rule
+    → arg.global ≡ false → IsSoFar new (with_rule app rule)
+with_option adds so rule_is own = record {
+  app_is = adds.shape own ∙ ap₂ with_rule so.app_is rule_is;
+  local = adds.globals ∙ ap₂ (λ (a b : Bool). a || b) so.local own;
+}
+
+-- one kind more may come
+pub one_more : (k : ErrorKind) (kinds : Kinds) (e : Error) → HasKind kinds e → HasKind (k ∷ kinds) e
+one_more k kinds e (inl h) = inl h
+one_more k kinds e (inr h) = inr (inr h)
+
+-- where it is that one alone, others may be
+pub alone : (k : ErrorKind) (kinds : Kinds) (e : Error) → HasKind (k ∷ []) e → HasKind (k ∷ kinds) e
+alone k kinds e (inl h) = inl h
+alone k kinds e (inr (inl h)) = inr (inl h)
+alone k kinds e (inr (inr h)) = absurd h
+
+-- two facts of a command that there is
+pub both : {T E : Type 0} (P Q : T → Type 0) (r : Result T E) → IfOk r P → IfOk r Q → IfOk r (λ x. P x × Q x)
+both P Q (Ok x) p q = (p, q)
+both P Q (Err e) p q = tt
+
+-- the subcommand of a parse, by its name and its rows
+pub entered : {Z : Type 0} (o : Option (Box SubCommand Z)) (name : Text) (rows : List Row)
+    → Some name ≡ option_map (λ b. (out-SubCommand (box_value b)).name.now) o
+    → Some rows ≡ option_map (λ p. p.1) (subcommand_rows o) → subcommand_rows o ≡ Some (name, rows)
+entered None name rows n r = cc
+entered (Some b) name rows n r = cc
+
+-- an error that is passed on
+pub same_error : {T : Type 0} (r : Result T Error) (e : Error) (kinds : Kinds) → IsErrAnd r (λ x. x ≡ e) → HasKind kinds e → IfErr r (HasKind kinds)
+same_error (Ok x) e kinds same h = tt
+same_error (Err x) e kinds same h = subst (HasKind kinds) (sym same) h
+
+pub passed_on : {T : Type 0} (r : Result T Error) (e : Error) (P : Error → Type 0) → IsErrAnd r (λ x. x ≡ e) → P e → IfErr r P
+passed_on (Ok x) e P same h = tt
+passed_on (Err x) e P same h = subst P (sym same) h
+
+-- an error of clap's, and no other
+pub of_clap : {T : Type 0} (r : Result T Error) (kinds : Kinds) (P : Error → Type 0) → IfErr r (HasKind kinds) → IfErr r (λ e. HasKind kinds e ⊎ P e)
+of_clap (Ok x) kinds P h = tt
+of_clap (Err e) kinds P h = inl h
+
+-- one of `audit`
+pub of_audit : (e : Error) (kinds : Kinds) (sub : Option (Text × List Row)) (rows : List Row) → sub ≡ Some (codes "audit", rows)
+    → (kind_of e ≡ OutOfMemory) ⊎ IsMisuse rows (kind_of e) → HasKind kinds e ⊎ IsMisused sub (kind_of e)
+of_audit e kinds sub rows is (inl memory) = inl (inl memory)
+of_audit e kinds sub rows is (inr misuse) = inr (subst (λ s. IsMisused s (kind_of e)) (sym is) (inl (refl, misuse)))
+
+-- and of `pages`
+pub of_pages : (e : Error) (kinds : Kinds) (sub : Option (Text × List Row)) (rows : List Row) → sub ≡ Some (codes "pages", rows)
+    → (kind_of e ≡ OutOfMemory) ⊎ IsPagesMisuse rows (kind_of e) → HasKind kinds e ⊎ IsMisused sub (kind_of e)
+of_pages e kinds sub rows is (inl memory) = inl (inl memory)
+of_pages e kinds sub rows is (inr misuse) = inr (subst (λ s. IsMisused s (kind_of e)) (sym is) (inr (refl, misuse)))
+
+-- an error of a subcommand, where a parse gave that
+pub told_of : (k : ErrorKind) (kinds : Kinds) (e : Error) (given sub : Option (Text × List Row)) → given ≡ sub
+    → HasKind (k ∷ []) e ⊎ IsMisused given (kind_of e) → HasKind (k ∷ kinds) e ⊎ IsMisused sub (kind_of e)
+told_of k kinds e given sub same (inl h) = inl (alone k kinds e h)
+told_of k kinds e given sub same (inr h) = inr (subst (λ s. IsMisused s (kind_of e)) same h)
+
+-- the text of a value, or none
+pub text_or_none : (o : Option (Bor (List ℕ))) (d : Bor (List ℕ)) (t : Option Text) → option_map (λ s. s.now) o ≡ t → d.now ≡ []
+    → unwrap_or t [] ≡ (unwrap_or o d).now
+text_or_none None d t e empty = ap (λ x. unwrap_or x []) (sym e) ∙ sym empty
+text_or_none (Some s) d t e empty = ap (λ x. unwrap_or x []) (sym e)
+
+-- the number of a value, or 0
+pub replica_read : {E : Type 0} (gives : List ℕ → Result ℕ E → Type 0) → ((text : List ℕ) (r : Result ℕ E) → gives text r → ParsesUnsigned 8 10 text r)
+    → (t : Option Text) (result : Option ℕ) → (t ≡ None → result ≡ None) → ((text : Text) → t ≡ Some text → ReadsOne gives text result)
+    → IsReplica t (unwrap_or result 0)
+replica_read gives weaker None result none value = ap (λ r. unwrap_or r 0) (none refl)
+replica_read gives weaker (Some text) (Some n) none value = inl (weaker text (Ok n) (value text refl))
+replica_read gives weaker (Some text) None none value = let h = value text refl in inr (refl, weaker text (Err h.0) h.1)
+
+-- the flag is that of a text that is the same
+pub flag_of : (t u : Option Text) (flag : Bool) → t ≡ u → (t ≡ None → flag ≡ false) → (t ≡ Some (codes "true") → flag ≡ true)
+    → (t ≡ Some (codes "false") → flag ≡ false) → IsFlag u flag
+flag_of t u flag same absent set unset = record { none = λ e. absent (same ∙ e); yes = λ e. set (same ∙ e); no = λ e. unset (same ∙ e) }
+
+-- a flag that is known
+pub flag_is : {t : Option Text} {flag known : Bool} → IsFlag t flag → flag ≡ known → IsFlag t known
+flag_is {t = t} is same = subst (IsFlag t) same is
+
+-- ---- what was given with `audit`
+
+-- an audit of traces
+pub asks_traces : (rows : List Row) (asked : Inspection) → IsFlag (one_of (codes "chain") rows) false → IsFlag (one_of (codes "quiet") rows) false
+    → AsksTraces rows asked → AsksAudit rows asked
+asks_traces rows (One Audit input) chain quiet asks = (chain, quiet, asks)
+asks_traces rows (One (Explain as_json with_dumps) input) chain quiet asks = absurd asks
+asks_traces rows (One (Resolve word replica with_steps) input) chain quiet asks = absurd asks
+asks_traces rows (One (Pages replica as_ranges) input) chain quiet asks = absurd asks
+asks_traces rows (One (AuditChain still) input) chain quiet asks = absurd asks
+asks_traces rows (One (ExplainChain as_json) input) chain quiet asks = absurd asks
+asks_traces rows (One (PagesOfChain point as_ranges) input) chain quiet asks = absurd asks
+asks_traces rows (Each names) chain quiet asks = (chain, quiet, asks)
+
+-- of one chain
+pub asks_chain : (rows : List Row) (task : Task) (input : Option (Bor (List ℕ))) (quiet : Bool) → IsFlag (one_of (codes "chain") rows) true
+    → IsFlag (one_of (codes "quiet") rows) quiet → AsksTraces rows (One task input) → AsksAudit rows (One (AuditChain quiet) input)
+asks_chain rows Audit input quiet chain still asks = (chain, still, asks)
+asks_chain rows (Explain as_json with_dumps) input quiet chain still asks = absurd asks
+asks_chain rows (Resolve word replica with_steps) input quiet chain still asks = absurd asks
+asks_chain rows (Pages replica as_ranges) input quiet chain still asks = absurd asks
+asks_chain rows (AuditChain own) input quiet chain still asks = absurd asks
+asks_chain rows (ExplainChain as_json) input quiet chain still asks = absurd asks
+asks_chain rows (PagesOfChain point as_ranges) input quiet chain still asks = absurd asks
+
+-- several files
+pub several_files : (rows : List Row) (asked : Inspection) → AsksTraces rows asked
+    → ((task : Task) (input : Option (Bor (List ℕ))) → asked ≡ One task input → ⊥) → HasSeveralFiles rows
+several_files rows (One task input) asks none = absurd (none task input refl)
+several_files rows (Each names) asks none =
+    (map (λ name. name.now) names.items, asks.0, subst (λ (n : ℕ). 2 ≤ n) (sym (length-map names.items (λ (name : Bor (List ℕ)). name.now))) asks.1)

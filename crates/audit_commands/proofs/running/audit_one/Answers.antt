@@ -1,0 +1,16 @@
+use Rattle.std.proofs.Common.{ap}
+use Rattle.std.proofs.lemmas.Result.{IfOk-weaker}
+use Rattle.audit_commands.proofs.Lines.{line_written, no_line}
+use Rattle.audit_commands.proofs.running.audit_one.Goals as goal
+
+pub returns-in-Ok-clause-ok : goal.returns-in-Ok-clause-ok
+returns-in-Ok-clause-ok g c =
+    let ends = c.in-Ok.ensures.ends in
+    line_written (g.F.FilesByName.file_bytes c.args.files.now) c.args.name.now ends.0 _ _ c.in-Ok.status ends.1 ends.2
+
+pub returns-in-Err-clause-ok : goal.returns-in-Err-clause-ok
+returns-in-Err-clause-ok g c =
+    IfOk-weaker c.refused_status.result _ _
+    (λ status h. no_line (g.F.FilesByName.file_bytes c.args.files.now) c.args.name.now c.in-Err.fault _ _ status h.0
+    (ap g.W.Write.contents (c.in-Err.ensures.alone h.1)))
+    c.refused_status.ensures.ok

@@ -1,0 +1,13 @@
+use Rattle.std.proofs.Common.{◌∙◌, ap, Some, codes, true}
+use Rattle.clap.specs.Words.{Rule, rule_of}
+use Rattle.clap.specs.declared.builder.arg.Arg.{Arg}
+use Rattle.audit_commands.proofs.words.address.Goals as goal
+
+pub returns : goal.returns
+returns c =
+    let long_is = ap rule_of c.long.ensures ∙ ap (λ (r : Rule). record r { long = Some (codes "address") }) c.new.ensures.rule in
+    let global = λ (a : Arg). a.global in
+    record {
+      rule = ap rule_of c.help.ensures ∙ ap rule_of c.required.ensures ∙ ap (λ (r : Rule). record r { required = true }) long_is;
+      local = ap global c.help.ensures ∙ ap global c.required.ensures ∙ ap global c.long.ensures ∙ c.new.ensures.optional.1;
+    }

@@ -1,0 +1,19 @@
+use Rattle.std.proofs.Common.{◌∙◌, ap}
+use Rattle.std.proofs.lemmas.Result.{IfOk-weaker}
+use Rattle.clap.specs.Simple.{app_of_fields}
+use Rattle.clap.specs.declared.builder.command.Command.{Command}
+use Rattle.clap.specs.declared.builder.command.Command.TheOpen.{Command-F}
+use Rattle.audit_commands.proofs.CommandLines.{so_far, with_option}
+use Rattle.audit_commands.proofs.words.explain.Goals as goal
+
+pub returns : goal.returns
+returns c =
+    let globals = λ (f : Command-F Command). f.has_globals in
+    let none = so_far (ap app_of_fields c.about.ensures ∙ c.new.ensures.app) (ap globals c.about.ensures ∙ c.new.ensures.local) in
+    let one = with_option c.in_ok-arg.ensures none c.flag.ensures.rule c.flag.ensures.local in
+    let two = with_option c.in_ok-arg-2.ensures one c.flag-2.ensures.rule c.flag-2.ensures.local in
+    let three = with_option c.in_ok-arg-3.ensures two c.flag-3.ensures.rule c.flag-3.ensures.local in
+    record {
+      app = IfOk-weaker c.arg-4.result _ _ (λ command h. (with_option h three c.file.ensures.rule c.file.ensures.local).app_is) c.arg-4.ensures;
+      local = IfOk-weaker c.arg-4.result _ _ (λ command h. (with_option h three c.file.ensures.rule c.file.ensures.local).local) c.arg-4.ensures;
+    }

@@ -1,0 +1,199 @@
+//! What the words of `audit`, `explain`, `resolve` and `pages` ask for.
+
+ghost use Rattle.std.specs.Prelude.{◌≡◌, ◌⊎◌, IfErr, IfOk, codes, false, option_map};
+ghost use Rattle.clap.specs.Walk.{one_of};
+ghost use Rattle.clap.specs.Words.{first_of, found_of, kind_of, rows_of};
+ghost use Rattle.audit_commands.specs.Words.{AsksAudit, AsksExplain, AsksPages, AsksResolve, AsksTraces};
+ghost use Rattle.audit_commands.specs.Words.{IsFlag, IsMisuse, IsPagesMisuse, IsPoint, IsPointMisuse};
+ghost use Rattle.audit_commands.specs.Words.{input_of, named_file};
+
+use crate::task::{ChainPoint, Task};
+use clap::error::ErrorKind;
+use clap::{ArgMatches, Command, Error};
+use std::alloc::{AllocError, Global};
+
+/// What the words of `audit`, `explain`, `resolve` or `pages` ask for.
+#[derive(Debug, Drop)]
+pub enum Inspection<'a> {
+    /// A task on one input: the file of this name, or standard input.
+    One(Task<'a>, Option<&'a str>),
+    /// An audit of each of these files, a line each; `-` is standard input.
+    Each(Vec<&'a str>),
+}
+
+/// The file of this name, or none where it is `-`, which is standard input.
+fn named_file(name: &str) -> Option<&str>
+    ensures { option_map (λ name. name.now) result ≡ named_file name.entry.now }
+{
+    if name == "-" { None } else { Some(name) }
+}
+
+/// The file that was named, if it isn't standard input.
+fn input_of<'a>(given: &ArgMatches<'a>) -> Option<&'a str>
+    ensures { option_map (λ name. name.now) result
+        ≡ input_of (first_of (codes "file") (rows_of (found_of given.now))) }
+{
+    match given.get_str("file") {
+        Some(name) => named_file(name),
+        None => None,
+    }
+}
+
+/// The audit of one trace or of several that was asked for.
+fn read_traces<'a>(alloc: Global, given: &ArgMatches<'a>) -> Result<Inspection<'a>, AllocError>
+    ensures { IfOk result (AsksTraces (rows_of (found_of given.now))) }
+{
+    match given.get_raw("file") {
+        Some(names) => {
+            if 1 < names.len() {
+                let names = Vec::from_slice(alloc, names)?;
+                return Ok(Inspection::Each(names));
+            }
+            Ok(Inspection::One(Task::Audit, input_of(given)))
+        }
+        None => Ok(Inspection::One(Task::Audit, input_of(given))),
+    }
+}
+
+/// What was given with `audit` asks for. The line is that of the program, for what it says of its words.
+///
+/// # Errors
+///
+/// `TooManyValues` where several chains are named, `MissingRequiredArgument` where it is to be quiet of no chain; out of memory.
+pub fn read_audit<'a>(
+    alloc: Global,
+    line: &mut Command<'a>,
+    given: &ArgMatches<'a>,
+) -> Result<Inspection<'a>, Error>
+    ensures asks { IfOk result (AsksAudit (rows_of (found_of given.now))) }
+    ensures misused { IfErr result (λ error. (kind_of error ≡ ErrorKind.OutOfMemory)
+        ⊎ IsMisuse (rows_of (found_of given.now)) (kind_of error)) }
+{
+    let asked = read_traces(alloc, given)?;
+    let quiet = given.get_flag("quiet");
+    if given.get_flag("chain") {
+        match asked {
+            Inspection::One(_, input) => {
+                return Ok(Inspection::One(Task::AuditChain(quiet), input));
+            }
+            _ => {
+                let several = line.error(
+                    ErrorKind::TooManyValues,
+                    "one chain is audited at a time",
+                )?;
+                return Err(several);
+            }
+        }
+    }
+    if quiet {
+        let alone = line.error(
+            ErrorKind::MissingRequiredArgument,
+            "--quiet is for --chain alone",
+        )?;
+        return Err(alone);
+    }
+    Ok(asked)
+}
+
+/// What was given with `explain` asks for.
+pub fn read_explain<'a>(given: &ArgMatches<'a>) -> Inspection<'a>
+    ensures { AsksExplain (rows_of (found_of given.now)) result }
+{
+    let as_json = is_given(given, "json");
+    if is_given(given, "chain") {
+        return Inspection::One(Task::ExplainChain(as_json), input_of(given));
+    }
+    let with_dumps = is_given(given, "all");
+    Inspection::One(Task::Explain(as_json, with_dumps), input_of(given))
+}
+
+/// What was given with `resolve` asks for.
+pub fn read_resolve<'a>(given: &ArgMatches<'a>) -> Inspection<'a>
+    ensures { AsksResolve (rows_of (found_of given.now)) result }
+{
+    let address = given.get_str("address").unwrap_or("");
+    let replica = given.get_one::<u8>("replica").unwrap_or(0);
+    let with_steps = given.get_flag("steps");
+    Inspection::One(Task::Resolve(address, replica, with_steps), input_of(given))
+}
+
+/// Whether an option was given that has no value.
+fn is_given(given: &ArgMatches<'_>, id: &str) -> bool
+    ensures { IsFlag (one_of id.now (rows_of (found_of given.now))) result }
+{
+    given.get_flag(id)
+}
+
+/// At which point of a chain its pages were asked for.
+fn read_point<'a>(line: &mut Command<'a>, given: &ArgMatches<'a>) -> Result<ChainPoint, Error>
+    ensures point { IfOk result (IsPoint (rows_of (found_of given.now))) }
+    ensures misused { IfErr result (λ error. (kind_of error ≡ ErrorKind.OutOfMemory)
+        ⊎ IsPointMisuse (rows_of (found_of given.now)) (kind_of error)) }
+{
+    let start = is_given(given, "start");
+    let end = is_given(given, "end");
+    if start && end {
+        let both = line.error(
+            ErrorKind::ArgumentConflict,
+            "--chain takes --start or --end, and not both",
+        )?;
+        return Err(both);
+    }
+    if start {
+        return Ok(ChainPoint::Start);
+    }
+    if end {
+        return Ok(ChainPoint::End);
+    }
+    let none = line.error(
+        ErrorKind::MissingRequiredArgument,
+        "--chain takes --start or --end",
+    )?;
+    Err(none)
+}
+
+/// The pages of a trace's dump that were asked for.
+fn read_dump_pages<'a>(
+    line: &mut Command<'a>,
+    given: &ArgMatches<'a>,
+) -> Result<Inspection<'a>, Error>
+    requires { IsFlag (one_of (codes "chain") (rows_of (found_of given.now))) false }
+    ensures asks { IfOk result (AsksPages (rows_of (found_of given.now))) }
+    ensures misused { IfErr result (λ error. (kind_of error ≡ ErrorKind.OutOfMemory)
+        ⊎ IsPagesMisuse (rows_of (found_of given.now)) (kind_of error)) }
+{
+    let start = is_given(given, "start");
+    let end = is_given(given, "end");
+    if start || end {
+        let alone = line.error(
+            ErrorKind::MissingRequiredArgument,
+            "--start and --end are for --chain alone",
+        )?;
+        return Err(alone);
+    }
+    let replica = given.get_one::<u8>("replica").unwrap_or(0);
+    let as_ranges = is_given(given, "ranges");
+    Ok(Inspection::One(Task::Pages(replica, as_ranges), input_of(given)))
+}
+
+/// What was given with `pages` asks for. The line is that of the program, for what it says of its words.
+///
+/// # Errors
+///
+/// `ArgumentConflict` where both ends of a chain are asked for, `MissingRequiredArgument` where none is, or one but no chain; out of
+/// memory.
+pub fn read_pages<'a>(
+    line: &mut Command<'a>,
+    given: &ArgMatches<'a>,
+) -> Result<Inspection<'a>, Error>
+    ensures asks { IfOk result (AsksPages (rows_of (found_of given.now))) }
+    ensures misused { IfErr result (λ error. (kind_of error ≡ ErrorKind.OutOfMemory)
+        ⊎ IsPagesMisuse (rows_of (found_of given.now)) (kind_of error)) }
+{
+    if !is_given(given, "chain") {
+        return read_dump_pages(line, given);
+    }
+    let point = read_point(line, given)?;
+    let as_ranges = is_given(given, "ranges");
+    Ok(Inspection::One(Task::PagesOfChain(point, as_ranges), input_of(given)))
+}

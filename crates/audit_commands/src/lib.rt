@@ -1,0 +1,19 @@
+//! The commands `audit`, `explain`, `resolve` and `pages`: their words on the command line, and what they do with standard input or
+//! with the files that are named.
+#![tactic(auto)]
+
+mod files;
+mod host_words;
+mod inspection;
+mod refusal;
+mod running;
+mod task;
+mod words;
+
+pub use files::FilesByName;
+pub use host_words::{NoWords, program_words};
+pub use inspection::{Inspection, read_audit, read_explain, read_pages, read_resolve};
+pub use refusal::{exit_status, tell_outcome, tell_refusal};
+pub use running::run_inspection;
+pub use task::{ChainPoint, Task};
+pub use words::{VERSION, audit, explain, pages, resolve, with_command};

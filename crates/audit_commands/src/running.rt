@@ -1,0 +1,188 @@
+//! An inspection of the input, of one file or of several.
+
+ghost use Rattle.std.specs.Prelude.{◌≡◌, IfErr, IfOk, map};
+ghost use Rattle.audit_readers.specs.Answers.{IsNamedAudit, WritesReport};
+ghost use Rattle.audit_readers.specs.Refusals.{WritesAnswersAlone};
+ghost use Rattle.audit_commands.specs.Tasks.{AuditsEach, AuditsOne, RunsInspection};
+ghost use Rattle.audit_commands.specs.Tasks.{RunsTask, RunsTaskOnFile, WritesLine};
+
+use crate::files::FilesByName;
+use crate::inspection::Inspection;
+use crate::refusal::{refused_status, remark, tell_outcome};
+use crate::task::{CHAIN, IS_CHAIN, Task};
+use audit_readers::{Input, ProgFault, named_audit_io};
+use std::alloc::Global;
+use std::io::{Read, Write};
+
+/// Does the task on an input, and says on the errors why it has no answer, and that it begins as a chain and is no trace, or as a trace and
+/// is no chain.
+fn run_task<R: Read, W: Write, E: Write>(
+    alloc: Global,
+    task: Task<'_>,
+    name: Option<&str>,
+    input: &mut Input<R>,
+    output: &mut W,
+    errors: &mut E,
+) -> Result<u8, ProgFault>
+    ensures { RunsTask task.entry (R.remaining input.old.reader) W.contents output.old output.new
+        result }
+{
+    let word = task.word();
+    let (magic, text) = task.other_form();
+    let outcome = task.run(alloc, input, output);
+    let about = match outcome {
+        Err(ProgFault::BadAddress) => word,
+        _ => name,
+    };
+    tell_outcome(alloc, &outcome, about, input.error(), errors);
+    if input.begins_with(magic) {
+        remark(name, text, errors);
+    }
+    outcome
+}
+
+/// Does the task on the file of this name.
+fn run_on_file<F: FilesByName, W: Write, E: Write>(
+    files: &F,
+    alloc: Global,
+    task: Task<'_>,
+    name: &str,
+    output: &mut W,
+    errors: &mut E,
+) -> Result<u8, ProgFault>
+    ensures { RunsTaskOnFile task.entry (F.file_bytes files.now name.now) W.contents output.old
+        output.new result }
+{
+    match files.open(name) {
+        Ok(file) => {
+            let mut input = Input::new(file);
+            run_task(alloc, task, Some(name), &mut input, output, errors)
+        }
+        Err(error) => {
+            let outcome = Err(ProgFault::CannotRead);
+            tell_outcome(alloc, &outcome, Some(name), Some(error), errors);
+            outcome
+        }
+    }
+}
+
+/// Audits one of several inputs, and writes its line; says on the errors why it has none, but where the output failed, and that it begins
+/// as a chain.
+fn write_own_line<R: Read, W: Write, E: Write>(
+    alloc: Global,
+    name: &str,
+    input: &mut Input<R>,
+    output: &mut W,
+    errors: &mut E,
+) -> Result<u8, ProgFault>
+    ensures ok { IfOk result (WritesReport (IsNamedAudit name.now) (R.remaining input.old.reader)
+        (W.contents output.old) (W.contents output.new)) }
+    ensures alone { WritesAnswersAlone output.old output.new result }
+{
+    let outcome = named_audit_io(alloc, input, output, name);
+    if !matches!(outcome, Err(ProgFault::CannotWrite)) {
+        tell_outcome(alloc, &outcome, Some(name), input.error(), errors);
+    }
+    if input.begins_with(CHAIN) {
+        remark(Some(name), IS_CHAIN, errors);
+    }
+    outcome
+}
+
+/// Audits the file of this name, and writes its line.
+fn write_line<F: FilesByName, R: Read, W: Write, E: Write>(
+    files: &F,
+    alloc: Global,
+    name: &str,
+    input: &mut Input<R>,
+    output: &mut W,
+    errors: &mut E,
+) -> Result<u8, ProgFault>
+    ensures { WritesLine (F.file_bytes files.now) name.now W.contents output.old output.new result }
+{
+    if name == "-" {
+        return write_own_line(alloc, name, input, output, errors);
+    }
+    match files.open(name) {
+        Ok(file) => {
+            let mut opened = Input::new(file);
+            write_own_line(alloc, name, &mut opened, output, errors)
+        }
+        Err(error) => {
+            let outcome = Err(ProgFault::CannotRead);
+            tell_outcome(alloc, &outcome, Some(name), Some(error), errors);
+            outcome
+        }
+    }
+}
+
+/// Audits one of several files, and writes its line; why it has none is written to the errors. Gives its status.
+fn audit_one<F: FilesByName, R: Read, W: Write, E: Write>(
+    files: &F,
+    alloc: Global,
+    name: &str,
+    input: &mut Input<R>,
+    output: &mut W,
+    errors: &mut E,
+) -> Result<u8, ProgFault>
+    ensures ok { IfOk result
+        (AuditsOne (F.file_bytes files.now) name.now (W.contents output.old)
+        (W.contents output.new)) }
+    ensures err { IfErr result (λ fault. fault ≡ ProgFault.CannotWrite) }
+{
+    match write_line(files, alloc, name, input, output, errors) {
+        Ok(status) => Ok(status),
+        Err(fault) => refused_status(fault),
+    }
+}
+
+/// Audits each of the files. The status is the worst of theirs.
+fn audit_each<F: FilesByName, R: Read, W: Write, E: Write>(
+    files: &F,
+    alloc: Global,
+    names: &[&str],
+    input: &mut Input<R>,
+    output: &mut W,
+    errors: &mut E,
+) -> Result<u8, ProgFault>
+    ensures ok { IfOk result (AuditsEach (F.file_bytes files.now) (map (λ name. name.now) names.now)
+        (W.contents output.old) (W.contents output.new)) }
+    ensures err { IfErr result (λ fault. fault ≡ ProgFault.CannotWrite) }
+{
+    let mut worst = 0u8;
+    for name in names {
+        let status = audit_one(files, alloc, *name, input, output, errors)?;
+        worst = worst.max(status);
+    }
+    Ok(worst)
+}
+
+/// Makes the inspection, of standard input or of the files that are named. Why there is no answer is written to the errors, behind the
+/// name of the file or the word that is wrong, and with the error of an input that can't be read; so is that a chain was read as a trace,
+/// or a trace as a chain. Allocates what the task does, for one file after the other, and a line for the errors.
+///
+/// # Errors
+///
+/// Of one input `CannotRead` where the file couldn't be opened, and those of `Task::run`; of several files
+/// `CannotWrite`.
+pub fn run_inspection<F: FilesByName, R: Read, W: Write, E: Write>(
+    files: &F,
+    alloc: Global,
+    inspection: Inspection<'_>,
+    input: &mut Input<R>,
+    output: &mut W,
+    errors: &mut E,
+) -> Result<u8, ProgFault>
+    ensures { RunsInspection (F.file_bytes files.now) inspection.entry
+        (R.remaining input.old.reader) W.contents output.old output.new result }
+{
+    match inspection {
+        Inspection::One(task, None) => run_task(alloc, task, None, input, output, errors),
+        Inspection::One(task, Some(name)) => run_on_file(files, alloc, task, name, output, errors),
+        Inspection::Each(names) => {
+            let outcome = audit_each(files, alloc, names.as_slice(), input, output, errors);
+            tell_outcome(alloc, &outcome, None, None, errors);
+            outcome
+        }
+    }
+}

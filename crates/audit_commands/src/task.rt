@@ -1,0 +1,107 @@
+//! What can be asked of one trace or of one chain, and which engine answers it.
+
+use audit_readers::{
+    ProgFault, Source, audit_chain_io, audit_io, chain_end_io, chain_start_io, explain_all_io,
+    explain_chain_io, explain_io, pages_io, resolve_io,
+};
+use std::alloc::Global;
+use std::io::Write;
+
+/// How a chain begins, and how a trace does.
+pub(crate) const CHAIN: &[u8; 4] = b"NRVS";
+
+const TRACE: &[u8; 4] = b"NRVT";
+
+pub(crate) const IS_CHAIN: &str = "this is a chain: use --chain\n";
+
+const IS_TRACE: &str = "this is a trace: leave out --chain\n";
+
+const NO_TRACE: &str = "this is a chain, and resolve reads traces\n";
+
+/// Where a chain is looked at.
+#[derive(Clone, Copy, Debug)]
+pub enum ChainPoint {
+    /// Where its first segment begins.
+    Start,
+    /// After its last segment.
+    End,
+}
+
+/// What can be asked of one trace or of one chain.
+#[derive(Debug, Drop)]
+pub enum Task<'a> {
+    /// Judge a trace.
+    Audit,
+    /// Judge it, and show the evidence of its fault; as JSON; and what is wrong with the other dumps.
+    Explain(bool, bool),
+    /// Walk at this address, as the command line spells it, in the dump of this replica; and list the entries that are read.
+    Resolve(&'a str, u8, bool),
+    /// List the pages of the dump of this replica; and as ranges.
+    Pages(u8, bool),
+    /// Judge a chain; and print nothing of the segments that are right.
+    AuditChain(bool),
+    /// Judge it, and show the evidence of its first fault, or how much it has; as JSON.
+    ExplainChain(bool),
+    /// List the pages at this point of it; and as ranges.
+    PagesOfChain(ChainPoint, bool),
+}
+
+impl<'a> Task<'a> {
+    ghost use Rattle.audit_readers.specs.Ends.{RefusesUnreadable};
+    ghost use Rattle.audit_commands.specs.Tasks.{most_bytes, HasReadFewFor, RunsTask};
+
+    /// The address, as the command line spells it, where the task has one.
+    pub(crate) fn word(&self) -> Option<&'a str> {
+        match self {
+            Task::Resolve(address, _, _) => Some(*address),
+            _ => None,
+        }
+    }
+
+    /// How an input of the other form begins, and what is said of it.
+    pub(crate) fn other_form(&self) -> (&'static [u8; 4], &'static str) {
+        match self {
+            Task::Audit | Task::Explain(_, _) | Task::Pages(_, _) => (CHAIN, IS_CHAIN),
+            Task::Resolve(_, _, _) => (CHAIN, NO_TRACE),
+            Task::AuditChain(_) | Task::ExplainChain(_) | Task::PagesOfChain(_, _) => {
+                (TRACE, IS_TRACE)
+            }
+        }
+    }
+
+    /// Does the task on the input, and gives the exit status. Allocates what the engine of the task does.
+    ///
+    /// # Errors
+    ///
+    /// Those of `audit_io`, of `explain_io`, of `resolve_io`, of `pages_io`, or of those of chains.
+    pub fn run<R: Source, W: Write>(
+        self,
+        alloc: Global,
+        reader: &mut R,
+        writer: &mut W,
+    ) -> Result<u8, ProgFault>
+        ensures runs { RunsTask self.entry (R.remaining reader.old) W.contents writer.old writer.new
+            result }
+        ensures few { HasReadFewFor self.entry (R.remaining reader.old) (R.remaining reader.new) }
+        ensures unread { RefusesUnreadable (most_bytes self.entry) (R.remaining reader.old)
+            (R.remaining reader.new) (R.last_read reader.new) result }
+    {
+        match self {
+            Task::Audit => audit_io(alloc, reader, writer),
+            Task::Explain(as_json, false) => explain_io(alloc, reader, writer, as_json),
+            Task::Explain(as_json, true) => explain_all_io(alloc, reader, writer, as_json),
+            Task::Resolve(address, replica, with_steps) => {
+                resolve_io(alloc, reader, writer, address, replica, with_steps)
+            }
+            Task::Pages(replica, as_ranges) => pages_io(alloc, reader, writer, replica, as_ranges),
+            Task::AuditChain(quiet) => audit_chain_io(alloc, reader, writer, quiet),
+            Task::ExplainChain(as_json) => explain_chain_io(alloc, reader, writer, as_json),
+            Task::PagesOfChain(ChainPoint::Start, as_ranges) => {
+                chain_start_io(alloc, reader, writer, as_ranges)
+            }
+            Task::PagesOfChain(ChainPoint::End, as_ranges) => {
+                chain_end_io(alloc, reader, writer, as_ranges)
+            }
+        }
+    }
+}

@@ -1,0 +1,11 @@
+pub mod Inputs
+pub mod Reports
+pub mod Writing
+pub mod Growing
+pub mod Lines
+pub mod Going
+pub mod Reading
+pub mod Beginning
+pub mod Ending
+pub mod PagesLaws
+pub mod Explaining

@@ -1,0 +1,123 @@
+-- What is printed of the pages of a chain is one thing, and parts with equal ends are one chain.
+use Rattle.std.proofs.Common.{◌≡◌, ℕ, ◌++◌, inl, inr, Bool, true, List, [], ◌∷◌, length, Option, Some, None, sym, ap, ap₂, ◌∙◌, subst}
+use Rattle.vs_types.specs.Config.{Layout}
+use Rattle.vs_types.specs.Space.{pages, IsSpace}
+use Rattle.nr_trace.specs.Recording.{Recording}
+use Rattle.nr_audit.specs.Start.{first_space}
+use Rattle.nr_audit.specs.declared.fault.SegmentFault.{SegmentFault}
+use Rattle.nr_audit.proofs.FirstFaults.{one_first_after}
+use Rattle.nr_chain.specs.Bytes.{kept_after, layout_before, GoesOnSo}
+use Rattle.nr_chain.specs.Fed.{Kept}
+use Rattle.nr_chain.specs.Headline.{IsRightChain}
+use Rattle.nr_chain.specs.Parts.{MayFollow, SpellUpTo}
+use Rattle.nr_chain.proofs.ByteParts.{comes_as_one, goes_on_as_one}
+use Rattle.nr_chain.proofs.Exact.{ends_or_sound, found_once}
+use Rattle.nr_chain.proofs.FoundChains.{right_chain}
+use Rattle.nr_chain.proofs.OneChain.{begins_some, one_front}
+use Rattle.nr_chain.proofs.Restarts.{begins_in}
+use Rattle.audit_texts.specs.Listing.{pages_text}
+use Rattle.audit_texts.proofs.Texts.{equal_spaces}
+use Rattle.audit_readers.specs.ChainAudit.{IsChainAudit}
+use Rattle.audit_readers.specs.ChainPages.{IsChainEnd, IsChainStart, ShowsEnd, ShowsStart, TellsFault}
+use Rattle.audit_texts.specs.ChainText.{end_lines}
+
+abbrev Same : List ℕ → List ℕ → ℕ → ℕ → Type 0
+Same text other status same = (text ≡ other) × (status ≡ same)
+
+-- ---- one text
+
+same_faults : (orders others : List (List ℕ)) (bytes text other : List ℕ) (status same : ℕ) → TellsFault orders bytes text status
+    → TellsFault others bytes other same → Same text other status same
+same_faults orders others bytes text other status same a b =
+    let one = found_once one_first_after None bytes orders others (Some a.fault) (Some b.fault) a.goes_on b.goes_on in
+    let count : length orders ≡ length others = ap (λ (os : List (List ℕ)). length os) one.0 in
+    (a.text_is ∙ ap₂ (λ (n : ℕ) (f : Option SegmentFault). end_lines n f) count one.1 ∙ sym b.text_is, a.status_is ∙ sym b.status_is)
+
+pub one_start : (as_ranges : Bool) (bytes text other : List ℕ) (status same : ℕ) → IsChainStart as_ranges bytes text status
+    → IsChainStart as_ranges bytes other same → Same text other status same
+one_start as_ranges bytes text other status same (inl a) (inl b) =
+    let one = one_front None bytes a.first b.first a.rest b.rest a.begins b.begins in
+    (a.text_is ∙ ap (λ (s : Recording). pages_text as_ranges (pages (first_space None s))) one.1 ∙ sym b.text_is, a.status_is ∙ sym b.status_is)
+one_start as_ranges bytes text other status same (inl a) (inr b) =
+    absurd (ends_or_sound None bytes (Some b.fault) a.first a.rest b.goes_on a.begins a.sound)
+one_start as_ranges bytes text other status same (inr a) (inl b) =
+    absurd (ends_or_sound None bytes (Some a.fault) b.first b.rest a.goes_on b.begins b.sound)
+one_start as_ranges bytes text other status same (inr a) (inr b) = same_faults [] [] bytes text other status same a b
+
+-- bytes come to one thing
+comes_once : (kept : Option Kept) (bytes : List ℕ) (first second : List Recording) (a b : Kept) → SpellUpTo kept bytes first a → SpellUpTo kept bytes second b
+    → a ≡ b
+comes_once kept bytes [] [] a b (none, is) (none_too, is_too) = let same : Some a ≡ Some b = sym is ∙ is_too in cc
+comes_once kept bytes [] (segment ∷ more) a b (none, is) (rest, begins, next) = absurd (begins_some (layout_before kept) bytes segment rest begins none)
+comes_once kept bytes (segment ∷ more) [] a b (rest, begins, next) (none, is) = absurd (begins_some (layout_before kept) bytes segment rest begins none)
+comes_once kept bytes (segment ∷ more) (other ∷ others) a b (rest, begins, next) (last, starts, next_too) =
+    let one = one_front (layout_before kept) bytes segment other rest last begins starts in
+    comes_once (Some (kept_after kept segment)) rest more others a b next
+    (subst (λ (bs : List ℕ). SpellUpTo (Some (kept_after kept segment)) bs others b) (sym one.0)
+    (subst (λ (s : Recording). SpellUpTo (Some (kept_after kept s)) last others b) (sym one.1) next_too))
+
+well_or_not : (bytes : List ℕ) (orders others : List (List ℕ)) (fault : SegmentFault) → GoesOnSo None bytes orders None
+    → GoesOnSo None bytes others (Some fault) → ⊥
+well_or_not bytes orders others fault well not_well =
+    let one = found_once one_first_after None bytes orders others None (Some fault) well not_well in
+    let wrong : None ≡ Some fault = one.1 in cc
+
+pub one_end : (as_ranges : Bool) (bytes text other : List ℕ) (status same : ℕ) → IsChainEnd as_ranges bytes text status
+    → IsChainEnd as_ranges bytes other same → Same text other status same
+one_end as_ranges bytes text other status same (inl a) (inl b) =
+    let one : a.last ≡ b.last = comes_once None bytes a.comes.0 b.comes.0 a.last b.last a.comes.1 b.comes.1 in
+    (a.text_is ∙ ap (λ (k : Kept). pages_text as_ranges (pages k.space)) one ∙ sym b.text_is, a.status_is ∙ sym b.status_is)
+one_end as_ranges bytes text other status same (inl a) (inr (orders, b)) = absurd (well_or_not bytes a.orders orders b.fault a.goes_on b.goes_on)
+one_end as_ranges bytes text other status same (inr (orders, a)) (inl b) = absurd (well_or_not bytes b.orders orders a.fault b.goes_on a.goes_on)
+one_end as_ranges bytes text other status same (inr (orders, a)) (inr (others, b)) = same_faults orders others bytes text other status same a b
+
+-- ---- parts
+
+pub same_ends : (as_ranges : Bool) (front back text : List ℕ) (status same : ℕ) (end : ShowsEnd as_ranges front text status)
+    (start : ShowsStart as_ranges back text same) → start.first.layout ≡ end.last.layout → end.last.space ≡ first_space None start.first
+same_ends as_ranges front back text status same end start layout =
+    let own = (begins_in start.first start.begins.spelled.in_range start.sound).0 in
+    let there : IsSpace end.last.layout.depth (first_space None start.first) =
+    subst (λ (l : Layout). IsSpace l.depth (first_space None start.first)) layout own in
+    equal_spaces as_ranges end.last.layout.depth end.last.space (first_space None start.first) end.is_space there (sym end.text_is ∙ start.text_is)
+
+module _ (as_ranges : Bool) (front back text : List ℕ) (status same : ℕ) (end : ShowsEnd as_ranges front text status)
+    (start : ShowsStart as_ranges back text same) (layout : start.first.layout ≡ end.last.layout) where
+  follows : MayFollow end.last back
+  follows = record {
+    first = start.first;
+    rest = start.rest;
+    begins = start.begins;
+    layout = layout;
+    pages = sym (same_ends as_ranges front back text status same end start layout);
+  }
+
+  pub as_one : (others : List (List ℕ)) → GoesOnSo None back others None → GoesOnSo None (front ++ back) (end.orders ++ others) None
+  as_one others behind = goes_on_as_one end.last back follows None front end.orders others end.comes.0 end.goes_on end.comes.1 behind
+
+  pub right_as_one : (others : List (List ℕ)) → GoesOnSo None back others None → IsRightChain (front ++ back) (end.orders ++ others)
+  right_as_one others behind = right_chain (front ++ back) (end.orders ++ others) (as_one others behind)
+
+  pub ends_as_one : (last : List ℕ) → ShowsEnd as_ranges back last 0 → ShowsEnd as_ranges (front ++ back) last 0
+  ends_as_one last behind = record {
+    orders = end.orders ++ behind.orders;
+    goes_on = as_one behind.orders behind.goes_on;
+    right = right_as_one behind.orders behind.goes_on;
+    last = behind.last;
+    comes = comes_as_one end.last back follows None front end.comes.0 behind.last end.comes.1 behind.comes;
+    is_space = behind.is_space;
+    text_is = behind.text_is;
+    status_is = behind.status_is;
+  }
+
+-- ---- a chain that is refused
+
+pub told_as_audited : (orders : List (List ℕ)) (bytes text : List ℕ) (status : ℕ) → TellsFault orders bytes text status → IsChainAudit true bytes text status
+told_as_audited orders bytes text status tells = record {
+  orders = orders;
+  found = Some tells.fault;
+  goes_on = tells.goes_on;
+  right = λ none. absurd (let wrong : Some tells.fault ≡ None = none in cc);
+  text_is = tells.text_is;
+  status_is = tells.status_is;
+}

@@ -1,0 +1,8 @@
+use Rattle.audit_readers.proofs.Inputs.{AreFed}
+use Rattle.audit_readers.proofs.unit_input.feed_units.Given as goal
+
+abbrev pub invariant-loop-room : goal.invariant-loop-room
+invariant-loop-room g l = AreFed (g.R.Read.remaining l.initial.reader) (g.R.Read.remaining l.reader) l.feed l.room
+
+abbrev pub decreases-loop-room : goal.decreases-loop-room
+decreases-loop-room g l = l.room

@@ -1,0 +1,103 @@
+-- No float is in the JSON of an explanation.
+use Rattle.std.proofs.Common.{◌≡◌, ℕ, Bool, false, ◌||◌, List, [], ◌∷◌, Option, Some, None, ap, ap₂, map, refl}
+use Rattle.serde_json.specs.View.{items_of}
+use Rattle.serde_json.specs.Written.{has_float, items_have_float}
+use Rattle.nr_trace.specs.declared.event.Event.{Event}
+use Rattle.nr_trace.specs.declared.event.Event.TheVariants.{Call, Reply, Touch}
+use Rattle.nr_explain.specs.declared.evidence.RecordedReply.{RecordedReply}
+use Rattle.nr_explain.specs.declared.evidence.PlacedUpdate.{PlacedUpdate}
+use Rattle.nr_explain.specs.declared.evidence.Step.{Step}
+use Rattle.nr_explain.specs.declared.evidence.Evidence.{Evidence}
+use Rattle.nr_explain.specs.declared.evidence.Evidence.TheVariants as evidence
+use Rattle.nr_explain.specs.declared.explaining.Explanation.{Explanation}
+use Rattle.nr_explain.specs.declared.explaining.Explanation.TheVariants.{Yes, No}
+use Rattle.nr_explain.specs.declared.all_dumps.DumpExplanation.{DumpExplanation}
+use Rattle.nr_explain.specs.declared.all_dumps.DumpExplanation.TheVariants.{Sound, Faulty}
+use Rattle.audit_texts.specs.FullExplained.{dump_data, full_data}
+use Rattle.audit_texts.specs.EvidenceJson.{changed_data, event_data, number_data, option_data, own_data, step_data, way_data}
+use Rattle.audit_texts.specs.Parts.{says_data}
+use Rattle.audit_texts.specs.Evidence.{counts_parts, evidence_data, evidence_parts}
+use Rattle.audit_texts.specs.Evidence.{bad_unit_parts, difference_parts, early_parts, long_prefix_parts, misplaced_parts, missing_parts, no_update_parts}
+use Rattle.audit_texts.specs.Evidence.{open_parts, other_answer_parts}
+use Rattle.audit_texts.specs.Evidence.{past_end_parts, reserved_parts, shared_parts, short_prefix_parts, stray_parts, stray_reply_parts, two_places_parts}
+use Rattle.audit_texts.specs.Evidence.{two_replies_parts}
+use Rattle.audit_texts.specs.Evidence.{answer_parts, changed_parts, look_parts, missing_frame_parts, read_parts, replica_parts, reserved_entry_parts}
+use Rattle.audit_texts.specs.Evidence.{shared_frame_parts, stray_frame_parts, unlike_parts}
+use Rattle.audit_texts.specs.Explained.{explanation_data}
+
+numbers : (order : List ℕ) → items_have_float (items_of (map number_data order)) ≡ false
+numbers [] = refl
+numbers (call ∷ more) = numbers more
+
+steps : (way : List Step) → items_have_float (items_of (map step_data way)) ≡ false
+steps [] = refl
+steps (step ∷ more) = steps more
+
+pub way : (entries : List Step) → has_float (way_data entries) ≡ false
+way entries = steps entries
+
+option : (n : Option ℕ) → has_float (option_data n) ≡ false
+option None = refl
+option (Some n) = refl
+
+event : (index : ℕ) (named : Option Event) → has_float (event_data index named) ≡ false
+event index None = refl
+event index (Some (Call replica thread request)) = refl
+event index (Some (Touch replica thread address mode access)) = refl
+event index (Some (Reply call at answer)) = refl
+
+changed : (update : Option PlacedUpdate) → has_float (changed_data update) ≡ false
+changed None = refl
+changed (Some update) = refl
+
+own : (reply : Option RecordedReply) → has_float (own_data reply) ≡ false
+own None = refl
+own (Some reply) = refl
+
+-- one of the members may be any of these, or two
+abbrev pub one : Bool → Bool
+one b = b || false
+
+abbrev pub two : Bool → Bool → Bool
+two a b = a || (b || false)
+
+pub evidence_has_no_float : (shown : Evidence) → has_float (evidence_data shown) ≡ false
+unfolding evidence_parts says_data bad_unit_parts open_parts stray_reply_parts two_replies_parts no_update_parts two_places_parts
+    misplaced_parts past_end_parts early_parts other_answer_parts long_prefix_parts short_prefix_parts missing_parts shared_parts
+    reserved_parts stray_parts difference_parts read_parts missing_frame_parts shared_frame_parts reserved_entry_parts stray_frame_parts
+    answer_parts look_parts unlike_parts changed_parts replica_parts
+evidence_has_no_float (evidence.Format bad) = refl
+evidence_has_no_float (evidence.ThreadOpen calls) = refl
+evidence_has_no_float (evidence.NoSuchCall stray) = ap one (event stray.reply.call stray.named)
+evidence_has_no_float (evidence.AnsweredTwice replies) = refl
+evidence_has_no_float (evidence.NotAnUpdate wrong) = ap one (event wrong.call wrong.named)
+evidence_has_no_float (evidence.PlacedTwice places) = refl
+evidence_has_no_float (evidence.NotPlaced wrong) = ap₂ two (option wrong.own) (option wrong.there)
+evidence_has_no_float (evidence.PastLog wrong) = refl
+evidence_has_no_float (evidence.Early early) = ap one (own early.own)
+evidence_has_no_float (evidence.WrongAnswer wrong) = ap one (changed wrong.changed)
+evidence_has_no_float (evidence.PrefixPastLog wrong) = refl
+evidence_has_no_float (evidence.PrefixShort wrong) = refl
+evidence_has_no_float (evidence.MissingFrame wrong) = ap one (way wrong.path.items)
+evidence_has_no_float (evidence.SharedFrame wrong) = ap₂ two (way wrong.first.items) (way wrong.second.items)
+evidence_has_no_float (evidence.ReservedBit wrong) = ap one (way wrong.path.items)
+evidence_has_no_float (evidence.StrayFrame wrong) = refl
+evidence_has_no_float (evidence.Differs wrong) = ap₂ two (changed wrong.changed) (way wrong.path.items)
+
+pub explanation_has_no_float : (explanation : Explanation) → has_float (explanation_data explanation) ≡ false
+unfolding counts_parts says_data
+explanation_has_no_float (Yes order counts) = ap one (numbers order)
+explanation_has_no_float (No fault shown) = ap one (evidence_has_no_float shown)
+
+dump : (told : DumpExplanation) → has_float (dump_data told) ≡ false
+dump (Sound replica) = refl
+dump (Faulty replica fault shown) = ap one (evidence_has_no_float shown)
+
+dumps : (told : List DumpExplanation) → items_have_float (items_of (map dump_data told)) ≡ false
+dumps [] = refl
+dumps (first ∷ more) = ap₂ (λ (a b : Bool). a || b) (dump first) (dumps more)
+
+pub full_has_no_float : (explanation : Explanation) (told : List DumpExplanation) → has_float (full_data explanation told) ≡ false
+full_has_no_float (Yes order counts) told = explanation_has_no_float (Yes order counts)
+full_has_no_float (No fault shown) [] = explanation_has_no_float (No fault shown)
+full_has_no_float (No fault shown) (first ∷ more) = ap₂ two (dumps (first ∷ more)) (evidence_has_no_float shown)

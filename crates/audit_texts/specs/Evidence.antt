@@ -1,0 +1,203 @@
+-- What shows a fault, each fact of it, and how much a right trace has; the lines and the JSON object of it.
+use Rattle.std.specs.Prelude.{ℕ, ◌++◌, List, [], ◌∷◌, codes, length, Option}
+use Rattle.serde_json.specs.Data.{Data}
+use Rattle.vs_types.specs.declared.answer.Answer.{Answer}
+use Rattle.vs_walk.specs.declared.walk.Walk.{Walk}
+use Rattle.nr_explain.specs.Units.{size}
+use Rattle.nr_explain.specs.declared.counts.Counts.{Counts}
+use Rattle.nr_explain.specs.declared.units.BadUnit.{BadUnit}
+use Rattle.nr_explain.specs.declared.evidence.PlacedUpdate.{PlacedUpdate}
+use Rattle.nr_explain.specs.declared.evidence.Step.{Step}
+use Rattle.nr_explain.specs.declared.evidence.OpenCalls.{OpenCalls}
+use Rattle.nr_explain.specs.declared.evidence.StrayReply.{StrayReply}
+use Rattle.nr_explain.specs.declared.evidence.TwoReplies.{TwoReplies}
+use Rattle.nr_explain.specs.declared.evidence.NoUpdate.{NoUpdate}
+use Rattle.nr_explain.specs.declared.evidence.TwoPlaces.{TwoPlaces}
+use Rattle.nr_explain.specs.declared.evidence.Misplaced.{Misplaced}
+use Rattle.nr_explain.specs.declared.evidence.PastEnd.{PastEnd}
+use Rattle.nr_explain.specs.declared.evidence.EarlyCall.{EarlyCall}
+use Rattle.nr_explain.specs.declared.evidence.OtherAnswer.{OtherAnswer}
+use Rattle.nr_explain.specs.declared.evidence.LongPrefix.{LongPrefix}
+use Rattle.nr_explain.specs.declared.evidence.ShortPrefix.{ShortPrefix}
+use Rattle.nr_explain.specs.declared.evidence.MissingTable.{MissingTable}
+use Rattle.nr_explain.specs.declared.evidence.SharedTable.{SharedTable}
+use Rattle.nr_explain.specs.declared.evidence.ReservedEntry.{ReservedEntry}
+use Rattle.nr_explain.specs.declared.evidence.StrayTable.{StrayTable}
+use Rattle.nr_explain.specs.declared.evidence.Difference.{Difference}
+use Rattle.nr_explain.specs.declared.evidence.Evidence.{Evidence}
+use Rattle.nr_explain.specs.declared.evidence.Evidence.TheVariants as evidence
+use Rattle.audit_texts.specs.Text.{line_end}
+use Rattle.audit_texts.specs.Parts.{Part, in_both, in_json, in_lines, words, parts_data, parts_text}
+use Rattle.audit_texts.specs.Parts.{address, allowed, answer, bytes, call, changed, count, event, frame, own, place, reply, reserved, step, steps, text, unit}
+use Rattle.audit_texts.specs.Parts.{walk, way}
+
+-- the name of the fault
+abbrev pub fault_is : List ℕ → Part
+fault_is name = in_json (codes "fault") (text name)
+
+-- what was read of a unit of this size, behind its name
+unfoldable pub read_parts : ℕ → List ℕ → ℕ → List Part
+read_parts offset read size = words (codes ", at byte ") ∷ in_both (codes "offset") (count offset) ∷ words (codes "\nread ")
+    ∷ in_both (codes "there") (count (length read)) ∷ words (codes " of ") ∷ in_both (codes "size") (count size) ∷ words (codes " bytes: ")
+    ∷ in_both (codes "read") (bytes read) ∷ words line_end ∷ []
+
+-- a frame that isn't there, and the way to it
+unfoldable pub missing_frame_parts : List ℕ → List Step → ℕ → List ℕ → List Part
+missing_frame_parts fault path number end = fault_is fault ∷ in_both (codes "path") (way path) ∷ words (codes "frame ")
+    ∷ in_both (codes "frame") (frame number) ∷ words end ∷ []
+
+-- a frame to which tables lead twice, and the ways to it
+unfoldable pub shared_frame_parts : List ℕ → List Step → List Step → ℕ → List Part
+shared_frame_parts fault first second number = fault_is fault ∷ words (codes "one way:\n") ∷ in_both (codes "first") (way first)
+    ∷ words (codes "another:\n") ∷ in_both (codes "second") (way second) ∷ in_json (codes "frame") (frame number) ∷ []
+
+-- an entry with a reserved bit set, and the way to it
+unfoldable pub reserved_entry_parts : List ℕ → List Step → Step → ℕ → List Part
+reserved_entry_parts fault path entry bit = fault_is fault ∷ in_both (codes "path") (steps path) ∷ in_both (codes "entry") (step entry)
+    ∷ words (codes "bit ") ∷ in_both (codes "bit") (count bit) ∷ words (codes " is set: ") ∷ in_lines (reserved entry.level)
+    ∷ words line_end ∷ []
+
+-- a frame to which no table leads
+unfoldable pub stray_frame_parts : List ℕ → ℕ → List Part
+stray_frame_parts fault number = fault_is fault ∷ words (codes "no table leads to frame ") ∷ in_both (codes "frame") (frame number)
+    ∷ words line_end ∷ []
+
+-- a wrong answer, and the one of the space, up to the address
+unfoldable pub answer_parts : OtherAnswer → List Part
+answer_parts wrong = fault_is (codes "WrongAnswer") ∷ in_both (codes "call") (call wrong.call) ∷ in_both (codes "reply") (reply wrong.reply)
+    ∷ words (codes "the space answers: ") ∷ in_both (codes "wanted") (answer wrong.wanted) ∷ words (codes "\naddress ")
+    ∷ in_both (codes "address") (address wrong.address) ∷ []
+
+-- how tables translate an address, and how it looks in the space, up to the address
+unfoldable pub look_parts : Walk → List Step → Answer → ℕ → List Part
+look_parts found path wanted at = in_both (codes "found") (walk found) ∷ words line_end ∷ in_both (codes "path") (steps path)
+    ∷ words (codes "the space: ") ∷ in_both (codes "wanted") (answer wanted) ∷ words (codes "\naddress ")
+    ∷ in_both (codes "address") (address at) ∷ []
+
+-- how a dump translates an address and the space doesn't, up to the address
+unfoldable pub unlike_parts : Difference → List Part
+unlike_parts wrong = (fault_is (codes "Differs") ∷ in_json (codes "replica") (count wrong.replica) ∷ words (codes "applied: ")
+    ∷ in_both (codes "applied") (count wrong.applied) ∷ words (codes "\nthe dump: ") ∷ [])
+    ++ look_parts wrong.found wrong.path.items wrong.wanted wrong.address
+
+-- the last change of an address, behind the address
+unfoldable pub changed_parts : Option PlacedUpdate → List Part
+changed_parts update = words (codes ", ") ∷ in_both (codes "changed") (changed update) ∷ []
+
+-- the replica of a dump
+unfoldable pub replica_parts : ℕ → List Part
+replica_parts replica = in_json (codes "replica") (count replica) ∷ []
+
+unfoldable pub bad_unit_parts : BadUnit → List Part
+bad_unit_parts bad = ((fault_is (codes "Format") ∷ in_both (codes "unit") (unit bad.unit) ∷ [])
+    ++ read_parts bad.offset bad.read.items (size bad.unit)) ++ (in_both (codes "format") (allowed bad.fault) ∷ [])
+
+unfoldable pub open_parts : OpenCalls → List Part
+open_parts calls = fault_is (codes "ThreadOpen") ∷ in_both (codes "first") (call calls.first)
+    ∷ in_both (codes "second") (call calls.second) ∷ []
+
+unfoldable pub stray_reply_parts : StrayReply → List Part
+stray_reply_parts stray = fault_is (codes "NoSuchCall") ∷ in_both (codes "reply") (reply stray.reply)
+    ∷ in_both (codes "named") (event stray.reply.call stray.named) ∷ []
+
+unfoldable pub two_replies_parts : TwoReplies → List Part
+two_replies_parts replies = fault_is (codes "AnsweredTwice") ∷ in_both (codes "call") (call replies.call)
+    ∷ in_both (codes "first") (reply replies.first) ∷ in_both (codes "second") (reply replies.second) ∷ []
+
+unfoldable pub no_update_parts : NoUpdate → List Part
+no_update_parts wrong = fault_is (codes "NotAnUpdate") ∷ words (codes "place ") ∷ in_both (codes "place") (count wrong.place)
+    ∷ words (codes " has ") ∷ in_both (codes "call") (count wrong.call) ∷ words line_end
+    ∷ in_both (codes "named") (event wrong.call wrong.named) ∷ []
+
+unfoldable pub two_places_parts : TwoPlaces → List Part
+two_places_parts places = fault_is (codes "PlacedTwice") ∷ words (codes "places ") ∷ in_both (codes "first") (count places.first)
+    ∷ words (codes " and ") ∷ in_both (codes "second") (count places.second) ∷ words line_end
+    ∷ in_both (codes "call") (call places.call) ∷ []
+
+unfoldable pub misplaced_parts : Misplaced → List Part
+misplaced_parts wrong = fault_is (codes "NotPlaced") ∷ in_both (codes "call") (call wrong.call)
+    ∷ in_both (codes "reply") (reply wrong.reply) ∷ words (codes "its place: ") ∷ in_both (codes "own") (place wrong.own)
+    ∷ words (codes "\nthe call there: ") ∷ in_both (codes "there") (place wrong.there) ∷ words line_end ∷ []
+
+unfoldable pub past_end_parts : PastEnd → List Part
+past_end_parts wrong = fault_is (codes "PastLog") ∷ in_both (codes "call") (call wrong.call) ∷ in_both (codes "reply") (reply wrong.reply)
+    ∷ words (codes "entries of the log: ") ∷ in_both (codes "places") (count wrong.places) ∷ words line_end ∷ []
+
+unfoldable pub early_parts : EarlyCall → List Part
+early_parts early = fault_is (codes "Early") ∷ in_both (codes "call") (call early.call) ∷ in_both (codes "own") (own early.own)
+    ∷ words (codes "entries before it: ") ∷ in_both (codes "entries") (count early.entries) ∷ words (codes "\nknown when it was made: ")
+    ∷ in_both (codes "floor") (count early.floor) ∷ words line_end ∷ in_both (codes "reply") (reply early.reply)
+    ∷ in_both (codes "answered") (call early.answered) ∷ []
+
+unfoldable pub other_answer_parts : OtherAnswer → List Part
+other_answer_parts wrong = answer_parts wrong ++ changed_parts wrong.changed
+
+unfoldable pub long_prefix_parts : LongPrefix → List Part
+long_prefix_parts wrong = fault_is (codes "PrefixPastLog") ∷ words (codes "applied: ") ∷ in_both (codes "applied") (count wrong.applied)
+    ∷ words (codes "\nentries of the log: ") ∷ in_both (codes "places") (count wrong.places) ∷ words line_end
+    ∷ in_json (codes "replica") (count wrong.replica) ∷ []
+
+unfoldable pub short_prefix_parts : ShortPrefix → List Part
+short_prefix_parts wrong = fault_is (codes "PrefixShort") ∷ words (codes "applied: ") ∷ in_both (codes "applied") (count wrong.applied)
+    ∷ words (codes "\nknown there: ") ∷ in_both (codes "known") (count wrong.known) ∷ words line_end
+    ∷ in_both (codes "reply") (reply wrong.reply) ∷ in_both (codes "call") (call wrong.call)
+    ∷ in_json (codes "replica") (count wrong.replica) ∷ []
+
+unfoldable pub missing_parts : MissingTable → List Part
+missing_parts wrong = missing_frame_parts (codes "MissingFrame") wrong.path.items wrong.frame (codes ", which the dump doesn't have\n")
+    ++ replica_parts wrong.replica
+
+unfoldable pub shared_parts : SharedTable → List Part
+shared_parts wrong = shared_frame_parts (codes "SharedFrame") wrong.first.items wrong.second.items wrong.frame ++ replica_parts wrong.replica
+
+unfoldable pub reserved_parts : ReservedEntry → List Part
+reserved_parts wrong = reserved_entry_parts (codes "ReservedBit") wrong.path.items wrong.entry wrong.bit ++ replica_parts wrong.replica
+
+unfoldable pub stray_parts : StrayTable → List Part
+stray_parts wrong = stray_frame_parts (codes "StrayFrame") wrong.frame ++ replica_parts wrong.replica
+
+unfoldable pub difference_parts : Difference → List Part
+difference_parts wrong = unlike_parts wrong ++ changed_parts wrong.changed
+
+-- the facts of the evidence
+unfoldable pub evidence_parts : Evidence → List Part
+evidence_parts (evidence.Format bad) = bad_unit_parts bad
+evidence_parts (evidence.ThreadOpen calls) = open_parts calls
+evidence_parts (evidence.NoSuchCall stray) = stray_reply_parts stray
+evidence_parts (evidence.AnsweredTwice replies) = two_replies_parts replies
+evidence_parts (evidence.NotAnUpdate wrong) = no_update_parts wrong
+evidence_parts (evidence.PlacedTwice places) = two_places_parts places
+evidence_parts (evidence.NotPlaced wrong) = misplaced_parts wrong
+evidence_parts (evidence.PastLog wrong) = past_end_parts wrong
+evidence_parts (evidence.Early early) = early_parts early
+evidence_parts (evidence.WrongAnswer wrong) = other_answer_parts wrong
+evidence_parts (evidence.PrefixPastLog wrong) = long_prefix_parts wrong
+evidence_parts (evidence.PrefixShort wrong) = short_prefix_parts wrong
+evidence_parts (evidence.MissingFrame wrong) = missing_parts wrong
+evidence_parts (evidence.SharedFrame wrong) = shared_parts wrong
+evidence_parts (evidence.ReservedBit wrong) = reserved_parts wrong
+evidence_parts (evidence.StrayFrame wrong) = stray_parts wrong
+evidence_parts (evidence.Differs wrong) = difference_parts wrong
+
+-- the lines of the evidence
+abbrev pub evidence_text : Evidence → List ℕ
+evidence_text shown = parts_text (evidence_parts shown)
+
+-- the evidence as JSON
+abbrev pub evidence_data : Evidence → Data
+evidence_data shown = parts_data (evidence_parts shown)
+
+-- how much a right trace has
+unfoldable pub counts_parts : Counts → List Part
+counts_parts counts = words (codes "calls: ") ∷ in_both (codes "calls") (count counts.calls) ∷ words (codes "\nupdates: ")
+    ∷ in_both (codes "updates") (count counts.updates) ∷ words (codes "\nreads: ") ∷ in_both (codes "reads") (count counts.reads)
+    ∷ words (codes "\nreplicas: ") ∷ in_both (codes "replicas") (count counts.replicas) ∷ words (codes "\npages: ")
+    ∷ in_both (codes "pages") (count counts.pages) ∷ words line_end ∷ []
+
+-- its lines
+abbrev pub counts_lines : Counts → List ℕ
+counts_lines counts = parts_text (counts_parts counts)
+
+-- as JSON
+abbrev pub counts_data : Counts → Data
+counts_data counts = parts_data (counts_parts counts)

@@ -1,0 +1,71 @@
+-- The facts that show a fault as JSON: an object has its members by their names in the order of the alphabet.
+use Rattle.std.specs.Prelude.{ℕ, true, false, List, codes, map, Option, Some, None}
+use Rattle.serde_json.specs.Data.{Data, array, member, no_members, null, number, object, string, unsigned}
+use Rattle.serde_json.specs.View.{items_of}
+use Rattle.nr_trace.specs.declared.event.Event.{Event}
+use Rattle.nr_trace.specs.declared.event.Event.TheVariants.{Call, Reply, Touch}
+use Rattle.nr_explain.specs.declared.evidence.RecordedCall.{RecordedCall}
+use Rattle.nr_explain.specs.declared.evidence.RecordedReply.{RecordedReply}
+use Rattle.nr_explain.specs.declared.evidence.PlacedUpdate.{PlacedUpdate}
+use Rattle.nr_explain.specs.declared.evidence.Step.{Step}
+use Rattle.vs_types.specs.declared.request.Query.TheVariants.{Access}
+use Rattle.vs_text.specs.Words.{hexadecimal}
+use Rattle.audit_texts.specs.Text.{answer_text}
+use Rattle.audit_texts.specs.EvidenceText.{asked_text}
+
+abbrev pub number_data : ℕ → Data
+number_data n = number (unsigned n)
+
+-- a number, or null where there is none
+abbrev pub option_data : Option ℕ → Data
+option_data None = null
+option_data (Some n) = number_data n
+
+-- a call that asks this
+abbrev pub called_data : ℕ → ℕ → ℕ → List ℕ → Data
+called_data event replica thread asked = object
+    (member (codes "event") (number_data event)
+    (member (codes "replica") (number_data replica)
+    (member (codes "request") (string asked)
+    (member (codes "thread") (number_data thread) no_members))))
+
+abbrev pub call_data : RecordedCall → Data
+call_data call = called_data call.event call.replica call.thread (asked_text call.touch call.request)
+
+abbrev pub reply_data : RecordedReply → Data
+reply_data reply = object
+    (member (codes "answer") (string (answer_text reply.answer))
+    (member (codes "at") (number_data reply.at)
+    (member (codes "call") (number_data reply.call)
+    (member (codes "event") (number_data reply.event) no_members))))
+
+-- the reply to a call, or null
+abbrev pub own_data : Option RecordedReply → Data
+own_data None = null
+own_data (Some reply) = reply_data reply
+
+-- the event that a number names: a call, a touch, a reply, or null
+abbrev pub event_data : ℕ → Option Event → Data
+event_data index None = null
+event_data index (Some (Call replica thread request)) =
+    call_data record { event = index; replica = replica; thread = thread; request = request; touch = false }
+event_data index (Some (Touch replica thread address mode access)) =
+    call_data record { event = index; replica = replica; thread = thread; request = Access address mode access; touch = true }
+event_data index (Some (Reply call at answer)) = reply_data record { event = index; call = call; at = at; answer = answer }
+
+-- an update and its place, or null
+abbrev pub changed_data : Option PlacedUpdate → Data
+changed_data None = null
+changed_data (Some update) = object
+    (member (codes "call") (call_data update.call)
+    (member (codes "place") (number_data update.place) no_members))
+
+abbrev pub step_data : Step → Data
+step_data step = object
+    (member (codes "frame") (number_data step.frame)
+    (member (codes "index") (number_data step.index)
+    (member (codes "level") (number_data step.level)
+    (member (codes "word") (string (hexadecimal step.word)) no_members))))
+
+abbrev pub way_data : List Step → Data
+way_data steps = array (items_of (map step_data steps))

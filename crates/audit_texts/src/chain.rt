@@ -1,0 +1,7 @@
+//! What is printed of chains: the lines of segments and of their faults, and what shows a fault.
+
+pub(crate) mod counts;
+pub(crate) mod evidence;
+pub(crate) mod explanation;
+pub(crate) mod sentence;
+pub(crate) mod text;

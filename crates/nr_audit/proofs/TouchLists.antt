@@ -1,0 +1,361 @@
+-- The touches of a segment by the events at which they are made, and the replies by call.
+use Rattle.std.proofs.Common.{◌≡◌, ◌≢◌, ℕ, zero, suc, ◌+◌, ◌<◌, ◌⊎◌, ◌≤◌, List, [], ◌∷◌, ◌++◌, length, slice_get, get_or, Option, Some, None, option_and_then}
+use Rattle.std.proofs.Common.{option_map, inl, inr, IsSome, refl, sym, ap}
+use Rattle.std.proofs.Common.{◌∙◌, subst, arith}
+use Rattle.std.specs.Prelude.{if◌then◌else◌, ◌==◌, slice_index_or}
+use Rattle.std.specs.List.{AllPairs}
+use Rattle.std.proofs.lemmas.Bool.{cases_eq, cases_lt, eq-eqb}
+use Rattle.std.proofs.lemmas.List.{get_or-set_other, get_or-set_same, length-append, length-set}
+use Rattle.std.proofs.Math.ListN.{set}
+use Rattle.std.proofs.lemmas.Option.{slice_get_within, slice_get-get_or, get_or_from_slice_get}
+use Rattle.vs_types.specs.Space.{Space}
+use Rattle.vs_types.specs.declared.access.Access.{Access}
+use Rattle.vs_types.specs.declared.access.Mode.{Mode}
+use Rattle.vs_types.specs.declared.request.Query.{Query}
+use Rattle.vs_types.specs.declared.request.Query.TheVariants as queries
+use Rattle.nr_trace.specs.Recording.{Recording}
+use Rattle.nr_trace.specs.Calls.{Invocation, made_by, touch_of, Response, reply_in, reply_of, Answers}
+use Rattle.nr_trace.specs.Laws.{HasCleanLog}
+use Rattle.nr_trace.specs.declared.event.Event.{Event}
+use Rattle.nr_trace.specs.declared.event.Event.TheVariants as events
+use Rattle.nr_touch.specs.Stale.{FindsStale}
+use Rattle.nr_touch.specs.declared.touch.Touch.{Touch}
+use Rattle.nr_audit.specs.Touches.{HasRightTouches, HasTouch, IsStale}
+use Rattle.nr_audit.specs.inside.Begun.{touch_by, touch_between, AreRepliesBelow, AreTouchesBelow, IsFirstStale}
+use Rattle.nr_trace.proofs.LawsOfCalls.{answers_from, reply_that_answers}
+use Rattle.nr_audit.proofs.CallsAndReplies.{answers_only}
+
+abbrev asked_in : Option Event → Option Query
+asked_in event = option_and_then (λ (made : Invocation). if made.touch then Some made.request else None) (option_and_then made_by event)
+
+-- an event that asks for a touch is that touch
+of_asked : (event : Option Event) (address : ℕ) (mode : Mode) (access : Access) → asked_in event ≡ Some (queries.Access address mode access)
+    → (replica : ℕ) × (thread : ℕ) × (event ≡ Some (events.Touch replica thread address mode access))
+of_asked (Some (events.Touch replica thread own_address own_mode own_access)) address mode access e = (replica, thread, cc)
+of_asked _ address mode access e = cc
+
+of_replied : (event : Option Event) (reply : Response) → option_and_then reply_in event ≡ Some reply
+    → event ≡ Some (events.Reply reply.call reply.at reply.answer)
+of_replied (Some (events.Reply call at answer)) reply e =
+    let same : record { call = call; at = at; answer = answer } ≡ reply = cc in
+    ap (λ (r : Response). Some (events.Reply r.call r.at r.answer)) same
+of_replied _ reply e = cc
+
+-- a touch of the segment lies between its events
+pub has_between : (segment : Recording) (touch : Touch) → HasTouch segment touch → touch_between segment touch.made touch.answered ≡ Some touch
+has_between segment touch has =
+    let asked = of_asked (slice_get segment.events touch.made) touch.address touch.mode touch.access has.asks in
+    let replied = of_replied (slice_get segment.events touch.answered) has.reply has.is_reply in
+    ap (λ event. touch_by touch.made touch.answered event (slice_get segment.events touch.answered)) asked.2
+    ∙ ap (λ event. touch_by touch.made touch.answered (Some (events.Touch asked.0 asked.1 touch.address touch.mode touch.access)) event) replied
+    ∙ ap (λ answer. Some (record touch { answer = answer })) has.answer
+
+-- what lies between two events is a touch of the segment, where the second answers the first
+record Lies (segment : Recording) (made answered : ℕ) (touch : Touch) : Type 0 where
+  pub made_so : touch.made ≡ made
+  pub answered_so : touch.answered ≡ answered
+  pub asks : asked_in (slice_get segment.events made) ≡ Some (queries.Access touch.address touch.mode touch.access)
+  pub call : ℕ
+  pub at : ℕ
+  pub replies : option_and_then reply_in (slice_get segment.events answered) ≡ Some (record { call = call; at = at; answer = touch.answer })
+
+lies_by : (segment : Recording) (made answered : ℕ) (touch : Touch) (asked replied : Option Event) → slice_get segment.events made ≡ asked
+    → slice_get segment.events answered ≡ replied → touch_by made answered asked replied ≡ Some touch → Lies segment made answered touch
+lies_by segment made answered touch (Some (events.Touch replica thread address mode access)) (Some (events.Reply call at answer)) a r e =
+    let same : record { made = made; answered = answered; address = address; mode = mode; access = access; answer = answer } ≡ touch = cc in
+    subst (Lies segment made answered) same record {
+      made_so = refl;
+      answered_so = refl;
+      asks = ap asked_in a;
+      call = call;
+      at = at;
+      replies = ap (option_and_then reply_in) r;
+    }
+lies_by segment made answered touch _ _ a r e = cc
+
+pub between_has : (segment : Recording) (made answered : ℕ) (touch : Touch) → touch_between segment made answered ≡ Some touch
+    → Answers segment answered made → HasTouch segment touch × (touch.made ≡ made) × (touch.answered ≡ answered)
+between_has segment made answered touch e answers =
+    let lies = lies_by segment made answered touch (slice_get segment.events made) (slice_get segment.events answered) refl refl e in
+    let reply : Response = record { call = lies.call; at = lies.at; answer = touch.answer } in (
+      record {
+        asks = subst (λ call. touch_of segment call ≡ Some (queries.Access touch.address touch.mode touch.access)) (sym lies.made_so) lies.asks;
+        reply = reply;
+        is_reply = subst (λ index. reply_of segment index ≡ Some reply) (sym lies.answered_so) lies.replies;
+        of_it = answers_only segment answered made reply lies.replies answers ∙ sym lies.made_so;
+        answer = refl;
+      },
+      lies.made_so,
+      lies.answered_so,
+    )
+
+-- the reply to a touch answers it
+pub touch_answers : (segment : Recording) (touch : Touch) → HasTouch segment touch → Answers segment touch.answered touch.made
+touch_answers segment touch has =
+    subst (λ o. IsSome (option_and_then (λ (r : Response). if r.call == touch.made then Some r else None) o)) (sym has.is_reply)
+    (subst (λ b. IsSome (if b then Some has.reply else None)) (sym (eq-eqb has.reply.call touch.made has.of_it)) refl)
+
+pub touch_within : (segment : Recording) (touch : Touch) → HasTouch segment touch → touch.made < length segment.events
+touch_within segment touch has =
+    let asked = of_asked (slice_get segment.events touch.made) touch.address touch.mode touch.access has.asks in
+    slice_get_within segment.events touch.made (events.Touch asked.0 asked.1 touch.address touch.mode touch.access) asked.2
+
+pub answered_within : (segment : Recording) (touch : Touch) → HasTouch segment touch → touch.answered < length segment.events
+answered_within segment touch has =
+    slice_get_within segment.events touch.answered (events.Reply has.reply.call has.reply.at has.reply.answer)
+    (of_replied (slice_get segment.events touch.answered) has.reply has.is_reply)
+
+-- ---- a list with one element more
+
+pushed_new : {X : Type 0} (xs : List X) (x : X) → slice_get (xs ++ x ∷ []) (length xs) ≡ Some x
+pushed_new [] x = refl
+pushed_new (y ∷ ys) x = pushed_new ys x
+
+pushed_old : {X : Type 0} (xs : List X) (x : X) (k : ℕ) (y : X) → slice_get xs k ≡ Some y → slice_get (xs ++ x ∷ []) k ≡ Some y
+pushed_old [] x k y e = cc
+pushed_old (z ∷ zs) x zero y e = e
+pushed_old (z ∷ zs) x (suc k) y e = pushed_old zs x k y e
+
+pushed_cases : {X : Type 0} (xs : List X) (x : X) (k : ℕ) (y : X) → slice_get (xs ++ x ∷ []) k ≡ Some y → (slice_get xs k ≡ Some y) ⊎ (x ≡ y)
+pushed_cases [] x zero y e = inr (cc)
+pushed_cases [] x (suc k) y e = cc
+pushed_cases (z ∷ zs) x zero y e = inl e
+pushed_cases (z ∷ zs) x (suc k) y e = pushed_cases zs x k y e
+
+-- ---- the replies by call
+
+-- an event that answers no call of the table changes nothing
+pub no_reply : (segment : Recording) (end : ℕ) (replies : List (Option ℕ)) → ((call : ℕ) → Answers segment end call → ⊥)
+    → AreRepliesBelow segment end replies → AreRepliesBelow segment (end + 1) replies
+no_reply segment end replies none are = record {
+  as_many = are.as_many;
+  each = λ call index at. let own = are.each call index at in (omega (arith, own.0), own.1);
+  all = λ call index lt answers. elim (cases_lt index end) [
+    | inl low ↦ are.all call index low answers
+    | inr high ↦ absurd (let same : index ≡ end = omega arith in none call (subst (λ i. Answers segment i call) same answers))
+  ];
+}
+
+-- no event that is no reply answers a call
+pub no_answer : (segment : Recording) (end : ℕ) → reply_of segment end ≡ None → (call : ℕ) → Answers segment end call → ⊥
+no_answer segment end is call answers = let reply = reply_that_answers segment end call answers in let other = reply.1 in cc
+
+-- with a clean log each reply is to a call that there is
+pub reply_within : (segment : Recording) (end : ℕ) (reply : Response) → HasCleanLog segment → end < length segment.events
+    → reply_of segment end ≡ Some reply → length segment.events ≤ reply.call → ⊥
+reply_within segment end reply clean lt is past = clean.no_such_call end (reply, is, λ it. omega (arith, it.0))
+
+-- one reply more
+pub one_reply : (segment : Recording) (end : ℕ) (reply : Response) (replies : List (Option ℕ)) → HasCleanLog segment
+    → reply_of segment end ≡ Some reply → reply.call < length replies → AreRepliesBelow segment end replies
+    → AreRepliesBelow segment (end + 1) (set replies reply.call (Some end))
+one_reply segment end reply replies clean is lt are = record {
+  as_many = length-set replies reply.call (Some end) ∙ are.as_many;
+  each = each;
+  all = all;
+} where
+  here : slice_index_or (set replies reply.call (Some end)) reply.call None ≡ Some end
+  here = get_or-set_same replies reply.call (Some end) None lt
+
+  other : (call : ℕ) → call ≢ reply.call → slice_index_or (set replies reply.call (Some end)) call None ≡ slice_index_or replies call None
+  other call differs = get_or-set_other replies reply.call call (Some end) None differs
+
+  each : (call index : ℕ) → slice_index_or (set replies reply.call (Some end)) call None ≡ Some index → (index < end + 1) × Answers segment index call
+  each call index at = elim (cases_eq call reply.call) [
+    | inl same ↦ (
+        let there = ap (λ c. slice_index_or (set replies reply.call (Some end)) c None) (sym same) in
+        let index_is : index ≡ end = (let x = here in cc) in
+        (omega arith, answers_from segment index call reply (subst (λ i. reply_of segment i ≡ Some reply) (sym index_is) is) (sym same)))
+    | inr differs ↦ (let own = are.each call index (sym (other call differs) ∙ at) in (omega (arith, own.0), own.1))
+  ]
+
+  all : (call index : ℕ) → index < end + 1 → Answers segment index call → slice_index_or (set replies reply.call (Some end)) call None ≡ Some index
+  all call index low answers = elim (cases_lt index end) [
+    | inl before ↦ elim (cases_eq call reply.call) [
+      | inl same ↦ absurd (clean.none_twice end (reply, is, (index, before, subst (Answers segment index) same answers)))
+      | inr differs ↦ other call differs ∙ are.all call index before answers
+    ]
+    | inr behind ↦ (
+        let now : index ≡ end = omega arith in
+        let answer = reply_that_answers segment end call (subst (λ i. Answers segment i call) now answers) in
+        let one : answer.0 ≡ reply = (let a = answer.1 in cc) in
+        let called : call ≡ reply.call = sym answer.2 ∙ ap (λ (r : Response). r.call) one in
+        ap (λ c. slice_index_or (set replies reply.call (Some end)) c None) called ∙ here ∙ ap Some (sym now))
+  ]
+
+-- the reply that an event is, by its index
+reply_at : (segment : Recording) (index : ℕ) (event : Event) (d : Event) → index < length segment.events → event ≡ get_or segment.events index d
+    → reply_of segment index ≡ reply_in event
+reply_at segment index event d lt is = ap (option_and_then reply_in) (slice_get-get_or segment.events index d lt ∙ ap Some (sym is))
+
+-- what noting the reply of an event makes of the table
+pub noted_none : (segment : Recording) (index : ℕ) (event d : Event) (replies : List (Option ℕ)) → index < length segment.events
+    → event ≡ get_or segment.events index d → option_map (λ (r : Response). r.call) (reply_in event) ≡ None → AreRepliesBelow segment index replies
+    → AreRepliesBelow segment (index + 1) replies
+noted_none segment index event d replies lt is none are =
+    no_reply segment index replies (no_answer segment index (reply_at segment index event d lt is ∙ unmapped (reply_in event) none)) are where
+      unmapped : (o : Option Response) → option_map (λ (r : Response). r.call) o ≡ None → o ≡ None
+      unmapped None e = refl
+      unmapped (Some r) e = cc
+
+pub noted_some : (segment : Recording) (index : ℕ) (event d : Event) (call : ℕ) (old new : List (Option ℕ)) → HasCleanLog segment
+    → index < length segment.events → event ≡ get_or segment.events index d → option_map (λ (r : Response). r.call) (reply_in event) ≡ Some call
+    → (call < length old → new ≡ set old call (Some index)) → AreRepliesBelow segment index old → AreRepliesBelow segment (index + 1) new
+noted_some segment index event d call old new clean lt is some sets are =
+    by_reply (mapped (reply_in event) some) where
+      mapped : (o : Option Response) → option_map (λ (r : Response). r.call) o ≡ Some call → (r : Response) × (o ≡ Some r) × (r.call ≡ call)
+      mapped None e = cc
+      mapped (Some r) e = (r, refl, cc)
+
+      by_reply : (r : Response) × (reply_in event ≡ Some r) × (r.call ≡ call) → AreRepliesBelow segment (index + 1) new
+      by_reply (reply, reply_is, named_so) =
+          let here : reply_of segment index ≡ Some reply = reply_at segment index event d lt is ∙ reply_is in
+          elim (cases_lt reply.call (length old)) [
+            | inl within ↦
+                subst (AreRepliesBelow segment (index + 1))
+                (ap (λ c. set old c (Some index)) named_so ∙ sym (sets (subst (λ c. c < length old) named_so within)))
+                (one_reply segment index reply old clean here within are)
+            | inr past ↦ absurd (reply_within segment index reply clean lt here (let many = are.as_many in omega arith))
+          ]
+
+-- ---- the list
+
+-- none yet
+pub none_below : (segment : Recording) → AreTouchesBelow segment 0 []
+none_below segment = record {
+  each = λ index touch at. absurd (let none : None ≡ Some touch = at in cc);
+  all = λ touch has lt. absurd (omega arith);
+  rising = λ i j d less lt. absurd (omega arith);
+}
+
+-- no touch more
+pub no_more : (segment : Recording) (end : ℕ) (touches : List Touch) → ((touch : Touch) → HasTouch segment touch → touch.made ≡ end → ⊥)
+    → AreTouchesBelow segment end touches → AreTouchesBelow segment (end + 1) touches
+no_more segment end touches none are = record {
+  each = λ index touch at. let has = are.each index touch at in (has.0, omega (arith, has.1));
+  all = λ touch has lt. elim (cases_lt touch.made end) [
+    | inl low ↦ are.all touch has low
+    | inr same ↦ absurd (none touch has (omega arith))
+  ];
+  rising = are.rising;
+}
+
+-- one touch more
+pub one_more_touch : (segment : Recording) (end : ℕ) (touches : List Touch) (touch : Touch) → HasTouch segment touch → touch.made ≡ end
+    → ((other : Touch) → HasTouch segment other → other.made ≡ end → other ≡ touch)
+    → AreTouchesBelow segment end touches → AreTouchesBelow segment (end + 1) (touches ++ touch ∷ [])
+one_more_touch segment end touches touch has made only are = record { each = each; all = all; rising = rising } where
+  each : (index : ℕ) (other : Touch) → slice_get (touches ++ touch ∷ []) index ≡ Some other → HasTouch segment other × (other.made < end + 1)
+  each index other at = elim (pushed_cases touches touch index other at) [
+    | inl old ↦ (let own = are.each index other old in (own.0, omega (arith, own.1)))
+    | inr new ↦ (subst (HasTouch segment) new has, let same = ap (λ (t : Touch). t.made) new in omega (arith, made))
+  ]
+
+  all : (other : Touch) → HasTouch segment other → other.made < end + 1 → (index : ℕ) × (slice_get (touches ++ touch ∷ []) index ≡ Some other)
+  all other own lt = elim (cases_lt other.made end) [
+    | inl low ↦ (let there = are.all other own low in (there.0, pushed_old touches touch there.0 other there.1))
+    | inr high ↦ (let one = only other own (omega arith) in (length touches, pushed_new touches touch ∙ ap Some (sym one)))
+  ]
+
+  rising : AllPairs (λ first second. first.made < second.made) (touches ++ touch ∷ [])
+  rising i j d less lt =
+      let n : j < length touches + 1 = omega (arith, length-append touches (touch ∷ [])) in
+      elim (cases_lt j (length touches)) [
+        | inl low ↦
+            subst (λ (t : Touch). t.made < (get_or (touches ++ touch ∷ []) j d).made) (sym (old_at i (omega arith)))
+            (subst (λ (t : Touch). (get_or touches i d).made < t.made) (sym (old_at j low)) (are.rising i j d less low))
+        | inr high ↦ (
+            let last : j ≡ length touches = omega arith in
+            let new : get_or (touches ++ touch ∷ []) j d ≡ touch =
+            ap (λ k. get_or (touches ++ touch ∷ []) k d) last
+            ∙ get_or_from_slice_get (touches ++ touch ∷ []) (length touches) touch d (pushed_new touches touch) in
+            let own = are.each i (get_or touches i d) (slice_get-get_or touches i d (omega arith)) in
+            subst (λ (t : Touch). t.made < (get_or (touches ++ touch ∷ []) j d).made) (sym (old_at i (omega arith)))
+            (subst (λ (t : Touch). (get_or touches i d).made < t.made) (sym new) (omega (arith, own.1, made))))
+      ]
+    where
+      old_at : (k : ℕ) → k < length touches → get_or (touches ++ touch ∷ []) k d ≡ get_or touches k d
+      old_at k low = get_or_from_slice_get (touches ++ touch ∷ []) k (get_or touches k d) d
+          (pushed_old touches touch k (get_or touches k d) (slice_get-get_or touches k d low))
+
+-- the touch that is made at an event, by the reply to it
+pub only_touch : (segment : Recording) (made answered : ℕ) (replies : List (Option ℕ)) → AreRepliesBelow segment (length segment.events) replies
+    → slice_index_or replies made None ≡ Some answered → (other : Touch) → HasTouch segment other → other.made ≡ made
+    → touch_between segment made answered ≡ Some other
+only_touch segment made answered replies are at other has is =
+    let answers = touch_answers segment other has in
+    let within = answered_within segment other has in
+    let same : other.answered ≡ answered =
+    (let there = are.all other.made other.answered within answers in let e = subst (λ c. slice_index_or replies c None ≡ Some other.answered) is there in cc) in
+    subst (λ m. touch_between segment m answered ≡ Some other) is
+    (subst (λ a. touch_between segment other.made a ≡ Some other) same (has_between segment other has))
+
+-- where the call has no reply, no answered touch is made there
+pub unanswered : (segment : Recording) (made : ℕ) (replies : List (Option ℕ)) → AreRepliesBelow segment (length segment.events) replies
+    → slice_index_or replies made None ≡ None → (other : Touch) → HasTouch segment other → other.made ≡ made → ⊥
+unanswered segment made replies are at other has is =
+    let there = are.all other.made other.answered (answered_within segment other has) (touch_answers segment other has) in
+    let e = subst (λ c. slice_index_or replies c None ≡ Some other.answered) is there in
+    cc
+
+-- what an event adds to the touches
+pub added_none : (segment : Recording) (made : ℕ) (replies : List (Option ℕ)) (touches : List Touch)
+    → AreRepliesBelow segment (length segment.events) replies
+    → option_and_then (touch_between segment made) (slice_index_or replies made None) ≡ None → AreTouchesBelow segment made touches
+    → AreTouchesBelow segment (made + 1) touches
+added_none segment made replies touches rs none are =
+    no_more segment made touches (λ touch has is. by_reply touch has is (slice_index_or replies made None) refl) are where
+      by_reply : (touch : Touch) → HasTouch segment touch → touch.made ≡ made → (o : Option ℕ) → slice_index_or replies made None ≡ o → ⊥
+      by_reply touch has is None at = unanswered segment made replies rs at touch has is
+      by_reply touch has is (Some answered) at =
+          let there = only_touch segment made answered replies rs at touch has is in
+          let nothing : touch_between segment made answered ≡ None = subst (λ o. option_and_then (touch_between segment made) o ≡ None) at none in
+          cc
+
+pub added_some : (segment : Recording) (made : ℕ) (replies : List (Option ℕ)) (touches : List Touch) (touch : Touch)
+    → AreRepliesBelow segment (length segment.events) replies
+    → option_and_then (touch_between segment made) (slice_index_or replies made None) ≡ Some touch → AreTouchesBelow segment made touches
+    → AreTouchesBelow segment (made + 1) (touches ++ touch ∷ [])
+added_some segment made replies touches touch rs some are = by_reply (slice_index_or replies made None) refl where
+  by_reply : (o : Option ℕ) → slice_index_or replies made None ≡ o → AreTouchesBelow segment (made + 1) (touches ++ touch ∷ [])
+  by_reply None at = absurd (let nothing : None ≡ Some touch = subst (λ o. option_and_then (touch_between segment made) o ≡ Some touch) at some in cc)
+  by_reply (Some answered) at =
+      let there : touch_between segment made answered ≡ Some touch = subst (λ o. option_and_then (touch_between segment made) o ≡ Some touch) at some in
+      let has = between_has segment made answered touch there (rs.each made answered at).1 in
+      one_more_touch segment made touches touch has.0 has.1
+      (λ other own is. let same = only_touch segment made answered replies rs at other own is in cc) are
+
+-- ---- what the search finds
+
+pub all_right : (start : Space) (segment : Recording) (touches : List Touch) → AreTouchesBelow segment (length segment.events) touches
+    → FindsStale start segment touches None → HasRightTouches start segment
+all_right start segment touches are finds touch has =
+    let there = are.all touch has (touch_within segment touch has) in
+    finds there.0 touch there.1
+
+pub first_of_list : (start : Space) (segment : Recording) (touches : List Touch) (index : ℕ) (d : Touch)
+    → AreTouchesBelow segment (length segment.events) touches
+    → FindsStale start segment touches (Some index) → IsFirstStale start segment (get_or touches index d).made
+first_of_list start segment touches index d are (touch, at, wrong, below) =
+    let is = get_or_from_slice_get touches index touch d at in
+    subst (λ (t : Touch). IsFirstStale start segment t.made) (sym is)
+    record { stale = (touch, (are.each index touch at).0, refl, wrong); none_lower = none } where
+      none : (lower : ℕ) → lower < touch.made → IsStale start segment lower → ⊥
+      none lower less (other, has, made, stale) =
+          let there = are.all other has (touch_within segment other has) in
+          elim (cases_lt there.0 index) [
+            | inl before ↦ stale (below there.0 other before there.1)
+            | inr behind ↦ elim (cases_lt index there.0) [
+              | inl later ↦ (
+                  let rises = are.rising index there.0 other later (slice_get_within touches there.0 other there.1) in
+                  let low : touch.made < other.made = subst (λ (t : Touch). t.made < other.made) (get_or_from_slice_get touches index touch other at)
+                  (subst (λ (t : Touch). (get_or touches index other).made < t.made) (get_or_from_slice_get touches there.0 other other there.1) rises) in
+                  omega (arith, made))
+              | inr same ↦ (
+                  let one : index ≡ there.0 = omega arith in
+                  let them : touch ≡ other = sym (get_or_from_slice_get touches index touch touch at)
+                  ∙ ap (λ i. get_or touches i touch) one ∙ get_or_from_slice_get touches there.0 other touch there.1 in
+                  let mades : touch.made ≡ other.made = ap (λ (t : Touch). t.made) them in
+                  omega (arith, made))
+            ]
+          ]

@@ -1,0 +1,65 @@
+-- The space with which a segment begins, and what is wrong with its start.
+use Rattle.std.specs.Prelude.{◌≡◌, ℕ, ◌+◌, ◌<◌, List, map, Contains, Option, Some, None}
+use Rattle.std.specs.FinMap as finite
+use Rattle.std.specs.Ordering.{nat_cmp}
+use Rattle.vs_types.specs.Page.{bytes_of}
+use Rattle.vs_types.specs.Space.{Space, no_pages}
+use Rattle.vs_types.specs.declared.depth.Depth.{Depth}
+use Rattle.vs_types.specs.declared.page.Page.{Page}
+use Rattle.vs_types.specs.declared.page.TheConstants.Page.{PHYS_END}
+use Rattle.vs_walk.specs.Differences.{IsLeast, HasMissingFrame, HasSharedFrame, HasReservedBit, HasStrayFrame, HasDifference}
+use Rattle.vs_walk.specs.Dump.{Image}
+use Rattle.vs_walk.specs.Traversal.{found_in}
+use Rattle.nr_trace.specs.Recording.{Recording}
+use Rattle.nr_audit.specs.declared.fault.StartFault.{StartFault}
+use Rattle.nr_audit.specs.declared.fault.StartFault.TheVariants.{Missing, Shared, Reserved, Stray, Beyond, Differs}
+
+-- the space of some pages
+abbrev pub space_of_pages : List Page → Space
+space_of_pages found = finite.from_entries {R = nat_cmp} (map (λ page. (page.base, page)) found)
+
+-- the space of the pages of a start, or no pages where there is none
+abbrev pub start_space : Depth → Option Image → Space
+start_space depth None = no_pages
+start_space depth (Some start) = space_of_pages (found_in depth start)
+
+-- the space with which a segment begins: the one after the segment before it; of the first segment that of its start
+abbrev pub first_space : Option Space → Recording → Space
+first_space None segment = start_space segment.layout.depth segment.start
+first_space (Some before) segment = before
+
+-- a page that is found begins there, and ends above the physical addresses that a page may have
+abbrev pub HasPageBeyond : Depth → Image → ℕ → Type 0
+HasPageBeyond depth start base =
+    (page : Page) × Contains (found_in depth start) page × (page.base ≡ base) × (PHYS_END < page.phys + bytes_of page.size)
+
+-- what each fault says of a start, where that is the space before it, or no segment is
+abbrev pub HoldsOfStart : Depth → Option Space → Image → StartFault → Type 0
+HoldsOfStart depth before start (Missing number) = HasMissingFrame depth start number
+HoldsOfStart depth before start (Shared number) = HasSharedFrame depth start number
+HoldsOfStart depth before start (Reserved number index) = HasReservedBit depth start number index
+HoldsOfStart depth before start (Stray number) = HasStrayFrame depth start number
+HoldsOfStart depth before start (Beyond base) = IsLeast (HasPageBeyond depth start) base
+HoldsOfStart depth before start (Differs address) = (space : Space) × (before ≡ Some space) × HasDifference depth start space address
+
+-- a segment has a start with the fault
+abbrev pub HasStartFault : Option Space → Recording → StartFault → Type 0
+HasStartFault before segment fault =
+    (start : Image) × (segment.start ≡ Some start) × HoldsOfStart segment.layout.depth before start fault
+
+-- the first fault of the traversal comes first, then a stray frame, then a page beyond, then an address that differs
+abbrev pub rank_in_start : StartFault → ℕ
+rank_in_start (Missing number) = 1
+rank_in_start (Shared number) = 1
+rank_in_start (Reserved number index) = 1
+rank_in_start (Stray number) = 2
+rank_in_start (Beyond base) = 3
+rank_in_start (Differs address) = 4
+
+-- a segment begins with no fault of its start, or with one, which is the first
+abbrev pub BeginsRight : Option Space → Recording → Type 0
+BeginsRight before segment = (fault : StartFault) → HasStartFault before segment fault → ⊥
+
+pub record BeginsWrong (before : Option Space) (segment : Recording) (fault : StartFault) : Type 0 where
+  pub holds : HasStartFault before segment fault
+  pub none_earlier : (other : StartFault) → HasStartFault before segment other → rank_in_start other < rank_in_start fault → ⊥

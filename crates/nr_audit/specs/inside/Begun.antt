@@ -1,0 +1,84 @@
+-- What is found of a start, and the touches of a segment as a list. No public clause cites this file.
+use Rattle.std.specs.Prelude.{◌≡◌, ℕ, ◌+◌, ◌<◌, ◌≤◌, List, length, slice_get, slice_index_or, Option, Some, None, All, Contains, IsTrue}
+use Rattle.std.specs.List.{AllPairs}
+use Rattle.vs_types.specs.Page.{bytes_of, covers, IsPage}
+use Rattle.vs_types.specs.Space.{Space}
+use Rattle.vs_types.specs.declared.depth.Depth.{Depth}
+use Rattle.vs_types.specs.declared.page.Page.{Page}
+use Rattle.vs_types.specs.declared.page.TheConstants.Page.{PHYS_END}
+use Rattle.vs_walk.specs.Differences.{IsStray}
+use Rattle.vs_walk.specs.Dump.{Image}
+use Rattle.vs_walk.specs.Traversal.{walk_fault}
+use Rattle.nr_trace.specs.Recording.{Recording}
+use Rattle.nr_trace.specs.Calls.{Answers, IsTouch}
+use Rattle.nr_trace.specs.declared.event.Event.{Event}
+use Rattle.nr_trace.specs.declared.event.Event.TheVariants as events
+use Rattle.nr_touch.specs.declared.touch.Touch.{Touch}
+use Rattle.nr_audit.specs.Start.{HoldsOfStart, rank_in_start}
+use Rattle.nr_audit.specs.Touches.{HasTouch, IsStale}
+use Rattle.nr_audit.specs.declared.fault.StartFault.{StartFault}
+
+-- the fault holds of the start, and no earlier one does
+pub record IsFirstOfStart (depth : Depth) (before : Option Space) (start : Image) (fault : StartFault) : Type 0 where
+  pub holds : HoldsOfStart depth before start fault
+  pub none_earlier : (other : StartFault) → HoldsOfStart depth before start other → rank_in_start other < rank_in_start fault → ⊥
+
+-- whichever space comes before
+abbrev pub IsFirstOfAny : Depth → Image → StartFault → Type 0
+IsFirstOfAny depth start fault = (before : Option Space) → IsFirstOfStart depth before start fault
+
+-- the tables lead to no frame that is missing and to none twice, no word of them has a reserved bit set, and they lead to each frame
+pub record HasRightTables (depth : Depth) (start : Image) : Type 0 where
+  pub walked : walk_fault depth start.frames start.root ≡ None
+  pub none_stray : (number : ℕ) → IsStray depth start.frames start.root number → ⊥
+
+abbrev pub HasNoStartFault : Depth → Option Space → Image → Type 0
+HasNoStartFault depth before start = (fault : StartFault) → HoldsOfStart depth before start fault → ⊥
+
+-- well-formed pages by rising base, no two of which cover one address
+pub record AreApart (depth : Depth) (pages : List Page) : Type 0 where
+  pub well_formed : All (IsPage depth) pages
+  pub rise : AllPairs (λ p q. p.base < q.base) pages
+  pub apart : (p q : Page) (address : ℕ) → Contains pages p → Contains pages q → IsTrue (covers p address) → IsTrue (covers q address) → p ≡ q
+
+-- the page ends above the physical addresses that a page may have
+abbrev pub EndsBeyond : Page → Type 0
+EndsBeyond page = PHYS_END < page.phys + bytes_of page.size
+
+-- the base of the first of some pages that ends there
+abbrev pub IsFirstBeyond : List Page → ℕ → Type 0
+IsFirstBeyond pages base = (index : ℕ) × (page : Page) × (slice_get pages index ≡ Some page) × (page.base ≡ base) × EndsBeyond page
+    × ((lower : ℕ) (other : Page) → lower < index → slice_get pages lower ≡ Some other → EndsBeyond other → ⊥)
+
+abbrev pub HasNoneBeyond : List Page → Type 0
+HasNoneBeyond pages = All (λ page. page.phys + bytes_of page.size ≤ PHYS_END) pages
+
+-- the touch that is made by one event, of this number, and answered by another, of that number, if these are that
+abbrev pub touch_by : ℕ → ℕ → Option Event → Option Event → Option Touch
+touch_by made answered (Some (events.Touch replica thread address mode access)) (Some (events.Reply call at answer)) =
+    Some (record { made = made; answered = answered; address = address; mode = mode; access = access; answer = answer })
+touch_by made answered event reply = None
+
+abbrev pub touch_between : Recording → ℕ → ℕ → Option Touch
+touch_between segment made answered = touch_by made answered (slice_get segment.events made) (slice_get segment.events answered)
+
+-- the answered touches that are made below an event, by the event at which they are made
+pub record AreTouchesBelow (segment : Recording) (end : ℕ) (touches : List Touch) : Type 0 where
+  pub each : (index : ℕ) (touch : Touch) → slice_get touches index ≡ Some touch → HasTouch segment touch × (touch.made < end)
+  pub all : (touch : Touch) → HasTouch segment touch → touch.made < end → (index : ℕ) × (slice_get touches index ≡ Some touch)
+  pub rising : AllPairs (λ first second. first.made < second.made) touches
+
+-- an event is a touch
+abbrev pub HasSomeTouch : Recording → Type 0
+HasSomeTouch segment = (call : ℕ) × IsTouch segment call
+
+-- by call number the event below an end that is the reply to it
+pub record AreRepliesBelow (segment : Recording) (end : ℕ) (replies : List (Option ℕ)) : Type 0 where
+  pub as_many : length replies ≡ length segment.events
+  pub each : (call index : ℕ) → slice_index_or replies call None ≡ Some index → (index < end) × Answers segment index call
+  pub all : (call index : ℕ) → index < end → Answers segment index call → slice_index_or replies call None ≡ Some index
+
+-- the touch of this number is stale, and none of a lower number is
+pub record IsFirstStale (start : Space) (segment : Recording) (call : ℕ) : Type 0 where
+  pub stale : IsStale start segment call
+  pub none_lower : (lower : ℕ) → lower < call → IsStale start segment lower → ⊥

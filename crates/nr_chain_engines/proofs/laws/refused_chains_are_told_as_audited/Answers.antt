@@ -1,5 +1,0 @@
-use Rattle.nr_chain_engines.proofs.PagesLaws.{told_as_audited}
-use Rattle.nr_chain_engines.proofs.laws.refused_chains_are_told_as_audited.Goals as goal
-
-pub returns : goal.returns
-returns c = told_as_audited

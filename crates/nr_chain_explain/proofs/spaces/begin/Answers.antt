@@ -1,7 +1,0 @@
-use Rattle.std.proofs.Common.{Option, subst}
-use Rattle.nr_chain_explain.specs.inside.Reading.{BeginsWell}
-use Rattle.nr_chain_explain.specs.declared.came.Came.{Came}
-use Rattle.nr_chain_explain.proofs.spaces.begin.Goals as goal
-
-pub begin_first-requires : goal.begin_first-requires
-begin_first-requires c = subst (λ (last : Option Came). BeginsWell last c.args.segment.now) c.in-None.is c.requires.well

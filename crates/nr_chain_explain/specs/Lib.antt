@@ -1,6 +1,0 @@
-pub mod Came
-pub mod Facts
-pub mod Units
-pub mod Evidence
-pub mod Explanation
-pub mod inside

@@ -1,2 +1,0 @@
-pub mod NoFloats
-pub mod Explaining

@@ -1,7 +1,0 @@
-use Rattle.nr_engines.proofs.Puts.{then_put_ok}
-use Rattle.nr_chain_texts.specs.Evidence.{other_answer_parts}
-use Rattle.nr_chain_texts.proofs.evidence.put_other_answer.Goals as goal
-
-pub returns : goal.returns
-unfolding other_answer_parts
-returns g c = then_put_ok c.put_change.result _ _ _ _ _ c.in_ok-put_answer.ensures c.put_change.ensures

@@ -1,9 +1,0 @@
-use Rattle.nr_engines.proofs.Puts.{then_put, then_put_ok}
-use Rattle.nr_chain_texts.specs.Evidence.{start_differs_parts}
-use Rattle.nr_chain_texts.proofs.evidence.put_start_differs.Goals as goal
-
-pub returns : goal.returns
-unfolding start_differs_parts
-returns g c =
-    let looked = rw c.as_slice.ensures.value at c.in_ok-put_look.ensures in
-    then_put_ok c.put_origin.result _ _ _ _ _ (then_put _ _ _ _ _ c.in_ok-put_all.ensures looked) c.put_origin.ensures

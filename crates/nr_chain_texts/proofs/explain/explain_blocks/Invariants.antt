@@ -1,8 +1,0 @@
-use Rattle.nr_chain_texts.proofs.Explaining.{IsExplaining}
-use Rattle.nr_chain_texts.proofs.explain.explain_blocks.Given as goal
-
-abbrev pub invariant-loop-room : goal.invariant-loop-room
-invariant-loop-room g l = IsExplaining (g.R.Read.remaining l.initial.reader) (g.R.Read.remaining l.reader) l.chain l.room
-
-abbrev pub decreases-loop-room : goal.decreases-loop-room
-decreases-loop-room g l = l.room

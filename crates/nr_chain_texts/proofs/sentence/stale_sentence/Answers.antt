@@ -1,4 +1,0 @@
-use Rattle.nr_chain_texts.proofs.sentence.stale_sentence.Goals as goal
-
-pub returns : goal.returns
-returns c = rw (c.in_ok-told.ensures, c.in_ok-window.ensures) at c.format.ensures.ok

@@ -1,4 +1,0 @@
-pub mod Evidence
-pub mod Sentence
-pub mod ChainExplained
-pub mod inside

@@ -1,2 +1,0 @@
--- A chain that is read and explained: no public clause cites these.
-pub mod Explaining

@@ -1,5 +1,0 @@
-use Rattle.nr_engines.proofs.Writing.{IsWritten}
-use Rattle.nr_engines.proofs.ends.write_whole.Given as goal
-
-abbrev pub invariant-loop : goal.invariant-loop
-invariant-loop g l = IsWritten (g.W.Write.contents l.initial.writer) (g.W.Write.contents l.writer) l.fn.text l.rest

@@ -1,9 +1,0 @@
-use Rattle.nr_engines.proofs.Puts.{then_put_ok}
-use Rattle.nr_engines.specs.Evidence.{missing_parts}
-use Rattle.nr_engines.proofs.evidence.put_missing.Goals as goal
-
-pub returns : goal.returns
-unfolding missing_parts
-returns g c =
-    let begun = rw c.as_slice.ensures.value at c.in_ok-put_missing_frame.ensures in
-    then_put_ok c.put_replica.result _ _ _ _ _ begun c.put_replica.ensures

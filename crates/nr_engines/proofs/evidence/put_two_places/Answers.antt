@@ -1,6 +1,0 @@
-use Rattle.nr_engines.specs.Evidence.{two_places_parts}
-use Rattle.nr_engines.proofs.evidence.put_two_places.Goals as goal
-
-pub returns : goal.returns
-unfolding two_places_parts
-returns g c = rw (c.from.ensures, c.from-2.ensures) at c.put_all.ensures

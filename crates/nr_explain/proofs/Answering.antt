@@ -1,0 +1,114 @@
+-- The replies to the updates of the log, and to a touch.
+use Rattle.std.proofs.Common.{◌≡◌, ◌↔◌, ℕ, ◌<◌, ◌≤◌, ◌⊎◌, min, inl, inr, Bool, true, false, Option, Some, None, length, get_or, slice_get, refl, sym}
+use Rattle.std.proofs.Common.{ap, subst, ◌∙◌, arith}
+use Rattle.std.specs.Prelude.{IsTrue, IsSome, nat_lt, option_and_then, if◌then◌else◌}
+use Rattle.std.proofs.lemmas.Bool.{cases_lt, cases_order}
+use Rattle.std.proofs.lemmas.Bool.Decides.{nat_tests}
+use Rattle.std.proofs.lemmas.Option.{same_Some, slice_get-get_or}
+use Rattle.vs_types.specs.declared.access.Access as accesses
+use Rattle.vs_types.specs.declared.access.Mode.{Mode}
+use Rattle.vs_types.specs.declared.request.Query.{Query}
+use Rattle.vs_types.specs.declared.request.Query.TheVariants.{Access}
+use Rattle.nr_trace.specs.Recording.{Recording}
+use Rattle.nr_trace.specs.Calls.{Answers, Invocation, IsCall, call_of, touch_of}
+use Rattle.nr_trace.specs.Laws.{HasCleanLog}
+use Rattle.nr_trace.proofs.LawsOfCalls.{answers_from, reply_that_answers}
+use Rattle.nr_touch.specs.Touches.{IsAnsweredBefore, IsMadeAfter}
+use Rattle.nr_touch.specs.declared.touch.Touch.{Touch}
+use Rattle.nr_audit.specs.Touches.{HasTouch}
+use Rattle.nr_audit.proofs.TouchLists.{touch_answers}
+use Rattle.nr_explain.specs.Facts.{IsCallOf, IsFirstReplyTo, IsReplyOf, asked_address, response}
+use Rattle.nr_explain.specs.declared.evidence.RecordedCall.{RecordedCall}
+use Rattle.nr_explain.specs.declared.evidence.RecordedReply.{RecordedReply}
+
+-- the call at the place
+pub there : (segment : Recording) (place call : ℕ) → place < length segment.log → call ≡ get_or segment.log place 0 → slice_get segment.log place ≡ Some call
+there segment place call within is = slice_get-get_or segment.log place 0 within ∙ ap Some (sym is)
+
+pub answers_of : (segment : Recording) (call : ℕ) (reply : RecordedReply) → IsReplyOf segment reply → reply.call ≡ call → Answers segment reply.event call
+answers_of segment call reply is names = answers_from segment reply.event call (response reply) is names
+
+-- no reply, or one that comes later
+pub never : (segment : Recording) (place call event : ℕ) → slice_get segment.log place ≡ Some call → ((index : ℕ) → Answers segment index call → ⊥)
+    → IsAnsweredBefore segment place event → ⊥
+never segment place call event is none h =
+    none h.2.0 (subst (Answers segment h.2.0) (same_Some h.0 call (sym h.1 ∙ is)) h.2.2)
+
+pub before_event : (segment : Recording) (place call event : ℕ) (reply : RecordedReply) → slice_get segment.log place ≡ Some call
+    → IsFirstReplyTo segment call (Some reply) → reply.event < event → IsAnsweredBefore segment place event
+before_event segment place call event reply is first low = (call, is, (reply.event, low, answers_of segment call reply first.0 first.1))
+
+pub not_before_event : (segment : Recording) (place call event : ℕ) (reply : RecordedReply) → slice_get segment.log place ≡ Some call
+    → IsFirstReplyTo segment call (Some reply) → IsAnsweredBefore segment place event → reply.event < event
+not_before_event segment place call event reply is first h = elim (cases_lt reply.event event) [
+  | inl low ↦ low
+  | inr high ↦ (let low = h.2.1 in
+      absurd (first.2 h.2.0 (omega arith) (subst (Answers segment h.2.0) (same_Some h.0 call (sym h.1 ∙ is)) h.2.2)))
+]
+
+-- a call is answered once
+one_answer : (segment : Recording) (first second call : ℕ) → HasCleanLog segment → Answers segment first call → Answers segment second call
+    → first ≡ second
+one_answer segment first second call clean a b = elim (cases_order first second) [
+  | inl same ↦ same
+  | inr other ↦ elim other [
+    | inl low ↦ absurd (twice segment first second call clean a b low)
+    | inr high ↦ absurd (twice segment second first call clean b a high)
+  ]
+] where
+  twice : (segment : Recording) (low high call : ℕ) → HasCleanLog segment → Answers segment low call → Answers segment high call → low < high → ⊥
+  twice segment low high call clean a b less =
+      let given = reply_that_answers segment high call b in
+      clean.none_twice high (given.0, given.1, (low, less, subst (Answers segment low) (sym given.2) a))
+
+-- a touch that is answered once
+pub of_touch : (segment : Recording) (call : ℕ) (reply : RecordedReply) (touch : Touch) → HasCleanLog segment → IsReplyOf segment reply → reply.call ≡ call
+    → HasTouch segment touch → touch.made ≡ call → touch.answered ≡ reply.event
+of_touch segment call reply touch clean is names has made =
+    one_answer segment touch.answered reply.event call clean (subst (Answers segment touch.answered) made (touch_answers segment touch has))
+    (answers_of segment call reply is names)
+
+-- ---- the call of a touch
+
+pub touch_is_call : (segment : Recording) (touch : Touch) → HasTouch segment touch → IsCall segment touch.made
+touch_is_call segment touch has = of (call_of segment touch.made) has.asks where
+  of : (o : Option Invocation) → option_and_then (λ made. if made.touch then Some made.request else None) o
+      ≡ Some (Access touch.address touch.mode touch.access)
+      → IsSome o
+  of None e = absurd cc
+  of (Some made) e = refl
+
+asks_of : (b : Bool) (request : Query) (address : ℕ) (mode : Mode) (access : accesses.Access)
+    → (if b then Some request else None) ≡ Some (Access address mode access)
+    → asked_address request ≡ address
+asks_of true request address mode access e = ap asked_address (same_Some request (Access address mode access) e)
+asks_of false request address mode access e = absurd cc
+
+pub touch_asks : (segment : Recording) (call : RecordedCall) (touch : Touch) → IsCallOf segment call → HasTouch segment touch → touch.made ≡ call.event
+    → asked_address call.request ≡ touch.address
+touch_asks segment call touch is has made =
+    let asks : touch_of segment call.event ≡ Some (Access touch.address touch.mode touch.access) = ap (touch_of segment) (sym made) ∙ has.asks in
+    asks_of call.touch call.request touch.address touch.mode touch.access
+    (sym (ap (option_and_then (λ (m : Invocation). if m.touch then Some m.request else None)) is) ∙ asks)
+
+pub none_open : (segment : Recording) (call : ℕ) (touch : Touch) → HasTouch segment touch → touch.made ≡ call
+    → ((index : ℕ) → Answers segment index call → ⊥) → ⊥
+none_open segment call touch has made none = none touch.answered (subst (Answers segment touch.answered) made (touch_answers segment touch has))
+
+-- ---- tests
+
+pub less_if : (a b : ℕ) → IsTrue (nat_lt a b) ↔ (a < b)
+less_if a b = (λ h. grind (arith, nat_tests), λ h. grind (arith, nat_tests))
+
+-- ---- updates that are made later
+
+pub made_later : (segment : Recording) (place call event : ℕ) → slice_get segment.log place ≡ Some call → event < call → IsMadeAfter segment place event
+made_later segment place call event is low = (call, is, low)
+
+pub not_made_later : (segment : Recording) (place call event : ℕ) → slice_get segment.log place ≡ Some call → call ≤ event
+    → IsMadeAfter segment place event → ⊥
+not_made_later segment place call event is low h = let same = same_Some h.0 call (sym h.1 ∙ is) in let high = h.2 in omega arith
+
+-- the least of two
+pub least : (a b m : ℕ) → m ≡ min a b → (m ≤ b) × (m ≤ a) × ((m ≡ b) ⊎ (m ≡ a))
+least a b m is = (omega arith, omega arith, elim (cases_lt b a) [ inl low ↦ inl (omega arith) | inr high ↦ inr (omega arith) ])

@@ -1,0 +1,130 @@
+-- What each kind of evidence says of a segment: which fault it shows, and its facts, each one of the segment, or of the space before it.
+use Rattle.std.specs.Prelude.{◌≡◌, ◌≢◌, ◌↔◌, ℕ, ◌+◌, ◌<◌, ◌≤◌, ◌⊎◌, List, All, AllPairs, Contains, Option, Some, None, ⊤}
+use Rattle.std.specs.FinMap as finite
+use Rattle.vs_types.specs.Depth.{levels, IsCanonical}
+use Rattle.vs_types.specs.Page.{bytes_of}
+use Rattle.vs_types.specs.Space.{Space}
+use Rattle.vs_types.specs.Step.{look}
+use Rattle.vs_types.specs.declared.depth.Depth.{Depth}
+use Rattle.vs_types.specs.declared.page.TheConstants.Page.{PHYS_END}
+use Rattle.vs_walk.specs.Differences.{IsStray}
+use Rattle.vs_walk.specs.Dump.{Image}
+use Rattle.vs_walk.specs.Traversal.{found_in}
+use Rattle.vs_walk.specs.Walk.{walk, as_walk}
+use Rattle.nr_trace.specs.Recording.{Recording}
+use Rattle.nr_trace.specs.Faults.{HasDump}
+use Rattle.nr_trace.specs.Orders.{before}
+use Rattle.nr_trace.specs.declared.fault.Fault.{Fault}
+use Rattle.nr_trace.specs.declared.fault.Fault.TheVariants as faults
+use Rattle.nr_touch.specs.Touches.{IsAllowedPrefix}
+use Rattle.nr_touch.specs.declared.touch.Touch.{Touch}
+use Rattle.nr_audit.specs.Touches.{HasTouch}
+use Rattle.nr_audit.specs.declared.fault.SegmentFault.{SegmentFault}
+use Rattle.nr_audit.specs.declared.fault.SegmentFault.TheVariants as segments
+use Rattle.nr_audit.specs.declared.fault.StartFault.TheVariants as starts
+use Rattle.nr_explain.specs.Evidence.{IsDifferenceFrom, IsEvidence, IsOtherAnswerFrom, IsRootPath, StepsLeadTo}
+use Rattle.nr_explain.specs.Facts.{IsCallOf, IsReplyOf, asked_address, entries_read, looks_from, HasReservedWord, IsReservedBit}
+use Rattle.nr_explain.specs.ChainFacts.{IsChangedAt, IsOrigin}
+use Rattle.nr_explain.specs.declared.chain.evidence.Moment.{Moment}
+use Rattle.nr_explain.specs.declared.chain.evidence.StaleTouch.{StaleTouch}
+use Rattle.nr_explain.specs.declared.chain.evidence.StartMissing.{StartMissing}
+use Rattle.nr_explain.specs.declared.chain.evidence.StartShared.{StartShared}
+use Rattle.nr_explain.specs.declared.chain.evidence.StartReserved.{StartReserved}
+use Rattle.nr_explain.specs.declared.chain.evidence.StartBeyond.{StartBeyond}
+use Rattle.nr_explain.specs.declared.chain.evidence.StartDiffers.{StartDiffers}
+use Rattle.nr_explain.specs.declared.chain.evidence.SegmentEvidence.{SegmentEvidence}
+use Rattle.nr_explain.specs.declared.chain.evidence.SegmentEvidence.TheVariants as evidence
+
+-- ---- starts
+
+-- the entries lead to a frame that the start lacks
+abbrev pub IsStartMissing : Depth → Image → StartMissing → Type 0
+IsStartMissing depth start wrong = (finite.get start.frames wrong.frame ≡ None) × StepsLeadTo depth start wrong.frame wrong.path.items
+
+-- the entries lead to the frame, and so do others
+abbrev pub IsStartShared : Depth → Image → StartShared → Type 0
+IsStartShared depth start wrong = StepsLeadTo depth start wrong.frame wrong.first.items
+    × StepsLeadTo depth start wrong.frame wrong.second.items × (wrong.second.items ≢ wrong.first.items)
+
+-- the entries lead to a table, and the word that it has at an index has a reserved bit set, at its level: this one
+abbrev pub IsStartReserved : Depth → Image → StartReserved → Type 0
+IsStartReserved depth start wrong = IsRootPath depth start wrong.entry.level wrong.entry.frame wrong.path.items
+    × HasReservedWord start.frames wrong.entry × IsReservedBit wrong.entry.level wrong.entry.word wrong.bit
+
+-- the tables lead to the page, which ends above the physical addresses that a page may have; the walk of its base reads these entries
+pub record IsStartBeyond (depth : Depth) (start : Image) (wrong : StartBeyond) : Type 0 where
+  pub found : Contains (found_in depth start) wrong.page
+  pub beyond : PHYS_END < wrong.page.phys + bytes_of wrong.page.size
+  pub path : wrong.path.items ≡ entries_read start.frames (levels depth) start.root wrong.page.base
+
+-- the start translates the address so, by these entries, and the space before it otherwise
+pub record IsStartDiffers (began : Option Space) (depth : Depth) (start : Image) (before : Space) (wrong : StartDiffers) : Type 0 where
+  pub canonical : IsCanonical depth wrong.address
+  pub found : wrong.found ≡ walk depth start.frames start.root wrong.address
+  pub path : wrong.path.items ≡ entries_read start.frames (levels depth) start.root wrong.address
+  pub wanted : wrong.wanted ≡ look before wrong.address
+  pub differs : wrong.found ≢ as_walk wrong.wanted
+  pub origin : IsOrigin began before wrong.address wrong.origin
+
+-- the segment has a start with the property
+abbrev pub HasStart : Recording → (Image → Type 0) → Type 0
+HasStart segment P = (start : Image) × (segment.start ≡ Some start) × P start
+
+-- ---- touches
+
+-- of the moments after so many entries these are listed: the first one, and each at which the address looks otherwise than after one entry less
+pub record AreLooks (start : Space) (segment : Recording) (address first last : ℕ) (looks : List Moment) : Type 0 where
+  pub within : All (λ moment. (first ≤ moment.entries) × (moment.entries ≤ last)) looks
+  pub are : All (λ moment. moment.look ≡ looks_from start segment address moment.entries) looks
+  pub rising : AllPairs (λ moment later. moment.entries < later.entries) looks
+  pub changed : All (λ moment. (moment.entries ≡ first) ⊎ IsChangedAt start segment address moment.entries) looks
+  pub all : (n : ℕ) → first ≤ n → n ≤ last → (n ≡ first) ⊎ IsChangedAt start segment address n
+      → (moment : Moment) × Contains looks moment × (moment.entries ≡ n)
+
+-- the touch is answered so, and may be answered from just these moments, in which its address looked so
+pub record IsStaleTouch (start : Space) (segment : Recording) (stale : StaleTouch) : Type 0 where
+  pub call : IsCallOf segment stale.call
+  pub reply : IsReplyOf segment stale.reply
+  pub names : stale.reply.call ≡ stale.call.event
+  pub window : (touch : Touch) → HasTouch segment touch → touch.made ≡ stale.call.event → (n : ℕ)
+      → IsAllowedPrefix start segment touch n ↔ ((stale.first ≤ n) × (n ≤ stale.last))
+  pub looks : AreLooks start segment (asked_address stale.call.request) stale.first stale.last stale.looks.items
+
+-- ---- all
+
+-- what the fault says does not depend on the space with which the segment begins
+abbrev pub IsOfItself : Fault → Type 0
+IsOfItself (faults.Format fault) = ⊥
+IsOfItself (faults.WrongAnswer call) = ⊥
+IsOfItself (faults.Differs replica address) = ⊥
+IsOfItself fault = ⊤
+
+-- the evidence shows the fault of a segment that begins with this space, in a chain that begins with that one, where its first segment has a
+-- start; and what it says is so. What shows a fault of the format is said of bytes
+abbrev pub IsShown : Option Space → Option Space → Space → Recording → SegmentFault → SegmentEvidence → Type 0
+IsShown began before first segment fault (evidence.Format bad) = ⊥
+IsShown began before first segment fault (evidence.Within shown) =
+    (own : Fault) × (fault ≡ segments.Within own) × IsOfItself own × IsEvidence segment own shown
+IsShown began before first segment fault (evidence.WrongAnswer wrong origin) =
+    (fault ≡ segments.Within (faults.WrongAnswer wrong.call.event)) × IsOtherAnswerFrom first segment wrong
+    × IsOrigin began first wrong.address origin
+IsShown began before first segment fault (evidence.Differs wrong origin) =
+    (fault ≡ segments.Within (faults.Differs wrong.replica wrong.address)) × HasDump segment wrong.replica (IsDifferenceFrom first segment wrong)
+    × IsOrigin began first wrong.address origin
+IsShown began before first segment fault (evidence.StartMissing wrong) =
+    (fault ≡ segments.Start (starts.Missing wrong.frame)) × HasStart segment (λ start. IsStartMissing segment.layout.depth start wrong)
+IsShown began before first segment fault (evidence.StartShared wrong) =
+    (fault ≡ segments.Start (starts.Shared wrong.frame)) × HasStart segment (λ start. IsStartShared segment.layout.depth start wrong)
+IsShown began before first segment fault (evidence.StartReserved wrong) =
+    (fault ≡ segments.Start (starts.Reserved wrong.entry.frame wrong.entry.index))
+    × HasStart segment (λ start. IsStartReserved segment.layout.depth start wrong)
+IsShown began before first segment fault (evidence.StartStray frame) =
+    (fault ≡ segments.Start (starts.Stray frame))
+    × HasStart segment (λ start. IsStray segment.layout.depth start.frames start.root frame)
+IsShown began before first segment fault (evidence.StartBeyond wrong) =
+    (fault ≡ segments.Start (starts.Beyond wrong.page.base)) × HasStart segment (λ start. IsStartBeyond segment.layout.depth start wrong)
+IsShown began before first segment fault (evidence.StartDiffers wrong) =
+    (fault ≡ segments.Start (starts.Differs wrong.address))
+    × HasStart segment (λ start. (space : Space) × (before ≡ Some space) × IsStartDiffers began segment.layout.depth start space wrong)
+IsShown began before first segment fault (evidence.Stale stale) =
+    (fault ≡ segments.Stale stale.call.event) × IsStaleTouch first segment stale

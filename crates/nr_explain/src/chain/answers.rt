@@ -1,0 +1,50 @@
+//! What shows that an answer is not the space's.
+
+ghost use Rattle.std.specs.Prelude.{◌≡◌, IfOk};
+ghost use Rattle.nr_trace.specs.Faults.{IsFirstFrom};
+ghost use Rattle.nr_trace.specs.declared.fault.Fault.TheVariants.{WrongAnswer};
+ghost use Rattle.nr_audit.specs.Verdict.{space_of};
+ghost use Rattle.nr_explain.specs.Evidence.{IsOtherAnswerFrom};
+
+use crate::answers::address_about;
+use crate::evidence::OtherAnswer;
+use crate::lookup::call_at;
+use crate::replay::{answer_after, last_look};
+use crate::searching::reply_to;
+use nr_audit::copy;
+use nr_trace::Trace;
+use std::alloc::Global;
+use vs_plain::PlainSpace;
+use vs_types::Memory;
+
+/// The call that is answered otherwise than the space answers it, where the segment begins with this one; that answer, and the last
+/// update of the segment that made it so. Allocates memory for a copy of the space, and for another when that one is freed.
+pub(crate) fn other_answer(
+    alloc: Global,
+    segment: &Trace,
+    first: &PlainSpace,
+    index: u32,
+) -> Result<OtherAnswer, Memory>
+    requires space { first.now ≡ space_of segment.now.layout first.now.space }
+    requires first { IsFirstFrom first.now.space segment.now (WrongAnswer index) }
+    ensures event { IfOk result (λ wrong. wrong.call.event ≡ index) }
+    ensures is { IfOk result (IsOtherAnswerFrom first.now.space segment.now) }
+{
+    let call = call_at(segment, index);
+    let Some(reply) = reply_to(segment, index) else {
+        unreachable!()
+    };
+    let tables = segment.layout().tables();
+    let space = copy(alloc, tables, first)?;
+    let wanted = answer_after(segment, space, call.request, reply.at)?;
+    let address = address_about(call.request, wanted);
+    let again = copy(alloc, tables, first)?;
+    let last = last_look(segment, again, address, reply.at)?;
+    Ok(OtherAnswer {
+        call,
+        reply,
+        wanted,
+        address,
+        changed: last.1,
+    })
+}

@@ -1,0 +1,152 @@
+//! What shows the first fault of a segment.
+
+ghost use Rattle.std.specs.Prelude.{◌≡◌, IfOk, IfSome, is_some};
+ghost use Rattle.vs_types.specs.Space.{Space};
+ghost use Rattle.nr_trace.specs.Faults.{IsFirstFrom};
+ghost use Rattle.nr_audit.specs.Faults.{IsFirstAfter};
+ghost use Rattle.nr_audit.specs.declared.fault.SegmentFault.TheVariants as segments;
+ghost use Rattle.nr_explain.specs.Progress.{space_in};
+ghost use Rattle.nr_explain.specs.Dumps.{replica_of};
+ghost use Rattle.nr_explain.specs.ChainEvidence.{IsOfItself};
+ghost use Rattle.nr_explain.specs.inside.Itself.{IsShownByItself};
+ghost use Rattle.nr_explain.specs.ChainExplanation.{IsShownBehind};
+ghost use Rattle.nr_explain.specs.inside.Reading.{all_seen, FitsSegment};
+
+use crate::chain::answers::other_answer;
+use crate::chain::differences::difference;
+use crate::chain::evidence::SegmentEvidence;
+use crate::chain::origins::origin_of;
+use crate::chain::progress::Came;
+use crate::chain::spaces::begin;
+use crate::chain::starts::explain_start;
+use crate::chain::touches::stale_touch;
+use crate::dumps::explain_dump;
+use crate::explaining::explain;
+use nr_audit::SegmentFault;
+use nr_trace::{Fault, Trace};
+use std::alloc::Global;
+use vs_types::Memory;
+
+/// A wrong answer, and where the look of its address comes from.
+fn explain_answer(
+    alloc: Global,
+    last: &Option<Came>,
+    segment: &Trace,
+    call: u32,
+) -> Result<SegmentEvidence, Memory>
+    requires fits { IfSome last.now (FitsSegment segment.now) }
+    requires first { IsFirstAfter (space_in (all_seen last.now)) segment.now
+        (segments.Within (Fault.WrongAnswer call)) }
+    ensures { IfOk result (IsShownBehind (all_seen last.now) segment.now
+        (segments.Within (Fault.WrongAnswer call))) }
+{
+    let first = begin(alloc, last, segment)?;
+    let wrong = other_answer(alloc, segment, &first, call)?;
+    let origin = origin_of(last, segment, &first, wrong.address);
+    Ok(SegmentEvidence::WrongAnswer(wrong, origin))
+}
+
+/// A dump that translates an address otherwise, and where the look of that address comes from.
+fn explain_difference(
+    alloc: Global,
+    last: &Option<Came>,
+    segment: &Trace,
+    replica: u8,
+    address: u64,
+) -> Result<SegmentEvidence, Memory>
+    requires fits { IfSome last.now (FitsSegment segment.now) }
+    requires first { IsFirstAfter (space_in (all_seen last.now)) segment.now
+        (segments.Within (Fault.Differs replica address)) }
+    ensures { IfOk result (IsShownBehind (all_seen last.now) segment.now
+        (segments.Within (Fault.Differs replica address))) }
+{
+    let first = begin(alloc, last, segment)?;
+    let wrong = difference(alloc, segment, &first, replica, address)?;
+    let origin = origin_of(last, segment, &first, wrong.address);
+    Ok(SegmentEvidence::Differs(wrong, origin))
+}
+
+/// Whether a fault is one of a dump.
+fn is_of_dump(fault: Fault) -> bool
+    ensures { result ≡ is_some (replica_of fault) }
+{
+    matches!(
+        fault,
+        Fault::PrefixPastLog(_)
+            | Fault::PrefixShort(_)
+            | Fault::MissingFrame(..)
+            | Fault::SharedFrame(..)
+            | Fault::ReservedBit(..)
+            | Fault::StrayFrame(..)
+            | Fault::Differs(..)
+    )
+}
+
+/// What shows the first fault of a segment, where that doesn't depend on the space with which it begins.
+fn explain_itself(alloc: Global, segment: &Trace, fault: Fault) -> Result<SegmentEvidence, Memory>
+    requires own { IsOfItself fault }
+    requires first { (start : Space) × IsFirstFrom start segment.now fault }
+    ensures { IfOk result (IsShownByItself segment.now fault) }
+{
+    if is_of_dump(fault) {
+        return Ok(SegmentEvidence::Within(explain_dump(alloc, segment, fault)?));
+    }
+    Ok(SegmentEvidence::Within(explain(alloc, segment, fault)?))
+}
+
+/// What shows the first fault of a segment, which is one that a trace may have too.
+fn explain_within(
+    alloc: Global,
+    last: &Option<Came>,
+    segment: &Trace,
+    fault: Fault,
+) -> Result<SegmentEvidence, Memory>
+    requires fits { IfSome last.now (FitsSegment segment.now) }
+    requires first { IsFirstAfter (space_in (all_seen last.now)) segment.now
+        (segments.Within fault) }
+    ensures { IfOk result
+        (IsShownBehind (all_seen last.now) segment.now (segments.Within fault)) }
+{
+    match fault {
+        Fault::Format(_) => unreachable!(),
+        Fault::WrongAnswer(call) => explain_answer(alloc, last, segment, call),
+        Fault::Differs(replica, address) => {
+            explain_difference(alloc, last, segment, replica, address)
+        }
+        _ => explain_itself(alloc, segment, fault),
+    }
+}
+
+/// A stale touch, and how its address looked at the moments from which it may be answered.
+fn explain_touch(
+    alloc: Global,
+    last: &Option<Came>,
+    segment: &Trace,
+    call: u32,
+) -> Result<SegmentEvidence, Memory>
+    requires fits { IfSome last.now (FitsSegment segment.now) }
+    requires first { IsFirstAfter (space_in (all_seen last.now)) segment.now (segments.Stale call) }
+    ensures { IfOk result (IsShownBehind (all_seen last.now) segment.now (segments.Stale call)) }
+{
+    let first = begin(alloc, last, segment)?;
+    Ok(SegmentEvidence::Stale(stale_touch(alloc, segment, &first, call)?))
+}
+
+/// What shows the first fault of a segment that comes behind what the segments so far have come to: each fact of it is one of the segment,
+/// of the space before it, or of that with which the chain begins. Allocates memory for a space or two, and for what is shown.
+pub(crate) fn explain_segment(
+    alloc: Global,
+    last: &Option<Came>,
+    segment: &Trace,
+    fault: SegmentFault,
+) -> Result<SegmentEvidence, Memory>
+    requires fits { IfSome last.now (FitsSegment segment.now) }
+    requires first { IsFirstAfter (space_in (all_seen last.now)) segment.now fault }
+    ensures { IfOk result (IsShownBehind (all_seen last.now) segment.now fault) }
+{
+    match fault {
+        SegmentFault::Start(fault) => explain_start(alloc, last, segment, fault),
+        SegmentFault::Within(fault) => explain_within(alloc, last, segment, fault),
+        SegmentFault::Stale(call) => explain_touch(alloc, last, segment, call),
+    }
+}

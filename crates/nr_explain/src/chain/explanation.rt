@@ -1,0 +1,29 @@
+//! What is said of a whole chain, or of a part of it.
+
+use crate::chain::evidence::SegmentEvidence;
+use nr_audit::SegmentFault;
+
+/// How much a right chain has. A number above 2^64 - 1 is given as that.
+#[derive(Clone, Copy, Debug, PartialEq, Eq)]
+pub struct ChainCounts {
+    pub segments: u64,
+    /// The calls of the orders: the updates and the reads.
+    pub calls: u64,
+    pub updates: u64,
+    pub reads: u64,
+    pub touches: u64,
+    /// The dumps that are there.
+    pub dumps: u64,
+    pub replicas: u8,
+    /// The pages of the space after the last segment.
+    pub pages: u64,
+}
+
+/// What an audit of a chain finds, and what shows it.
+#[derive(Debug, Drop)]
+pub enum ChainExplanation {
+    /// All segments are right, and the chain has so much.
+    Yes(ChainCounts),
+    /// So many segments are right, and the next one has this fault, its first, which this shows.
+    No(u64, SegmentFault, SegmentEvidence),
+}

@@ -1,0 +1,227 @@
+//! A chain that comes in pieces: each segment is judged as soon as it is whole, and the first wrong one explained.
+
+ghost use Rattle.std.specs.Prelude.{◌≡◌, ◌++◌, [], ℕ, List, IfOk, IfSome, None, Some};
+ghost use Rattle.nr_trace.specs.Feed.{IsWhole};
+ghost use Rattle.nr_trace.specs.Feed.Fed.{Taken};
+ghost use Rattle.nr_trace.specs.FirstFault.{HasFaultAs};
+ghost use Rattle.nr_trace.specs.Versions.{Follows};
+ghost use Rattle.nr_explain.specs.Progress.{layout_in};
+ghost use Rattle.nr_explain.specs.ChainExplanation.{Explains, FeedsReader};
+ghost use Rattle.nr_explain.specs.inside.Reading.{all_seen, spaces_of, FitsCame, FitsSegment};
+ghost use Rattle.nr_explain.specs.inside.Steps.{JudgedTo, JudgesTo, StepsTo};
+
+use crate::chain::explaining::explain_segment;
+use crate::chain::explanation::ChainExplanation;
+use crate::chain::progress::{Came, go_on, sums_of};
+use crate::chain::refusing::{ended, refusal};
+use nr_audit::{SegmentVerdict, judge_segment};
+use nr_trace::{SegmentFeed, Trace};
+use std::alloc::Global;
+use std::marker::Model;
+use vs_plain::PlainSpace;
+use vs_types::{Fail, Memory};
+
+/// A reader of a chain that comes in pieces, cut anywhere, which explains what an audit of it finds. It keeps the bytes of one segment
+/// and what they say, the space after the segment before twice, and that with which the chain begins. Contracts see what the segments
+/// so far have come to, and the bytes of the next one.
+#[derive(Drop)]
+pub struct ChainReader {
+    alloc: Global,
+    last: Option<Came>,
+    /// The space after the segment before, once more: the judge takes it, and changes it up to the first fault.
+    before: Option<PlainSpace>,
+    /// The bytes of the next segment so far.
+    bytes: Vec<u8>,
+    feed: SegmentFeed,
+}
+
+impl Model for ChainReader {
+    ghost use Rattle.std.specs.Coded.{codes, coded_ℕ};
+    ghost use Rattle.std.specs.FinMap as finite;
+    ghost use Rattle.std.specs.Ordering.{nat_cmp};
+    ghost use Rattle.vs_types.specs.contracts.page.Page as page_contract;
+    ghost use Rattle.nr_explain.specs.Progress.{Seen};
+    ghost use Rattle.nr_explain.specs.inside.Reading.{all_seen, IsReading};
+
+    ghost Value = { Seen };
+
+    ghost coded = { Prim.hlevel (codes, finite.code {R = nat_cmp} coded_ℕ page_contract.the_row.coded) };
+
+    ghost view = { λ r. record { came = all_seen r.last; bytes = r.bytes.items } };
+
+    ghost invariant = { λ r. IsReading r.last r.before r.bytes.items r.feed };
+}
+
+/// What a piece makes of a reader.
+#[derive(Drop)]
+pub enum Fed {
+    /// The piece is taken, and no fault is found yet.
+    More(ChainReader),
+    /// A segment has a fault, its first, whatever comes after the piece.
+    Found(ChainExplanation),
+}
+
+/// What a piece makes of a reader, up to the end of one segment.
+#[derive(Drop)]
+enum Step {
+    /// The whole piece is taken, and too few bytes have come of the segment.
+    More(ChainReader),
+    /// So many bytes at the front of the piece end a segment, which is right.
+    Right(usize, ChainReader),
+    /// The segment has a fault.
+    Wrong(ChainExplanation),
+}
+
+impl ChainReader {
+    ghost use Rattle.nr_explain.specs.Progress.{Seen};
+
+    /// A reader of which nothing has come yet. It allocates no memory.
+    pub fn new(alloc: Global) -> ChainReader
+        ensures { let nothing : Seen = record { came = None; bytes = [] } in result ≡ nothing }
+    {
+        ChainReader {
+            alloc,
+            last: None,
+            before: None,
+            bytes: Vec::new(alloc),
+            feed: SegmentFeed::new(alloc, None),
+        }
+    }
+
+    /// Takes bytes at the front of the next piece: all of them, or so many that a segment is whole, which is judged then.
+    fn step(self, piece: &[u8]) -> Result<Step, Memory>
+        ensures { IfOk result (StepsTo self piece.now) }
+    {
+        let ChainReader {
+            alloc,
+            last,
+            before,
+            mut bytes,
+            mut feed,
+        } = self;
+        match feed.feed(piece) {
+            Ok(count) => {
+                bytes.extend_from_slice(&piece[..count])?;
+                if feed.is_whole() {
+                    return judge_whole(alloc, last, before, &bytes, feed, count);
+                }
+                let next = ChainReader {
+                    alloc,
+                    last,
+                    before,
+                    bytes,
+                    feed,
+                };
+                Ok(Step::More(next))
+            }
+            Err(Fail::Memory) => Err(Memory),
+            Err(Fail::Refused(fault)) => {
+                bytes.extend_from_slice(piece)?;
+                let found = refusal(alloc, &last, &bytes, fault)?;
+                Ok(Step::Wrong(found))
+            }
+        }
+    }
+
+    /// Takes the next piece, with all segments that are whole with it; each of them is judged, and the first wrong one explained. It
+    /// allocates the bytes of a segment and what they say, what its judgement takes, the pages that its log maps, and what shows a fault;
+    /// where that is one of the format, what the segment says once more. With the first segment it allocates three spaces, with any other
+    /// right one none: the log is served on two of them.
+    ///
+    /// # Errors
+    ///
+    /// `Memory` where a growth of memory was refused.
+    pub fn feed(self, piece: &[u8]) -> Result<Fed, Memory>
+        ensures { IfOk result (FeedsReader self piece.now) }
+    {
+        let mut reader = self;
+        let mut rest = piece;
+        'segments: while !rest.is_empty() {
+            match reader.step(rest)? {
+                Step::More(next) => return Ok(Fed::More(next)),
+                Step::Right(count, next) => {
+                    reader = next;
+                    rest = &rest[count..];
+                }
+                Step::Wrong(found) => return Ok(Fed::Found(found)),
+            }
+        }
+        Ok(Fed::More(reader))
+    }
+
+    /// What is found of the chain where no piece comes any more: how much it has, where it ends behind a whole segment and all are
+    /// right; else that the next one is truncated.
+    ///
+    /// # Errors
+    ///
+    /// `Memory` where a growth of memory was refused.
+    pub fn end(self) -> Result<ChainExplanation, Memory>
+        ensures { IfOk result (Explains self []) }
+    {
+        let ChainReader {
+            alloc,
+            last,
+            before: _,
+            bytes,
+            feed: _,
+        } = self;
+        ended(alloc, &last, &bytes)
+    }
+}
+
+/// Judges the segment that is whole, which these bytes spell.
+fn judge_whole(
+    alloc: Global,
+    last: Option<Came>,
+    before: Option<PlainSpace>,
+    bytes: &[u8],
+    feed: SegmentFeed,
+    count: usize,
+) -> Result<Step, Memory>
+    requires whole { IsWhole feed }
+    requires taken { feed.pieces ≡ Taken bytes.now }
+    requires behind { feed.before ≡ layout_in (all_seen last) }
+    requires fits { IfSome last FitsCame }
+    requires same { before ≡ spaces_of last }
+    ensures { IfOk result (JudgesTo (all_seen last) bytes.now count) }
+{
+    let segment = match feed.end() {
+        Ok(segment) => segment,
+        Err(_) => unreachable!(),
+    };
+    judge_next(alloc, last, before, &segment, bytes.len(), count)
+}
+
+/// Judges the segment that comes next, which has so many bytes, and explains it where it is wrong.
+fn judge_next(
+    alloc: Global,
+    last: Option<Came>,
+    before: Option<PlainSpace>,
+    segment: &Trace,
+    size: usize,
+    count: usize,
+) -> Result<Step, Memory>
+    requires fits { IfSome last (FitsSegment segment.now) }
+    requires same { before ≡ spaces_of last }
+    ensures { IfOk result (JudgedTo (all_seen last) segment.now size count) }
+{
+    match judge_segment(alloc, segment, before)? {
+        SegmentVerdict::Right(order, space) => {
+            let came = go_on(alloc, last, segment, &order, &space, size)?;
+            let feed = SegmentFeed::new(alloc, Some(came.layout));
+            let next = ChainReader {
+                alloc,
+                last: Some(came),
+                before: Some(space),
+                bytes: Vec::new(alloc),
+                feed,
+            };
+            Ok(Step::Right(count, next))
+        }
+        SegmentVerdict::Wrong(fault) => {
+            let number = sums_of(&last).segments;
+            let shown = explain_segment(alloc, &last, segment, fault)?;
+            Ok(Step::Wrong(ChainExplanation::No(number, fault, shown)))
+        }
+    }
+}

@@ -1,0 +1,205 @@
+//! What shows a fault of a start.
+
+ghost use Rattle.std.specs.Prelude.{◌≡◌, ◌+◌, ◌<◌, ℕ, Contains, IfNone, IfOk, IfSome, None, Some, option_map};
+ghost use Rattle.vs_types.specs.Page.{bytes_of};
+ghost use Rattle.vs_types.specs.declared.page.Page.{Page as PageRow};
+ghost use Rattle.vs_types.specs.declared.page.TheConstants.Page.{PHYS_END};
+ghost use Rattle.vs_walk.specs.Traversal.{walk_fault, found_in};
+ghost use Rattle.vs_walk.specs.Differences.{HasDifference, HasMissingFrame, HasReservedBit, HasSharedFrame};
+ghost use Rattle.nr_audit.specs.Start.{HasPageBeyond};
+ghost use Rattle.nr_audit.specs.declared.fault.SegmentFault.TheVariants as segments;
+ghost use Rattle.nr_audit.specs.Faults.{IsFirstAfter};
+ghost use Rattle.nr_explain.specs.inside.Starts.{IsFirstOfTables, IsShownInStart};
+ghost use Rattle.nr_explain.specs.Progress.{space_in};
+ghost use Rattle.nr_explain.specs.ChainExplanation.{IsShownBehind};
+ghost use Rattle.nr_explain.specs.ChainEvidence.{IsStartBeyond, IsStartDiffers, IsStartMissing, IsStartReserved, IsStartShared};
+ghost use Rattle.nr_explain.specs.inside.Reading.{all_seen};
+
+use crate::chain::evidence::{
+    SegmentEvidence, StartBeyond, StartDiffers, StartMissing, StartReserved, StartShared,
+};
+use crate::chain::origins::origin_from;
+use crate::chain::progress::Came;
+use crate::paths::{another_way, entries_read, way_to_frame, way_to_reserved};
+use nr_audit::StartFault;
+use nr_trace::Trace;
+use std::alloc::Global;
+use vs_types::{Depth, Fail, Memory, Page};
+use vs_walk::{Dump, leaves, translate};
+
+/// The entries that lead to a frame that a start lacks. Allocates memory for them.
+fn start_missing(
+    alloc: Global,
+    start: &Dump,
+    depth: Depth,
+    frame: u64,
+) -> Result<StartMissing, Memory>
+    requires { HasMissingFrame depth start.now frame }
+    ensures frame { IfOk result (λ wrong. wrong.frame ≡ frame) }
+    ensures is { IfOk result (IsStartMissing depth start.now) }
+{
+    let path = way_to_frame(alloc, start, depth, frame)?;
+    Ok(StartMissing { frame, path })
+}
+
+/// The entries that lead to a frame, and others that lead there too. Allocates memory for them.
+fn start_shared(
+    alloc: Global,
+    start: &Dump,
+    depth: Depth,
+    frame: u64,
+) -> Result<StartShared, Memory>
+    requires { HasSharedFrame depth start.now frame }
+    ensures frame { IfOk result (λ wrong. wrong.frame ≡ frame) }
+    ensures is { IfOk result (IsStartShared depth start.now) }
+{
+    let first = way_to_frame(alloc, start, depth, frame)?;
+    let (first, second) = another_way(alloc, start, depth, frame, first)?;
+    Ok(StartShared {
+        frame,
+        first,
+        second,
+    })
+}
+
+/// The entries that lead to a table which has a word with a reserved bit set, that word, and such a bit. Allocates them.
+fn start_reserved(
+    alloc: Global,
+    start: &Dump,
+    depth: Depth,
+    frame: u64,
+    index: u16,
+) -> Result<StartReserved, Memory>
+    requires { HasReservedBit depth start.now frame index }
+    ensures frame { IfOk result (λ wrong. wrong.entry.frame ≡ frame) }
+    ensures index { IfOk result (λ wrong. wrong.entry.index ≡ index) }
+    ensures is { IfOk result (IsStartReserved depth start.now) }
+{
+    let (path, entry, bit) = way_to_reserved(alloc, start, depth, frame, index)?;
+    Ok(StartReserved { path, entry, bit })
+}
+
+/// The first of some pages at a base that ends above the physical addresses that a page may have.
+fn first_beyond(pages: &[Page], base: u64) -> Option<Page>
+    ensures none { IfNone result ((page : PageRow) → Contains pages.now page → page.base ≡ base
+        → PHYS_END < page.phys + bytes_of page.size → ⊥) }
+    ensures base { IfSome result (λ page. page.base ≡ base) }
+    ensures found { IfSome result (Contains pages.now) }
+    ensures beyond { IfSome result (λ page. PHYS_END < page.phys + bytes_of page.size) }
+{
+    for page in pages {
+        if page.base == base && page.phys > Page::PHYS_END - page.size.bytes() {
+            return Some(*page);
+        }
+    }
+    None
+}
+
+/// The page of a start at a base that ends above the physical addresses that a page may have. Allocates a list of the pages.
+fn page_beyond(alloc: Global, start: &Dump, depth: Depth, base: u64) -> Result<Page, Memory>
+    requires walked { walk_fault depth start.now.frames start.now.root ≡ None }
+    requires beyond { HasPageBeyond depth start.now base }
+    ensures base { IfOk result (λ page. page.base ≡ base) }
+    ensures found { IfOk result (Contains (found_in depth start.now)) }
+    ensures beyond { IfOk result (λ page. PHYS_END < page.phys + bytes_of page.size) }
+{
+    let pages = match leaves(alloc, start, start.root(), depth) {
+        Ok(leaves) => leaves.pages,
+        Err(Fail::Memory) => return Err(Memory),
+        Err(Fail::Refused(_)) => unreachable!(),
+    };
+    match first_beyond(pages.as_slice(), base) {
+        Some(page) => Ok(page),
+        None => unreachable!(),
+    }
+}
+
+/// The page of a start at a base that ends above the physical addresses that a page may have, and the entries that the walk of its base
+/// reads. Allocates them, and a list of the pages.
+fn start_beyond(alloc: Global, start: &Dump, depth: Depth, base: u64) -> Result<StartBeyond, Memory>
+    requires walked { walk_fault depth start.now.frames start.now.root ≡ None }
+    requires beyond { HasPageBeyond depth start.now base }
+    ensures base { IfOk result (λ wrong. wrong.page.base ≡ base) }
+    ensures is { IfOk result (IsStartBeyond depth start.now) }
+{
+    let page = page_beyond(alloc, start, depth, base)?;
+    let path = entries_read(alloc, start, depth, base)?;
+    Ok(StartBeyond { page, path })
+}
+
+/// How a start translates an address and by which entries, and how the address looks in the space before. Allocates the entries.
+fn start_differs(
+    alloc: Global,
+    start: &Dump,
+    depth: Depth,
+    last: &Came,
+    address: u64,
+) -> Result<StartDiffers, Memory>
+    requires { HasDifference depth start.now last.now.space.space address }
+    ensures address { IfOk result (λ wrong. wrong.address ≡ address) }
+    ensures is { IfOk result (IsStartDiffers (option_map (λ space. space.space) last.now.began)
+        depth start.now last.now.space.space) }
+{
+    let found = translate(start, start.root(), depth, address);
+    let path = entries_read(alloc, start, depth, address)?;
+    Ok(StartDiffers {
+        address,
+        found,
+        path,
+        wanted: last.space.resolve(address),
+        origin: origin_from(&last.began, &last.space, address),
+    })
+}
+
+/// What shows a fault of the tables of a start, or of a page that they lead to.
+fn explain_tables(
+    alloc: Global,
+    start: &Dump,
+    depth: Depth,
+    fault: StartFault,
+) -> Result<SegmentEvidence, Memory>
+    requires { IsFirstOfTables depth start.now fault }
+    ensures { IfOk result (IsShownInStart depth start.now fault) }
+{
+    match fault {
+        StartFault::Missing(frame) => {
+            Ok(SegmentEvidence::StartMissing(start_missing(alloc, start, depth, frame)?))
+        }
+        StartFault::Shared(frame) => {
+            Ok(SegmentEvidence::StartShared(start_shared(alloc, start, depth, frame)?))
+        }
+        StartFault::Reserved(frame, index) => Ok(SegmentEvidence::StartReserved(start_reserved(
+            alloc, start, depth, frame, index,
+        )?)),
+        StartFault::Stray(frame) => Ok(SegmentEvidence::StartStray(frame)),
+        StartFault::Beyond(base) => {
+            Ok(SegmentEvidence::StartBeyond(start_beyond(alloc, start, depth, base)?))
+        }
+        StartFault::Differs(_) => unreachable!(),
+    }
+}
+
+/// What shows the first fault of a segment, which is one of its start. Allocates it.
+pub(crate) fn explain_start(
+    alloc: Global,
+    last: &Option<Came>,
+    segment: &Trace,
+    fault: StartFault,
+) -> Result<SegmentEvidence, Memory>
+    requires { IsFirstAfter (space_in (all_seen last.now)) segment.now (segments.Start fault) }
+    ensures { IfOk result (IsShownBehind (all_seen last.now) segment.now (segments.Start fault)) }
+{
+    let Some(start) = segment.start() else {
+        unreachable!()
+    };
+    let depth = segment.layout().depth();
+    match fault {
+        StartFault::Differs(address) => match last {
+            Some(came) => Ok(SegmentEvidence::StartDiffers(start_differs(
+                alloc, start, depth, came, address,
+            )?)),
+            None => unreachable!(),
+        },
+        _ => explain_tables(alloc, start, depth, fault),
+    }
+}

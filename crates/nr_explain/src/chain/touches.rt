@@ -1,0 +1,179 @@
+//! What shows a stale touch.
+
+ghost use Rattle.std.specs.Prelude.{◌≡◌, ◌≢◌, ◌<◌, ◌≤◌, ◌⊎◌, ◌↔◌, IfOk, IsTrue, false, length};
+ghost use Rattle.vs_types.specs.Space.{IsSpace};
+ghost use Rattle.vs_types.specs.Step.{look};
+ghost use Rattle.nr_trace.specs.Laws.{HasCleanLog};
+ghost use Rattle.nr_audit.specs.Verdict.{space_of};
+ghost use Rattle.nr_audit.specs.Touches.{IsStale};
+ghost use Rattle.nr_touch.specs.Touches.{IsAnsweredBefore};
+ghost use Rattle.nr_explain.specs.ChainEvidence.{AreLooks, IsStaleTouch};
+ghost use Rattle.nr_explain.specs.inside.Windows.{IsWindowBelow, Narrows};
+
+use crate::answers::asked_address;
+use crate::chain::evidence::{Moment, StaleTouch};
+use crate::chain::origins::is_same;
+use crate::lookup::call_at;
+use crate::replay::apply_place;
+use crate::searching::reply_to;
+use nr_audit::copy;
+use nr_trace::Trace;
+use std::alloc::Global;
+use vs_plain::PlainSpace;
+use vs_plain::laws::pages_are_a_space;
+use vs_types::{Answer, Memory};
+
+/// From how many entries of the log to how many a touch may be answered.
+#[derive(Clone, Copy)]
+pub(crate) struct Window {
+    pub(crate) first: u32,
+    pub(crate) last: u32,
+}
+
+/// Whether the update of a place is answered before an event.
+fn is_answered_before(segment: &Trace, place: u32, event: u32) -> bool
+    requires { place < length segment.now.log }
+    ensures { IsTrue result ↔ IsAnsweredBefore segment.now place event }
+{
+    match reply_to(segment, segment.log()[place as usize]) {
+        Some(reply) => reply.event < event,
+        None => false,
+    }
+}
+
+/// The window of a touch, of which these places are known, with one more that changes how its address looks.
+fn narrow(window: Window, segment: &Trace, place: u32, made: u32, answered: u32) -> Window
+    requires within { place < length segment.now.log }
+    ensures { Narrows segment.now place made answered window result }
+{
+    let log = segment.log();
+    let call = log[place as usize];
+    let first = if is_answered_before(segment, place, made) {
+        place + 1
+    } else {
+        window.first
+    };
+    let last = if call > answered {
+        window.last.min(place)
+    } else {
+        window.last
+    };
+    Window { first, last }
+}
+
+/// How an address looks in a space.
+fn look_of(space: &PlainSpace, address: u64) -> Answer
+    ensures looks { result ≡ look space.now.space address }
+    ensures is_space { IsSpace space.now.depth space.now.space }
+{
+    pages_are_a_space(space);
+    space.resolve(address)
+}
+
+/// From how many entries to how many a touch of an address may be answered that is made and answered at these events, where the
+/// segment begins with this space.
+fn window_of(
+    segment: &Trace,
+    start: PlainSpace,
+    address: u64,
+    made: u32,
+    answered: u32,
+) -> Result<Window, Memory>
+    requires { start ≡ space_of segment.now.layout start.space }
+    ensures { IfOk result (IsWindowBelow start.space segment.now address made answered
+        (length segment.now.log)) }
+{
+    let places = segment.log().len() as u32;
+    let mut space = start;
+    let mut look = look_of(&space, address);
+    let mut window = Window {
+        first: 0,
+        last: places,
+    };
+    for place in 0..places {
+        apply_place(segment, &mut space, place)?;
+        let then = look_of(&space, address);
+        if !is_same(look, then) {
+            window = narrow(window, segment, place, made, answered);
+        }
+        look = then;
+    }
+    Ok(window)
+}
+
+/// Whether a moment after so many entries, the first or a later one, is listed, with which an address looks so, as it looked so before.
+fn is_listed(first: u32, entries: u32, before: Answer, then: Answer) -> bool
+    ensures listed { IsTrue result → (first ≤ entries) × ((entries ≡ first) ⊎ (before ≢ then)) }
+    ensures not_listed { result ≡ false → first ≤ entries
+        → (entries ≡ first) ⊎ (before ≢ then) → ⊥ }
+{
+    entries == first || (entries > first && !is_same(before, then))
+}
+
+/// How an address looks after the first number of entries, and then after each that is no greater than the last and with which it
+/// looks otherwise. Allocates a list of these moments.
+fn looks_in(
+    alloc: Global,
+    segment: &Trace,
+    start: PlainSpace,
+    address: u64,
+    window: Window,
+) -> Result<Vec<Moment>, Memory>
+    requires start { start ≡ space_of segment.now.layout start.space }
+    requires within { window.last ≤ length segment.now.log }
+    ensures { IfOk result (λ looks.
+        AreLooks start.space segment.now address window.first window.last looks.items) }
+{
+    let mut looks = Vec::new(alloc);
+    let mut space = start;
+    let mut look = space.resolve(address);
+    if window.first == 0 {
+        looks.push(Moment { entries: 0, look })?;
+    }
+    for place in 0..window.last {
+        apply_place(segment, &mut space, place)?;
+        let then = space.resolve(address);
+        let entries = place + 1;
+        if is_listed(window.first, entries, look, then) {
+            looks.push(Moment {
+                entries,
+                look: then,
+            })?;
+        }
+        look = then;
+    }
+    Ok(looks)
+}
+
+/// A stale touch, where the segment begins with this space: from which moments it may be answered, and how its address looked at these.
+/// Allocates memory for a copy of the space, and for another when that one is freed.
+pub(crate) fn stale_touch(
+    alloc: Global,
+    segment: &Trace,
+    first: &PlainSpace,
+    index: u32,
+) -> Result<StaleTouch, Memory>
+    requires space { first.now ≡ space_of segment.now.layout first.now.space }
+    requires stale { IsStale first.now.space segment.now index }
+    requires clean { HasCleanLog segment.now }
+    ensures event { IfOk result (λ stale. stale.call.event ≡ index) }
+    ensures is { IfOk result (IsStaleTouch first.now.space segment.now) }
+{
+    let call = call_at(segment, index);
+    let Some(reply) = reply_to(segment, index) else {
+        unreachable!()
+    };
+    let address = asked_address(call.request);
+    let tables = segment.layout().tables();
+    let space = copy(alloc, tables, first)?;
+    let window = window_of(segment, space, address, index, reply.event)?;
+    let again = copy(alloc, tables, first)?;
+    let looks = looks_in(alloc, segment, again, address, window)?;
+    Ok(StaleTouch {
+        call,
+        reply,
+        first: window.first,
+        last: window.last,
+        looks,
+    })
+}

@@ -1,4 +1,0 @@
-pub mod Joining
-pub mod Taking
-pub mod OneText
-pub mod Texts

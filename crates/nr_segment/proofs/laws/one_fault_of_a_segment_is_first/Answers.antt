@@ -1,5 +1,0 @@
-use Rattle.nr_segment.proofs.FirstFaults.{one_first_after}
-use Rattle.nr_segment.proofs.laws.one_fault_of_a_segment_is_first.Goals as goal
-
-pub returns : goal.returns
-returns c = one_first_after
