@@ -11,7 +11,10 @@
 #include "slots.h"
 #include "updates.h"
 
-static uint64_t changes, made[CHANGERS];
+enum { BETWEEN_STALLS = 20 };
+
+static uint64_t changes, stalls, made[CHANGERS];
+static int is_seen; /* a mistake, in a stall, and so in what was recorded */
 static uint32_t accesses_left[CHANGERS];
 _Noreturn void kernel(const char *line, const void *tables);
 
@@ -25,11 +28,15 @@ uint64_t processor_root(unsigned processor)
 	return node_target(node_of(processor))->root * 4096;
 }
 
-/* Of a changer a change between some accesses; of the others accesses alone. */
+/* Of a changer a change between some accesses; of the others accesses alone. One that is let while it is held makes the wished access. */
 void processor_turn(unsigned processor, uint64_t *seed)
 {
+	if (updates_wish.slot != 0) {
+		slots_access(updates_wish, 0, node_of(processor), processor, seed);
+		return;
+	}
 	if (processor >= CHANGERS || accesses_left[processor]-- > 0 || made[processor] >= changes) {
-		slots_access(0, node_of(processor), processor, seed);
+		slots_access(slots_draw(seed), 0, node_of(processor), processor, seed);
 		return;
 	}
 	accesses_left[processor] = (uint32_t)draw(seed, 48);
@@ -37,25 +44,42 @@ void processor_turn(unsigned processor, uint64_t *seed)
 	__atomic_fetch_add(&made[processor], 1, __ATOMIC_SEQ_CST);
 }
 
+/* There are some accesses for each change, at least. Of a mistake that was seen, few changes are enough. */
 static int is_over(void)
 {
+	if (!is_planted(PLANT_NONE) && (is_seen || updates_wrong() > 0))
+		return 1;
+	if (slots_accesses() < 10 * changes)
+		return 0;
 	for (unsigned k = 0; k < CHANGERS; k++)
 		if (__atomic_load_n(&made[k], __ATOMIC_SEQ_CST) < changes)
 			return 0;
 	return 1;
 }
 
-/* The first processor takes its turns here. A segment ends while no processor makes a call or an access. */
+static void stall(uint64_t *seed)
+{
+	const uint64_t before = slots_recorded();
+	updates_stall(seed);
+	stalls++;
+	is_seen |= slots_recorded() > before;
+}
+
+/* The first processor takes its turns here. A segment ends, and nodes are made to lag, while no processor makes a call or an access. */
 static void work(void)
 {
 	uint64_t seed = 1;
 	while (!is_over()) {
+		const int is_full = record_is_full(), is_stall = stalls * BETWEEN_STALLS <= made[0];
+		if (is_full || is_stall)
+			processors_hold();
+		if (is_full)
+			updates_cut();
+		if (is_stall)
+			stall(&seed);
+		if (is_full || is_stall)
+			processors_release();
 		processor_turn(0, &seed);
-		if (!record_is_full())
-			continue;
-		processors_hold();
-		updates_cut();
-		processors_release();
 	}
 	processors_stop();
 }
@@ -85,8 +109,8 @@ _Noreturn void kernel(const char *line, const void *tables)
 	work();
 	updates_end();
 	nodes_say();
-	say("%u changes, %u updates, %u wrong answers, %u faults made again, %u waits for a full ring\n", CHANGERS * changes, nodes_completed(),
-	    updates_wrong(), nodes_again, nodes_held_up);
+	say("%u changes and %u stalls, %u updates, %u wrong answers, %u faults made again, %u waits for a full ring\n", CHANGERS * changes,
+	    stalls, nodes_completed(), updates_wrong(), nodes_again, nodes_held_up);
 	slots_say();
 	machine_leave(slots_differ() + slots_lost() + updates_wrong() == 0 ? LEAVE_PASSED : LEAVE_DIFFERS);
 }

@@ -202,6 +202,15 @@ void nodes_level(void)
 		bring(&homes[n], UINT64_MAX);
 }
 
+void nodes_forget(void)
+{
+	for (unsigned n = 0; n < firmware.nodes; n++) {
+		lock(&homes[n]);
+		processors_shoot_down(n, 0, 1);
+		unlock(&homes[n]);
+	}
+}
+
 /* ---- the nodes ---- */
 
 unsigned nodes_count(void)

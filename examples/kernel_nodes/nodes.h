@@ -38,8 +38,9 @@ nrvs_answer nodes_look(unsigned node, uint64_t address, uint64_t *at);
 /* How many updates are completed. */
 uint64_t nodes_completed(void);
 
-/* All nodes apply all entries. */
+/* All nodes apply all entries; no processor keeps a translation. */
 void nodes_level(void);
+void nodes_forget(void);
 
 /* How many accesses were made again after a fault, and how many times one waited for a node that held up its ring. */
 extern uint64_t nodes_again, nodes_held_up;

@@ -147,11 +147,9 @@ static void look_for_lost(struct slot *slot, uint64_t found, uint32_t written)
 /* What gives something, as a map, is answered as soon as it is in the log, and other nodes learn of it by a fault. What takes something
  * away is answered once each node is done with it.
  */
-static void change_own(unsigned processor, struct slot *slot, uint64_t *seed)
+static void change_to(unsigned processor, struct slot *slot, enum kind kind, struct state state)
 {
 	const struct state was = slot_state(slot);
-	const enum kind kind = draw_kind(slot, was, seed);
-	const struct state state = changed(was, kind, seed);
 	const uint32_t written = __atomic_load_n(&slot->written, __ATOMIC_SEQ_CST);
 	struct batch batch = { .processor = processor };
 	uint64_t found = 0;
@@ -167,6 +165,81 @@ static void change_own(unsigned processor, struct slot *slot, uint64_t *seed)
 	if (kind == UNMAP || kind == REMAP)
 		look_for_lost(slot, found, written);
 	reply(&batch);
+}
+
+static void change_own(unsigned processor, struct slot *slot, uint64_t *seed)
+{
+	const enum kind kind = draw_kind(slot, slot_state(slot), seed);
+	change_to(processor, slot, kind, changed(slot_state(slot), kind, seed));
+}
+
+/* ---- nodes that lag, by no chance: all is done by the first processor, and by those that it lets ---- */
+
+struct wish updates_wish;
+
+static void unmap(struct slot *slot)
+{
+	struct state state = slot_state(slot);
+	state.mapped = 0;
+	if (slot_state(slot).mapped)
+		change_to(0, slot, UNMAP, state);
+}
+
+static void map(struct slot *slot, uint64_t *seed)
+{
+	change_to(0, slot, MAP, (struct state){ .mapped = 1, .writable = 1, .which = (uint8_t)draw(seed, 2) });
+}
+
+/* Each other processor makes one access of a slot, which is recorded. */
+static void let_all(struct slot *slot, int is_write)
+{
+	updates_wish = (struct wish){ slot, is_write };
+	record_allow(1);
+	for (unsigned k = 1; k < PROCESSORS; k++)
+		processors_let(k);
+	updates_wish.slot = 0;
+}
+
+/* As many times at least as there are other nodes something was met; a mistake may be why it wasn't. */
+static void has_met(const char *what, uint64_t times)
+{
+	if (times + 1 < nodes_count() && is_planted(PLANT_NONE))
+		stop(what, times);
+}
+
+/* A map that each other node learns of by a fault; and an unmap that it has heard of when that is over. */
+static void lag_behind(struct slot *slot, int is_write, uint64_t *seed)
+{
+	uint64_t before;
+	unmap(slot);
+	nodes_level();
+	before = nodes_again;
+	map(slot, seed);
+	let_all(slot, is_write);
+	has_met("nodes learned of a map by a fault:", nodes_again - before);
+	unmap(slot);
+	let_all(slot, is_write);
+}
+
+/* As many updates as a ring has entries, of which the other nodes know nothing; so the next one finds no room. */
+static void fill_ring(struct slot *slot, uint64_t *seed)
+{
+	uint64_t before;
+	unmap(slot);
+	nodes_level();
+	before = nodes_held_up;
+	map(slot, seed);
+	unmap(slot);
+	has_met("waits for a full ring:", nodes_held_up - before);
+}
+
+/* Slots of the first changer, of one page and of 16. */
+void updates_stall(uint64_t *seed)
+{
+	nodes_forget();
+	lag_behind(&slots[4], 0, seed);
+	lag_behind(&slots[12], 1, seed);
+	fill_ring(&slots[0], seed);
 }
 
 /* ---- slots of both ---- */

@@ -14,6 +14,12 @@ void updates_begin(unsigned levels, int is_sent);
 /* One change of a changer, or one look at an address. */
 void updates_make(unsigned processor, uint64_t *seed);
 
+/* While the other processors are held, so that their nodes apply nothing by themselves: each is seen to learn of a map by a fault, and to
+ * have heard of an unmap once that is answered; and a full ring is met. Those accesses are made that are wished.
+ */
+void updates_stall(uint64_t *seed);
+extern struct wish updates_wish;
+
 /* Ends the segment, while no processor makes a call; and the chain, with the tables of each node. */
 void updates_cut(void);
 void updates_end(void);

@@ -29,7 +29,7 @@ uint64_t processor_root(unsigned processor)
 
 void processor_turn(unsigned processor, uint64_t *seed)
 {
-	slots_access(processor % SPACES, 0, processor, seed);
+	slots_access(slots_draw(seed), processor % SPACES, 0, processor, seed);
 }
 
 /* No fault is of a table that lags. */

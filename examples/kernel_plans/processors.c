@@ -19,7 +19,7 @@ _Noreturn void processor(unsigned number);
 _Noreturn void unexpected(uint64_t code, uint64_t rip, uint64_t address);
 void interrupted(void);
 
-static uint32_t stopped, holding, held;
+static uint32_t stopped, holding, held, let[PROCESSORS];
 static struct { uint16_t low, selector; uint8_t stack, type; uint16_t middle; uint32_t high, zero; } gates[256];
 
 static volatile uint32_t *local(unsigned at)
@@ -73,6 +73,17 @@ int processors_run(void)
 	return __atomic_load_n(&processors, __ATOMIC_SEQ_CST) == PROCESSORS;
 }
 
+static void wait_held(unsigned number, uint64_t *seed)
+{
+	while (__atomic_load_n(&holding, __ATOMIC_SEQ_CST)) {
+		processors_pause();
+		if (!__atomic_load_n(&let[number], __ATOMIC_SEQ_CST))
+			continue;
+		processor_turn(number, seed);
+		__atomic_store_n(&let[number], 0, __ATOMIC_SEQ_CST);
+	}
+}
+
 _Noreturn void processor(unsigned number)
 {
 	uint64_t seed = 1000 + number;
@@ -86,8 +97,7 @@ _Noreturn void processor(unsigned number)
 			continue;
 		}
 		__atomic_fetch_add(&held, 1, __ATOMIC_SEQ_CST);
-		while (__atomic_load_n(&holding, __ATOMIC_SEQ_CST))
-			processors_pause();
+		wait_held(number, &seed);
 		__atomic_fetch_sub(&held, 1, __ATOMIC_SEQ_CST);
 	}
 	__atomic_fetch_add(&held, 1, __ATOMIC_SEQ_CST);
@@ -107,9 +117,15 @@ void processors_hold(void)
 	wait_for(&held, PROCESSORS - 1);
 }
 
+void processors_let(unsigned processor)
+{
+	__atomic_store_n(&let[processor], 1, __ATOMIC_SEQ_CST);
+	wait_for(&let[processor], 0);
+}
+
 int processors_are_held(void)
 {
-	return (int)__atomic_load_n(&holding, __ATOMIC_SEQ_CST);
+	return __atomic_load_n(&holding, __ATOMIC_SEQ_CST) || __atomic_load_n(&stopped, __ATOMIC_SEQ_CST);
 }
 
 void processors_release(void)

@@ -29,8 +29,9 @@ void processors_shoot_down(unsigned group, uint64_t base, int all);
 /* Waits a little, and answers a shootdown: wherever one waits for another, interrupts may be off. */
 void processors_pause(void);
 
-/* The others take no turn until they are released; whether they are to be held. */
+/* The others take no turn until they are released, but one at a time that is let; whether they are to be held, now or for good. */
 void processors_hold(void);
+void processors_let(unsigned processor);
 void processors_release(void);
 int processors_are_held(void);
 

@@ -149,16 +149,16 @@ static void make(struct access *access, struct slot *slot)
 	__asm__ volatile("sti" : : : "memory");
 }
 
-/* Half of the accesses are of the slot that was changed last. */
-static struct slot *draw_slot(uint64_t *seed)
+struct wish slots_draw(uint64_t *seed)
 {
-	return draw(seed, 2) ? __atomic_load_n(&changed_last, __ATOMIC_SEQ_CST) : &slots[draw(seed, SLOTS)];
+	struct slot *slot = draw(seed, 2) ? __atomic_load_n(&changed_last, __ATOMIC_SEQ_CST) : &slots[draw(seed, SLOTS)];
+	return (struct wish){ slot, draw(seed, 2) != 0 };
 }
 
-void slots_access(unsigned space, unsigned copy, unsigned processor, uint64_t *seed)
+void slots_access(struct wish wish, unsigned space, unsigned copy, unsigned processor, uint64_t *seed)
 {
-	struct slot *slot = draw_slot(seed);
-	struct access access = { .slot = slot, .is_write = draw(seed, 2) != 0 };
+	struct slot *slot = wish.slot;
+	struct access access = { .slot = slot, .is_write = wish.is_write };
 	uint64_t from;
 	uint32_t call;
 	unsigned which;

@@ -59,10 +59,18 @@ struct state slot_state(const struct slot *slot);
 void slot_begins(struct slot *slot, struct state state);
 void slot_ends(struct slot *slot);
 
+/* What an access is of. Half of those that are drawn are of the slot that was changed last. */
+struct wish {
+	struct slot *slot;
+	int is_write;
+};
+
+struct wish slots_draw(uint64_t *seed);
+
 /* One access of a processor in an address space, or in a copy of it, compared with what the pages were and are. The chain has the space's
  * number.
  */
-void slots_access(unsigned space, unsigned copy, unsigned processor, uint64_t *seed);
+void slots_access(struct wish wish, unsigned space, unsigned copy, unsigned processor, uint64_t *seed);
 
 /* A dirty flag is lost. */
 void slots_lose(void);

@@ -23,10 +23,10 @@ from workloads import WITHOUT_TICKS
 PROCESSORS = 3
 TICK = 50               # microseconds, as for workloads
 UPDATES = 1000          # in a segment
-PATIENCE = 300          # seconds that a run may take: threads may wait for ever for what they don't see
+PATIENCE = 600          # seconds that a run may take: threads may wait for ever for what they don't see
 MINUTE = 60             # seconds after which a program's process is ended
 MEMORY = 2048           # MiB, for programs
-TRIES = 3
+TRIES = 8
 AGAIN = re.compile("^@marked [0-9]+ [0-9a-f]+ 5$")
 WRONG = re.compile("^WRONG|BUG:|Bad page|segfault|Oops", re.M)
 

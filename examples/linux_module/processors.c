@@ -154,7 +154,7 @@ void processors_release(void)
 
 void processors_wait(unsigned long accesses)
 {
-	const unsigned long until = slots_counts().accesses + accesses, end = jiffies + HZ;
+	const unsigned long until = slots_counts().accesses + accesses, end = jiffies + 60 * HZ;
 	while (thread_count && slots_counts().accesses < until && time_before(jiffies, end))
 		cond_resched();
 }

@@ -12,7 +12,7 @@ void processors_end(void);
 void processors_hold(void);
 void processors_release(void);
 
-/* Waits until the processors have made so many accesses more, a second at most. */
+/* Waits until the processors have made so many accesses more, a minute at most. */
 void processors_wait(unsigned long accesses);
 
 /* What an access comes to on this processor: 0, or 1 + the error code of its page fault. Interrupts are off. */

@@ -1,10 +1,11 @@
 /* An address space on several nodes: each has a page table of nrvs.h in frames of its own, and changes all tables through one log. Threads
  * map, unmap and protect drawn pages, and translate addresses; the run is recorded, and its trace written to standard output.
- * space THREADS NODES CALLS SEED [SLIP]: a mistake that the trace must show: no-sync, a read that takes its node as it is; twice, the last
- * node applies each eighth entry twice; lost, it does not apply the last entry
+ * space THREADS NODES CALLS SEED [SLIP]: a mistake that the trace must show, and that is met at the end at the latest: no-sync, a read that
+ * takes its node as it is; twice, the last node applies each eighth entry twice, and an unmap of its own; lost, it does not apply the last
+ * entry
  * space drawn SEED: 2 to 64 threads on 1 to 8 nodes, on 1 to all of the processors, where threads stop for a moment while they apply entries
  * and after they have loaded what is completed. A trace has four tables at most: node n is its replica n % 4. The first four nodes are
- * dumped, and each other one has to answer as they do. Status 3 after a minute.
+ * dumped, and each other one has to answer as they do. Status 3 after ten minutes.
  */
 #define _GNU_SOURCE
 #include <nrvs.h>
@@ -20,7 +21,7 @@
 #include <unistd.h>
 
 enum { MOST_THREADS = 64, MOST_BATCH = 3, MOST_NODES = 8, FRAMES = 13, LEVELS = 4, EVENTS = NRVS_MAX_EVENTS, PLACES = NRVS_MAX_PLACES };
-enum { KEPT = 0x1000, NAMES = NRVS_MAX_THREADS };
+enum { KEPT = 0x1000, OWN = 0x2000, NAMES = NRVS_MAX_THREADS };
 
 /* A node: its lock and machine, and its page table. */
 struct home {
@@ -143,7 +144,7 @@ static struct nrvs_node_reply apply(void *context, const struct nrvs_node_update
 	pause_now_and_then(&home->drawn);
 	if (!(is_last && strcmp(slip, "lost") == 0 && what.kind == NRVS_KIND_UNMAP && what.address == KEPT))
 		reply = change(home, what);
-	if (is_last && strcmp(slip, "twice") == 0 && place % 8 == 0)
+	if (is_last && strcmp(slip, "twice") == 0 && (place % 8 == 0 || what.address == OWN))
 		reply = change(home, what);
 	return packed_answer(&reply, place);
 }
@@ -343,7 +344,7 @@ static void draw_run(const char *word)
 	for (uint64_t i = 0, most = 1 + draw(&drawn, 4); i < most; i++)
 		CPU_SET(i, &processors);
 	sched_setaffinity(0, sizeof processors, &processors);
-	alarm(60);
+	alarm(600);
 }
 
 static void hangs(int signal)
@@ -378,11 +379,14 @@ int main(int count, char **args)
 	read_words(count, args);
 	begin();
 	update(0, (nrvs_request[]){ nrvs_map(KEPT, NRVS_4K, KEPT, NRVS_WRITE) }, 1);
+	update(0, (nrvs_request[]){ nrvs_map(OWN, NRVS_4K, OWN, NRVS_WRITE) }, 1);
 	for (unsigned t = 0; t < threads; t++)
 		if (pthread_create(&thread[t], NULL, work, (void *)(uintptr_t)t) != 0)
 			fail("no thread");
 	for (unsigned t = 0; t < threads; t++)
 		pthread_join(thread[t], NULL);
+	if (strcmp(slip, "twice") == 0)
+		update(nodes - 1, (nrvs_request[]){ nrvs_unmap(OWN) }, 1);
 	/* each node reads what the first has just changed */
 	update(0, (nrvs_request[]){ draw_update(&drawn) }, 1);
 	for (unsigned n = 0; n < nodes; n++)

@@ -179,10 +179,10 @@ static void work(void)
 	_exit(0);
 }
 
-/* Waits, 20 seconds at the most. */
+/* Waits, for minutes at the most. */
 static void wait_until(bool (*holds)(void), const char *why)
 {
-	for (unsigned i = 0; i < 20000 && !holds() && !all->wrong; i++)
+	for (unsigned i = 0; i < 200000 && !holds() && !all->wrong; i++)
 		nanosleep(&(struct timespec){ 0, 1000000 }, NULL);
 	if (!holds() || all->wrong)
 		fail(why);
