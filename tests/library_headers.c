@@ -95,6 +95,10 @@ VALUE(NRVS_BAD_PART, 18);
 VALUE(NRVS_PLANNED, 0);
 VALUE(NRVS_SEE, 32);
 VALUE(NRVS_GIVE, 33);
+VALUE(NRVS_RUN, 34);
+VALUE(NRVS_HARVEST, 35);
+VALUE(NRVS_ABSENT, 36);
+VALUE(NRVS_ENDS_BEYOND, 37);
 
 /* The audit: `verdict_status`; faults and formats: `fault_numbers`, `format_numbers` of crates/nrvs_audit_c/specs/Numbers.antt. */
 VALUE(NRVS_RIGHT, 0);

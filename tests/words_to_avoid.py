@@ -1,6 +1,7 @@
 #!/usr/bin/env python3
-"""Counts the words that CONTRIBUTING.md asks to avoid, in the docs and in the comments of all else that is written here; and in README.md
-and docs/RECORDING.md the sentences of more than 30 words. Code is none of these: what is in backquotes, and blocks of it.
+"""Counts the words of words_to_avoid.txt, in the docs and in the comments of all else that is written here; and sentences that are too
+long: of more than 30 words in README.md and docs/RECORDING.md, of more than 35 in the other pages for readers, and of more than 25 on
+average in any page. Code is none of these: what is in backquotes, and blocks of it.
 
 Prints each place, and ends with how many files have none and how many have some.
 """
@@ -13,17 +14,16 @@ import tokenize
 from pathlib import Path
 
 ROOT = Path(__file__).resolve().parent.parent
-TABLE = "## Words to avoid"
-SHORT = ("README.md", "docs/RECORDING.md")
-MOST_WORDS = 30
-DATA = re.compile(r"^(tests/cases|tests/chains|examples/linux/kept|HANDLES)|\.(xz|png|trace|chain|script|expected|edit)$|/(stdin|stdout|args)$|^LICENSE")
+MOST_WORDS = {"README.md": 30, "docs/RECORDING.md": 30, "CHANGELOG.md": 35, "CONTRIBUTING.md": 35, "docs/CHECKING.md": 35, "docs/COMPARED.md": 35,
+              "docs/DECISIONS.md": 35}
+AVERAGE = 25
+DATA = re.compile(r"^(tests/words_to_avoid.txt|tests/cases|tests/chains|examples/linux/kept|HANDLES)|\.(xz|png|trace|chain|script|expected|edit)$|/(stdin|stdout|args)$|^LICENSE")
 
 
 def words_to_avoid():
-    """The words in backquotes of the first column of the table, as one expression."""
-    section = (ROOT / "CONTRIBUTING.md").read_text().partition(TABLE)[2].partition("\n## ")[0]
-    first = [line.split("|")[1] for line in section.splitlines() if line.startswith("| ")]
-    words = [word for cell in first for word in re.findall(r"`([^`]+)`", cell)]
+    """The words in front of the colon of each line, as one expression."""
+    lines = (ROOT / "tests/words_to_avoid.txt").read_text().splitlines()
+    words = [word for line in lines if not line.startswith("#") for word in line.partition(":")[0].split(", ")]
     return re.compile(r"\b(" + "|".join(r"\s+".join(map(re.escape, word.split())) for word in words) + r")\b", re.I)
 
 
@@ -100,12 +100,15 @@ def sentences(text):
 
 
 def too_long(name, text):
-    """The sentences of a page that have too many words. A link counts as its text, a piece of code as one word."""
+    """The sentences of a page that have too many words, and their average. A link counts as its text, a piece of code as one word."""
     text = re.sub(r"\[([^\]]*)\]\([^)]*\)", r"\1", text)
+    counts = []
     for at, sentence in sentences(text):
-        count = len(re.findall(r"[^\s]*[\w`][^\s]*", sentence))
-        if count > MOST_WORDS:
-            yield f"{name}:{at} has a sentence of {count} words: {' '.join(sentence.split())[:60]}.."
+        counts.append(len(re.findall(r"[^\s]*[\w`][^\s]*", sentence)))
+        if counts[-1] > MOST_WORDS.get(name, 1000):
+            yield f"{name}:{at} has a sentence of {counts[-1]} words: {' '.join(sentence.split())[:60]}.."
+    if counts and sum(counts) > AVERAGE * len(counts):
+        yield f"{name} has {sum(counts) / len(counts):.1f} words a sentence"
 
 
 def main():
@@ -116,9 +119,9 @@ def main():
         if DATA.search(name):
             continue
         text = (ROOT / name).read_text()
-        said = read(name, text.partition(TABLE)[0] if name == "CONTRIBUTING.md" else text)
+        said = read(name, text)
         wrong = [f"{name}:{said.count(chr(10), 0, it.start()) + 1} says {' '.join(it[0].split())}" for it in avoid.finditer(said)]
-        if name in SHORT:
+        if name.endswith(".md"):
             wrong += too_long(name, said)
         for line in wrong:
             print(line)
