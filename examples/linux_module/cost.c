@@ -8,6 +8,7 @@
 #include <linux/sched.h>
 #include <linux/vmalloc.h>
 
+#include "range.h"
 #include "space.h"
 
 #define FIRST UINT64_C(0x380000000000)
@@ -59,6 +60,29 @@ static void by_direct_map(struct page **pages, struct spent *spent)
 	spent->unmaps += since(from);
 }
 
+static void carry_out_range(enum range_kind kind, struct page **pages)
+{
+	static struct stretch range;
+	range_begin(&range, kind, FIRST, PAGES * PAGE_SIZE);
+	range.physical = page_to_phys(pages[0]);
+	range.rights = NRVS_WRITE;
+	while (range_next(&range))
+		;
+	if (range.bytes)
+		panic("nrvs_space: a range is refused");
+	range_free(&range);
+}
+
+static void by_ranges(struct page **pages, struct spent *spent)
+{
+	uint64_t from = ktime_get_ns();
+	carry_out_range(RANGE_MAP, pages);
+	spent->maps += since(from);
+	from = ktime_get_ns();
+	carry_out_range(RANGE_UNMAP, pages);
+	spent->unmaps += since(from);
+}
+
 static int by_vmap(struct page **pages, struct spent *spent)
 {
 	uint64_t from = ktime_get_ns();
@@ -74,27 +98,25 @@ static int by_vmap(struct page **pages, struct spent *spent)
 
 int cost(unsigned rounds)
 {
-	struct page **pages = kcalloc(PAGES, sizeof(*pages), GFP_KERNEL);
-	struct spent plans = { 0 }, direct = { 0 }, vmaps = { 0 };
+	struct page **pages = kcalloc(PAGES, sizeof(*pages), GFP_KERNEL), *first = alloc_pages(GFP_KERNEL, 9);
+	struct spent plans = { 0 }, direct = { 0 }, ranges = { 0 }, vmaps = { 0 };
 	const uint64_t count = (uint64_t)rounds * PAGES;
-	int status = pages ? 0 : -ENOMEM;
-	for (unsigned k = 0; !status && k < PAGES; k++) {
-		pages[k] = alloc_page(GFP_KERNEL);
-		status = pages[k] ? 0 : -ENOMEM;
-	}
+	int status = pages && first ? 0 : -ENOMEM;
+	for (unsigned k = 0; !status && k < PAGES; k++)
+		pages[k] = first + k;
 	for (unsigned k = 0; !status && k < rounds; k++) {
 		by_plans(pages, &plans);
 		by_direct_map(pages, &direct);
+		by_ranges(pages, &ranges);
 		status = by_vmap(pages, &vmaps);
 		cond_resched();
 	}
 	if (!status && rounds)
-		pr_info("nrvs_space: ns a page, map and unmap: plans %llu and %llu, direct map %llu and %llu, vmap %llu and %llu\n",
-			plans.maps / count, plans.unmaps / count, direct.maps / count, direct.unmaps / count, vmaps.maps / count,
-			vmaps.unmaps / count);
-	for (unsigned k = 0; pages && k < PAGES; k++)
-		if (pages[k])
-			__free_page(pages[k]);
+		pr_info("nrvs_space: ns a page, map and unmap: plans %llu and %llu, direct map %llu and %llu, ranges %llu and %llu, "
+			"vmap %llu and %llu\n", plans.maps / count, plans.unmaps / count, direct.maps / count, direct.unmaps / count,
+			ranges.maps / count, ranges.unmaps / count, vmaps.maps / count, vmaps.unmaps / count);
+	if (first)
+		__free_pages(first, 9);
 	kfree(pages);
 	return status;
 }

@@ -25,7 +25,7 @@ MODULE_PARM_DESC(changes, "of pages, while the other processors access them");
 module_param(calls, ulong, 0444);
 MODULE_PARM_DESC(calls, "beside a list of pages, while nobody accesses them");
 module_param(rounds, uint, 0444);
-MODULE_PARM_DESC(rounds, "of 512 pages by plans and by vmap, whose times are printed");
+MODULE_PARM_DESC(rounds, "of 512 pages by plans, by ranges and by vmap, whose times are printed");
 module_param(port, uint, 0444);
 MODULE_PARM_DESC(port, "an I/O port by which the chain leaves");
 module_param(plant, uint, 0444);
@@ -48,6 +48,7 @@ static void say(struct slots_counts all)
 {
 	pr_info("nrvs_space: maps %lu unmaps %lu protects %lu remaps %lu splits %lu joins %lu, flags cleared %lu\n", all.changes[0],
 		all.changes[1], all.changes[2], all.changes[3], all.changes[4], all.changes[5], all.changes[6]);
+	pr_info("nrvs_space: %lu changes of ranges; in all %lu runs of %lu pages\n", all.ranges, space_counts.runs, space_counts.run_pages);
 	pr_info("nrvs_space: %lu sees, %lu gives, %lu fills, %lu stores, %lu flags met, %lu tables unlinked\n", space_counts.sees,
 		space_counts.gives, space_counts.fills, space_counts.stores, space_counts.flags_met, space_counts.unlinked);
 	pr_info("nrvs_space: %lu shootdowns, %llu ns each\n", space_counts.shootdowns,
@@ -56,11 +57,15 @@ static void say(struct slots_counts all)
 		all.faults, all.differ, all.lost, all.wrong);
 }
 
-/* Of a planted mistake that was seen, also in what was recorded, few changes are enough. */
+/* Of a planted mistake that was seen, also in what was recorded, few changes are enough. What is recorded of a page that isn't there are
+ * accesses alone.
+ */
 static bool is_enough(void)
 {
 	const struct slots_counts all = slots_counts();
-	return !is_planted(PLANT_NONE) && (all.recorded > 8 || all.lost || all.wrong);
+	if (is_planted(PLANT_NONE))
+		return false;
+	return all.recorded > 8 || ((all.lost || all.wrong) && !is_planted(PLANT_TOO_LONG));
 }
 
 static int change_pages(void)

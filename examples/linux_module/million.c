@@ -6,11 +6,12 @@
 #include <linux/sched.h>
 #include <linux/vmalloc.h>
 
+#include "range.h"
 #include "space.h"
 
 #define FIRST UINT64_C(0x300000000000)
 
-enum { PAGES = 1 << 16, LARGE = 512, NOBODY = -1 };
+enum { PAGES = 1 << 16, LARGE = 512, NOBODY = -1, OF_RANGE = 64, LONGEST = 1024 };
 enum kind { MAP, UNMAP, PROTECT, REMAP, SPLIT, JOIN, ASK, KINDS };
 
 /* The pages of 256 MiB, by 4 KiB each: which page covers it, by its first, and what that page is. */
@@ -234,6 +235,84 @@ static long unmap_all(struct model *model)
 	return wrong;
 }
 
+/* ---- ranges: what comes of one is what the list answers page by page ---- */
+
+static struct stretch range;
+static unsigned long range_pages;
+
+static unsigned page_at(uint64_t address)
+{
+	return (address - FIRST) >> PAGE_SHIFT;
+}
+
+/* Whether the list answers each page of a run as a plan for it alone is answered where it is done. */
+static bool is_run_right(struct model *model, struct call *call)
+{
+	for (uint64_t k = 0; k < range.run.count; k++) {
+		const uint64_t behind = k * pages_of(range.run.size);
+		const unsigned page = page_at(range.at) + behind;
+		const int first = model->first[page];
+		const bool is_listed = call->kind == MAP ? first == NOBODY : first == page && model->size[page] == range.run.size;
+		struct call one = { call->kind, page, range.run.size, call->rights, call->physical + (behind << PAGE_SHIFT) };
+		const struct nrvs_reply reply = list_answers(model, &one);
+		if (!is_listed || reply.code != (call->kind == MAP ? NRVS_DONE : call->kind == UNMAP ? NRVS_REMOVED : NRVS_CHANGED))
+			return false;
+	}
+	range_pages += range.run.count;
+	return true;
+}
+
+static bool is_absent(const struct model *model)
+{
+	for (unsigned k = 0; k < range.covered >> PAGE_SHIFT; k++)
+		if (model->first[page_at(range.at) + k] != NOBODY)
+			return false;
+	return true;
+}
+
+/* What a step says, of the pages from its base on; the call's page is the one there. */
+static bool is_step_right(struct model *model, struct call *call)
+{
+	const unsigned page = call->page = page_at(range.at);
+	struct nrvs_reply wanted;
+	switch (range.step) {
+	case NRVS_RUN:
+		return is_run_right(model, call);
+	case NRVS_ABSENT:
+		return is_absent(model);
+	case NRVS_ENDS_BEYOND:
+		return model->first[page] == page && model->size[page] == range.run.size &&
+		       (uint64_t)pages_of(range.run.size) << PAGE_SHIFT > range.bytes;
+	case NRVS_PLANNED:
+		wanted = list_answers(model, call);
+		return is_same(range.run.plan.reply, wanted);
+	default:
+		return false;
+	}
+}
+
+/* A map, an unmap or a protect of some pages. Where a step isn't done, the range ends, and the list says so too. */
+static bool is_range_right(struct model *model, struct call call, unsigned pages)
+{
+	const unsigned most = (PAGES - call.page) / pages_of(call.size), count = pages < most ? pages : most;
+	bool is_right = true, goes_on = true;
+	range_begin(&range, call.kind == MAP ? RANGE_MAP : call.kind == UNMAP ? RANGE_UNMAP : RANGE_PROTECT, address_of(call.page),
+		    (uint64_t)count * pages_of(call.size) << PAGE_SHIFT);
+	range.size = call.size;
+	range.rights = call.rights;
+	range.physical = call.physical;
+	while (is_right && goes_on && range.bytes) {
+		call.physical = range.physical;
+		goes_on = range_next(&range);
+		is_right = is_step_right(model, &call);
+	}
+	range_free(&range);
+	if (!is_right)
+		pr_err_once("nrvs_space: range %u at %llx, size %u, %llx bytes: step %u at %llx is answered %u\n", call.kind, range.base,
+			    call.size, range.bytes, range.step, range.at, range.run.plan.reply.code);
+	return is_right;
+}
+
 /* ---- a table without entries ---- */
 
 static bool is_done(struct nrvs_plan *plan, uint32_t step)
@@ -279,12 +358,13 @@ long million(unsigned long calls)
 	from = ktime_get_ns();
 	for (unsigned long k = 0; k < calls; k++) {
 		const struct call call = draw(&random);
-		wrong += !is_right(model, &call);
+		const bool is_range = prandom_u32_state(&random) % OF_RANGE == 0 && call.kind <= PROTECT;
+		wrong += !(is_range ? is_range_right(model, call, 1 + prandom_u32_state(&random) % LONGEST) : is_right(model, &call));
 		if (k % 4096 == 0)
 			cond_resched();
 	}
-	pr_info("nrvs_space: %lu calls, %llu ns a call, %ld wrong; %lu splits, %lu joins\n", calls,
-		(ktime_get_ns() - from) / (calls ? calls : 1), wrong, done[SPLIT], done[JOIN]);
+	pr_info("nrvs_space: %lu calls, %llu ns a call, %ld wrong; %lu splits, %lu joins, %lu pages in runs\n", calls,
+		(ktime_get_ns() - from) / (calls ? calls : 1), wrong, done[SPLIT], done[JOIN], range_pages);
 	wrong += unmap_all(model) + !is_pruned();
 	vfree(model);
 	return wrong;

@@ -15,7 +15,7 @@
 #include "slots.h"
 #include "space.h"
 
-enum { TOGETHER = 16, BATCH = 4096 };
+enum { TOGETHER = 16, BATCH = 4096, LONGEST = 300 /* seconds */ };
 
 static struct task_struct *threads[NR_CPUS];
 static unsigned thread_count;
@@ -140,9 +140,13 @@ void processors_end(void)
 
 void processors_hold(void)
 {
+	const unsigned long end = jiffies + LONGEST * HZ;
 	WRITE_ONCE(is_held, true);
-	while (atomic_read(&parked) < thread_count)
+	while (atomic_read(&parked) < thread_count) {
+		if (time_after(jiffies, end))
+			panic("nrvs_space: a processor has made no access for some minutes");
 		cond_resched();
+	}
 }
 
 void processors_release(void)
@@ -152,9 +156,10 @@ void processors_release(void)
 		cpu_relax();
 }
 
-void processors_wait(unsigned long accesses)
+void processors_go_on(unsigned long accesses)
 {
 	const unsigned long until = slots_counts().accesses + accesses, end = jiffies + 60 * HZ;
+	processors_release();
 	while (thread_count && slots_counts().accesses < until && time_before(jiffies, end))
 		cond_resched();
 }

@@ -8,12 +8,12 @@
 unsigned processors_begin(void);
 void processors_end(void);
 
-/* From the first to the second no processor makes an access. */
+/* From the first to the second no processor makes an access. The second does nothing where none is held. */
 void processors_hold(void);
 void processors_release(void);
 
-/* Waits until the processors have made so many accesses more, a minute at most. */
-void processors_wait(unsigned long accesses);
+/* Releases the processors, and waits until they have made so many accesses more, a minute at most. */
+void processors_go_on(unsigned long accesses);
 
 /* What an access comes to on this processor: 0, or 1 + the error code of its page fault. Interrupts are off. */
 unsigned long processor_read(const uint64_t *at, uint64_t *word);

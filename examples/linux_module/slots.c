@@ -2,43 +2,25 @@
 
 #include <linux/gfp.h>
 #include <linux/mm.h>
-#include <linux/percpu.h>
 #include <linux/printk.h>
 #include <asm/cpufeature.h>
 
 #include "plant.h"
 #include "processors.h"
+#include "range.h"
 #include "record.h"
+#include "slot.h"
 #include "space.h"
 
 #define FIRST UINT64_C(0x100000000000)
 
-#define NONE U64_MAX /* no frame */
-
-enum { HISTORY = 64, DATA = 64, OFTEN = 64, DIRTY = 0x40 };
+enum { DATA = 64, OFTEN = 64, DIRTY = 0x40 };
 enum kind { MAP, UNMAP, PROTECT, REMAP, SPLIT, JOIN, CLEAR };
 
-struct state {
-	uint64_t frame; /* the first that the page leads to; NONE: no page */
-	uint8_t rights;
-	bool in_parts;
-};
-
-/* Where a page may be, and all that it was: state `next` is there once the change under way is done, and none before `done` is left. */
-struct slot {
-	uint64_t base;
-	unsigned size;
-	struct state was[HISTORY];
-	unsigned long next, done;
-	bool is_written; /* since its dirty flag was cleared */
-};
-
-static struct slot slots[SLOTS];
+struct slot slots[SLOTS];
+static bool written[RANGE_SLOTS][PARTS];
 static struct page *pages[DATA], *large[LARGE_SLOTS];
 static struct slots_counts counts;
-static DEFINE_PER_CPU(unsigned long, accesses);
-static DEFINE_PER_CPU(unsigned long, faults);
-static atomic_long_t differ, recorded;
 
 /* ---- what slots lead to ---- */
 
@@ -72,10 +54,22 @@ static int take_pages(void)
 	return 0;
 }
 
-/* Pages of 4 KiB that follow one another, in some tables; large pages, and one of 1 GiB. */
+/* Of a range the pages are small, and one range follows another. */
+static struct slot range_at(unsigned k)
+{
+	struct slot slot = { .was[0].frame = NONE, .size = NRVS_2M, .written = written[k] };
+	slot.base = FIRST + (UINT64_C(4) << 39) + ((uint64_t)(PARTS / 2 + k * PARTS) << PAGE_SHIFT);
+	memset(slot.written, 0, sizeof(written[k]));
+	return slot;
+}
+
+/* Pages of 4 KiB that follow one another, in some tables; large pages, and one of 1 GiB; ranges. */
 static struct slot slot_at(unsigned k)
 {
-	struct slot slot = { .was[0].frame = NONE, .size = k < SMALL_SLOTS ? NRVS_4K : k < SLOTS - 1 ? NRVS_2M : NRVS_1G };
+	const unsigned huge = SMALL_SLOTS + LARGE_SLOTS;
+	struct slot slot = { .was[0].frame = NONE, .size = k < SMALL_SLOTS ? NRVS_4K : k < huge ? NRVS_2M : NRVS_1G };
+	if (k > huge)
+		return range_at(k - huge - 1);
 	if (slot.size == NRVS_4K)
 		slot.base = FIRST + ((uint64_t)(k / 4 % 2) << 39) + ((uint64_t)(k / 8 % 2) << 30) + ((uint64_t)(k / 16) << 21) + (k % 4 << 12);
 	else
@@ -88,8 +82,7 @@ static struct slot slot_at(unsigned k)
 int slots_begin(void)
 {
 	memset(&counts, 0, sizeof(counts));
-	atomic_long_set(&differ, 0);
-	atomic_long_set(&recorded, 0);
+	accesses_begin();
 	for (unsigned k = 0; k < SLOTS; k++)
 		slots[k] = slot_at(k);
 	return take_pages();
@@ -115,10 +108,12 @@ static uint64_t draw_frame(const struct slot *slot, struct rnd_state *random)
 	return page_to_pfn(pages[prandom_u32_state(random) % DATA]);
 }
 
-/* A part of the slot's page, in frames from its base on, at which a frame of data lies, wherever the page leads. */
-static uint64_t draw_part(const struct slot *slot, struct rnd_state *random)
+/* Of a range the first page often, behind which another range ends. */
+uint64_t slot_part(const struct slot *slot, struct rnd_state *random)
 {
 	const uint64_t part = prandom_u32_state(random) % PARTS;
+	if (slot->written && prandom_u32_state(random) % 4 == 0)
+		return 0;
 	if (slot->size == NRVS_1G)
 		return (page_to_pfn(large[0]) + part) % frames_of(NRVS_1G);
 	return slot->size == NRVS_2M ? part : 0;
@@ -141,8 +136,8 @@ static void record_pages(const struct slot *slot, struct state state, bool is_ma
 
 static void record_change(const struct slot *slot, enum kind kind, struct state was, struct state is)
 {
-	if (kind == PROTECT)
-		record_update(nrvs_protect(slot->base, is.rights), nrvs_changed(was.rights));
+	for (unsigned k = 0; kind == PROTECT && k < (is.in_parts ? PARTS : 1); k++)
+		record_update(nrvs_protect(slot->base + k * PAGE_SIZE, is.rights), nrvs_changed(was.rights));
 	if (was.frame != NONE && kind != PROTECT)
 		record_pages(slot, was, false);
 	if (is.frame != NONE && kind != PROTECT)
@@ -154,8 +149,11 @@ static void record_change(const struct slot *slot, enum kind kind, struct state 
 static enum kind draw_kind(const struct slot *slot, struct state state, struct rnd_state *random)
 {
 	static const enum kind kinds[] = { UNMAP, UNMAP, UNMAP, PROTECT, PROTECT, PROTECT, REMAP, REMAP, REMAP, CLEAR, CLEAR, CLEAR };
+	static const enum kind of_ranges[] = { UNMAP, PROTECT, CLEAR };
 	if (state.frame == NONE)
 		return MAP;
+	if (slot->written)
+		return of_ranges[prandom_u32_state(random) % ARRAY_SIZE(of_ranges)];
 	if (state.in_parts)
 		return JOIN;
 	if (slot->size != NRVS_4K && prandom_u32_state(random) % 8 == 0)
@@ -171,7 +169,7 @@ static struct state changed(const struct slot *slot, struct state state, enum ki
 		state.rights = prandom_u32_state(random) & 7;
 	if (kind == UNMAP)
 		state = (struct state){ NONE, 0, false };
-	state.in_parts = kind == SPLIT;
+	state.in_parts = kind == SPLIT || (slot->written && kind != UNMAP);
 	return state;
 }
 
@@ -223,26 +221,39 @@ static void look_for_lost(const struct slot *slot, enum kind kind, const struct 
 		counts.lost += was_written && !are_dirty(plan->fill.frame);
 }
 
-/* The change is over: no access may find what was before it, and the tables that were unlinked are free. */
-static void end(struct slot *slot, const struct nrvs_plan *plan)
+/* The change is over: no access may find what was before it. */
+static void end(struct slot *slot)
 {
 	smp_store_release(&slot->done, slot->next);
 	record_replies();
-	space_free(plan);
 	record_allow(is_planted(PLANT_NONE) ? 2 : OFTEN);
 }
 
-/* The stores, the flush, and then the end. */
+/* The stores, the flush, and then the end; the tables that were unlinked are free. */
 static void carry_out(struct slot *slot, struct nrvs_plan *plan)
 {
 	space_store(plan);
 	if (is_planted(PLANT_EARLY)) {
-		end(slot, plan);
-		processors_wait(200);
+		end(slot);
+		space_free(plan);
+		processors_go_on(200);
 	}
 	space_flush(plan);
-	if (!is_planted(PLANT_EARLY))
-		end(slot, plan);
+	if (is_planted(PLANT_EARLY))
+		return;
+	end(slot);
+	space_free(plan);
+}
+
+/* A change is under way. */
+static void begins(struct slot *slot, enum kind kind, struct state is)
+{
+	record_change(slot, kind, slot->was[slot->next % HISTORY], is);
+	record_allow(2);
+	if (kind == MAP)
+		WRITE_ONCE(slot->is_written, false);
+	slot->was[(slot->next + 1) % HISTORY] = is;
+	smp_store_release(&slot->next, slot->next + 1);
 }
 
 /* From what a page is to what it is to be. */
@@ -251,23 +262,78 @@ static void change(struct slot *slot, enum kind kind, struct state is, bool wait
 	const struct state was = slot->was[slot->next % HISTORY];
 	struct nrvs_plan plan;
 	bool was_written;
-	record_change(slot, kind, was, is);
-	record_allow(2);
-	if (kind == MAP)
-		WRITE_ONCE(slot->is_written, false);
-	slot->was[(slot->next + 1) % HISTORY] = is;
-	smp_store_release(&slot->next, slot->next + 1);
+	begins(slot, kind, is);
 	was_written = READ_ONCE(slot->is_written);
 	if (space_plan(&plan, begin(&plan, slot, kind, is)) != NRVS_PLANNED || !is_answered(slot, kind, was, plan.reply)) {
 		if (counts.wrong++ == 0)
 			pr_err("nrvs_space: change %u of %llx is answered %u\n", kind, slot->base, plan.reply.code);
 	}
 	if (waits)
-		processors_wait(300);
+		processors_go_on(300);
 	carry_out(slot, &plan);
 	look_for_lost(slot, kind, &plan, was_written);
 	counts.changes[kind]++;
 }
+
+/* ---- ranges ---- */
+
+static struct stretch range;
+static bool was_written[PARTS];
+
+/* Each page that was written is dirty in the word that is found. */
+static void look_for_lost_in(const struct slot *slot)
+{
+	const uint64_t first = (range.at - slot->base) >> PAGE_SHIFT;
+	for (uint64_t i = 0; range.step != NRVS_PLANNED && i < range.run.count; i++)
+		counts.lost += was_written[first + i] && !(range.found[i] & DIRTY);
+	if (range.step == NRVS_PLANNED)
+		counts.lost += was_written[first] && !(range.run.plan.bits & DIRTY);
+}
+
+/* All pages of a range are there, or none: a step that isn't done, or finds that a page is missing, is wrong. */
+static void change_words(struct slot *slot, enum range_kind kind, struct state is)
+{
+	memcpy(was_written, slot->written, sizeof(was_written));
+	range_begin(&range, kind, slot->base, PARTS * PAGE_SIZE);
+	range.physical = is.frame << PAGE_SHIFT;
+	range.rights = is.rights;
+	while (range_next(&range)) {
+		counts.wrong += range.step == NRVS_ABSENT;
+		if (kind == RANGE_UNMAP || kind == RANGE_HARVEST)
+			look_for_lost_in(slot);
+	}
+	counts.wrong += range.bytes != 0;
+	counts.ranges++;
+}
+
+static void change_range(struct slot *slot, enum kind kind, struct state is)
+{
+	begins(slot, kind, is);
+	if (kind == MAP)
+		memset(slot->written, 0, PARTS * sizeof(*slot->written));
+	change_words(slot, kind == MAP ? RANGE_MAP : kind == UNMAP ? RANGE_UNMAP : RANGE_PROTECT, is);
+	if (is_planted(PLANT_EARLY)) {
+		end(slot);
+		range_free(&range);
+		processors_go_on(200);
+	}
+	range_flush(&range);
+	if (is_planted(PLANT_EARLY))
+		return;
+	end(slot);
+	range_free(&range);
+}
+
+/* The flags of all pages are collected, by one flush. */
+static void harvest(struct slot *slot)
+{
+	change_words(slot, RANGE_HARVEST, slot->was[slot->next % HISTORY]);
+	range_flush(&range);
+	memset(slot->written, 0, PARTS * sizeof(*slot->written));
+	counts.changes[CLEAR]++;
+}
+
+/* ---- any change ---- */
 
 /* The dirty flag is collected, as a kernel does to learn what was written since: the processors set it again. */
 static void clear(struct slot *slot)
@@ -277,21 +343,38 @@ static void clear(struct slot *slot)
 	counts.changes[CLEAR]++;
 }
 
-/* After a map and after a collection flags are clear; processors set them while the next change waits between its plan and its stores. */
+/* One change of eight is of a range. */
+static struct slot *draw_slot(struct rnd_state *random)
+{
+	const bool is_range = prandom_u32_state(random) % 8 == 0;
+	return is_range ? &slots[SLOTS - 1 - prandom_u32_state(random) % RANGE_SLOTS] : &slots[prandom_u32_state(random) % SLOTS];
+}
+
+/* After a map and after a collection flags are clear. Where the processors are held from then on until the next change has its plan, they
+ * set them between that and its stores.
+ */
 void slots_change(struct rnd_state *random)
 {
-	struct slot *slot = &slots[prandom_u32_state(random) % SLOTS];
-	const bool waits = prandom_u32_state(random) % 4 == 0;
+	struct slot *slot = draw_slot(random);
+	const bool waits = prandom_u32_state(random) % 4 == 0 && !slot->written;
+	if (slot->size == NRVS_1G && !boot_cpu_has(X86_FEATURE_GBPAGES))
+		return;
+	if (waits)
+		processors_hold();
 	for (unsigned twice = 0; twice < 1 + waits; twice++) {
 		const struct state was = slot->was[slot->next % HISTORY];
 		const enum kind kind = draw_kind(slot, was, random);
-		if (slot->size == NRVS_1G && !boot_cpu_has(X86_FEATURE_GBPAGES))
-			return;
-		if (kind == CLEAR)
+		if (slot->written && kind == CLEAR)
+			harvest(slot);
+		else if (slot->written)
+			change_range(slot, kind, changed(slot, was, kind, random));
+		else if (kind == CLEAR)
 			clear(slot);
 		else
 			change(slot, kind, changed(slot, was, kind, random), waits && twice == 1);
 	}
+	if (waits)
+		processors_release();
 }
 
 void slots_unmap_all(void)
@@ -299,6 +382,10 @@ void slots_unmap_all(void)
 	for (unsigned k = 0; k < SLOTS; k++) {
 		struct slot *slot = &slots[k];
 		struct state is = slot->was[slot->next % HISTORY];
+		if (is.frame != NONE && slot->written) {
+			change_range(slot, UNMAP, (struct state){ NONE, 0, false });
+			continue;
+		}
 		if (is.in_parts) {
 			is.in_parts = false;
 			change(slot, JOIN, is, false);
@@ -308,120 +395,9 @@ void slots_unmap_all(void)
 	}
 }
 
-/* ---- accesses ---- */
-
-/* One that was made: `code` is 0, or 1 + that of the page fault; `word` was read, or is the one that was written. */
-struct access {
-	struct slot *slot;
-	unsigned processor;
-	uint64_t part, word;
-	unsigned long code;
-	bool is_write;
-};
-
-/* The frame that an access got to, if the page is as in a state; NONE where it can't have got there. */
-static uint64_t reached(const struct access *access, struct state state)
-{
-	const uint64_t frame = state.frame + access->part;
-	if (access->code || state.frame == NONE || (access->is_write && !(state.rights & NRVS_WRITE)))
-		return NONE;
-	if (access->is_write)
-		return READ_ONCE(space_words(frame)[1 + access->processor]) == access->word ? frame : NONE;
-	return access->word == frame ? frame : NONE;
-}
-
-static bool fits(const struct access *access, struct state state)
-{
-	if (access->code)
-		return state.frame == NONE || (access->is_write && !(state.rights & NRVS_WRITE));
-	return reached(access, state) != NONE;
-}
-
-/* The state among those from one to another that an access fits, or -1. */
-static long fitting(const struct access *access, unsigned long from, unsigned long to)
-{
-	for (unsigned long k = from; k <= to; k++)
-		if (fits(access, access->slot->was[k % HISTORY]))
-			return k;
-	return -1;
-}
-
-static void say_first(const struct access *access, unsigned long from, unsigned long to)
-{
-	const struct state is = access->slot->was[to % HISTORY];
-	pr_err("nrvs_space: processor %u, %s of page %llx and %llx frames: code %lu, word %llx, states %lu to %lu, the last %llx %x\n",
-	       access->processor, access->is_write ? "write" : "read", access->slot->base, access->part, access->code, access->word, from,
-	       to, is.frame, is.rights);
-}
-
-static void make(struct access *access)
-{
-	uint64_t *at = (uint64_t *)(access->slot->base + (access->part << PAGE_SHIFT));
-	if (access->is_write)
-		access->code = processor_write(at + 1 + access->processor, access->word);
-	else
-		access->code = processor_read(at, &access->word);
-	if (access->is_write && !access->code)
-		WRITE_ONCE(access->slot->is_written, true);
-}
-
-/* What an access came to, as it is recorded: its fault, or its physical address; of one that got nowhere, 0. */
-static nrvs_answer answer_of(const struct access *access, long fits, uint64_t offset)
-{
-	if (access->code)
-		return nrvs_fault(access->code - 1);
-	if (fits < 0)
-		return nrvs_allowed(access->is_write ? 0 : (access->word & GENMASK_ULL(39, 0)) << PAGE_SHIFT);
-	return nrvs_allowed((reached(access, access->slot->was[fits % HISTORY]) << PAGE_SHIFT) + offset);
-}
-
-/* The state, of those before, that a stale access fits, or -1. */
-static long fitting_before(const struct access *access, unsigned long from)
-{
-	const unsigned long least = from > HISTORY / 2 ? from - HISTORY / 2 : 0;
-	for (unsigned long k = from; k > least; k--)
-		if (!access->code && fits(access, access->slot->was[(k - 1) % HISTORY]))
-			return k - 1;
-	return -1;
-}
-
-void slots_access(unsigned processor, struct rnd_state *random)
-{
-	struct slot *slot = &slots[prandom_u32_state(random) % SLOTS];
-	struct access access = { .slot = slot, .processor = processor, .is_write = prandom_u32_state(random) & 1 };
-	const uint64_t offset = access.is_write ? 8 * (1 + processor) : 0;
-	const unsigned long from = smp_load_acquire(&slot->done);
-	unsigned long to;
-	uint32_t call;
-	long state;
-	access.part = draw_part(slot, random);
-	access.word = access.is_write ? (uint64_t)prandom_u32_state(random) << 32 | prandom_u32_state(random) : 0;
-	call = record_touch(processor, slot->base + (access.part << PAGE_SHIFT) + offset, access.is_write);
-	make(&access);
-	to = smp_load_acquire(&slot->next);
-	__this_cpu_inc(accesses);
-	if (access.code)
-		__this_cpu_inc(faults);
-	state = to - from < HISTORY / 2 ? fitting(&access, from, to) : from;
-	if (state < 0) {
-		if (atomic_long_inc_return(&differ) == 1)
-			say_first(&access, from, to);
-		if (call != NRVS_NONE)
-			atomic_long_inc(&recorded);
-		state = fitting_before(&access, from);
-	}
-	record_touched(call, answer_of(&access, state, offset));
-}
-
 struct slots_counts slots_counts(void)
 {
 	struct slots_counts all = counts;
-	unsigned cpu;
-	for_each_possible_cpu(cpu) {
-		all.accesses += READ_ONCE(per_cpu(accesses, cpu));
-		all.faults += READ_ONCE(per_cpu(faults, cpu));
-	}
-	all.differ = atomic_long_read(&differ);
-	all.recorded = atomic_long_read(&recorded);
+	accesses_add(&all);
 	return all;
 }

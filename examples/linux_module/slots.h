@@ -5,12 +5,12 @@
 #include <linux/prandom.h>
 #include <linux/types.h>
 
-enum { SMALL_SLOTS = 32, LARGE_SLOTS = 4, SLOTS = SMALL_SLOTS + LARGE_SLOTS + 1, PARTS = 512 };
+enum { SMALL_SLOTS = 32, LARGE_SLOTS = 4, RANGE_SLOTS = 2, SLOTS = SMALL_SLOTS + LARGE_SLOTS + 1 + RANGE_SLOTS, PARTS = 512 };
 
 /* What was done and seen, by kind of change: maps, unmaps, protects, remaps, splits, joins, flags cleared. */
 enum { KINDS = 7 };
 struct slots_counts {
-	unsigned long changes[KINDS], accesses, faults, differ, recorded, lost, wrong;
+	unsigned long changes[KINDS], ranges, accesses, faults, differ, recorded, lost, wrong;
 };
 
 /* The pages that slots lead to. 0, or an error of Linux. Gives them back. */

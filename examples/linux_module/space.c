@@ -12,7 +12,7 @@
 #include "plant.h"
 #include "processors.h"
 
-enum { WAITING = 32, PRESENT = 1, LARGE = 0x80, ACCESSED = 0x20, DIRTY = 0x40, TABLE = 0x67 };
+enum { WAITING = 32, PRESENT = 1, LARGE = 0x80, ACCESSED = 0x20, DIRTY = 0x40, READ_ALONE = 0x65 };
 
 struct space_counts space_counts;
 struct nrvs_target space_target;
@@ -38,16 +38,16 @@ bool space_take(uint64_t *frame)
 	return true;
 }
 
-/* Each word leads to the page `nowhere`, as an entry of any level. */
+/* Each word leads to the page `nowhere`, as an entry of any level, which nobody writes. */
 static void lead_nowhere(uint64_t frame)
 {
 	uint64_t *words = space_words(frame);
 	for (unsigned i = 0; i < 512; i++)
-		WRITE_ONCE(words[i], page_to_phys(nowhere) | TABLE);
+		WRITE_ONCE(words[i], page_to_phys(nowhere) | READ_ALONE);
 }
 
 /* A frame that is free has other uses: whoever still walks it gets nowhere. Linux gets it once some more are free. */
-static void free_frame(uint64_t frame)
+void space_free_frame(uint64_t frame)
 {
 	uint64_t *place = &waiting[freed++ % WAITING];
 	lead_nowhere(frame);
@@ -165,10 +165,10 @@ void space_store(struct nrvs_plan *plan)
 void space_free(const struct nrvs_plan *plan)
 {
 	for (uint64_t i = 0; i < plan->unlinked_count; i++)
-		free_frame(plan->unlinked[i]);
+		space_free_frame(plan->unlinked[i]);
 	space_counts.unlinked += plan->unlinked_count;
 	for (unsigned i = 0; plan->store_count == 0 && i < given_count; i++)
-		free_frame(given[i]);
+		space_free_frame(given[i]);
 }
 
 /* ---- the flush ---- */
@@ -205,6 +205,11 @@ void space_flush(const struct nrvs_plan *plan)
 {
 	if (plan->flush != NRVS_FLUSH_NOTHING)
 		flush_on_all(plan->flush_base, plan->flush == NRVS_FLUSH_RANGE);
+}
+
+void space_flush_all(void)
+{
+	flush_on_all(0, true);
 }
 
 /* ---- flags ---- */

@@ -9,7 +9,7 @@
 
 /* What was done. */
 struct space_counts {
-	unsigned long sees, gives, stores, fills, flags_met, shootdowns, unlinked, frames_out;
+	unsigned long sees, gives, stores, fills, flags_met, shootdowns, unlinked, frames_out, runs, run_pages;
 	uint64_t flush_time; /* nanoseconds of all shootdowns */
 };
 extern struct space_counts space_counts;
@@ -70,6 +70,10 @@ uint32_t space_plan(struct nrvs_plan *plan, uint32_t step);
 void space_store(struct nrvs_plan *plan);
 void space_flush(const struct nrvs_plan *plan);
 void space_free(const struct nrvs_plan *plan);
+
+/* A flush of all on all processors; a frame that nobody walks any more is free. */
+void space_flush_all(void);
+void space_free_frame(uint64_t frame);
 
 /* Clears the accessed and the dirty flag of the page at an address, and flushes. */
 void space_clear_flags(uint64_t address);
