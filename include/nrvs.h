@@ -3,37 +3,37 @@
  * Each call is given a handle and the memory that it works in. It allocates nothing, keeps no pointer, and takes no lock. What each
  * does is proved: its contract is that of the same call of `Space` (crates/nrvs_c/README.md).
  *
- * The memory: the words of `frames` frames, and `marks`, one for each frame at least; what there are more stay as they are. Frame number
- * `base + i` is words[i]: where words[0] lies at the physical address `base * 4096`, a processor walks what is written there, from the root
- * at `table->root * 4096`. Neither need be 0 at first.
+ * The memory is the words of `frames` frames, and `marks`, at least one for each frame; further marks stay as they are. Frame number
+ * `base + i` is words[i]. If words[0] lies at the physical address `base * 4096`, a processor walks what is written there, from the root
+ * at `table->root * 4096`. Words and marks need not be 0 at first.
  *
  * What the caller has to keep, which no call can test:
  *   - pointers are not null, aligned as their types are, and to as many elements as is said; none overlaps another;
  *   - of a handle that nrvs_table_new made, neither it nor what was lent to that call is written by others, and each further call is given
  *     the same frames and marks (another number of them is refused). But a processor that walks the frames may set accessed and dirty
  *     flags in them, bits 5 and 6 of words whose bit 0 is 1, and the caller may clear these: what the calls answer stays the same, as is
- *     proved of flags that change between calls. A protect clears those of its page. Of flags that are set while a call runs nothing is
- *     proved;
+ *     proved of flags that change between calls. A protect clears those of its page. Nothing is proved of flags that are set while a call
+ *     runs;
  *   - a handle that was not made does not have the magic word by chance: let it be 0. Beside that word a call tests that `levels` is 4 or
  *     5, `taken` at most `frames`, `given` at most `taken`, and the root and the frame that was freed last among those taken; what
  *     else is written over a handle that was made it can't see;
  *   - a call that changes a table (new, map, unmap, protect) runs alone among those with its handle, or with memory that is lent to it.
  *     Those that only ask (resolve, access, tables) may run at once: they take both const, and write nothing of them. A processor may walk
  *     the frames while those run. It may too while a map, an unmap or a protect runs, as the one on which a kernel runs does: the code
- *     writes each entry of a table that is linked at most once, and a link after it has cleared the frame to which it leads. That a walk
- *     meets nothing else meanwhile depends on the code and on how it is compiled, and is proved nowhere. While nrvs_table_new runs none may;
+ *     writes each entry of a table that is linked at most once, and a link after it has cleared the frame to which it leads. Whether a walk
+ *     meets nothing else meanwhile depends on the code and on how it is compiled: this isn't proved. While nrvs_table_new runs none may;
  *   - what a processor keeps in its TLB and paging-structure caches is invalidated after an unmap and a protect, and before a further
- *     map, which may take a frame that the unmap freed. That this is enough depends on what each call is proved to leave as it was
- *     (`kept` of `IsTableStep`): a map changes no word that isn't 0, and moves no table; an unmap clears words on the path of its address
- *     alone, and frees tables of that path alone; a protect changes one word, that of its page.
+ *     map, which may take a frame that the unmap freed. This depends on what each call is proved to leave as it was (`kept` of
+ *     `IsTableStep`). A map changes no word that isn't 0, and moves no table. An unmap clears words on the path of its address alone, and
+ *     frees tables of that path alone. A protect changes one word, that of its page.
  *
  * What a kernel that runs on these tables has to keep beside (examples/kernel does, under QEMU, and says more):
- *   - the processor's settings, on which the answers rest: CR0.WP and EFER.NXE are 1. CR4.SMEP, SMAP, PKE and PKS are 0: where one is 1
- *     the processor refuses more than nrvs_table_access says. CR4.LA57 is 1 where the table has five levels, and 0 where it has four. The
- *     processor has as many bits of physical address as the frames and pages need: nothing below 2^51 is refused here. Where it has no
+ *   - the processor's settings, on which the answers rest: CR0.WP and EFER.NXE are 1. CR4.SMEP, SMAP, PKE and PKS are 0: if one is 1,
+ *     the processor refuses more than nrvs_table_access says. CR4.LA57 is 1 if the table has five levels, and 0 if it has four. The
+ *     processor has as many bits of physical address as the frames and pages need: nothing below 2^51 is refused here. If it has no
  *     pages of 1 GiB (CPUID 80000001H, EDX bit 26 is 0), none is mapped;
  *   - XMM registers: the archive is built for x86-64-v2 and moves words by them. So CR0.EM and CR0.TS are 0 and CR4.OSFXSR is 1 before the
- *     first call, and who calls from a handler, or preempts a call, saves them (FXSAVE; kernel_fpu_begin in Linux);
+ *     first call. Whoever calls from a handler, or preempts a call, saves them (FXSAVE; kernel_fpu_begin in Linux);
  *   - the red zone: a call keeps words within 128 bytes below RSP. So interrupts and faults that may come during a call run on a stack of
  *     their own (IST), or are off; -mno-red-zone for the kernel's own code changes nothing of that;
  *   - the stack is aligned to 16 at the call, and has 1 KiB left: some 520 bytes were used at most, as measured;
@@ -42,9 +42,9 @@
  *   - flushing: after NRVS_REMOVED and NRVS_CHANGED, invlpg of the page on each processor that may have used it, and under each PCID with
  *     which it did. An unmap frees emptied tables, and the next map may take them: so all processors have flushed before that map,
  *     whichever page it is of;
- *   - the frames that pages map: no call looks whether a page leads to the frames that are lent, or to other memory of the kernel's. Who
- *     may write such a page writes the tables. Nor does a call know which pages the kernel needs itself: an unmap or a protect of those
- *     takes effect like any other;
+ *   - the frames that pages map: no call looks whether a page leads to the frames that are lent, or to other memory of the kernel's.
+ *     Whoever may write such a page writes the tables. Nor does a call know which pages the kernel needs itself: an unmap or a protect of
+ *     those takes effect like any other;
  *   - linking: the archive asks for memcpy, memset and memmove at most. It has code and constants alone, which run at any address.
  */
 #ifndef NRVS_H

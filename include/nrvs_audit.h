@@ -1,15 +1,16 @@
 /* Whether recorded bytes are those of a right run of an address space: the audit, for C.
  *
- * What the call answers is proved: its verdict is that of the audit on just these bytes, so of a NRVS_RIGHT the bytes spell one trace;
- * each reply answers an earlier call, no call is answered twice, and no thread has two calls open; all its answered calls and some
- * unanswered updates are in the order, each once; a call that was answered before another was made comes first; every answer is
- * what one sequential address space gives there; and each dumped page table translates every address as that space does after as
- * many of the order's updates as the replica had applied (crates/nrvs_audit_c/README.md).
+ * What the call answers is proved: its verdict is that of the audit on just these bytes (crates/nrvs_audit_c/README.md). NRVS_RIGHT says:
+ *   - the bytes spell one trace. Each reply answers an earlier call, no call is answered twice, and no thread has two calls open;
+ *   - all its answered calls and some unanswered updates are in the order, each once. A call that was answered before another was made
+ *     comes first;
+ *   - every answer is what one sequential address space gives there;
+ *   - each dumped page table translates every address as that space does after as many of the order's updates as the replica had applied.
  *
  * Any bytes may be judged, and no argument is refused but for what a call can't test, which the caller has to keep:
- *   - pointers are not null, aligned as their types are, and to as many elements as is said; none overlaps another; nobody else writes
- *     what they point to, or reads `order` and `finding`, before the call returns. But `order` may be null where `room` is 0, and
- *     `bytes` where `length` is: this is tested and not proved, since a proof speaks of no null pointer;
+ *   - pointers are not null, aligned as their types are, and to as many elements as is said; none overlaps another. Nobody else writes
+ *     what they point to, or reads `order` and `finding`, before the call returns. But `order` may be null if `room` is 0, and `bytes`
+ *     if `length` is: this is tested and not proved, since a proof speaks of no null pointer;
  *   - the heap that is linked with the archive does what `rattle_alloc`, `rattle_realloc` and `rattle_dealloc` are said to do below;
  *   - the call is not made from a signal handler, nor in the forked child of a process that has threads.
  * It allocates of that heap, frees all of it before it returns, keeps no pointer, and takes no lock.
@@ -66,7 +67,7 @@ enum {
 
 /* A verdict in numbers; what it doesn't name is 0. */
 struct nrvs_finding {
-	uint32_t fault;  /* 0 where the bytes are right, else 1 to 17 */
+	uint32_t fault;  /* 0 if the bytes are right, else 1 to 17 */
 	uint32_t format; /* of fault 1: 1 to 7 */
 	uint32_t index;
 	uint32_t replica;
@@ -74,8 +75,8 @@ struct nrvs_finding {
 	size_t calls; /* how many calls the order has */
 };
 
-/* Judges `length` bytes. Of a NRVS_RIGHT `finding->calls` is how many calls the order has; where that is at most `room`, they are
- * written to the begin of `order`, each as the index of its event, and else nothing is. No order has more than 131,072 calls.
+/* Judges `length` bytes. For NRVS_RIGHT `finding->calls` is how many calls the order has. If that is at most `room`, they are written to
+ * the begin of `order`, each as the index of its event; else nothing is written there. No order has more than 131,072 calls.
  */
 uint32_t nrvs_audit(const uint8_t *bytes, size_t length, uint32_t *order, size_t room, struct nrvs_finding *finding);
 
@@ -94,7 +95,7 @@ struct rattle_block {
 /* A block of so many bytes, 0 too, aligned to `align`: a power of two up to 16. */
 struct rattle_block rattle_alloc(size_t size, size_t align);
 
-/* Makes a block one of so many bytes, and may move it: its first `kept` bytes are as they were. Where it can't, the block stays. */
+/* Makes a block one of so many bytes, and may move it: its first `kept` bytes are as they were. If it can't, the block stays. */
 struct rattle_block rattle_realloc(void *at, size_t kept, size_t size, size_t align);
 
 /* Frees a block. */

@@ -71,7 +71,7 @@
  *   - a processor that was up to date is so again after the flush that is named: it keeps nothing that leads elsewhere than a walk of the
  *     memory, and nothing that leads into an unlinked frame [flushed; the law flushes_of_right_plans_suffice], whatever flags are set
  *     meanwhile [the law flags_keep_processors_up_to_date]. What it keeps is a frame or a table, with rights; dirty flags, G, keys and
- *     memory types of what it keeps aren't in the law [Kept]. Who clears a flag flushes by himself;
+ *     memory types of what it keeps aren't in the law [Kept]. Whoever clears a flag flushes as well;
  *   - an unlinked frame was a table on the way of the address, is none now, and is named once. Its words are all 0, but by a join, a
  *     collapse and a prune, where they stay as they were, but for flags: clear them before the frame is given again [unlinked, named_once].
  *     After an unmap each table on the way that may be unlinked has a word that isn't 0 [pruned];
@@ -85,9 +85,10 @@
  *     huge pages), and a copy of a root whose entries allow less (the kernel's view of user space with page-table isolation);
  *   - what a plan through such a root asks of the memory holds again; but that the pages of both still make one address space, the caller
  *     has to know [the law roots_stay_beside];
- *   - the words of a frame are asked for once a level at most [nrvs_plan_see: fewer], within `phys_bits` [within, of AwaitsWords in
- *     IsSound]; then by a map a frame once for each level below the root's at most, by a split or an unmap of parts once, and no words any
- *     more [nrvs_plan_give, nrvs_plan_give_none: fewer, ends];
+ *   - the words of a frame are asked for once a level at most, by an unmap twice: if its page's table is left empty, it goes down once
+ *     more, and looks whether those above are too [nrvs_plan_see: fewer, shows_left]. Each frame lies within `phys_bits` [within, of
+ *     AwaitsWords in IsSound]. Then a map asks for a frame once for each level below the root's at most, a split or an unmap of parts
+ *     once, and for no words any more [nrvs_plan_give, nrvs_plan_give_none: fewer, ends];
  *   - outside of what is listed below, where a reserved bit is set or the words shown are others, nothing is said of a plan but its size:
  *     at most NRVS_MOST_STORES stores and NRVS_MOST_UNLINKED frames [IsSound; named].
  *
@@ -128,9 +129,9 @@
  *     Where a change of an executable page's size may raise a machine check (IA32_ARCH_CAPABILITIES, PSCHANGE_MC_NO is 0), split, join and
  *     collapse no such page, and unmap no parts of one: unmap, flush and map instead. Address bits that encrypt memory (AMD's C, TDX's
  *     shared) are left out: links have none;
- *   - the archive: XMM registers and linking are as in nrvs.h. The stack is aligned to 16 and has 5 KiB left, for ranges 7 KiB: some 4 and
- *     6 KiB are used, whatever is asked. No word is kept below RSP. There are jumps by tables and no calls by register; none is marked for
- *     CET, so CR4.CET is 0.
+ *   - the archive: XMM registers and linking are as in nrvs.h. The stack is aligned to 16 and has 6 KiB left, for ranges 8 KiB: some 5 and
+ *     7.3 KiB are used, whatever is asked. No word is kept below RSP. There are jumps by tables and no calls by register; none is marked
+ *     for CET, so CR4.CET is 0.
  *
  */
 #ifndef NRVS_PLAN_H
@@ -387,8 +388,9 @@ uint32_t nrvs_plan_again(struct nrvs_plan *plan, uint64_t index, uint64_t found)
  *   - each store finds the word that was shown, but for flags that were set since [found]; each address is walked as before up to one of
  *     the stores at most, and from that one on as after them all [switches]: so a processor never finds a page that is half changed;
  *   - a processor that was up to date before the run is so again after it and the flush of each of its pages, or none [flushed, suffices;
- *     forgets]. Runs and plans may follow one another before one flush that drops all that theirs drop; an access that is made meanwhile
- *     finds what a walk finds before the first or after one of them [the law flushes_of_several_plans_suffice: after, between];
+ *     forgets]. Runs and plans may follow one another before one flush that drops all that theirs drop, whatever flags processors set
+ *     meanwhile; an access that is made meanwhile finds what a walk finds before the first or after one of them [the law
+ *     flushes_of_several_plans_suffice: after, between];
  *   - a harvest finds present entries of pages, clears their flags 5 and 6 and nothing else, and its flush drops what is kept of its pages,
  *     so that a processor sets the flags again [IsHarvestNext: cleared, found, dropped].
  *
@@ -423,8 +425,8 @@ enum {
 
 /* Begins a range of so many bytes: NRVS_SEE, or what nrvs_plan_map of its first page, nrvs_plan_unmap, nrvs_plan_protect and nrvs_plan_ask
  * of its base are refused for; the struct is then as it was [status, begun, refused]. By a map the pages follow one another physically
- * too, and `bytes` is a multiple of their size: what is left is mapped as a whole page. An unmap, a protect and a harvest take pages of
- * all sizes; a run has those of one.
+ * too. It is refused with NRVS_UNALIGNED before all else where `bytes` are 0, or no multiple of a `size` that there is: so it never goes
+ * beyond its range [status: map_range_status]. An unmap, a protect and a harvest take pages of all sizes; a run has those of one.
  */
 uint32_t nrvs_plan_map_range(struct nrvs_run *run, const struct nrvs_target *target, uint64_t base, uint32_t size, uint64_t physical,
 			     uint32_t rights, uint64_t bits, uint64_t bytes);

@@ -1,5 +1,6 @@
 #!/usr/bin/env python3
-"""A second auditor, in plain Python: written from docs/FORMATS.md and docs/DEFINITIONS.md alone, to compare with.
+"""A second auditor, in plain Python: written from docs/FORMATS.md, docs/man and docs/DEFINITIONS.md alone, to compare
+with.
 
 Nothing here is proved, and nothing depends on it. It shares no line and no idea of a loop with the program: where the two
 disagree on a trace, one of them is wrong. The largest trace takes it some seconds.

@@ -1,6 +1,6 @@
 #!/usr/bin/env python3
-"""What shows a fault, computed a second time in plain Python beside `model_auditor.py`: written from docs/FORMATS.md and
-docs/DEFINITIONS.md alone, to compare with. Nothing here is proved, and nothing depends on it.
+"""What shows a fault, computed a second time in plain Python beside `model_auditor.py`: written from docs/FORMATS.md, docs/man
+and docs/DEFINITIONS.md alone, to compare with. Nothing here is proved, and nothing depends on it.
 
     model_evidence.py <TRACE            what `nrvs explain` prints, with its status
     model_evidence.py --json <TRACE     what `nrvs explain --json` prints, with its status

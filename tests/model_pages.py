@@ -1,5 +1,6 @@
 #!/usr/bin/env python3
-"""A second implementation of `nrvs pages`, in plain Python: written from docs/FORMATS.md alone, to compare with.
+"""A second implementation of `nrvs pages`, in plain Python: written from docs/FORMATS.md and docs/man alone, to compare
+with.
 
 What a trace spells and what an entry means is tests/model_auditor.py's, and how a chain is judged tests/model_chains.py's. The tables are
 gone through from the highest entry down, and what is found is sorted.

@@ -3,7 +3,7 @@
 of the libraries and their preconditions with the promises of their crates' READMEs. Part 1 of DEFINITIONS.md has to have just the words
 of the two headlines, and just the types and constants of the code of which these speak, with their variants, fields and values as the code
 declares them; and the crates of the audit depend on none of the replication. The tables of ARCHITECTURE.md list the crates of crates.txt, in
-its order, each after those on which it depends.
+its order, each after those on which it depends. The man page of explain has each fault.
 Each wrong body can be applied: what it replaces is once in its file (`rt ci` passes over one that can't be). Each of those that have to be
 refused is an edit, or PROMISES.md names the tests that refuse it.
 
@@ -292,7 +292,7 @@ def names(cell, owner, name):
 SECTIONS = ("What is proved", "What is only tested", "What is taken on trust")
 PRECONDITIONS = "Preconditions"
 WIDTH = 140
-HEADLINE_ROWS = 40
+HEADLINE_ROWS = 12
 
 
 def items(text):
@@ -370,14 +370,30 @@ def main_promises():
     rows = sum(line.startswith("| ") for line in text.splitlines()) - 1
     if rows > HEADLINE_ROWS:
         yield f"PROMISES.md has {rows} rows, of {HEADLINE_ROWS} at most"
-    for library in sorted(ROOT.glob("crates/*/src/lib.rt")):
-        crate = library.parent.parent.name
-        if not crate.endswith("_tests") and f"[{crate}]: ../crates/{crate}/README.md" not in text:
-            yield f"PROMISES.md has no link to the README of {crate}"
+    if re.search(r"^\|.*\]\(?.*crates/", text, re.M):
+        yield "PROMISES.md has a row of one crate, whose promise ARCHITECTURE.md has"
     for file in [page, *sorted(ROOT.glob("crates/*/README.md"))]:
         for number_, line in enumerate(file.read_text().splitlines(), 1):
             if len(line) > WIDTH:
                 yield f"{file.relative_to(ROOT)}:{number_} has {len(line)} columns, of {WIDTH} at most"
+
+
+def told_faults():
+    """The faults that a table of the man page of explain lacks, and those that it has beside: each has its lines, sentence and members."""
+    faults = re.findall(r"^\| \d+ \| `(\w+)", (ROOT / "docs/DEFINITIONS.md").read_text() + (ROOT / "docs/FORMATS.md").read_text(), re.M)
+    tables = {"Lines": [], "Sentence": [], "Members of `evidence`, beside `fault`": []}
+    rows = None
+    for line in (ROOT / "docs/man/nrvs-explain.1.md").read_text().splitlines():
+        first, _, rest = line.strip("| ").partition(" | ")
+        if first == "Fault":
+            rows = tables[rest]
+        elif not line.startswith("|"):
+            rows = None
+        elif rows is not None and not first.startswith("---"):
+            rows += first.split(", ")
+    for name, rows in tables.items():
+        if sorted({*rows}) != sorted({*faults}):
+            yield f"nrvs-explain.1.md, {name}: {' '.join(sorted({*rows} ^ {*faults}))}"
 
 
 def unusable_edits():
@@ -464,7 +480,8 @@ def main(words):
     others = [(places, name) for places, name in told if not any((place, name) in base for place in places)]
     for places, name in others:
         print(f"read aloud, and no clause rests on it: {name} (of {', '.join(places)})")
-    lacking = [*first_part(), *audit_alone(), *untold(), *main_promises(), *unknown_names(), *listed(), *unusable_edits(), *unrefused_bodies()]
+    checks = (first_part, audit_alone, untold, main_promises, told_faults, unknown_names, listed, unusable_edits, unrefused_bodies)
+    lacking = [line for check in checks for line in check()]
     for line in lacking:
         print(line)
     wrong = len(missing) + len(others) + len(lacking)

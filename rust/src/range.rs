@@ -9,7 +9,7 @@ use crate::plan::{fault, of_target, BadPlan, Flush, Plan, Target};
 /// What is done to the pages of a range.
 #[derive(Clone, Copy, Debug, PartialEq, Eq)]
 pub enum RangeRequest {
-    /// Pages are mapped from this one on, physically too one after another, each with these of `ATTRIBUTES`.
+    /// Pages are mapped from this one on, physically too one after another, each with these of `ATTRIBUTES`. The range has whole pages.
     Map {
         /// The first page.
         page: Page,
@@ -136,7 +136,7 @@ impl RangePlanner {
     ///
     /// # Errors
     ///
-    /// What is wrong with the target or the first page.
+    /// What is wrong with the target or the first page. Before that, of a map, `Unaligned`: the bytes are 0, or no multiple of the page's size.
     pub fn begin(
         &mut self,
         target: &Target,

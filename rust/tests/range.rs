@@ -170,4 +170,11 @@ fn ranges_that_are_refused() {
     assert_eq!(refused(of(1)), BadPlan::Request(BadRequest::Unaligned));
     let beyond = of(0).behind((1 << 46) - (1 << 30));
     assert_eq!(refused(beyond), BadPlan::Request(BadRequest::PhysRange));
+    // a map of no whole pages
+    for bytes in [0, 1, 4097] {
+        let bad = RangePlanner::new()
+            .begin(&target, of(0), bytes)
+            .unwrap_err();
+        assert_eq!(bad, BadPlan::Request(BadRequest::Unaligned));
+    }
 }

@@ -23,7 +23,7 @@ static struct space space;
 static struct kept kept;
 static struct nrvs_target target;
 static uint64_t seed;
-static unsigned pages, runs, plans, refused, flagged, found_flags, absent, beyond, unlinked, batches;
+static unsigned pages, runs, plans, refused, flagged, found_flags, absent, beyond, unlinked, batches, parts;
 
 /* What was carried out and waits for its flush: of so many pages, or of a plan. */
 static struct {
@@ -364,10 +364,26 @@ static struct request any_request(uint64_t *bytes)
 	return r;
 }
 
+/* A map of no page, or of a part of one behind others, is refused, and nothing is written. */
+static void check_whole(struct request r, uint64_t bytes)
+{
+	static struct nrvs_words none;
+	struct nrvs_run run, was;
+	const uint64_t other = draw(&seed, 4) ? bytes + 1 + draw(&seed, BYTES[r.size] - 1) : 0;
+	CHECK(begin_range(&run, r, other) == NRVS_UNALIGNED);
+	memset(&was, 0xAB, sizeof was);
+	CHECK(!memcmp(&run, &was, sizeof run));
+	CHECK(nrvs_plan_map_range_in(&run, &target, &none, 0, 0, r.address, r.size, r.physical, r.rights, r.bits, other) == NRVS_UNALIGNED);
+	CHECK(!memcmp(&run, &was, sizeof run));
+	parts++;
+}
+
 static void one_range(void)
 {
 	uint64_t bytes, done;
 	struct request r = any_request(&bytes);
+	if (r.kind == MAPS && draw(&seed, 4) == 0)
+		check_whole(r, bytes);
 	while (bytes) {
 		done = one_step(r, bytes);
 		if (!done) {
@@ -419,6 +435,6 @@ int main(int count, char **words)
 	printf("%u pages in %u runs, %u plans, %u ranges cut off, %u gaps, %u pages that end beyond\n", pages, runs, plans, refused, absent,
 	       beyond);
 	printf("%u flags met, %u harvested, %u tables unlinked, %u flushes of several\n", flagged, found_flags, unlinked, batches);
-	CHECK(runs && plans && refused && absent && beyond && flagged && found_flags && unlinked && batches);
+	CHECK(runs && plans && refused && absent && beyond && flagged && found_flags && unlinked && batches && parts);
 	return counts();
 }

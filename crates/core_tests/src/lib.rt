@@ -26,4 +26,6 @@ mod scripts_in_pieces;
 #[cfg(test)]
 mod scripts_read;
 #[cfg(test)]
+mod serve;
+#[cfg(test)]
 mod words;

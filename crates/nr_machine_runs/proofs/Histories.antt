@@ -6,9 +6,9 @@ use Rattle.std.proofs.lemmas.List.{append_assoc, append-nil, get_or-replicate, g
 use Rattle.std.proofs.lemmas.List.Elements.{All-nil}
 use Rattle.vs_types.specs.LogEntry.{IsLogEntry}
 use Rattle.vs_types.specs.declared.depth.Depth.{Depth}
-use Rattle.vs_types.specs.declared.limits.TheConstants.{LOG_PLACES}
 use Rattle.vs_types.specs.declared.log_entry.LogEntry.{LogEntry}
 use Rattle.nr_ring.specs.LogHistory.{Log, MayAdvance, MayAppend, MayGoOn, local_of, log_after_event, log_after_events, new_log}
+use Rattle.nr_ring.specs.declared.words.TheConstants.{MOST_PLACES}
 use Rattle.nr_ring.specs.declared.log_event.LogEvent.{LogEvent}
 use Rattle.nr_ring.specs.declared.log_event.LogEvent.TheVariants.{Append, Advance}
 use Rattle.nr_machine.specs.declared.words.Operation.{Operation}
@@ -166,7 +166,7 @@ advances depth means nodes log w n r value held lt own seen of false e =
 appends_or_not : (depth : Depth) (means : Update → LogEntry) (nodes : ℕ) (log : Log) (w : World) (n old new : ℕ) → nodes ≤ 64
     → IsHeld nodes w → n < nodes
     → MayAppendAs nodes n (w.actor n) old new → All (IsLogEntry depth) (map means (w.actor n).batch) → IsLogOf means nodes w log
-    → (acted w (Does n (Exchange Head old new))).log.tail ≤ LOG_PLACES → (b : Bool) → (w.words.head == old) ≡ b
+    → (acted w (Does n (Exchange Head old new))).log.tail ≤ MOST_PLACES → (b : Bool) → (w.words.head == old) ≡ b
     → IsStep depth means nodes log (cond b (Append (map means (w.actor n).batch) ∷ []) []) (acted w (Does n (Exchange Head old new)))
 appends_or_not depth means nodes log w n old new most held lt may meant of ends b e = by_test b e where
   after : World
@@ -226,7 +226,7 @@ appends_or_not depth means nodes log w n old new most held lt may meant of ends 
 
 step : (depth : Depth) (means : Update → LogEntry) (nodes : ℕ) (log : Log) (w : World) (act : Act) → nodes ≤ 64 → IsHeld nodes w
     → MayAct nodes w act
-    → BatchesAreMeant depth means w → IsLogOf means nodes w log → (acted w act).log.tail ≤ LOG_PLACES
+    → BatchesAreMeant depth means w → IsLogOf means nodes w log → (acted w act).log.tail ≤ MOST_PLACES
     → IsStep depth means nodes log (events_of means w act) (acted w act)
 step depth means nodes log w (Does n (Load word)) most held may meant of ends = still depth means nodes log w _ refl (λ r there. refl) of
 step depth means nodes log w (Does n (Store (Local r) value)) most held may meant of ends =
@@ -281,7 +281,7 @@ head_meant depth means (ReadEnds c) acts are = (tt, are)
 
 goes : (depth : Depth) (means : Update → LogEntry) (nodes : ℕ) (log : Log) (w : World) (acts : List Act) → nodes ≤ 64 → IsHeld nodes w
     → Plays nodes w acts
-    → AreMeant depth means acts → BatchesAreMeant depth means w → IsLogOf means nodes w log → (played w acts).log.tail ≤ LOG_PLACES
+    → AreMeant depth means acts → BatchesAreMeant depth means w → IsLogOf means nodes w log → (played w acts).log.tail ≤ MOST_PLACES
     → IsStep depth means nodes log (history_from means w acts) (played w acts)
 goes depth means nodes log w [] most held plays are meant of ends = record { may = tt; is = of }
 goes depth means nodes log w (act ∷ acts) most held plays are meant of ends =

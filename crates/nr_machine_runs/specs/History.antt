@@ -2,9 +2,9 @@
 use Rattle.std.specs.Prelude.{◌≡◌, ℕ, zero, suc, ◌+◌, ◌<◌, ◌≤◌, ◌==◌, nat_lt, if◌then◌else◌, List, [], ◌∷◌, ◌++◌, map, length, All, ⊤}
 use Rattle.vs_types.specs.LogEntry.{IsLogEntry}
 use Rattle.vs_types.specs.declared.depth.Depth.{Depth}
-use Rattle.vs_types.specs.declared.limits.TheConstants.{LOG_PLACES}
 use Rattle.vs_types.specs.declared.log_entry.LogEntry.{LogEntry}
 use Rattle.nr_ring.specs.LogHistory.{Log, local_of}
+use Rattle.nr_ring.specs.declared.words.TheConstants.{MOST_PLACES}
 use Rattle.nr_ring.specs.declared.log_event.LogEvent.{LogEvent}
 use Rattle.nr_ring.specs.declared.log_event.LogEvent.TheVariants.{Append, Advance}
 use Rattle.nr_machine.specs.declared.words.Operation.{Operation}
@@ -55,7 +55,7 @@ pub record IsScheduleFor (depth : Depth) (means : Update → LogEntry) (nodes : 
   pub few : nodes ≤ 64
   pub plays : Plays nodes (opening nodes) acts
   pub meant : AreMeant depth means acts
-  pub ends : (played (opening nodes) acts).log.tail ≤ LOG_PLACES
+  pub ends : (played (opening nodes) acts).log.tail ≤ MOST_PLACES
 
 abbrev pub history : (Update → LogEntry) → ℕ → List Act → List LogEvent
 history means nodes acts = history_from means (opening nodes) acts

@@ -5,3 +5,4 @@ pub mod Looks
 pub mod Nodes
 pub mod Answering
 pub mod LaterLogs
+pub mod Tellings

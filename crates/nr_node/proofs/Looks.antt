@@ -5,7 +5,6 @@ use Rattle.std.proofs.lemmas.List.Elements.{All-drop}
 use Rattle.std.proofs.lemmas.Bool.{cases_eq}
 use Rattle.vs_types.specs.LogEntry.{IsLogEntry}
 use Rattle.vs_types.specs.declared.depth.Depth.{Depth}
-use Rattle.vs_types.specs.declared.limits.TheConstants.{LOG_PLACES}
 use Rattle.vs_types.specs.declared.log_entry.LogEntry.{LogEntry}
 use Rattle.nr_ring.specs.Calls.{HasLooked, HasTaken}
 use Rattle.nr_ring.specs.Entries.{HasTakenAll, to_take}
@@ -73,7 +72,6 @@ pub record TookAll (depth : Depth) (replicas : ℕ) (before : View) (entries : L
   pub count : taken_by replicas before + length entries ≡ tail (log_after replicas after.seen)
   pub entries_are : entries ≡ drop (taken_by replicas before) (log_after replicas after.seen).entries
   pub fit : All (IsLogEntry depth) entries
-  pub ends : tail (log_after replicas after.seen) ≤ LOG_PLACES
 
 pub took_all : (depth : Depth) (replicas : ℕ) (a c : View) (entries : List LogEntry) → HasTakenAll depth replicas a entries c → a.owns ≡ replica_of a ∷ []
     → TookAll depth replicas a entries c
@@ -96,5 +94,4 @@ took_all depth replicas a c entries took owner =
       count = fetched_all depth replicas a b entries (taken_by replicas a) took.looked owner refl (took.entries_are (replica_of a) owner) ∙ sym tails;
       entries_are = are;
       fit = subst (All (IsLogEntry depth)) (sym are) (All-drop (IsLogEntry depth) (taken_by replicas a) (log_after replicas c.seen).entries fit);
-      ends = (history_fits depth replicas c.seen took.history).ends;
     }

@@ -227,10 +227,11 @@ took_fit depth replicas a c entries d took is k e lt =
 pub took_room : (depth : Depth) (replicas : ℕ) (known after : Known) (replica : ReplicaState) (batch : List Waiting) (first : Option ℕ)
     (entries : List LogEntry)
     → TookAll depth replicas known.view entries after.view → IsNode depth replicas (node_state known replica batch first)
-    → Follows depth replicas (node_state known replica batch first) replica → length replica.entries + length entries ≤ LOG_PLACES
-took_room depth replicas known after replica batch first entries took is follows =
+    → Follows depth replicas (node_state known replica batch first) replica → (places : ℕ) → tail (log_after replicas after.view.seen) ≤ places
+    → places ≡ LOG_PLACES → length replica.entries + length entries ≤ LOG_PLACES
+took_room depth replicas known after replica batch first entries took is follows places ends most =
     let had = had_taken depth replicas (node_state known replica batch first) replica is follows in
-    omega (arith, had, took.count, took.ends)
+    omega (arith, had, took.count, ends, most)
 
 -- ---- an append
 
@@ -364,9 +365,10 @@ module _ (depth : Depth) (replicas : ℕ) (known after : Known) (replica : Repli
       let all = took_fit depth replicas did.between after.view (entries ++ entries_of batch) d did.all same in
       (all_front (IsLogEntry d) entries (entries_of batch) all, all_back (IsLogEntry d) entries (entries_of batch) all)
 
-  pub put_room : length replica.entries + length entries + length (entries_of batch) ≤ LOG_PLACES
-  put_room =
-      let room = took_room depth replicas mid after replica batch (Some place) (entries ++ entries_of batch) did.all did.is did.follows in
+  pub put_room : (places : ℕ) → tail (log_after replicas after.view.seen) ≤ places → places ≡ LOG_PLACES
+      → length replica.entries + length entries + length (entries_of batch) ≤ LOG_PLACES
+  put_room places ends most =
+      let room = took_room depth replicas mid after replica batch (Some place) (entries ++ entries_of batch) did.all did.is did.follows places ends most in
       omega (arith, room, length-append entries (entries_of batch))
 
   module _ (next : ReplicaState) (same : next ≡ record replica { entries = replica.entries ++ (entries ++ entries_of batch) }) where

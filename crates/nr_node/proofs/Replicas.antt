@@ -15,7 +15,7 @@ use Rattle.nr_ring.proofs.LocalTails.{le_or_lt}
 use Rattle.nr_slots.specs.Updates.{Waiting}
 use Rattle.nr_node.specs.Calls.{answered}
 use Rattle.nr_node.specs.Spaces.{answer_at, space_of}
-use Rattle.nr_node.specs.declared.told.Told.{Told}
+use Rattle.nr_node.specs.inside.Told.{Told}
 use Rattle.nr_node.specs.inside.Replica.{IsReplica, entries_told}
 use Rattle.nr_node.proofs.Spaces.{space_after_one}
 

@@ -31,7 +31,7 @@ pub(crate) fn ask_for(batch: &ArrayVec<Waiting, RING>, asked: &mut [PackedEntry;
 }
 
 /// Empties a batch whose updates have places from this one on.
-pub(crate) fn keep_unplaced(batch: &mut ArrayVec<Waiting, RING>, first: Option<u32>)
+pub(crate) fn keep_unplaced(batch: &mut ArrayVec<Waiting, RING>, first: Option<u64>)
     ensures { batch.new.items ≡ left_of first batch.old.items }
 {
     if first.is_some() {

@@ -7,5 +7,5 @@ pub enum Held {
     /// So many updates, which have no place yet.
     Unplaced(usize),
     /// The place of the first, and how many there are: they are one after another.
-    Placed(u32, usize),
+    Placed(u64, usize),
 }

@@ -8,7 +8,7 @@ ghost use Rattle.vs_types.specs.Operation.{IsAction};
 ghost use Rattle.vs_types.specs.Refusal.{IfRefused};
 ghost use Rattle.vs_types.specs.Space.{table_count};
 ghost use Rattle.vs_types.specs.Step.{allow, look};
-ghost use Rattle.vs_types.specs.declared.limits.TheConstants.{TABLES};
+ghost use Rattle.vs_types.specs.declared.limits.TheConstants.{LOG_PLACES, TABLES};
 ghost use Rattle.vs_walk.specs.Walk.{TranslatesAs};
 ghost use Rattle.nr_ring.specs.Calls.{HasLooked, HasMoved, copy_of, joint_view};
 ghost use Rattle.nr_ring.specs.Entries.{HasAppended, IsReason};
@@ -45,7 +45,7 @@ pub struct Node<S: FrameStore, J: LogName> {
     pass: LogPass<J>,
     replica: Replica<S>,
     batch: ArrayVec<Waiting, RING>,
-    first: Option<u32>,
+    first: Option<u64>,
     asked: [PackedEntry; RING],
     entries: ArrayVec<PackedEntry, RING>,
 }
@@ -54,6 +54,7 @@ impl<S: FrameStore, J: LogName> Model for Node<S, J> {
     ghost use Rattle.std.specs.Prelude.{◌≡◌};
     ghost use Rattle.nr_node.specs.Node.{IsNode, NodeState};
     ghost use Rattle.nr_node.specs.inside.Node.{Follows, node_state};
+    ghost use Rattle.vs_types.specs.declared.limits.TheConstants.{LOG_PLACES};
 
     ghost Value = { NodeState };
 
@@ -62,13 +63,14 @@ impl<S: FrameStore, J: LogName> Model for Node<S, J> {
     ghost invariant = { λ n.
         IsNode J.depth J.replicas (node_state n.pass n.replica n.batch.items n.first)
         × Follows J.depth J.replicas
-        (node_state n.pass n.replica n.batch.items n.first) n.replica };
+        (node_state n.pass n.replica n.batch.items n.first) n.replica
+        × (J.places ≡ LOG_PLACES) };
 }
 
 impl<S: FrameStore + Drop, J: LogName> Node<S, J> {
     /// A node that has applied nothing and holds nothing. Its tables lie in the store, of which no frame is in use; its pass owns
-    /// a replica that has taken nothing; and the depth is that of the log. It allocates all memory that the node ever needs, but for
-    /// its dumps.
+    /// a replica that has taken nothing; and the depth is that of the log, which has 65,536 places. It allocates all memory that the
+    /// node ever needs, but for its dumps.
     ///
     /// # Errors
     ///
@@ -83,6 +85,7 @@ impl<S: FrameStore + Drop, J: LogName> Node<S, J> {
         requires owner { (replica : ℕ) × (pass.view.owns ≡ replica ∷ []) }
         requires nothing_taken { taken_by J.replicas pass.view ≡ 0 }
         requires depth { depth ≡ J.depth }
+        requires places { J.places ≡ LOG_PLACES }
         ensures made { IfOk result (λ node. node ≡ new_node pass (S.place store).size) }
         ensures no_root { IfErr result (IfRefused (λ _. (S.place store).size ≡ 0)) }
     {
@@ -108,17 +111,18 @@ impl<S: FrameStore + Drop, J: LogName> Node<S, J> {
 
 impl<S: FrameStore, J: LogName> Node<S, J> {
     /// How many entries of the log it has applied: its replica's local tail.
-    pub fn applied(&self) -> u32
+    pub fn applied(&self) -> u64
         ensures reads { result ≡ applied_of J.replicas self.now }
         ensures is_node { IsNode J.depth J.replicas self.now }
     {
         self.replica.applied()
     }
 
-    /// A law: its pass owns one replica, it has applied no more than the log has, and its batch is one.
+    /// A law: its pass owns one replica, it has applied no more than the log has, its batch is one, and the log has 65,536 places.
     #[inline(always)]
     pub fn is_well_formed(&self)
         ensures is_node { IsNode J.depth J.replicas self.now }
+        ensures places { J.places ≡ LOG_PLACES }
     {
         let _known = &self.pass;
     }
@@ -180,7 +184,7 @@ impl<S: FrameStore, J: LogName> Node<S, J> {
     /// # Errors
     ///
     /// Those of `RingLog::append`. The batch then has no place still, and the node has only looked.
-    pub fn put_batch(&mut self, log: &RingLog<J>) -> Result<u32, AppendFault>
+    pub fn put_batch(&mut self, log: &RingLog<J>) -> Result<u64, AppendFault>
         requires log { self.old.known.log ≡ log.now }
         requires some { 1 ≤ length self.old.batch }
         requires unplaced { self.old.first ≡ None }
@@ -192,7 +196,7 @@ impl<S: FrameStore, J: LogName> Node<S, J> {
             self.new ≡ record self.old { known = self.new.known; first = Some place }) }
         ensures looked { OnErr result (HasStayed J.depth J.replicas self.old self.new) }
         ensures refused { IfErr result
-            (IsReason (log_of J.replicas self.new)
+            (IsReason J.places (log_of J.replicas self.new)
             (length self.old.batch) self.old.known.view self.new.known.view) }
     {
         let entries = entries_of(&self.batch);
@@ -215,7 +219,7 @@ impl<S: FrameStore, J: LogName> Node<S, J> {
         slots: &Slots<P>,
         thread: u16,
         wanted: PackedEntry,
-        own: &mut Option<(u32, Answer)>,
+        own: &mut Option<(u64, Answer)>,
     ) -> Result<(), AppendFault>
         requires log { self.old.known.log ≡ log.now }
         requires some { 1 ≤ length self.old.batch }
@@ -235,13 +239,14 @@ impl<S: FrameStore, J: LogName> Node<S, J> {
         ensures none { OnErr result (own.new ≡ None) }
         ensures stayed { OnErr result (HasStayed J.depth J.replicas self.old self.new) }
         ensures refused { IfErr result
-            (IsReason (log_of J.replicas self.new)
+            (IsReason J.places (log_of J.replicas self.new)
             (length self.old.batch) self.old.known.view self.new.known.view) }
     {
         ask_for(&self.batch, &mut self.asked);
         let asked = &self.asked[..self.batch.len()];
         self.entries.clear();
         log.append_and_take(&mut self.pass, asked, &mut self.entries)?;
+        self.pass.has_seen_a_history();
         self.replica.apply_all(self.entries.as_slice());
         self.replica
             .apply_batch(&self.batch, slots, thread, wanted, own);
@@ -260,7 +265,7 @@ impl<S: FrameStore, J: LogName> Node<S, J> {
         &mut self,
         log: &RingLog<J>,
         answers: &mut ArrayVec<Answered, RING>,
-    ) -> Result<u32, Moved>
+    ) -> Result<u64, Moved>
         requires log { self.old.known.log ≡ log.now }
         requires empty { answers.old.items ≡ [] }
         ensures log { self.new.known.log ≡ self.old.known.log }
@@ -277,15 +282,16 @@ impl<S: FrameStore, J: LogName> Node<S, J> {
     {
         self.entries.clear();
         log.take(&mut self.pass, &mut self.entries)?;
+        self.pass.has_seen_a_history();
         self.replica.apply_all(self.entries.as_slice());
         self.replica.answer(self.first, &self.batch, answers);
         keep_unplaced(&mut self.batch, self.first);
         self.first = None;
-        Ok(self.entries.len() as u32)
+        Ok(self.entries.len() as u64)
     }
 
     /// How many entries it has applied, and the translation of a canonical address after them, or `NotMapped`.
-    pub fn read(&self, address: u64) -> (u32, Answer)
+    pub fn read(&self, address: u64) -> (u64, Answer)
         requires { IsCanonical J.depth address }
         ensures at { result.0 ≡ applied_of J.replicas self.now }
         ensures answer { result.1 ≡ look (node_space J.depth J.replicas self.now) address }
@@ -295,7 +301,7 @@ impl<S: FrameStore, J: LogName> Node<S, J> {
 
     /// How many entries it has applied, and whether an access of a canonical address is allowed after them: `Allowed` with the
     /// physical address, or `Fault` with the error code.
-    pub fn access(&self, address: u64, mode: Mode, access: Access) -> (u32, Answer)
+    pub fn access(&self, address: u64, mode: Mode, access: Access) -> (u64, Answer)
         requires { IsCanonical J.depth address }
         ensures at { result.0 ≡ applied_of J.replicas self.now }
         ensures answer { result.1
@@ -306,7 +312,7 @@ impl<S: FrameStore, J: LogName> Node<S, J> {
     }
 
     /// The entry of the log at a place and what it was answered; `None` where it has not applied the place's entry.
-    pub fn told(&self, place: u32) -> Option<(LogEntry, Answer)>
+    pub fn told(&self, place: u64) -> Option<(LogEntry, Answer)>
         ensures { MatchOption result (applied_of J.replicas self.now ≤ place) (λ told.
             (slice_get (log_of J.replicas self.now).entries place ≡ Some told.0)
             × (told.1 ≡ answer_at J.depth self.now.tables
@@ -318,7 +324,7 @@ impl<S: FrameStore, J: LogName> Node<S, J> {
 
     /// What this entry of the log was answered, where it is the one at a place and the node has applied it.
     #[inline(always)]
-    pub fn answer_to(&self, place: u32, entry: PackedEntry) -> Option<Answer>
+    pub fn answer_to(&self, place: u64, entry: PackedEntry) -> Option<Answer>
         ensures { MatchOption result (place < applied_of J.replicas self.now
             → slice_get (log_of J.replicas self.now).entries place ≢ Some entry) (λ answer.
             (slice_get (log_of J.replicas self.now).entries place ≡ Some entry)

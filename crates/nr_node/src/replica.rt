@@ -70,11 +70,11 @@ impl<S: FrameStore + Drop> Replica<S> {
 
 impl<S: FrameStore> Replica<S> {
     /// How many entries it has applied: at most 65,536.
-    pub(crate) fn applied(&self) -> u32
+    pub(crate) fn applied(&self) -> u64
         ensures counts { result ≡ length self.now.entries }
         ensures at_most { result ≤ LOG_PLACES }
     {
-        self.told.len() as u32
+        self.told.len() as u64
     }
 
     /// Applies the next entry of the log: its answer.
@@ -88,7 +88,7 @@ impl<S: FrameStore> Replica<S> {
     {
         let LogEntry { op, .. } = entry.entry();
         let answer = self.space.apply(op);
-        self.told.push_reserved(Told { entry, answer });
+        self.told.push_reserved(Told::new(entry, answer));
         answer
     }
 
@@ -112,7 +112,7 @@ impl<S: FrameStore> Replica<S> {
         slots: &Slots<P>,
         thread: u16,
         wanted: PackedEntry,
-        own: &mut Option<(u32, Answer)>,
+        own: &mut Option<(u64, Answer)>,
     )
         requires fit { All (IsLogEntry self.old.depth) (entries_of batch.now.items) }
         requires room { length self.old.entries + length batch.now.items ≤ LOG_PLACES }
@@ -141,7 +141,7 @@ impl<S: FrameStore> Replica<S> {
     /// Adds the answers of a batch that has places, of which this is the first: it is among the entries.
     pub(crate) fn answer(
         &self,
-        first: Option<u32>,
+        first: Option<u64>,
         batch: &ArrayVec<Waiting, RING>,
         answers: &mut ArrayVec<Answered, RING>,
     )
@@ -159,7 +159,7 @@ impl<S: FrameStore> Replica<S> {
     /// Adds the answers of calls that are one after another among the entries, from this place on.
     fn answer_from(
         &self,
-        first: u32,
+        first: u64,
         batch: &ArrayVec<Waiting, RING>,
         answers: &mut ArrayVec<Answered, RING>,
     )
@@ -196,7 +196,7 @@ impl<S: FrameStore> Replica<S> {
     }
 
     /// The entry at a place with its answer; `None` where the place is not below the number of entries.
-    pub(crate) fn told(&self, place: u32) -> Option<(LogEntry, Answer)>
+    pub(crate) fn told(&self, place: u64) -> Option<(LogEntry, Answer)>
         ensures told { MatchOption result (length self.now.entries ≤ place)
             (λ told. (slice_get self.now.entries place ≡ Some told.0)
             × (told.1
@@ -204,32 +204,32 @@ impl<S: FrameStore> Replica<S> {
         ensures within { IfSome result (λ _. place < LOG_PLACES) }
     {
         let told = self.told.get(place as usize)?;
-        Some((told.entry.entry(), told.answer))
+        Some((told.entry().entry(), told.answer()))
     }
 
     /// What the entry at a place was answered; `None` where the place is not below the number of entries.
     #[inline(always)]
-    fn answered(&self, place: u32) -> Option<Answer>
+    fn answered(&self, place: u64) -> Option<Answer>
         ensures so { MatchOption result (length self.now.entries ≤ place) (λ answer.
             (entry : LogEntry) → slice_get self.now.entries place ≡ Some entry
             → answer ≡ answer_at self.now.depth self.now.tables self.now.entries place entry.op) }
         ensures within { IfSome result (λ _. place < LOG_PLACES) }
     {
         let told = self.told.get(place as usize)?;
-        Some(told.answer)
+        Some(told.answer())
     }
 
     /// What this entry was answered, where it is the one at a place.
     #[inline(always)]
-    pub(crate) fn answer_to(&self, place: u32, entry: PackedEntry) -> Option<Answer>
+    pub(crate) fn answer_to(&self, place: u64, entry: PackedEntry) -> Option<Answer>
         ensures { MatchOption result (slice_get self.now.entries place ≢ Some entry)
             (λ answer. (slice_get self.now.entries place ≡ Some entry)
             × (answer
             ≡ answer_at self.now.depth self.now.tables self.now.entries place entry.op)) }
     {
         let told = self.told.get(place as usize)?;
-        if told.entry.is(entry) {
-            Some(told.answer)
+        if told.entry().is(entry) {
+            Some(told.answer())
         } else {
             None
         }
@@ -248,7 +248,7 @@ impl<S: FrameStore> Replica<S> {
         counts_tables(&self.space);
         let root = self.space.root();
         let depth = self.space.depth();
-        match Dump::gather(self.alloc, &self.space, root, depth, self.applied()) {
+        match Dump::gather(self.alloc, &self.space, root, depth, self.applied() as u32) {
             Ok(dump) => Ok(dump),
             Err(Fail::Memory) => Err(Memory),
             Err(Fail::Refused(_)) => unreachable!(),

@@ -14,7 +14,8 @@ use Rattle.vs_plan.specs.declared.target.Target.{Target}
 use Rattle.vs_plan.specs.Flushed.{while_stored}
 use Rattle.vs_plan.specs.Processor.{Moment, Is, Flushes}
 use Rattle.vs_plan.specs.Request.{IsRequest}
-use Rattle.vs_plan.specs.Right.{IsRight, begun, ended, space_after}
+use Rattle.vs_plan.specs.Answered.{space_after}
+use Rattle.vs_plan.specs.Right.{IsRight, begun, ended}
 use Rattle.nr_machine.specs.declared.words.Update.{Update}
 use Rattle.nr_machine.specs.Actor.{update_at}
 use Rattle.nr_machine.specs.States.{Kind, Nodes, at_first, followed, state_after}

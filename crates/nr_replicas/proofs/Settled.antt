@@ -193,7 +193,7 @@ parted {S} {depth} {replicas} {tables} {own} {log} {layout} {passes} {others} {n
 -- ---- settling
 
 -- the first node's pass heard of all that the others, then the handed ones, then nobody had seen, and then the rest of the log was added
-pub settled : (depth : Depth) (replicas tables : ℕ) (handed passes others : List Known) (first : NodeState) (dumps : List Image) (calls all : List ℕ)
+pub settled : (depth : Depth) (replicas places tables : ℕ) (handed passes others : List Known) (first : NodeState) (dumps : List Image) (calls all : List ℕ)
     (a b c : View) → IsNode depth replicas first → passes ≡ first.known ∷ others
     → HasHeard depth replicas first.known.view a → All (λ pass. StartsWith a.seen pass.view.seen) others
     → HasHeard depth replicas a b → All (λ pass. StartsWith b.seen pass.view.seen) handed
@@ -202,9 +202,10 @@ pub settled : (depth : Depth) (replicas tables : ℕ) (handed passes others : Li
     → calls ≡ map (λ entry. entry.call) (take (applied_of replicas first) (log_of replicas first).entries)
     → all ≡ calls ++ map (λ entry. entry.call) (drop (taken_by replicas c) (log_after replicas c.seen).entries)
     → All (HasSeenOwnAdvances c.seen) others
-    → IsSettled depth replicas tables handed all dumps
-settled depth replicas tables handed passes others first dumps calls all a b c is_node split heard_a begin_a heard_b begin_b heard_c are own
-    count first_calls all_are known =
+    → tail (log_after replicas c.seen) ≤ places
+    → IsSettled depth replicas places tables handed all dumps
+settled depth replicas places tables handed passes others first dumps calls all a b c is_node split heard_a begin_a heard_b begin_b heard_c are own
+    count first_calls all_are known ends =
     let v = first.known.view in
     let ab = heard_twice heard_b heard_c in
     let whole = heard_twice heard_a ab in
@@ -221,6 +222,7 @@ settled depth replicas tables handed passes others first dumps calls all a b c i
       history = c.seen;
       is_history = whole.is_history;
       begins = all_begin_later b.seen c.seen handed heard_c.seen begin_b;
+      ends = ends;
       calls_are = all_are
           ∙ ap (λ (l : List ℕ). l ++ map call_of (drop (taken_by replicas c) later.entries)) first_calls
           ∙ ap (λ (k : ℕ). map call_of (take n log.entries) ++ map call_of (drop k later.entries)) same

@@ -20,12 +20,13 @@ pub record IsDumpOf (depth : Depth) (tables : ℕ) (log : Log) (dump : Image) : 
   pub frames : finite.len dump.frames ≡ table_count depth (space_at depth tables log.entries dump.applied)
   pub few : finite.len dump.frames ≤ TABLES
 
--- the calls of one log, which begins with all that each of these passes has seen, and a dump of each replica, by number, after just the
--- entries that it has taken
-pub record IsSettled (depth : Depth) (replicas tables : ℕ) (passes : List Known) (calls : List ℕ) (dumps : List Image) : Type 0 where
+-- the calls of one log, which begins with all that each of these passes has seen and fits so many places, and a dump of each replica, by
+-- number, after just the entries that it has taken
+pub record IsSettled (depth : Depth) (replicas places tables : ℕ) (passes : List Known) (calls : List ℕ) (dumps : List Image) : Type 0 where
   pub history : List LogEvent
   pub is_history : IsLogHistory depth replicas history
   pub begins : All (λ pass. StartsWith history pass.view.seen) passes
+  pub ends : tail (log_after replicas history) ≤ places
   pub calls_are : calls ≡ map (λ entry. entry.call) (log_after replicas history).entries
   pub one_each : length dumps ≡ replicas
   pub dumps_are : All (IsDumpOf depth tables (log_after replicas history)) dumps

@@ -28,7 +28,7 @@ pub(crate) struct Wanted {
     pub(crate) thread: u16,
     pub(crate) slot: u16,
     pub(crate) entry: PackedEntry,
-    pub(crate) from: u32,
+    pub(crate) from: u64,
 }
 
 /// The node of a replica, which is of the log that the name says and may have as many tables, and the slots of its threads. Beside
@@ -83,7 +83,7 @@ impl<J: LogName, K: ReplicasName> Local<J, K> {
         log: &RingLog<J>,
         pass: &mut LogPass<J>,
         wanted: &Wanted,
-        own: &mut Option<(u32, Answer)>,
+        own: &mut Option<(u64, Answer)>,
     ) -> Result<bool, AppendFault>
         requires log { (log.now ≡ K.log) × (pass.old.log ≡ K.log) }
         requires none { own.old ≡ None }
@@ -117,7 +117,7 @@ impl<J: LogName, K: ReplicasName> Local<J, K> {
         &mut self,
         log: &RingLog<J>,
         wanted: &Wanted,
-        own: &mut Option<(u32, Answer)>,
+        own: &mut Option<(u64, Answer)>,
     ) -> Result<bool, AppendFault>
         requires log { log.now ≡ K.log }
         requires none { own.old ≡ None }
@@ -174,7 +174,7 @@ impl<J: LogName, K: ReplicasName> Local<J, K> {
         log: &RingLog<J>,
         pass: &mut LogPass<J>,
         wanted: &Wanted,
-        own: &mut Option<(u32, Answer)>,
+        own: &mut Option<(u64, Answer)>,
     )
         requires log { (log.now ≡ K.log) × (pass.old.log ≡ K.log) }
         requires own { ForSome own.old (λ update.
@@ -200,7 +200,7 @@ impl<J: LogName, K: ReplicasName> Local<J, K> {
 
     /// The answer of an update, where the log has it at this place, which is not below the one that it may have at the least.
     #[inline(always)]
-    fn recall(&self, wanted: &Wanted, place: u32) -> Option<Answer>
+    fn recall(&self, wanted: &Wanted, place: u64) -> Option<Answer>
         ensures { IfSome result (λ answer. IsAnsweredAt J.depth K.tables wanted.now.from
             (log_of J.replicas self.now) wanted.now.entry place answer) }
     {
@@ -219,8 +219,8 @@ impl<J: LogName, K: ReplicasName> Local<J, K> {
         log: &RingLog<J>,
         pass: &mut LogPass<J>,
         wanted: &Wanted,
-        place: u32,
-    ) -> Option<(u32, Answer)>
+        place: u64,
+    ) -> Option<(u64, Answer)>
         requires log { (log.now ≡ K.log) × (pass.old.log ≡ K.log) }
         ensures log { pass.new.log ≡ pass.old.log }
         ensures heard { HasHeard J.depth J.replicas pass.old.view pass.new.view }
@@ -239,10 +239,10 @@ impl<J: LogName, K: ReplicasName> Local<J, K> {
         &mut self,
         log: &RingLog<J>,
         pass: &mut LogPass<J>,
-        completed: u32,
+        completed: u64,
         address: u64,
         question: Question,
-    ) -> Option<(u32, Answer)>
+    ) -> Option<(u64, Answer)>
         requires log { (log.now ≡ K.log) × (pass.old.log ≡ K.log) }
         requires canonical { IsCanonical J.depth address }
         ensures log { pass.new.log ≡ pass.old.log }
@@ -263,7 +263,7 @@ impl<J: LogName, K: ReplicasName> Local<J, K> {
     }
 
     /// How many entries the node has applied, and what a question is answered after them.
-    fn answer(&self, address: u64, question: Question) -> (u32, Answer)
+    fn answer(&self, address: u64, question: Question) -> (u64, Answer)
         requires { IsCanonical J.depth address }
         ensures at { result.0 ≡ applied_of J.replicas self.now }
         ensures written { result.0 ≤ tail (log_of J.replicas self.now) }

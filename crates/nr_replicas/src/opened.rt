@@ -1,7 +1,7 @@
 //! Replicas whose log has no name yet.
 ghost use Rattle.std.specs.Arc.{arc_value};
 ghost use Rattle.std.specs.Prelude.{◌≡◌, ◌+◌, ◌<◌, ◌≤◌, All, IfOk, [], length, map, replicate};
-ghost use Rattle.vs_types.specs.declared.limits.TheConstants.{REPLICAS};
+ghost use Rattle.vs_types.specs.declared.limits.TheConstants.{LOG_PLACES, REPLICAS};
 ghost use Rattle.nr_ring.specs.Pass.{new_pass};
 ghost use Rattle.nr_replicas.specs.inside.Replicas.{IsNewPass, IsNodeOf, slots_each};
 
@@ -46,7 +46,7 @@ impl<J: LogName> Model for OpenReplicas<J> {
 
 impl<J: LogName> OpenReplicas<J> {
     /// The replicas of a configuration with a new log, and a pass for each thread. The log's name has the depth, the replicas
-    /// and as many passes as there are replicas and threads. It allocates the memory of all replicas, but for their slots.
+    /// as many passes as there are replicas and threads, and 65,536 places. It allocates the memory of all replicas, but for their slots.
     ///
     /// # Errors
     ///
@@ -55,6 +55,7 @@ impl<J: LogName> OpenReplicas<J> {
         requires depth { config.depth ≡ J.depth }
         requires replicas { config.replicas ≡ J.replicas }
         requires passes { J.passes ≡ config.replicas + config.threads }
+        requires places { J.places ≡ LOG_PLACES }
         ensures layout { IfOk result (λ made. made.0.layout ≡ config) }
         ensures passes { IfOk result (λ made.
             made.1.items ≡ replicate config.threads (new_pass made.0.log [])) }
@@ -113,6 +114,7 @@ fn new_node<J: LogName>(
     requires depth { config.depth ≡ J.depth }
     requires few { replica < REPLICAS }
     requires pass { IsNewPass pass.log pass }
+    requires places { J.places ≡ LOG_PLACES }
     ensures log { IfOk result (λ node. node.known.log ≡ pass.log) }
     ensures tables { IfOk result (λ node. node.tables ≡ config.tables) }
 {
@@ -134,6 +136,7 @@ fn new_nodes<J: LogName>(
 ) -> Result<Vec<Node<RawArena, J>>, Memory>
     requires depth { config.depth ≡ J.depth }
     requires few { length passes.items ≤ 4 }
+    requires places { J.places ≡ LOG_PLACES }
     requires passes { All (IsNewPass log.now) passes.items }
     ensures count { IfOk result (λ nodes. length nodes.items ≡ length passes.items) }
     ensures each { IfOk result (λ nodes. All (IsNodeOf log.now config.tables) nodes.items) }

@@ -135,7 +135,7 @@ impl<J: LogName, K: ReplicasName> Replicas<J, K> {
         op: Op,
         turns: u32,
         gate: &G,
-    ) -> Result<(u32, Answer), UpdateFault>
+    ) -> Result<(u64, Answer), UpdateFault>
         requires log { pass.old.log ≡ K.log }
         requires thread { thread < self.now.threads }
         requires call { call < CALLS }
@@ -187,8 +187,8 @@ impl<J: LogName, K: ReplicasName> Replicas<J, K> {
         wanted: &Wanted,
         turns: u32,
         gate: &G,
-        own: &mut Option<(u32, Answer)>,
-    ) -> Result<u32, UpdateFault>
+        own: &mut Option<(u64, Answer)>,
+    ) -> Result<u64, UpdateFault>
         requires log { pass.old.log ≡ K.log }
         requires slot { wanted.now.slot < arc_value home.now.slots }
         requires none { own.old ≡ None }
@@ -244,7 +244,7 @@ impl<J: LogName, K: ReplicasName> Replicas<J, K> {
         home: &Shared<J, K>,
         wanted: &Wanted,
         patience: &mut Patience,
-        own: &mut Option<(u32, Answer)>,
+        own: &mut Option<(u64, Answer)>,
     ) -> Combined
         requires log { pass.old.log ≡ K.log }
         requires none { own.old ≡ None }
@@ -304,7 +304,7 @@ impl<J: LogName, K: ReplicasName> Replicas<J, K> {
         call: u32,
         address: u64,
         turns: u32,
-    ) -> Result<(u32, Answer), Stopped>
+    ) -> Result<(u64, Answer), Stopped>
         requires log { pass.old.log ≡ K.log }
         requires thread { thread < self.now.threads }
         requires canonical { IsCanonical J.depth address }
@@ -335,7 +335,7 @@ impl<J: LogName, K: ReplicasName> Replicas<J, K> {
         mode: Mode,
         access: Access,
         turns: u32,
-    ) -> Result<(u32, Answer), Stopped>
+    ) -> Result<(u64, Answer), Stopped>
         requires log { pass.old.log ≡ K.log }
         requires thread { thread < self.now.threads }
         requires canonical { IsCanonical J.depth address }
@@ -365,7 +365,7 @@ impl<J: LogName, K: ReplicasName> Replicas<J, K> {
         address: u64,
         question: Question,
         turns: u32,
-    ) -> Result<(u32, Answer), Stopped>
+    ) -> Result<(u64, Answer), Stopped>
         requires log { pass.old.log ≡ K.log }
         requires thread { thread < self.now.threads }
         requires canonical { IsCanonical J.depth address }

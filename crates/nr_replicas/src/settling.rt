@@ -34,7 +34,7 @@ impl<J: LogName, K: ReplicasName> Replicas<J, K> {
         requires { All (λ pass. pass.log ≡ K.log) passes.old }
         ensures passes { passes.new ≡ passes.old }
         ensures settled { IfOk result (λ settled.
-            IsSettled J.depth J.replicas K.tables passes.old settled.0.items settled.1.items) }
+            IsSettled J.depth J.replicas J.places K.tables passes.old settled.0.items settled.1.items) }
     {
         let Replicas {
             log,
@@ -49,6 +49,7 @@ impl<J: LogName, K: ReplicasName> Replicas<J, K> {
         hear_all(&log, &mut first, &mut others);
         hear_all(&log, &mut first, passes);
         add_rest(&log, &mut first, &mut calls)?;
+        first.has_seen_a_history();
         gather_all(&log, first, others);
         Ok((calls, dumps))
     }

@@ -15,12 +15,12 @@ pub same_replica : (owns : List ℕ) (p q : ℕ) → owns ≡ p ∷ [] → owns 
 same_replica owns p q a b = let eq = ap (λ (l : List ℕ). slice_index l 0) (sym a) in omega (arith, eq, ap (λ (l : List ℕ). slice_index l 0) b)
 
 -- what a pass remembers, where its replica is another number for the same
-pub owner_remembers : (depth : Depth) (replicas passes : ℕ) (own other : Option ℕ) (ring : ℕ) (p : CellPass View Stored)
-    → Remembers depth replicas passes own ring p → own ≡ other → Remembers depth replicas passes other ring p
-owner_remembers depth replicas passes own other ring p is same =
-    let Owns : Option ℕ → Type 0 = λ o. Remembers depth replicas passes o ring p in subst Owns same is
+pub owner_remembers : (depth : Depth) (replicas passes places : ℕ) (own other : Option ℕ) (ring : ℕ) (p : CellPass View Stored)
+    → Remembers depth replicas passes places own ring p → own ≡ other → Remembers depth replicas passes places other ring p
+owner_remembers depth replicas passes places own other ring p is same =
+    let Owns : Option ℕ → Type 0 = λ o. Remembers depth replicas passes places o ring p in subst Owns same is
 
-module _ (depth : Depth) (replicas passes r ring : ℕ) (p : CellPass View Stored) (is : Remembers depth replicas passes (Some r) ring p) where
+module _ (depth : Depth) (replicas passes places r ring : ℕ) (p : CellPass View Stored) (is : Remembers depth replicas passes places (Some r) ring p) where
   pub low_replica : r < 4
   low_replica = omega (arith, is.few, is.owned_below r refl)
 

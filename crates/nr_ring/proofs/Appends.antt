@@ -41,18 +41,18 @@ looked_twice depth replicas u v w a b =
 pub moved_later : (depth : Depth) (replicas : ℕ) (u v w : View) → HasLooked depth replicas u v → HasMoved v w → HasMoved u w
 moved_later depth replicas u v w looked moved = (moved.0, omega (arith, longer v.seen u.seen looked.seen, moved.1), moved.2, moved.3)
 
-pub bar_explains : (log : Log) (count : ℕ) (fault : AppendFault) → Bars log count fault → Explains log count fault
-bar_explains log count LogEnded bars = bars
-bar_explains log count (Full tails) bars = bars
-bar_explains log count (Moved tails) bars = absurd bars
+pub bar_explains : (places : ℕ) (log : Log) (count : ℕ) (fault : AppendFault) → Bars places log count fault → Explains places log count fault
+bar_explains places log count LogEnded bars = bars
+bar_explains places log count (Full tails) bars = bars
+bar_explains places log count (Moved tails) bars = absurd bars
 
-pub reason : (log : Log) (count : ℕ) (u w : View) (fault : AppendFault) → Explains log count fault → HasMoved u w → IsReason log count u w fault
-reason log count u w LogEnded why moved = why
-reason log count u w (Full tails) why moved = why
-reason log count u w (Moved tails) why moved = (why.0, why.1, why.2, moved)
+pub reason : (places : ℕ) (log : Log) (count : ℕ) (u w : View) (fault : AppendFault) → Explains places log count fault → HasMoved u w → IsReason places log count u w fault
+reason places log count u w LogEnded why moved = why
+reason places log count u w (Full tails) why moved = why
+reason places log count u w (Moved tails) why moved = (why.0, why.1, why.2, moved)
 
 -- a bar that the first look found
-pub barred : (log : Log) (count : ℕ) (u w : View) (fault : AppendFault) → Bars log count fault → IsReason log count u w fault
-barred log count u w LogEnded bars = bars
-barred log count u w (Full tails) bars = bars
-barred log count u w (Moved tails) bars = absurd bars
+pub barred : (places : ℕ) (log : Log) (count : ℕ) (u w : View) (fault : AppendFault) → Bars places log count fault → IsReason places log count u w fault
+barred places log count u w LogEnded bars = bars
+barred places log count u w (Full tails) bars = bars
+barred places log count u w (Moved tails) bars = absurd bars

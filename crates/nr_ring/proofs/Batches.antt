@@ -64,10 +64,10 @@ one_more_written ring before place n a b first second batch entry own is few the
 }
 
 -- where an append puts an entry, no entry is that a replica has still to take
-pub unneeded : (depth : Depth) (replicas passes : ℕ) (own : Option ℕ) (ring : ℕ) (p : CellPass View Stored) (batch : List LogEntry) (i k at : ℕ)
-    → Remembers depth replicas passes own ring p → MayAppend depth (log_after replicas p.view.seen) batch → i < length batch → k < 2
+pub unneeded : (depth : Depth) (replicas passes places : ℕ) (own : Option ℕ) (ring : ℕ) (p : CellPass View Stored) (batch : List LogEntry) (i k at : ℕ)
+    → Remembers depth replicas passes places own ring p → MayAppend depth (log_after replicas p.view.seen) batch → i < length batch → k < 2
     → at ≡ spot ring (tail (log_after replicas p.view.seen) + i) + k → (other : ℕ) → Needs replicas p.value at other → ⊥
-unneeded depth replicas passes own ring p batch i k at is may lt two at_is other needs =
+unneeded depth replicas passes places own ring p batch i k at is may lt two at_is other needs =
     let By : List LogEvent → Type 0 = λ history. NeededBy (log_after replicas history) p.value.rings needs.0 at other in
     let need = subst By is.value_is needs.1 in
     let log = log_after replicas p.view.seen in

@@ -22,10 +22,10 @@ drop_longer [] ys (suc n) le = absurd (omega arith)
 drop_longer (x ∷ xs) ys (suc n) le = drop_longer xs ys n (omega arith)
 
 -- a look after an append sees what the pass appended
-looked_after : (depth : Depth) (replicas passes r ring : ℕ) (p : CellPass View Stored) (batch : List LogEntry)
-    → Remembers depth replicas passes (Some r) ring p → MayAppend depth (log_after replicas p.view.seen) batch
+looked_after : (depth : Depth) (replicas passes places r ring : ℕ) (p : CellPass View Stored) (batch : List LogEntry)
+    → Remembers depth replicas passes places (Some r) ring p → MayAppend depth (log_after replicas p.view.seen) batch
     → HasLooked depth replicas (with_event p.view (Append batch)) (with_event p.view (Append batch))
-looked_after depth replicas passes r ring p batch is may = let v = p.view in let middle = with_event v (Append batch) in record {
+looked_after depth replicas passes places r ring p batch is may = let v = p.view in let middle = with_event v (Append batch) in record {
   is_history = goes_on_by depth (new_log replicas) v.seen (Append batch) is.is_history may;
   seen = whole middle.seen;
   told = λ k d lt. begins_still v.seen (slice_index_or v.told k d) (Append batch) (is.told k d lt);
@@ -36,12 +36,12 @@ looked_after depth replicas passes r ring p batch is may = let v = p.view in let
   rights = refl;
 }
 
-pub both_done : (depth : Depth) (replicas passes r ring : ℕ) (u w : View) (p : CellPass View Stored) (batch before : List LogEntry) (place : ℕ)
-    → HasLooked depth replicas u p.view → Remembers depth replicas passes (Some r) ring p → MayAppend depth (log_after replicas p.view.seen) batch
+pub both_done : (depth : Depth) (replicas passes places r ring : ℕ) (u w : View) (p : CellPass View Stored) (batch before : List LogEntry) (place : ℕ)
+    → HasLooked depth replicas u p.view → Remembers depth replicas passes places (Some r) ring p → MayAppend depth (log_after replicas p.view.seen) batch
     → IsLogHistory depth replicas w.seen → place ≡ tail (log_after replicas p.view.seen)
     → w ≡ with_events p.view (Append batch ∷ Advance r (tail (log_after replicas p.view.seen) + length batch) ∷ [])
     → before ≡ to_take (log_after replicas p.view.seen) r → HasAppendedAndTaken depth replicas u batch place before w
-both_done depth replicas passes r ring u w p batch before place looked is may history at made before_is =
+both_done depth replicas passes places r ring u w p batch before place looked is may history at made before_is =
     let v = p.view in
     let log = log_after replicas v.seen in
     let middle = with_event v (Append batch) in
@@ -54,7 +54,7 @@ both_done depth replicas passes r ring u w p batch before place looked is may hi
       appended = record { seen_before = v; looked = looked; appended = refl; place_is = at };
       taken = record {
         between = middle;
-        looked = looked_after depth replicas passes r ring p batch is may;
+        looked = looked_after depth replicas passes places r ring p batch is may;
         taken = record {
           replica = r;
           owns = is.owns;

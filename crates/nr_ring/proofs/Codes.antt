@@ -230,32 +230,32 @@ both_code log last head batch replica to t is there few tail_is =
     (tail_is ∙ sym (length-append log.entries batch)) (locals_are log last head is) is.replicas_are
 
 -- the local tails that a head has are small, and stay so where one is raised to a small one
-pub small_locals : (head locals : List ℕ) → AreSmall head → locals ≡ locals_in head → All (λ local. local ≤ 65536) locals
-small_locals head locals small is = subst (λ (l : List ℕ). All (λ local. local ≤ 65536) l) (sym is) each where
-  each : All (λ local. local ≤ 65536) (locals_in head)
+pub small_locals : (head locals : List ℕ) → AreSmall head → locals ≡ locals_in head → All (λ local. local ≤ 16106127360) locals
+small_locals head locals small is = subst (λ (l : List ℕ). All (λ local. local ≤ 16106127360) l) (sym is) each where
+  each : All (λ local. local ≤ 16106127360) (locals_in head)
   each zero d lt = small.tails 2 (omega arith)
   each (suc zero) d lt = small.tails 3 (omega arith)
   each (suc (suc zero)) d lt = small.tails 4 (omega arith)
   each (suc (suc (suc zero))) d lt = small.tails 5 (omega arith)
   each (suc (suc (suc (suc k)))) d lt = absurd (omega arith)
 
-pub small_still : (locals : List ℕ) (replica to : ℕ) → replica < length locals → All (λ local. local ≤ 65536) locals → to ≤ 65536
-    → All (λ local. local ≤ 65536) (set locals replica to)
+pub small_still : (locals : List ℕ) (replica to : ℕ) → replica < length locals → All (λ local. local ≤ 16106127360) locals → to ≤ 16106127360
+    → All (λ local. local ≤ 16106127360) (set locals replica to)
 small_still locals replica to inside all le k d lt = dite (ℕ_discrete k replica)
     (λ e. omega (arith, le, ap (λ (z : ℕ). get_or (set locals replica to) z d) e ∙ get_or-set_same locals replica to d inside))
     (λ other. omega (arith, all k d (omega (arith, lt, length-set locals replica to)), get_or-set_other locals replica k to d other))
 
 -- the code of small tails is small
-item_small : (locals : List ℕ) (k : ℕ) → All (λ local. local ≤ 65536) locals → get_or locals k 0 ≤ 65536
+item_small : (locals : List ℕ) (k : ℕ) → All (λ local. local ≤ 16106127360) locals → get_or locals k 0 ≤ 16106127360
 item_small [] k all = omega arith
 item_small (x ∷ xs) zero all = all 0 0 (omega arith)
 item_small (x ∷ xs) (suc k) all = item_small xs k (λ i d lt. all (suc i) d (omega arith))
 
-room_small : (tail local : ℕ) (b : Bool) → local ≤ 65536 → room_of tail local b ≤ 65552
+room_small : (tail local : ℕ) (b : Bool) → local ≤ 16106127360 → room_of tail local b ≤ 16106127376
 room_small tail local true le = omega arith
 room_small tail local false le = omega arith
 
-rooms_small : (tail count first : ℕ) (locals : List ℕ) (k : ℕ) → All (λ local. local ≤ 65536) locals → get_or (rooms_of tail locals first count) k 0 ≤ 65552
+rooms_small : (tail count first : ℕ) (locals : List ℕ) (k : ℕ) → All (λ local. local ≤ 16106127360) locals → get_or (rooms_of tail locals first count) k 0 ≤ 16106127376
 rooms_small tail count first locals k all = dite (dec_le (length locals) k)
     (λ high. let none = beyond (rooms_of tail locals first count) k (omega (arith, rooms_long tail locals first count, high)) in omega (arith, none))
     (λ low.
@@ -263,21 +263,21 @@ rooms_small tail count first locals k all = dite (dec_le (length locals) k)
     let b = nat_le (first + k + 1) count in
     omega (arith, room_in tail locals first count k lt, room_small tail (get_or locals k 0) b (item_small locals k all)))
 
-pub low_codes : (tail count first : ℕ) (locals : List ℕ) → tail ≤ 65536 → length locals ≤ 4 → All (λ local. local ≤ 65536) locals
-    → packed tail (rooms_of tail locals first count) < 2 ^ 40
+pub low_codes : (tail count first : ℕ) (locals : List ℕ) → tail ≤ 16106127360 → length locals ≤ 4 → All (λ local. local ≤ 16106127360) locals
+    → packed tail (rooms_of tail locals first count) < 2 ^ 54
 low_codes tail count first locals low few all =
     few_low tail (rooms_of tail locals first count) low (omega (arith, rooms_long tail locals first count, few))
     (λ k. rooms_small tail count first locals k all)
 
-pub small_codes : (tail count : ℕ) (locals : List ℕ) → tail ≤ 65536 → count ≤ 4 → length locals ≤ 4 → All (λ local. local ≤ 65536) locals
-    → code_of tail locals count < 2 ^ 48
+pub small_codes : (tail count : ℕ) (locals : List ℕ) → tail ≤ 16106127360 → count ≤ 4 → length locals ≤ 4 → All (λ local. local ≤ 16106127360) locals
+    → code_of tail locals count < 2 ^ 57
 small_codes tail count locals low few long all =
     let packed_low = low_codes tail count 0 locals low long all in
     eight (packed tail (rooms_of tail locals 0 count)) count packed_low few where
-      eight : (p count : ℕ) → p < 2 ^ 40 → count ≤ 4 → p * 8 + count < 2 ^ 48
+      eight : (p count : ℕ) → p < 2 ^ 54 → count ≤ 4 → p * 8 + count < 2 ^ 57
       eight p count low few = omega arith
 
-pub all_taken : (n : ℕ) (xs : List ℕ) → All (λ local. local ≤ 65536) xs → All (λ local. local ≤ 65536) (take n xs)
+pub all_taken : (n : ℕ) (xs : List ℕ) → All (λ local. local ≤ 16106127360) xs → All (λ local. local ≤ 16106127360) (take n xs)
 all_taken zero xs all k d lt = absurd (omega arith)
 all_taken (suc n) [] all k d lt = absurd (omega arith)
 all_taken (suc n) (x ∷ xs) all zero d lt = all 0 d (omega arith)
@@ -289,11 +289,11 @@ few_taken (suc n) [] = omega arith
 few_taken (suc n) (x ∷ xs) = let rest = few_taken n xs in omega arith
 
 -- and so is that of the first local tails, so many
-pub low_start : (tail count n : ℕ) (locals : List ℕ) → tail ≤ 65536 → n ≤ 4 → All (λ local. local ≤ 65536) locals
-    → packed tail (rooms_of tail (take n locals) 0 count) < 2 ^ 40
+pub low_start : (tail count n : ℕ) (locals : List ℕ) → tail ≤ 16106127360 → n ≤ 4 → All (λ local. local ≤ 16106127360) locals
+    → packed tail (rooms_of tail (take n locals) 0 count) < 2 ^ 54
 low_start tail count n locals low few all = low_codes tail count 0 (take n locals) low (omega (arith, few_taken n locals, few)) (all_taken n locals all)
 
-pub low_room : (tail count k : ℕ) (locals : List ℕ) → All (λ local. local ≤ 65536) locals → room_of tail (get_or locals k 0) (nat_le (k + 1) count) ≤ 65552
+pub low_room : (tail count k : ℕ) (locals : List ℕ) → All (λ local. local ≤ 16106127360) locals → room_of tail (get_or locals k 0) (nat_le (k + 1) count) ≤ 16106127376
 low_room tail count k locals all = room_small tail (get_or locals k 0) (nat_le (k + 1) count) (item_small locals k all)
 
 -- one local tail more

@@ -34,24 +34,24 @@ use Rattle.nr_ring.proofs.Turns.{event_kept, rings_long, rings_still}
 use Rattle.nr_ring.proofs.Views.{after_one_more, begins_still, below_end, goes_on_by}
 
 -- an exchange for the value after events keeps the rule
-turns : (depth : Depth) (replicas passes pass ring : ℕ) (v : View) (events : List LogEvent) (x : Stored) → x.history ≡ v.seen → ring < passes
-    → LeadTo depth replicas v events
-    → TurnsAt (IsKept depth replicas passes) pass v x (stored_after ring x events) (λ before old next after. after ≡ with_events before events)
-turns depth replicas passes pass ring v [] x same below lead views kept at =
-    (v, subst (λ (vs : List View). IsKept depth replicas passes x vs) (sym (set_again views pass v at)) kept, refl)
-turns depth replicas passes pass ring v (event ∷ events) x same below lead views kept at =
+turns : (depth : Depth) (replicas passes places pass ring : ℕ) (v : View) (events : List LogEvent) (x : Stored) → x.history ≡ v.seen → ring < passes
+    → LeadTo depth replicas places v events
+    → TurnsAt (IsKept depth replicas passes places) pass v x (stored_after ring x events) (λ before old next after. after ≡ with_events before events)
+turns depth replicas passes places pass ring v [] x same below lead views kept at =
+    (v, subst (λ (vs : List View). IsKept depth replicas passes places x vs) (sym (set_again views pass v at)) kept, refl)
+turns depth replicas passes places pass ring v (event ∷ events) x same below lead views kept at =
     let w : View = with_event v event in
     let next = stored_after_event ring x event in
-    let first = event_kept depth replicas passes pass ring v event x views kept at same below lead.0 lead.1 in
+    let first = event_kept depth replicas passes places pass ring v event x views kept at same below lead.0 lead.1 lead.3 in
     let there = set_here views pass w (below_end views pass v at) in
-    let rest = turns depth replicas passes pass ring w events next (ap (λ (l : List LogEvent). l ++ event ∷ []) same) below lead.2
+    let rest = turns depth replicas passes places pass ring w events next (ap (λ (l : List LogEvent). l ++ event ∷ []) same) below lead.2
     (set views pass w) first there in
-    (rest.0, subst (λ (vs : List View). IsKept depth replicas passes (stored_after ring next events) vs) (set-set views pass w rest.0) rest.1, rest.2)
+    (rest.0, subst (λ (vs : List View). IsKept depth replicas passes places (stored_after ring next events) vs) (set-set views pass w rest.0) rest.1, rest.2)
 
 -- it leaves each word that another pass counts on: a replica of its own needs that, which nobody else advances
-pub events_leave : (depth : Depth) (replicas passes pass ring : ℕ) (v : View) (events : List LogEvent) (x : Stored) → LeadTo depth replicas v events
-    → Leaves (IsKept depth replicas passes) (Needs replicas) (Lasts replicas) pass v x (stored_after ring x events)
-events_leave depth replicas passes pass ring v events x lead views kept at other w seen place word differ there lasts then now =
+pub events_leave : (depth : Depth) (replicas passes places pass ring : ℕ) (v : View) (events : List LogEvent) (x : Stored) → LeadTo depth replicas places v events
+    → Leaves (IsKept depth replicas passes places) (Needs replicas) (Lasts replicas) pass v x (stored_after ring x events)
+events_leave depth replicas passes places pass ring v events x lead views kept at other w seen place word differ there lasts then now =
     let r = lasts.1.0 in
     let m : NeededBy (log_after replicas seen.history) seen.rings r place word = lasts.1.2 in
     let n : NeededBy (log_after replicas x.history) x.rings now.0 place word = now.1 in
@@ -83,7 +83,7 @@ events_leave depth replicas passes pass ring v events x lead views kept at other
       word_is = n.word_is;
     } in (
       r,
-      needs_kept depth replicas ring v events x r place word kept.each_ring lead
+      needs_kept depth replicas places ring v events x r place word kept.each_ring lead
           (λ has. differ (kept.one_owner other pass w v r there at lasts.1.1 has)) needed,
     )
 
@@ -139,15 +139,15 @@ made_is ring (event ∷ events) p = made_is ring events record {
   own = p.own;
 }
 
-module _ (depth : Depth) (replicas passes : ℕ) (own : Option ℕ) (mine : ℕ) where
+module _ (depth : Depth) (replicas passes places : ℕ) (own : Option ℕ) (mine : ℕ) where
   abbrev Knows : CellPass View Stored → Type 0
-  Knows p = Remembers depth replicas passes own mine p
+  Knows p = Remembers depth replicas passes places own mine p
 
   only_one : (end number : ℕ) → number < end → All (λ n. n < end) (number ∷ [])
   only_one end number lt zero d le = lt
   only_one end number lt (suc k) d le = absurd (omega arith)
 
-  made_known : (ring : ℕ) (events : List LogEvent) (p : CellPass View Stored) → Knows p → ring < passes → LeadTo depth replicas p.view events
+  made_known : (ring : ℕ) (events : List LogEvent) (p : CellPass View Stored) → Knows p → ring < passes → LeadTo depth replicas places p.view events
       → Knows (having_made ring events p)
   made_known ring [] p is below lead = is
   made_known ring (event ∷ events) p is below lead =
@@ -161,6 +161,7 @@ module _ (depth : Depth) (replicas passes : ℕ) (own : Option ℕ) (mine : ℕ)
         each_ring = rings_long ring p.value.rings (log_after replicas v.seen) event is.each_ring
             ∙ ap tail (sym (after_one_more (new_log replicas) v.seen event));
         rings_below = rings_still ring passes p.value.rings event below is.rings_below;
+        ends = omega (arith, lead.3, ap tail (after_one_more (new_log replicas) v.seen event));
         from_is = is.from_is;
         own_long = is.own_long;
         ring_below = is.ring_below;
@@ -172,25 +173,25 @@ module _ (depth : Depth) (replicas passes : ℕ) (own : Option ℕ) (mine : ℕ)
         told = λ k d lt. begins_still v.seen (slice_index_or v.told k d) event (is.told k d lt);
       } below lead.2
 
-  led_known : (ring : ℕ) (events : List LogEvent) (p q : CellPass View Stored) → Knows p → ring < passes → LeadTo depth replicas p.view events
+  led_known : (ring : ℕ) (events : List LogEvent) (p q : CellPass View Stored) → Knows p → ring < passes → LeadTo depth replicas places p.view events
       → q.from ≡ p.from → q.own ≡ p.own → q.value ≡ stored_after ring p.value events → q.view ≡ with_events p.view events → Knows q
   led_known ring events p q is below lead from its value view =
       let now = subst Knows (made_is ring events p) (made_known ring events p is below lead) in
-      remembers_still depth replicas passes own mine _ q now view value from (ap (λ (l : List ℕ). length l) its)
+      remembers_still depth replicas passes places own mine _ q now view value from (ap (λ (l : List ℕ). length l) its)
 
   -- ---- what an exchange asks
 
-  pub events_turn : (pass ring : ℕ) (p : CellPass View Stored) (events : List LogEvent) → Knows p → ring < passes → LeadTo depth replicas p.view events
-      → TurnsAt (IsKept depth replicas passes) pass p.view p.value (stored_after ring p.value events)
+  pub events_turn : (pass ring : ℕ) (p : CellPass View Stored) (events : List LogEvent) → Knows p → ring < passes → LeadTo depth replicas places p.view events
+      → TurnsAt (IsKept depth replicas passes places) pass p.view p.value (stored_after ring p.value events)
       (λ before old next after. after ≡ with_events before events)
-  events_turn pass ring p events is below lead = turns depth replicas passes pass ring p.view events p.value is.value_is below lead
+  events_turn pass ring p events is below lead = turns depth replicas passes places pass ring p.view events p.value is.value_is below lead
 
   pub events_age : (ring : ℕ) (p : CellPass View Stored) (events : List LogEvent) → 1 ≤ length events
       → length p.value.history < length (stored_after ring p.value events).history
   events_age ring p events more =
       omega (arith, more, ap (λ (l : List LogEvent). length l) (stored_history ring p.value events), length-append p.value.history events)
 
-  pub events_rise : (ring : ℕ) (p : CellPass View Stored) (events : List LogEvent) → Knows p → ring < passes → LeadTo depth replicas p.view events
+  pub events_rise : (ring : ℕ) (p : CellPass View Stored) (events : List LogEvent) → Knows p → ring < passes → LeadTo depth replicas places p.view events
       → 1 ≤ length events → code_in replicas p.value < code_in replicas (stored_after ring p.value events)
   events_rise ring p events is below lead more =
       let later = subst Knows (made_is ring events p) (made_known ring events p is below lead) in
@@ -198,7 +199,7 @@ module _ (depth : Depth) (replicas passes : ℕ) (own : Option ℕ) (mine : ℕ)
       let Is : List LogEvent → Type 0 = λ l. IsLogHistory depth replicas l in
       let history : IsLogHistory depth replicas next.history = subst Is (sym later.value_is) later.is_history in
       let up = code_rises depth replicas next.history p.value.history is.few history (events, stored_history ring p.value events) in
-      omega (arith, up, more, last_few depth replicas passes own mine p is)
+      omega (arith, up, more, last_few depth replicas passes places own mine p is)
 
   pub advance_stored : (ring : ℕ) (p : CellPass View Stored) (replica to : ℕ) → Knows p → MayAdvance (log_after replicas p.view.seen) replica to
       → AreStored replicas ring (Advance replica to ∷ []) p
@@ -234,7 +235,7 @@ module _ (depth : Depth) (replicas passes : ℕ) (own : Option ℕ) (mine : ℕ)
   -- ---- what it shows
 
   -- where the value found has come further than that of the pass, another pass's event has come
-  later_moved : (p q : CellPass View Stored) → Knows p → length p.value.history < length q.value.history → Looks depth replicas passes q.value p.view q.view
+  later_moved : (p q : CellPass View Stored) → Knows p → length p.value.history < length q.value.history → Looks depth replicas passes places q.value p.view q.view
       → HasMoved p.view q.view
   later_moved p q is more looks =
       let Has : List ℕ → Type 0 = λ l. Contains l (length p.view.seen) → ⊥ in (
@@ -246,11 +247,11 @@ module _ (depth : Depth) (replicas passes : ℕ) (own : Option ℕ) (mine : ℕ)
 
   -- the events were made, or another pass's has come
   pub exchange_tells : (ring : ℕ) (p q : CellPass View Stored) (events : List LogEvent) (made : Bool) → Knows p → ring < passes
-      → LeadTo depth replicas p.view events → q.from ≡ p.from → q.own ≡ p.own
+      → LeadTo depth replicas places p.view events → q.from ≡ p.from → q.own ≡ p.own
       → MatchBool made ((q.value ≡ stored_after ring p.value events) × (q.view ≡ with_events p.view events))
       ((code_in replicas p.value < code_in replicas q.value) × (length p.value.history < length q.value.history)
-      × Looks depth replicas passes q.value p.view q.view)
+      × Looks depth replicas passes places q.value p.view q.view)
       → Knows q × MadeOrMoved depth replicas events p.view q.view made
   exchange_tells ring p q events true is below lead from its tells = (led_known ring events p q is below lead from its tells.0 tells.1, tells.1)
   exchange_tells ring p q events false is below lead from its tells =
-      (look_remembers depth replicas passes own mine p q is from its tells.2, (tells.2.looked, later_moved p q is tells.1 tells.2))
+      (look_remembers depth replicas passes places own mine p q is from its tells.2, (tells.2.looked, later_moved p q is tells.1 tells.2))

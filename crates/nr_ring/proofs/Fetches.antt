@@ -85,7 +85,7 @@ abbrev pub CanCountOn : ℕ → ℕ → ℕ → CellPass View Stored → Type 0
 CanCountOn replicas at word pass = Lasts replicas pass.view pass.value at word × Needs replicas pass.value at word
 
 -- what the owner of a replica can count on: the two words of an entry that the replica has still to take
-module _ (depth : Depth) (replicas passes r ring : ℕ) (p : CellPass View Stored) (is : Remembers depth replicas passes (Some r) ring p)
+module _ (depth : Depth) (replicas passes places r ring : ℕ) (p : CellPass View Stored) (is : Remembers depth replicas passes places (Some r) ring p)
     (place : ℕ) (entry : LogEntry) (untaken : local_of (log_after replicas p.view.seen) r ≤ place)
     (there : slice_get (log_after replicas p.view.seen).entries place ≡ Some entry) where
   needed : (k : ℕ) → k < 2 → NeededBy (log_after replicas p.view.seen) p.value.rings r (spot (slice_index p.value.rings place) place + k)

@@ -21,7 +21,7 @@ use Rattle.nr_ring.proofs.LocalTails.{greatest_least}
 abbrev pub Tells : ℕ → Stored → List ℕ → Type 0
 Tells replicas stored head = (place : ℕ) → place < 8 → slice_index head place ≡ word_in (code_in replicas stored) place
 
-module _ (depth : Depth) (replicas passes : ℕ) (own : Option ℕ) (ring : ℕ) (p : CellPass View Stored) (is : Remembers depth replicas passes own ring p) where
+module _ (depth : Depth) (replicas passes places : ℕ) (own : Option ℕ) (ring : ℕ) (p : CellPass View Stored) (is : Remembers depth replicas passes places own ring p) where
   pub ring_low : (place : ℕ) → slice_index p.value.rings place < passes
   ring_low place = last_below passes p.value.rings (suc place) (omega (arith, is.ring_below)) is.rings_below
 
@@ -41,16 +41,16 @@ module _ (depth : Depth) (replicas passes : ℕ) (own : Option ℕ) (ring : ℕ)
       let log = log_after replicas p.view.seen in
       let are = head_is head tells in
       let fits = history_fits depth replicas p.view.seen is.is_history in
-      let local : (r : ℕ) → local_of log r ≤ 65536 = λ r. le_trans (fits.written r) fits.ends in
+      let local : (r : ℕ) → local_of log r ≤ 16106127360 = λ r. le_trans (fits.written r) fits.ends in
       record {
         tails = by_word head log (last_ring p.value) are fits.ends local;
         replicas = omega (arith, are.replicas_are, as_many_locals depth replicas p.view.seen is.is_history, is.few);
         last = omega (arith, are.last_is, before_low (length p.value.rings), is.few_rings);
       } where
-        by_word : (head : List ℕ) (log : Log) (last : ℕ) → IsHeadOf log last head → length log.entries ≤ 65536 → ((r : ℕ) → local_of log r ≤ 65536)
-            → (word : ℕ) → word < 6 → slice_index head word ≤ 65536
+        by_word : (head : List ℕ) (log : Log) (last : ℕ) → IsHeadOf log last head → length log.entries ≤ 16106127360 → ((r : ℕ) → local_of log r ≤ 16106127360)
+            → (word : ℕ) → word < 6 → slice_index head word ≤ 16106127360
         by_word head log last are ends local zero lt = omega (arith, are.tail_is)
-        by_word head log last are ends local (suc zero) lt = omega (arith, are.completed_is, greatest_least log.locals 65536 local)
+        by_word head log last are ends local (suc zero) lt = omega (arith, are.completed_is, greatest_least log.locals 16106127360 local)
         by_word head log last are ends local (suc (suc r)) lt = let e : suc (suc r) ≡ 2 + r = omega arith in
             omega (arith, ap (slice_index head) e, are.locals_are r (omega arith), local r)
 

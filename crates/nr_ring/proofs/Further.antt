@@ -82,12 +82,12 @@ between replica whole middle seen all last first =
     )
 
 -- a pass that was given another's sees as much as one of the two, of which both were a beginning, and the value is that
-sees : (depth : Depth) (replicas passes pass : ℕ) (told other : View) (value x : Stored) (views : List View)
-    → (kept : IsKept depth replicas passes x views) → get_elem? views pass ≡ some (joint_view told other)
+sees : (depth : Depth) (replicas passes places pass : ℕ) (told other : View) (value x : Stored) (views : List View)
+    → (kept : IsKept depth replicas passes places x views) → get_elem? views pass ≡ some (joint_view told other)
     → StartsWith x.history value.history → StartsWith value.history told.seen → StartsWith value.history other.seen → All (StartsWith told.seen) told.told
-    → IsLogHistory depth replicas value.history → length value.rings ≡ tail (log_after replicas value.history) → All (λ ring. ring < passes) value.rings
-    → (w : View) × IsKept depth replicas passes x (slice_set views pass w) × Looks depth replicas passes value (joint_view told other) w
-sees depth replicas passes pass told other value x views kept at here mine its told_all is each below =
+    → IsLogHistory depth replicas value.history → length value.rings ≡ tail (log_after replicas value.history) → All (λ ring. ring < passes) value.rings → tail (log_after replicas value.history) ≤ places
+    → (w : View) × IsKept depth replicas passes places x (slice_set views pass w) × Looks depth replicas passes places value (joint_view told other) w
+sees depth replicas passes places pass told other value x views kept at here mine its told_all is each below ends =
     let v : View = joint_view told other in
     let seen = value.history in
     let w : View = seeing seen v in
@@ -96,7 +96,7 @@ sees depth replicas passes pass told other value x views kept at here mine its t
     → HasSeenAdvances (slice_index_or v.owns k d) x.history seen × HasSeenAdvances (slice_index_or v.owns k d) seen told.seen =
     λ k d lt. between (slice_index_or v.owns k d) x.history seen told.seen (old.owns k d lt) here mine in (
       w,
-      seeing_kept depth replicas passes pass v seen x views kept at (record { seen = here; told = old.told; owns = λ k d lt. (own k d lt).0; mine = old.mine }),
+      seeing_kept depth replicas passes places pass v seen x views kept at (record { seen = here; told = old.told; owns = λ k d lt. (own k d lt).0; mine = old.mine }),
       record {
         looked = record {
           is_history = is;
@@ -111,6 +111,7 @@ sees depth replicas passes pass told other value x views kept at here mine its t
         found_is = refl;
         each_ring = each;
         rings_below = below;
+        ends = ends;
       },
     )
 
@@ -145,23 +146,27 @@ codes_tell depth replicas x y few is is' low low' same =
       omega (arith, same, low, low'),
     )
 
-module _ (depth : Depth) (replicas passes : ℕ) where
-  pub last_few : (own : Option ℕ) (mine : ℕ) (p : CellPass View Stored) → Remembers depth replicas passes own mine p → last_ring p.value < 128
+module _ (depth : Depth) (replicas passes places : ℕ) where
+  pub last_few : (own : Option ℕ) (mine : ℕ) (p : CellPass View Stored) → Remembers depth replicas passes places own mine p → last_ring p.value < 128
   last_few own mine p is =
       omega (arith, last_below passes p.value.rings (length p.value.rings) (omega (arith, is.ring_below)) is.rings_below, is.few_rings)
 
-  known_history : (own : Option ℕ) (mine : ℕ) (p : CellPass View Stored) → Remembers depth replicas passes own mine p
+  known_history : (own : Option ℕ) (mine : ℕ) (p : CellPass View Stored) → Remembers depth replicas passes places own mine p
       → IsLogHistory depth replicas p.value.history
   known_history own mine p is = let Is : List LogEvent → Type 0 = λ l. IsLogHistory depth replicas l in subst Is (sym is.value_is) is.is_history
 
-  known_rings : (own : Option ℕ) (mine : ℕ) (p : CellPass View Stored) → Remembers depth replicas passes own mine p
+  known_rings : (own : Option ℕ) (mine : ℕ) (p : CellPass View Stored) → Remembers depth replicas passes places own mine p
       → length p.value.rings ≡ tail (log_after replicas p.value.history)
   known_rings own mine p is = is.each_ring ∙ ap (λ (l : List LogEvent). tail (log_after replicas l)) (sym is.value_is)
 
+  known_end : (own : Option ℕ) (mine : ℕ) (p : CellPass View Stored) → Remembers depth replicas passes places own mine p
+      → tail (log_after replicas p.value.history) ≤ places
+  known_end own mine p is = omega (arith, is.ends, ap (λ (l : List LogEvent). tail (log_after replicas l)) is.value_is)
+
   pub meeting_recalls : (pass : ℕ) (own its : Option ℕ) (mine theirs : ℕ) (told other : CellPass View Stored) (given : View) (value : Stored)
-      → Remembers depth replicas passes own mine told → Remembers depth replicas passes its theirs other → given.seen ≡ other.view.seen
+      → Remembers depth replicas passes places own mine told → Remembers depth replicas passes places its theirs other → given.seen ≡ other.view.seen
       → HaveComeFurther (code_in replicas) told.value other.value value
-      → Recalls (IsKept depth replicas passes) pass (joint_view told.view given) value (λ before x found after. Looks depth replicas passes found before after)
+      → Recalls (IsKept depth replicas passes places) pass (joint_view told.view given) value (λ before x found after. Looks depth replicas passes places found before after)
   meeting_recalls pass own its mine theirs told other given value is they same further x views kept at =
       let old : IsTrueOf x.history (made_by_pass pass kept.makers) (joint_view told.view given) = kept.each_view pass (joint_view told.view given) at in
       let Now : List LogEvent → Type 0 = λ l. StartsWith x.history l in
@@ -170,18 +175,18 @@ module _ (depth : Depth) (replicas passes : ℕ) where
       let given_is : given.seen ≡ second = same ∙ sym they.value_is in
       let hers : StartsWith x.history second = subst Now given_is (old.told 0 [] (omega arith)) in
       let my : StartsWith x.history first = subst Now (sym is.value_is) old.seen in
-      let Found : Stored → Type 0 = λ z. (w : View) × IsKept depth replicas passes x (slice_set views pass w)
-      × Looks depth replicas passes z (joint_view told.view given) w in
+      let Found : Stored → Type 0 = λ z. (w : View) × IsKept depth replicas passes places x (slice_set views pass w)
+      × Looks depth replicas passes places z (joint_view told.view given) w in
       let as_told : StartsWith first second → Found told.value =
-      λ after. sees depth replicas passes pass told.view given told.value x views kept at my
+      λ after. sees depth replicas passes places pass told.view given told.value x views kept at my
       (subst (λ (l : List LogEvent). StartsWith first l) is.value_is (whole first))
       (subst (λ (l : List LogEvent). StartsWith first l) (sym given_is) after) is.told (known_history own mine told is)
-      (known_rings own mine told is) is.rings_below in
+      (known_rings own mine told is) is.rings_below (known_end own mine told is) in
       let as_other : StartsWith second first → Found other.value =
-      λ after. sees depth replicas passes pass told.view given other.value x views kept at hers
+      λ after. sees depth replicas passes places pass told.view given other.value x views kept at hers
       (subst (λ (l : List LogEvent). StartsWith second l) is.value_is after)
       (subst (λ (l : List LogEvent). StartsWith second l) (sym given_is) (whole second)) is.told (known_history its theirs other they)
-      (known_rings its theirs other they) they.rings_below in
+      (known_rings its theirs other they) they.rings_below (known_end its theirs other they) in
       let order = either_begins first second my.0 hers.0 (sym my.1 ∙ hers.1) in
       let few = last_few own mine told is in
       let few' = last_few its theirs other they in

@@ -84,17 +84,17 @@ gathered_is v w is =
 -- ---- the steps
 
 -- all that a pass owns is cut off
-pub owner_forks : (depth : Depth) (replicas passes pass : ℕ) (v : View) → Forks (IsKept depth replicas passes) pass v (left_view v [] v.rights) (owner_of v)
-owner_forks depth replicas passes pass v stored views is at =
-    split_forks depth replicas passes pass v [] v.owns v.rights 0
+pub owner_forks : (depth : Depth) (replicas passes places pass : ℕ) (v : View) → Forks (IsKept depth replicas passes places) pass v (left_view v [] v.rights) (owner_of v)
+owner_forks depth replicas passes places pass v stored views is at =
+    split_forks depth replicas passes places pass v [] v.owns v.rights 0
     (record { kept_of = λ r kept. absurd (omega (arith, kept.1)); given_of = λ r has. has; apart = λ r kept given. absurd (omega (arith, kept.1)) })
     (record { all = omega arith; of_makers = is.makers_right pass v at })
     stored views is at
 
 -- and goes to one that has seen as much
-pub gather_merges : (depth : Depth) (replicas passes pass other : ℕ) (v w : View) → StartsWith v.seen w.seen → w.mine ≡ []
-    → Merges (IsKept depth replicas passes) pass v other w (gathered v w) empty_view
-gather_merges depth replicas passes pass other v w begins idle stored views is at differ there =
+pub gather_merges : (depth : Depth) (replicas passes places pass other : ℕ) (v w : View) → StartsWith v.seen w.seen → w.mine ≡ []
+    → Merges (IsKept depth replicas passes places) pass v other w (gathered v w) empty_view
+gather_merges depth replicas passes places pass other v w begins idle stored views is at differ there =
     let old = is.each_view pass v at in
     let w_at = other_at views pass other (gathered v w) w differ there in
     let copy = is.each_view other w w_at in
@@ -102,9 +102,9 @@ gather_merges depth replicas passes pass other v w begins idle stored views is a
     let same : gathered v w ≡ taken_over v w = when_apart (are_apart v.owns w.owns) (taken_over v w) no_view (apart_so v.owns w.owns apart) in
     let Seen : ℕ → Type 0 = λ r. HasSeenAdvances r stored.history v.seen in
     let Kept : View → Type 0 = λ z. get_elem? (slice_set views pass z) other ≡ some w
-    → IsKept depth replicas passes stored (slice_set (slice_set views pass z) other empty_view) in
+    → IsKept depth replicas passes places stored (slice_set (slice_set views pass z) other empty_view) in
     subst Kept (sym same)
-    (λ here. merged depth replicas passes pass other v w (taken_over v w) stored views is at differ here idle
+    (λ here. merged depth replicas passes places pass other v w (taken_over v w) stored views is at differ here idle
     (record {
       seen = old.seen;
       told = told_one stored.history w.seen v.told copy.seen old.told;
@@ -116,11 +116,11 @@ gather_merges depth replicas passes pass other v w begins idle stored views is a
     there
 
 -- each view is one that a pass has
-pub existing_recalls : (depth : Depth) (replicas passes pass : ℕ) (v : View) (value : Stored)
-    → Recalls (IsKept depth replicas passes) pass v value (λ before x y after. (before ≢ no_view) × (after ≡ before))
-existing_recalls depth replicas passes pass v value x views kept at = (
+pub existing_recalls : (depth : Depth) (replicas passes places pass : ℕ) (v : View) (value : Stored)
+    → Recalls (IsKept depth replicas passes places) pass v value (λ before x y after. (before ≢ no_view) × (after ≡ before))
+existing_recalls depth replicas passes places pass v value x views kept at = (
   v,
-  seeing_kept depth replicas passes pass v v.seen x views kept at (kept.each_view pass v at),
+  seeing_kept depth replicas passes places pass v v.seen x views kept at (kept.each_view pass v at),
   (
     λ e.
         let idle = kept.makers_right pass v at (ap (λ (z : View). z.rights) e) in

@@ -5,7 +5,7 @@ use Rattle.std.proofs.Math.ListN.{length-append, length-set, length-replicate}
 use Rattle.std.proofs.lemmas.List.{append-nil, append_assoc, get_or-set_other, get_or-set_same}
 use Rattle.vs_types.specs.LogEntry.{IsLogEntry}
 use Rattle.vs_types.specs.declared.depth.Depth.{Depth}
-use Rattle.vs_types.specs.declared.limits.TheConstants.{LOG_PLACES}
+use Rattle.nr_ring.specs.declared.words.TheConstants.{MOST_PLACES}
 use Rattle.vs_types.specs.declared.log_entry.LogEntry.{LogEntry}
 use Rattle.nr_ring.specs.LogHistory.{Log, new_log, tail, local_of, completed, MayAppend, MayFollow, MayGoOn, IsLogHistory, IsEnded, IsFull, log_after_event}
 use Rattle.nr_ring.specs.LogHistory.{log_after_events}
@@ -91,13 +91,13 @@ pub history_fits : (depth : Depth) (replicas : ℕ) (events : List LogEvent) →
 history_fits depth replicas events is = fits_all depth (new_log replicas) events is (fits_new replicas)
 
 pub refused : (depth : Depth) (log : Log) (batch : List LogEntry) → 1 ≤ length batch → length batch ≤ 16 → All (IsLogEntry depth) batch
-    → MayAppend depth log batch ⊎ (IsEnded log (length batch) ⊎ IsFull log (length batch))
+    → MayAppend depth log batch ⊎ (IsEnded MOST_PLACES log (length batch) ⊎ IsFull log (length batch))
 refused depth log batch some few fit =
     ⊎_elim
     (λ room. ⊎_elim (λ up. inl (record { some = some; few = few; entries = fit; room = room; kept_up = up })) (λ behind. inr (inr behind))
     (all_or_one (tail log + length batch) log.locals))
     (λ ended. inr (inl ended))
-    (le_or_lt (tail log + length batch) LOG_PLACES)
+    (le_or_lt (tail log + length batch) MOST_PLACES)
 
 pub goes_on_after : (depth : Depth) (log : Log) (seen rest : List LogEvent) → MayGoOn depth log (seen ++ rest) → MayGoOn depth (log_after_events log seen) rest
 goes_on_after depth log [] rest may = may

@@ -39,23 +39,23 @@ owner views pass other z j u replica there has =
     (at_set (set views pass z) other j empty_view u there)
 
 -- what the pass owns then was owned by it or by the other, so that no third pass owns it
-third : (depth : Depth) (replicas passes : ℕ) (stored : Stored) (views : List View) (pass other : ℕ) (v w : View) (j replica : ℕ) (u : View)
-    → IsKept depth replicas passes stored views → get_elem? views pass ≡ some v → get_elem? views other ≡ some w
+third : (depth : Depth) (replicas passes places : ℕ) (stored : Stored) (views : List View) (pass other : ℕ) (v w : View) (j replica : ℕ) (u : View)
+    → IsKept depth replicas passes places stored views → get_elem? views pass ≡ some v → get_elem? views other ≡ some w
     → Contains v.owns replica ⊎ Contains w.owns replica → j ≢ pass → j ≢ other → get_elem? views j ≡ some u → Contains u.owns replica → ⊥
-third depth replicas passes stored views pass other v w j replica u is at there (inl a) mine its here has = mine (is.one_owner j pass u v replica here at has a)
-third depth replicas passes stored views pass other v w j replica u is at there (inr a) mine its here has =
+third depth replicas passes places stored views pass other v w j replica u is at there (inl a) mine its here has = mine (is.one_owner j pass u v replica here at has a)
+third depth replicas passes places stored views pass other v w j replica u is at there (inr a) mine its here has =
     its (is.one_owner j other u w replica here there has a)
 
-one_each : (depth : Depth) (replicas passes : ℕ) (stored : Stored) (views : List View) (pass other : ℕ) (v w z : View) (p q replica : ℕ)
-    → IsKept depth replicas passes stored views → get_elem? views pass ≡ some v → get_elem? views other ≡ some w
+one_each : (depth : Depth) (replicas passes places : ℕ) (stored : Stored) (views : List View) (pass other : ℕ) (v w z : View) (p q replica : ℕ)
+    → IsKept depth replicas passes places stored views → get_elem? views pass ≡ some v → get_elem? views other ≡ some w
     → (Contains z.owns replica → Contains v.owns replica ⊎ Contains w.owns replica)
     → Owner views pass other z p replica → Owner views pass other z q replica → p ≡ q
-one_each depth replicas passes stored views pass other v w z p q replica is at there from (inl a) (inl b) = a.0 ∙ sym b.0
-one_each depth replicas passes stored views pass other v w z p q replica is at there from (inl a) (inr b) =
-    absurd (third depth replicas passes stored views pass other v w q replica b.2.0 is at there (from a.1) b.0 b.1 b.2.1 b.2.2)
-one_each depth replicas passes stored views pass other v w z p q replica is at there from (inr a) (inl b) =
-    absurd (third depth replicas passes stored views pass other v w p replica a.2.0 is at there (from b.1) a.0 a.1 a.2.1 a.2.2)
-one_each depth replicas passes stored views pass other v w z p q replica is at there from (inr a) (inr b) =
+one_each depth replicas passes places stored views pass other v w z p q replica is at there from (inl a) (inl b) = a.0 ∙ sym b.0
+one_each depth replicas passes places stored views pass other v w z p q replica is at there from (inl a) (inr b) =
+    absurd (third depth replicas passes places stored views pass other v w q replica b.2.0 is at there (from a.1) b.0 b.1 b.2.1 b.2.2)
+one_each depth replicas passes places stored views pass other v w z p q replica is at there from (inr a) (inl b) =
+    absurd (third depth replicas passes places stored views pass other v w p replica a.2.0 is at there (from b.1) a.0 a.1 a.2.1 a.2.2)
+one_each depth replicas passes places stored views pass other v w z p q replica is at there from (inr a) (inr b) =
     is.one_owner p q a.2.0 b.2.0 replica a.2.1 b.2.1 a.2.2 b.2.2
 
 -- what the other had seen before the join
@@ -66,13 +66,13 @@ other_at views pass other z w differ there =
     (at_set views pass other z w there)
 
 -- the pass may then have what is true of the history, own what one of the two owned, and has the rights of both
-pub merged : (depth : Depth) (replicas passes pass other : ℕ) (v w z : View) (stored : Stored) (views : List View)
-    → (is : IsKept depth replicas passes stored views)
+pub merged : (depth : Depth) (replicas passes places pass other : ℕ) (v w z : View) (stored : Stored) (views : List View)
+    → (is : IsKept depth replicas passes places stored views)
     → get_elem? views pass ≡ some v → (other ≡ pass → ⊥) → get_elem? (set views pass z) other ≡ some w → w.mine ≡ []
     → IsTrueOf stored.history (made_by_pass pass is.makers) z → ((replica : ℕ) → Contains z.owns replica → Contains v.owns replica ⊎ Contains w.owns replica)
     → z.mine ≡ v.mine → z.rights ≡ v.rights + w.rights
-    → IsKept depth replicas passes stored (set (set views pass z) other empty_view)
-merged depth replicas passes pass other v w z stored views is at differ there idle own from mine rights =
+    → IsKept depth replicas passes places stored (set (set views pass z) other empty_view)
+merged depth replicas passes places pass other v w z stored views is at differ there idle own from mine rights =
     let changed = set views pass z in
     let wide : length (set changed other empty_view) ≡ length views = length-set changed other empty_view ∙ length-set views pass z in
     let w_at : get_elem? views other ≡ some w = other_at views pass other z w differ there in
@@ -88,6 +88,7 @@ merged depth replicas passes pass other v w z stored views is at differ there id
       is_history = is.is_history;
       each_ring = is.each_ring;
       rings_below = is.rings_below;
+      ends = is.ends;
       each_made = is.each_made;
       by_passes = λ k d lt. omega (arith, is.by_passes k d lt, wide);
       each_view = λ j u here.
@@ -101,18 +102,18 @@ merged depth replicas passes pass other v w z stored views is at differ there id
           (at_set views pass j z u t.1))
           (at_set changed other j empty_view u here);
       one_owner = λ p q a b replica pa qb ha hb.
-          one_each depth replicas passes stored views pass other v w z p q replica is at w_at (from replica) (owner views pass other z p a replica pa ha)
+          one_each depth replicas passes places stored views pass other v w z p q replica is at w_at (from replica) (owner views pass other z p a replica pa ha)
           (owner views pass other z q b replica qb hb);
       all_rights = omega (arith, rights_changed views pass v z at, rights_changed changed other w empty_view there, is.all_rights, rights);
       makers_right = idle_still changed other empty_view (λ none. refl)
           (idle_still views pass z (λ none. mine ∙ is.makers_right pass v at (omega (arith, none, rights))) is.makers_right);
     }
 
-pub join_merges : (depth : Depth) (replicas passes pass other : ℕ) (v w : View) → w.mine ≡ []
-    → Merges (IsKept depth replicas passes) pass v other w (joint_view v w) empty_view
-join_merges depth replicas passes pass other v w idle stored views is at differ there =
+pub join_merges : (depth : Depth) (replicas passes places pass other : ℕ) (v w : View) → w.mine ≡ []
+    → Merges (IsKept depth replicas passes places) pass v other w (joint_view v w) empty_view
+join_merges depth replicas passes places pass other v w idle stored views is at differ there =
     let old = is.each_view pass v at in
     let copy = is.each_view other w (other_at views pass other (joint_view v w) w differ there) in
-    merged depth replicas passes pass other v w (joint_view v w) stored views is at differ there idle
+    merged depth replicas passes places pass other v w (joint_view v w) stored views is at differ there idle
     (record { seen = old.seen; told = told_one stored.history w.seen v.told copy.seen old.told; owns = old.owns; mine = old.mine })
     (λ replica has. inl has) refl refl

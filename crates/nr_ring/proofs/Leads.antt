@@ -6,7 +6,7 @@ use Rattle.std.proofs.lemmas.List.{get_or-append_right, get_or-replicate}
 use Rattle.version_cell.specs.Passes.{CellPass}
 use Rattle.vs_types.specs.declared.depth.Depth.{Depth}
 use Rattle.vs_types.specs.declared.log_entry.LogEntry.{LogEntry}
-use Rattle.nr_ring.specs.LogHistory.{Log, MayAdvance, MayAppend, log_after, log_after_event, new_log, tail}
+use Rattle.nr_ring.specs.LogHistory.{HasRoom, Log, MayAdvance, MayAppend, log_after, log_after_event, new_log, tail}
 use Rattle.nr_ring.specs.Words.{last_ring, ring_before, stored_after}
 use Rattle.nr_ring.specs.declared.log_event.LogEvent.{LogEvent}
 use Rattle.nr_ring.specs.declared.log_event.LogEvent.TheVariants.{Append, Advance}
@@ -29,7 +29,7 @@ last_of_batch rings n ring some =
     ∙ get_or-append_right rings (replicate n ring) (length rings) (length rings + (n - 1)) 0 refl (omega arith)
     ∙ get_or-replicate n (length rings + (n - 1) - length rings) ring 0 (omega (arith, some))
 
-module _ (depth : Depth) (replicas passes : ℕ) (own : Option ℕ) (mine : ℕ) (p : CellPass View Stored) (is : Remembers depth replicas passes own mine p) where
+module _ (depth : Depth) (replicas passes places : ℕ) (own : Option ℕ) (mine : ℕ) (p : CellPass View Stored) (is : Remembers depth replicas passes places own mine p) where
   count : length (log_after replicas p.view.seen).locals ≤ 4
   count = omega (arith, as_many_locals depth replicas p.view.seen is.is_history, is.few)
 
@@ -37,31 +37,37 @@ module _ (depth : Depth) (replicas passes : ℕ) (own : Option ℕ) (mine : ℕ)
   after : (event : LogEvent) → log_after replicas (p.value.history ++ event ∷ []) ≡ log_after_event (log_after replicas p.view.seen) event
   after event = ap (λ (seen : List LogEvent). log_after replicas (seen ++ event ∷ [])) is.value_is ∙ after_one_more (new_log replicas) p.view.seen event
 
-  pub append_leads : (batch : List LogEntry) → MayAppend depth (log_after replicas p.view.seen) batch → LeadTo depth replicas p.view (Append batch ∷ [])
-  append_leads batch may = (may, omega (arith, is.rights), tt)
+  -- the places that a batch needs are there
+  within : (batch : List LogEntry) → HasRoom places (log_after replicas p.view.seen) (length batch)
+      → tail (log_after_event (log_after replicas p.view.seen) (Append batch)) ≤ places
+  within batch room = omega (arith, room, length-append (log_after replicas p.view.seen).entries batch)
+
+  pub append_leads : (batch : List LogEntry) → MayAppend depth (log_after replicas p.view.seen) batch
+      → HasRoom places (log_after replicas p.view.seen) (length batch) → LeadTo depth replicas places p.view (Append batch ∷ [])
+  append_leads batch may room = (may, omega (arith, is.rights), tt, within batch room)
 
   pub append_coded : (head : List ℕ) (batch : List LogEntry) (t code : ℕ) → Tells replicas p.value head → 1 ≤ length batch
       → t ≡ slice_index head 0 + length batch → code ≡ code_of t (locals_in head) (slice_index head 6) * 128 + mine
       → code ≡ code_in replicas (stored_after mine p.value (Append batch ∷ []))
   append_coded head batch t code tells some end code_is =
       let log = log_after replicas p.view.seen in
-      let are = head_is depth replicas passes own mine p is head tells in
+      let are = head_is depth replicas passes places own mine p is head tells in
       let tails = append_code log (last_ring p.value) head batch t are end ∙ ap code_of_log (sym (after (Append batch))) in
       let last = last_of_batch p.value.rings (length batch) mine some in
       code_is ∙ (λ i. tails i * 128 + sym last i)
 
-module _ (depth : Depth) (replicas passes r mine : ℕ) (p : CellPass View Stored) (is : Remembers depth replicas passes (Some r) mine p) where
-  pub advance_leads : (to : ℕ) → MayAdvance (log_after replicas p.view.seen) r to → LeadTo depth replicas p.view (Advance r to ∷ [])
-  advance_leads to may = (may, may_make depth replicas passes r mine p is to, tt)
+module _ (depth : Depth) (replicas passes places r mine : ℕ) (p : CellPass View Stored) (is : Remembers depth replicas passes places (Some r) mine p) where
+  pub advance_leads : (to : ℕ) → MayAdvance (log_after replicas p.view.seen) r to → LeadTo depth replicas places p.view (Advance r to ∷ [])
+  advance_leads to may = (may, may_make depth replicas passes places r mine p is to, tt, is.ends)
 
   pub advance_coded : (ring : ℕ) (head : List ℕ) (to t code : ℕ) → Tells replicas p.value head → MayAdvance (log_after replicas p.view.seen) r to
       → t ≡ slice_index head 0 → code ≡ code_of t (set (locals_in head) r to) (slice_index head 6) * 128 + slice_index head 7
       → code ≡ code_in replicas (stored_after ring p.value (Advance r to ∷ []))
   advance_coded ring head to t code tells may end code_is =
       let log = log_after replicas p.view.seen in
-      let are = head_is depth replicas passes (Some r) mine p is head tells in
-      let tails = advance_code log (last_ring p.value) head r to t are may.there (count depth replicas passes (Some r) mine p is) (end ∙ are.tail_is)
-      ∙ ap code_of_log (sym (after depth replicas passes (Some r) mine p is (Advance r to))) in
+      let are = head_is depth replicas passes places (Some r) mine p is head tells in
+      let tails = advance_code log (last_ring p.value) head r to t are may.there (count depth replicas passes places (Some r) mine p is) (end ∙ are.tail_is)
+      ∙ ap code_of_log (sym (after depth replicas passes places (Some r) mine p is (Advance r to))) in
       code_is ∙ (λ i. tails i * 128 + are.last_is i)
 
   -- after the batch the replica takes all
@@ -78,12 +84,16 @@ module _ (depth : Depth) (replicas passes r mine : ℕ) (p : CellPass View Store
       }
 
   pub both_lead : (batch : List LogEntry) → MayAppend depth (log_after replicas p.view.seen) batch
-      → LeadTo depth replicas p.view (Append batch ∷ Advance r (tail (log_after replicas p.view.seen) + length batch) ∷ [])
-  both_lead batch may =
+      → HasRoom places (log_after replicas p.view.seen) (length batch)
+      → LeadTo depth replicas places p.view (Append batch ∷ Advance r (tail (log_after replicas p.view.seen) + length batch) ∷ [])
+  both_lead batch may room =
       let to = tail (log_after replicas p.view.seen) + length batch in
       let May : Log → Type 0 = λ log. MayAdvance log r to in
       let can = subst May (sym (after_one_more (new_log replicas) p.view.seen (Append batch))) (can_take batch may) in
-      (may, omega (arith, is.rights), (can, may_make depth replicas passes r mine p is to, tt))
+      let first = within depth replicas passes places (Some r) mine p is batch room in
+      let last : tail (log_after replicas (p.view.seen ++ Append batch ∷ [])) ≤ places =
+      omega (arith, first, ap tail (after_one_more (new_log replicas) p.view.seen (Append batch))) in
+      (may, omega (arith, is.rights), (can, may_make depth replicas passes places r mine p is to, tt, last), first)
 
   pub both_coded : (head : List ℕ) (batch : List LogEntry) (t code : ℕ) → Tells replicas p.value head → MayAppend depth (log_after replicas p.view.seen) batch
       → t ≡ slice_index head 0 + length batch → code ≡ code_of t (set (locals_in head) r t) (slice_index head 6) * 128 + mine
@@ -91,12 +101,12 @@ module _ (depth : Depth) (replicas passes r mine : ℕ) (p : CellPass View Store
   both_coded head batch t code tells may end code_is =
       let log = log_after replicas p.view.seen in
       let to = tail log + length batch in
-      let are = head_is depth replicas passes (Some r) mine p is head tells in
+      let are = head_is depth replicas passes places (Some r) mine p is head tells in
       let end_is : t ≡ to = end ∙ ap (λ (n : ℕ). n + length batch) are.tail_is in
       let raised = ap (λ (z : ℕ). code_of t (set (locals_in head) r z) (slice_index head 6)) end_is in
       let there = (can_take batch may).there in
-      let tails = raised ∙ both_code log (last_ring p.value) head batch r to t are there (count depth replicas passes (Some r) mine p is) end_is
+      let tails = raised ∙ both_code log (last_ring p.value) head batch r to t are there (count depth replicas passes places (Some r) mine p is) end_is
       ∙ ap code_of_log (sym (after_one_more (new_log replicas) (p.value.history ++ Append batch ∷ []) (Advance r to)
-      ∙ ap (λ (l : Log). log_after_event l (Advance r to)) (after depth replicas passes (Some r) mine p is (Append batch)))) in
+      ∙ ap (λ (l : Log). log_after_event l (Advance r to)) (after depth replicas passes places (Some r) mine p is (Append batch)))) in
       let last = last_of_batch p.value.rings (length batch) mine may.some in
       code_is ∙ (λ i. tails i * 128 + sym last i)

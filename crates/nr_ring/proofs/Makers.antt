@@ -46,9 +46,9 @@ right_of : (v : View) (n number : ℕ) → v.rights ≡ n → (v.rights ≡ 0 �
 right_of v zero number is idle has = absurd (has_made v number has (idle is))
 right_of v (suc n) number is idle has = omega (arith, is)
 
-pub maker_of : (depth : Depth) (replicas passes : ℕ) (stored : Stored) (views : List View) (kept : IsKept depth replicas passes stored views)
+pub maker_of : (depth : Depth) (replicas passes places : ℕ) (stored : Stored) (views : List View) (kept : IsKept depth replicas passes places stored views)
     → (number : ℕ) → number < length stored.history → (pass : ℕ) × IsMaker views number pass
-maker_of depth replicas passes stored views kept number lt =
+maker_of depth replicas passes places stored views kept number lt =
     let pass = get_or kept.makers number 0 in
     let here : number < length kept.makers = omega (arith, kept.each_made) in
     let v = view_below views pass (kept.by_passes number 0 here) in
@@ -65,9 +65,9 @@ one_at_most : (b : Bool) (n : ℕ) → leb 1 n ≡ b → cond b 1 0 ≤ n
 one_at_most true n is = let one = leb-true 1 n is in omega arith
 one_at_most false n is = omega arith
 
-pub few_makers : (depth : Depth) (replicas passes : ℕ) (stored : Stored) (views : List View) → IsKept depth replicas passes stored views
+pub few_makers : (depth : Depth) (replicas passes places : ℕ) (stored : Stored) (views : List View) → IsKept depth replicas passes places stored views
     → count_by (λ (v : View). leb 1 v.rights) views ≤ passes
-few_makers depth replicas passes stored views kept =
+few_makers depth replicas passes places stored views kept =
     omega (
       arith,
       kept.all_rights,

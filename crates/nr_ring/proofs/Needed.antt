@@ -103,16 +103,16 @@ kept_need log rings ring (Advance other to) r at word each apart n = record {
 }
 
 -- and so do events of a pass that doesn't own the replica
-pub needs_kept : (depth : Depth) (replicas ring : ℕ) (v : View) (events : List LogEvent) (x : Stored) (r at word : ℕ)
-    → length x.rings ≡ tail (log_after replicas x.history) → LeadTo depth replicas v events → (Contains v.owns r → ⊥)
+pub needs_kept : (depth : Depth) (replicas places ring : ℕ) (v : View) (events : List LogEvent) (x : Stored) (r at word : ℕ)
+    → length x.rings ≡ tail (log_after replicas x.history) → LeadTo depth replicas places v events → (Contains v.owns r → ⊥)
     → NeededBy (log_after replicas x.history) x.rings r at word
     → NeededBy (log_after replicas (stored_after ring x events).history) (stored_after ring x events).rings r at word
-needs_kept depth replicas ring v [] x r at word each lead apart n = n
-needs_kept depth replicas ring v (event ∷ events) x r at word each lead apart n =
+needs_kept depth replicas places ring v [] x r at word each lead apart n = n
+needs_kept depth replicas places ring v (event ∷ events) x r at word each lead apart n =
     let log = log_after replicas x.history in
     let one = sym (after_one_more (new_log replicas) x.history event) in
     let At : Log → Type 0 = λ l. NeededBy l (rings_after ring x.rings event) r at word in
-    needs_kept depth replicas ring (with_event v event) events (stored_after_event ring x event) r at word
+    needs_kept depth replicas places ring (with_event v event) events (stored_after_event ring x event) r at word
     (rings_long ring x.rings log event each ∙ ap tail one) lead.2 apart
     (subst At one (kept_need log x.rings ring event r at word each (else_of event v r lead.1 apart) n))
 

@@ -18,13 +18,14 @@ only_first : (v : View) (pass : ℕ) (u : View) → get_elem? (v ∷ []) pass �
 only_first v zero u e = (refl, some-injective v u e)
 only_first v (suc pass) u e = absurd (some-ne-none u (sym e))
 
-pub new_kept : (depth : Depth) (replicas : ℕ) (v : View) → v.seen ≡ [] → v.mine ≡ [] → v.told ≡ []
-    → IsKept depth replicas v.rights nothing_stored (v ∷ [])
-new_kept depth replicas v seen mine told = record {
+pub new_kept : (depth : Depth) (replicas places : ℕ) (v : View) → v.seen ≡ [] → v.mine ≡ [] → v.told ≡ []
+    → IsKept depth replicas v.rights places nothing_stored (v ∷ [])
+new_kept depth replicas places v seen mine told = record {
   makers = [];
   is_history = tt;
   each_ring = refl;
   rings_below = λ k d lt. absurd (omega arith);
+  ends = omega arith;
   each_made = refl;
   by_passes = λ k d lt. absurd (omega arith);
   each_view = λ pass u there.

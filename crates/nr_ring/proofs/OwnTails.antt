@@ -85,8 +85,8 @@ below replicas None is k d lt = absurd (omega arith)
 below replicas (Some r) is zero d lt = is r refl
 below replicas (Some r) is (suc k) d lt = absurd (omega arith)
 
-pub owned_below : (depth : Depth) (replicas passes : ℕ) (replica : Option ℕ) (ring : ℕ) (p : CellPass View Stored)
-    → Remembers depth replicas passes replica ring p → All (λ r. r < replicas) p.view.owns
-owned_below depth replicas passes replica ring p is =
+pub owned_below : (depth : Depth) (replicas passes places : ℕ) (replica : Option ℕ) (ring : ℕ) (p : CellPass View Stored)
+    → Remembers depth replicas passes places replica ring p → All (λ r. r < replicas) p.view.owns
+owned_below depth replicas passes places replica ring p is =
     let Below : List ℕ → Type 0 = λ l. All (λ r. r < replicas) l in
     subst Below (sym is.owns) (below replicas replica is.owned_below)

@@ -65,22 +65,22 @@ packed_end number [] field = refl
 packed_end number (f ∷ fs) field = packed_end (number * 32 + f) fs field
 
 -- it is small where its fields are
-pub packed_low : (number : ℕ) (fields : List ℕ) → ((k : ℕ) → get_or fields k 0 ≤ 65552) → packed number fields + 4096 ≤ (number + 4096) * 32 ^ length fields
+pub packed_low : (number : ℕ) (fields : List ℕ) → ((k : ℕ) → get_or fields k 0 ≤ 16106127376) → packed number fields + 536870912 ≤ (number + 536870912) * 32 ^ length fields
 packed_low number [] low = omega arith
 packed_low number (f ∷ fs) low =
-    let first : f ≤ 65552 = low 0 in
+    let first : f ≤ 16106127376 = low 0 in
     let p = 32 ^ length fs in
-    let more : number * 32 + f + 4096 ≤ (number + 4096) * 32 = omega (arith, first) in
+    let more : number * 32 + f + 536870912 ≤ (number + 536870912) * 32 = omega (arith, first) in
     let rest = packed_low (number * 32 + f) fs (λ k. low (suc k)) in
-    let power : (number + 4096) * 32 ^ suc (length fs) ≡ (number + 4096) * 32 * p =
-    ap (λ (z : ℕ). (number + 4096) * z) (pow-succ' 32 (length fs)) ∙ omega arith in
+    let power : (number + 536870912) * 32 ^ suc (length fs) ≡ (number + 536870912) * 32 * p =
+    ap (λ (z : ℕ). (number + 536870912) * z) (pow-succ' 32 (length fs)) ∙ omega arith in
     omega (arith, rest, mul-le-mul_right p more, power)
 
-pub few_low : (number : ℕ) (fields : List ℕ) → number ≤ 65536 → length fields ≤ 4 → ((k : ℕ) → get_or fields k 0 ≤ 65552) → packed number fields < 2 ^ 40
+pub few_low : (number : ℕ) (fields : List ℕ) → number ≤ 16106127360 → length fields ≤ 4 → ((k : ℕ) → get_or fields k 0 ≤ 16106127376) → packed number fields < 2 ^ 54
 few_low number fields le few low =
     let power : 32 ^ length fields ≤ 2 ^ 20 = pow-le-pow_right {n = 32} (omega arith) few in
     let all = packed_low number fields low in
-    omega (arith, all, le, mul-le-mul_left (number + 4096) power)
+    omega (arith, all, le, mul-le-mul_left (number + 536870912) power)
 
 -- ---- rooms
 

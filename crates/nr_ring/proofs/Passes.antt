@@ -21,12 +21,12 @@ told_before : (after before : View) → after.told ≡ before.told → All (Star
 told_before after before same told = let P : List (List LogEvent) → Type 0 = λ l. All (StartsWith after.seen) l in subst P (sym same) told
 
 -- a pass remembers what it did where it knows as much, and its ring is where it was
-pub remembers_still : (depth : Depth) (replicas passes : ℕ) (replica : Option ℕ) (ring : ℕ) (p q : CellPass View Stored)
-    → Remembers depth replicas passes replica ring p → q.view ≡ p.view → q.value ≡ p.value → q.from ≡ p.from → length q.own ≡ length p.own
-    → Remembers depth replicas passes replica ring q
-remembers_still depth replicas passes replica ring p q is view value from own =
+pub remembers_still : (depth : Depth) (replicas passes places : ℕ) (replica : Option ℕ) (ring : ℕ) (p q : CellPass View Stored)
+    → Remembers depth replicas passes places replica ring p → q.view ≡ p.view → q.value ≡ p.value → q.from ≡ p.from → length q.own ≡ length p.own
+    → Remembers depth replicas passes places replica ring q
+remembers_still depth replicas passes places replica ring p q is view value from own =
     let Is : View × Stored → Type 0 = λ z.
-    Remembers depth replicas passes replica ring
+    Remembers depth replicas passes places replica ring
     (record { cell = p.cell; number = p.number; view = z.0; value = z.1; fresh = p.fresh; from = p.from; own = p.own }) in
     let at : Is (q.view, q.value) = subst Is (λ i. (sym view i, sym value i)) is in
     record {
@@ -36,6 +36,7 @@ remembers_still depth replicas passes replica ring p q is view value from own =
       value_is = at.value_is;
       each_ring = at.each_ring;
       rings_below = at.rings_below;
+      ends = at.ends;
       from_is = from ∙ is.from_is;
       own_long = own ∙ is.own_long;
       ring_below = is.ring_below;
@@ -47,17 +48,18 @@ remembers_still depth replicas passes replica ring p q is view value from own =
     }
 
 -- nor does a look change that, from a view by which it owns and has made the same
-pub look_remembers_from : (depth : Depth) (replicas passes : ℕ) (replica : Option ℕ) (ring : ℕ) (p q : CellPass View Stored) (before : View)
-    → Remembers depth replicas passes replica ring p → before.owns ≡ p.view.owns → before.rights ≡ p.view.rights → before.mine ≡ p.view.mine
-    → StartsWith q.view.seen p.view.seen → q.from ≡ p.from → q.own ≡ p.own → Looks depth replicas passes q.value before q.view
-    → Remembers depth replicas passes replica ring q
-look_remembers_from depth replicas passes replica ring p q before is owns rights mine begins from own looks = record {
+pub look_remembers_from : (depth : Depth) (replicas passes places : ℕ) (replica : Option ℕ) (ring : ℕ) (p q : CellPass View Stored) (before : View)
+    → Remembers depth replicas passes places replica ring p → before.owns ≡ p.view.owns → before.rights ≡ p.view.rights → before.mine ≡ p.view.mine
+    → StartsWith q.view.seen p.view.seen → q.from ≡ p.from → q.own ≡ p.own → Looks depth replicas passes places q.value before q.view
+    → Remembers depth replicas passes places replica ring q
+look_remembers_from depth replicas passes places replica ring p q before is owns rights mine begins from own looks = record {
   few = is.few;
   few_rings = is.few_rings;
   is_history = looks.looked.is_history;
   value_is = looks.found_is;
   each_ring = looks.each_ring ∙ ap (λ (l : List LogEvent). tail (log_after replicas l)) looks.found_is;
   rings_below = looks.rings_below;
+  ends = omega (arith, looks.ends, ap (λ (l : List LogEvent). tail (log_after replicas l)) looks.found_is);
   from_is = from ∙ is.from_is;
   own_long = ap (λ (l : List ℕ). length l) own ∙ is.own_long;
   ring_below = is.ring_below;
@@ -71,25 +73,26 @@ look_remembers_from depth replicas passes replica ring p q before is owns rights
   told = told_before q.view before looks.looked.told_stays looks.looked.told;
 }
 
-pub look_remembers : (depth : Depth) (replicas passes : ℕ) (replica : Option ℕ) (ring : ℕ) (p q : CellPass View Stored)
-    → Remembers depth replicas passes replica ring p → q.from ≡ p.from → q.own ≡ p.own → Looks depth replicas passes q.value p.view q.view
-    → Remembers depth replicas passes replica ring q
-look_remembers depth replicas passes replica ring p q is from own looks =
-    look_remembers_from depth replicas passes replica ring p q p.view is refl refl refl looks.looked.seen from own looks
+pub look_remembers : (depth : Depth) (replicas passes places : ℕ) (replica : Option ℕ) (ring : ℕ) (p q : CellPass View Stored)
+    → Remembers depth replicas passes places replica ring p → q.from ≡ p.from → q.own ≡ p.own → Looks depth replicas passes places q.value p.view q.view
+    → Remembers depth replicas passes places replica ring q
+look_remembers depth replicas passes places replica ring p q is from own looks =
+    look_remembers_from depth replicas passes places replica ring p q p.view is refl refl refl looks.looked.seen from own looks
 
-pub new_remembers : (depth : Depth) (replicas passes : ℕ) (replica : Option ℕ) (ring : ℕ) (p : CellPass View Stored) → replicas ≤ 4 → passes ≤ 128
+pub new_remembers : (depth : Depth) (replicas passes places : ℕ) (replica : Option ℕ) (ring : ℕ) (p : CellPass View Stored) → replicas ≤ 4 → passes ≤ 128
     → IsBelow replicas replica → ring < passes → p.view ≡ new_view (owned replica) 1 → p.value ≡ nothing_stored → p.from ≡ 32 * ring → length p.own ≡ 32
-    → Remembers depth replicas passes replica ring p
-new_remembers depth replicas passes replica ring p few few_rings below low view value from own =
+    → Remembers depth replicas passes places replica ring p
+new_remembers depth replicas passes places replica ring p few few_rings below low view value from own =
     let start : CellPass View Stored =
     record { cell = p.cell; number = p.number; view = new_view (owned replica) 1; value = nothing_stored; fresh = p.fresh; from = p.from; own = p.own } in
-    let first : Remembers depth replicas passes replica ring start = record {
+    let first : Remembers depth replicas passes places replica ring start = record {
       few = few;
       few_rings = few_rings;
       is_history = tt;
       value_is = refl;
       each_ring = refl;
       rings_below = λ k d lt. absurd (omega arith);
+      ends = omega arith;
       from_is = from;
       own_long = own;
       ring_below = low;
@@ -99,7 +102,7 @@ new_remembers depth replicas passes replica ring p few few_rings below low view 
       mine = λ k d lt. absurd (omega arith);
       told = λ k d lt. absurd (omega arith);
     } in
-    remembers_still depth replicas passes replica ring start p first view value refl refl
+    remembers_still depth replicas passes places replica ring start p first view value refl refl
 
 -- the first pass gives away the first of the replicas that it owns
 above : (a n replica : ℕ) → Contains (range_with_len a n) replica → a ≤ replica

@@ -50,27 +50,27 @@ owner views pass v kept given left right j u replica there has =
     (inr (last.0 ∙ length-set views pass (left_view v kept left), subst P (sym last.1) has)))
     (at_end (set views pass (left_view v kept left)) (offshoot v given right) u j there)
 
-one_each : (depth : Depth) (replicas passes : ℕ) (stored : Stored) (views : List View) (pass : ℕ) (v : View) (kept given : List ℕ) (p q replica : ℕ)
-    → IsKept depth replicas passes stored views → get_elem? views pass ≡ some v → IsCut v.owns kept given → Owner views pass kept given p replica
+one_each : (depth : Depth) (replicas passes places : ℕ) (stored : Stored) (views : List View) (pass : ℕ) (v : View) (kept given : List ℕ) (p q replica : ℕ)
+    → IsKept depth replicas passes places stored views → get_elem? views pass ≡ some v → IsCut v.owns kept given → Owner views pass kept given p replica
     → Owner views pass kept given q replica → p ≡ q
-one_each depth replicas passes stored views pass v kept given p q replica is at cut (inl a) (inl b) =
+one_each depth replicas passes places stored views pass v kept given p q replica is at cut (inl a) (inl b) =
     is.one_owner p q a.1.0 b.1.0 replica a.1.1 b.1.1 a.1.2 b.1.2
-one_each depth replicas passes stored views pass v kept given p q replica is at cut (inl a) (inr (inl b)) =
+one_each depth replicas passes places stored views pass v kept given p q replica is at cut (inl a) (inr (inl b)) =
     absurd (a.0 (is.one_owner p pass a.1.0 v replica a.1.1 at a.1.2 (cut.kept_of replica b.1)))
-one_each depth replicas passes stored views pass v kept given p q replica is at cut (inl a) (inr (inr b)) =
+one_each depth replicas passes places stored views pass v kept given p q replica is at cut (inl a) (inr (inr b)) =
     absurd (a.0 (is.one_owner p pass a.1.0 v replica a.1.1 at a.1.2 (cut.given_of replica b.1)))
-one_each depth replicas passes stored views pass v kept given p q replica is at cut (inr (inl a)) (inl b) =
+one_each depth replicas passes places stored views pass v kept given p q replica is at cut (inr (inl a)) (inl b) =
     absurd (b.0 (is.one_owner q pass b.1.0 v replica b.1.1 at b.1.2 (cut.kept_of replica a.1)))
-one_each depth replicas passes stored views pass v kept given p q replica is at cut (inr (inr a)) (inl b) =
+one_each depth replicas passes places stored views pass v kept given p q replica is at cut (inr (inr a)) (inl b) =
     absurd (b.0 (is.one_owner q pass b.1.0 v replica b.1.1 at b.1.2 (cut.given_of replica a.1)))
-one_each depth replicas passes stored views pass v kept given p q replica is at cut (inr (inl a)) (inr (inl b)) = a.0 ∙ sym b.0
-one_each depth replicas passes stored views pass v kept given p q replica is at cut (inr (inl a)) (inr (inr b)) = absurd (cut.apart replica a.1 b.1)
-one_each depth replicas passes stored views pass v kept given p q replica is at cut (inr (inr a)) (inr (inl b)) = absurd (cut.apart replica b.1 a.1)
-one_each depth replicas passes stored views pass v kept given p q replica is at cut (inr (inr a)) (inr (inr b)) = a.0 ∙ sym b.0
+one_each depth replicas passes places stored views pass v kept given p q replica is at cut (inr (inl a)) (inr (inl b)) = a.0 ∙ sym b.0
+one_each depth replicas passes places stored views pass v kept given p q replica is at cut (inr (inl a)) (inr (inr b)) = absurd (cut.apart replica a.1 b.1)
+one_each depth replicas passes places stored views pass v kept given p q replica is at cut (inr (inr a)) (inr (inl b)) = absurd (cut.apart replica b.1 a.1)
+one_each depth replicas passes places stored views pass v kept given p q replica is at cut (inr (inr a)) (inr (inr b)) = a.0 ∙ sym b.0
 
-pub split_forks : (depth : Depth) (replicas passes pass : ℕ) (v : View) (kept given : List ℕ) (left right : ℕ) → IsCut v.owns kept given
-    → AreCut v left right → Forks (IsKept depth replicas passes) pass v (left_view v kept left) (offshoot v given right)
-split_forks depth replicas passes pass v kept given left right cut shares stored views is at =
+pub split_forks : (depth : Depth) (replicas passes places pass : ℕ) (v : View) (kept given : List ℕ) (left right : ℕ) → IsCut v.owns kept given
+    → AreCut v left right → Forks (IsKept depth replicas passes places) pass v (left_view v kept left) (offshoot v given right)
+split_forks depth replicas passes places pass v kept given left right cut shares stored views is at =
     let old = is.each_view pass v at in
     let changed = set views pass (left_view v kept left) in
     let wide : length changed ≡ length views = length-set views pass (left_view v kept left) in
@@ -95,6 +95,7 @@ split_forks depth replicas passes pass v kept given left right cut shares stored
       is_history = is.is_history;
       each_ring = is.each_ring;
       rings_below = is.rings_below;
+      ends = is.ends;
       each_made = is.each_made;
       by_passes = λ k d lt. omega (arith, is.by_passes k d lt, wide, length-append changed (offshoot v given right ∷ []));
       each_view = λ j u there.
@@ -109,7 +110,7 @@ split_forks depth replicas passes pass v kept given left right cut shares stored
           let R : ℕ → Type 0 = λ i. T i (offshoot v given right) in let Q : View → Type 0 = λ z. T j z in subst Q last.1 (subst R (sym (last.0 ∙ wide)) new))
           (at_end changed (offshoot v given right) u j there);
       one_owner = λ p q a b replica pa qb ha hb.
-          one_each depth replicas passes stored views pass v kept given p q replica is at cut (owner views pass v kept given left right p a replica pa ha)
+          one_each depth replicas passes places stored views pass v kept given p q replica is at cut (owner views pass v kept given left right p a replica pa ha)
           (owner views pass v kept given left right q b replica qb hb);
       all_rights = omega (
         arith,
@@ -126,9 +127,9 @@ split_forks depth replicas passes pass v kept given left right cut shares stored
     }
 
 -- a copy takes nothing
-pub copy_forks : (depth : Depth) (replicas passes pass : ℕ) (v : View) → Forks (IsKept depth replicas passes) pass v v (copy_of v)
-copy_forks depth replicas passes pass v stored views is at =
-    split_forks depth replicas passes pass v v.owns [] v.rights 0
+pub copy_forks : (depth : Depth) (replicas passes places pass : ℕ) (v : View) → Forks (IsKept depth replicas passes places) pass v v (copy_of v)
+copy_forks depth replicas passes places pass v stored views is at =
+    split_forks depth replicas passes places pass v v.owns [] v.rights 0
     (record { kept_of = λ r has. has; given_of = λ r has. absurd (omega (arith, has.1)); apart = λ r kept given. absurd (omega (arith, given.1)) })
     (record { all = omega arith; of_makers = is.makers_right pass v at })
     stored views is at

@@ -1,5 +1,5 @@
 -- The steps on the cell keep its rule.
-use Rattle.std.proofs.Common.{◌≡◌, ℕ, zero, suc, ◌<◌, List, [], ◌∷◌, ◌++◌, All, Contains, length, replicate, set, refl, ap, sym, subst, ◌∙◌, arith}
+use Rattle.std.proofs.Common.{◌≡◌, ℕ, zero, suc, ◌<◌, ◌≤◌, List, [], ◌∷◌, ◌++◌, All, Contains, length, replicate, set, refl, ap, sym, subst, ◌∙◌, arith}
 use Rattle.std.specs.Prelude.{slice_index_or}
 use Rattle.std.proofs.Math.ListN.{length-append, length-replicate, length-set}
 use Rattle.std.proofs.lemmas.List.Elements.{All-append}
@@ -25,15 +25,16 @@ abbrev pub seeing : List LogEvent → View → View
 seeing seen v = record { seen = seen; mine = v.mine; owns = v.owns; rights = v.rights; told = v.told }
 
 -- a pass may have seen what is true of the history
-pub seeing_kept : (depth : Depth) (replicas passes pass : ℕ) (v : View) (seen : List LogEvent) (x : Stored) (views : List View)
-    → (kept : IsKept depth replicas passes x views)
+pub seeing_kept : (depth : Depth) (replicas passes places pass : ℕ) (v : View) (seen : List LogEvent) (x : Stored) (views : List View)
+    → (kept : IsKept depth replicas passes places x views)
     → get_elem? views pass ≡ some v → IsTrueOf x.history (made_by_pass pass kept.makers) (seeing seen v)
-    → IsKept depth replicas passes x (set views pass (seeing seen v))
-seeing_kept depth replicas passes pass v seen x views kept at true_of = let w : View = seeing seen v in record {
+    → IsKept depth replicas passes places x (set views pass (seeing seen v))
+seeing_kept depth replicas passes places pass v seen x views kept at true_of = let w : View = seeing seen v in record {
   makers = kept.makers;
   is_history = kept.is_history;
   each_ring = kept.each_ring;
   rings_below = kept.rings_below;
+  ends = kept.ends;
   each_made = kept.each_made;
   by_passes = λ k d lt. omega (arith, kept.by_passes k d lt, length-set views pass w);
   each_view = views_changed (λ j u. IsTrueOf x.history (made_by_pass j kept.makers) u) views pass w true_of (λ j u other there. kept.each_view j u there);
@@ -45,13 +46,13 @@ seeing_kept depth replicas passes pass v seen x views kept at true_of = let w : 
   makers_right = idle_still views pass w (kept.makers_right pass v at) kept.makers_right;
 }
 
-pub look_turns : (depth : Depth) (replicas passes pass : ℕ) (v : View)
-    → Turns (IsKept depth replicas passes) pass v (λ x. x) (λ before x found after. Looks depth replicas passes found before after)
-look_turns depth replicas passes pass v x views kept at =
+pub look_turns : (depth : Depth) (replicas passes places pass : ℕ) (v : View)
+    → Turns (IsKept depth replicas passes places) pass v (λ x. x) (λ before x found after. Looks depth replicas passes places found before after)
+look_turns depth replicas passes places pass v x views kept at =
     let history = x.history in
     let old : IsTrueOf history (made_by_pass pass kept.makers) v = kept.each_view pass v at in (
       seeing history v,
-      seeing_kept depth replicas passes pass v history x views kept at
+      seeing_kept depth replicas passes places pass v history x views kept at
           (record { seen = whole history; told = old.told; owns = λ k d lt. nothing_since (slice_index_or v.owns k d) history; mine = old.mine }),
       record {
         looked =
@@ -68,6 +69,7 @@ look_turns depth replicas passes pass v x views kept at =
         found_is = refl;
         each_ring = kept.each_ring;
         rings_below = kept.rings_below;
+        ends = kept.ends;
       },
     )
 
@@ -99,11 +101,12 @@ rings_still ring passes rings (Append batch) below all =
 rings_still ring passes rings (Advance replica to) below all = all
 
 -- a pass that has seen all makes an event
-all_seen_kept : (depth : Depth) (replicas passes pass ring : ℕ) (v : View) (event : LogEvent) (rings : List ℕ) (views : List View)
-    → IsKept depth replicas passes (record { history = v.seen; rings = rings }) views → get_elem? views pass ≡ some v → ring < passes
+all_seen_kept : (depth : Depth) (replicas passes places pass ring : ℕ) (v : View) (event : LogEvent) (rings : List ℕ) (views : List View)
+    → IsKept depth replicas passes places (record { history = v.seen; rings = rings }) views → get_elem? views pass ≡ some v → ring < passes
     → MayFollow depth (log_after replicas v.seen) event → MayMake v event
-    → IsKept depth replicas passes (record { history = v.seen ++ event ∷ []; rings = rings_after ring rings event }) (set views pass (with_event v event))
-all_seen_kept depth replicas passes pass ring v event rings views kept at below may own =
+    → tail (log_after_event (log_after replicas v.seen) event) ≤ places
+    → IsKept depth replicas passes places (record { history = v.seen ++ event ∷ []; rings = rings_after ring rings event }) (set views pass (with_event v event))
+all_seen_kept depth replicas passes places pass ring v event rings views kept at below may own within =
     let w : View = with_event v event in
     let mine = kept.each_view pass v at in
     let one : All (λ p. p < length (set views pass w)) (pass ∷ []) =
@@ -113,6 +116,7 @@ all_seen_kept depth replicas passes pass ring v event rings views kept at below 
       is_history = goes_on_by depth (new_log replicas) v.seen event kept.is_history may;
       each_ring = rings_long ring rings (log_after replicas v.seen) event kept.each_ring ∙ ap tail (sym (after_one_more (new_log replicas) v.seen event));
       rings_below = rings_still ring passes rings event below kept.rings_below;
+      ends = omega (arith, within, ap tail (after_one_more (new_log replicas) v.seen event));
       each_made = omega (arith, kept.each_made, length-append kept.makers (pass ∷ []), length-append v.seen (event ∷ []));
       by_passes = All-append (λ p. p < length (set views pass w)) kept.makers (pass ∷ [])
           (λ k d lt. omega (arith, kept.by_passes k d lt, length-set views pass w)) one;
@@ -141,12 +145,13 @@ all_seen_kept depth replicas passes pass ring v event rings views kept at below 
       makers_right = idle_still views pass w (λ none. absurd (omega (arith, has_right event v own))) kept.makers_right;
     }
 
-pub event_kept : (depth : Depth) (replicas passes pass ring : ℕ) (v : View) (event : LogEvent) (stored : Stored) (views : List View)
-    → IsKept depth replicas passes stored views → get_elem? views pass ≡ some v → stored.history ≡ v.seen → ring < passes
+pub event_kept : (depth : Depth) (replicas passes places pass ring : ℕ) (v : View) (event : LogEvent) (stored : Stored) (views : List View)
+    → IsKept depth replicas passes places stored views → get_elem? views pass ≡ some v → stored.history ≡ v.seen → ring < passes
     → MayFollow depth (log_after replicas v.seen) event → MayMake v event
-    → IsKept depth replicas passes (stored_after_event ring stored event) (set views pass (with_event v event))
-event_kept depth replicas passes pass ring v event stored views kept at same below may own =
-    let Before : List LogEvent → Type 0 = λ h. IsKept depth replicas passes (record { history = h; rings = stored.rings }) views in
-    let After : List LogEvent → Type 0 = λ h. IsKept depth replicas passes
+    → tail (log_after_event (log_after replicas v.seen) event) ≤ places
+    → IsKept depth replicas passes places (stored_after_event ring stored event) (set views pass (with_event v event))
+event_kept depth replicas passes places pass ring v event stored views kept at same below may own within =
+    let Before : List LogEvent → Type 0 = λ h. IsKept depth replicas passes places (record { history = h; rings = stored.rings }) views in
+    let After : List LogEvent → Type 0 = λ h. IsKept depth replicas passes places
     (record { history = h ++ event ∷ []; rings = rings_after ring stored.rings event }) (set views pass (with_event v event)) in
-    subst After (sym same) (all_seen_kept depth replicas passes pass ring v event stored.rings views (subst Before same kept) at below may own)
+    subst After (sym same) (all_seen_kept depth replicas passes places pass ring v event stored.rings views (subst Before same kept) at below may own within)

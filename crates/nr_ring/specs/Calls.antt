@@ -20,12 +20,13 @@ pub record HasLooked (depth : Depth) (replicas : ℕ) (before after : View) : Ty
   pub owns : after.owns ≡ before.owns
   pub rights : after.rights ≡ before.rights
 
--- and the value that it found is that history, with the ring of each entry
-pub record Looks (depth : Depth) (replicas passes : ℕ) (found : Stored) (before after : View) : Type 0 where
+-- and the value that it found is that history, with the ring of each entry; it has no more entries than the log has places
+pub record Looks (depth : Depth) (replicas passes places : ℕ) (found : Stored) (before after : View) : Type 0 where
   pub looked : HasLooked depth replicas before after
   pub found_is : found.history ≡ after.seen
   pub each_ring : length found.rings ≡ tail (log_after replicas found.history)
   pub rings_below : All (λ ring. ring < passes) found.rings
+  pub ends : tail (log_after replicas found.history) ≤ places
 
 -- a pass that makes an event has a right to; and only the owner of a replica advances it
 abbrev pub MayMake : View → LogEvent → Type 0

@@ -2,11 +2,11 @@
 use Rattle.std.specs.Prelude.{◌≡◌, ℕ, ◌≤◌, ◌<◌, ◌+◌, List, ◌++◌, Contains, length}
 use mathlib.Core.Option.{some}
 use lib.ListN.{get_elem?}
-use Rattle.vs_types.specs.declared.limits.TheConstants.{LOG_PLACES}
 use Rattle.vs_types.specs.declared.log_entry.LogEntry.{LogEntry}
 use Rattle.nr_ring.specs.declared.view.View.{View}
 use Rattle.vs_types.specs.declared.limits.TheConstants.{RING}
 use Rattle.nr_ring.specs.LogHistory.{Log, tail, local_of, completed}
+use Rattle.nr_ring.specs.declared.words.TheConstants.{MOST_PLACES}
 
 -- the later log begins with the entries of the earlier one, and no tail has fallen
 pub record HasGoneOn (earlier later : Log) : Type 0 where
@@ -24,7 +24,7 @@ pub record HasSameTails (p q : Log) : Type 0 where
 pub record FitsTheRing (log : Log) : Type 0 where
   pub written : (replica : ℕ) → local_of log replica ≤ tail log
   pub kept_up : (replica : ℕ) → replica < length log.locals → tail log ≤ local_of log replica + RING
-  pub ends : tail log ≤ LOG_PLACES
+  pub ends : tail log ≤ MOST_PLACES
 
 -- the pass made the event of this number, and has a right to make events
 pub record IsMaker (views : List View) (number pass : ℕ) : Type 0 where

@@ -2,9 +2,9 @@
 use Rattle.std.specs.Prelude.{ℕ, ◌+◌, ◌<◌, ◌≤◌, max, List, [], ◌∷◌, ◌++◌, All, length, replicate, slice_index, slice_set, ⊤}
 use Rattle.vs_types.specs.LogEntry.{IsLogEntry}
 use Rattle.vs_types.specs.declared.depth.Depth.{Depth}
-use Rattle.vs_types.specs.declared.limits.TheConstants.{LOG_PLACES}
 use Rattle.vs_types.specs.declared.log_entry.LogEntry.{LogEntry}
 use Rattle.nr_ring.specs.declared.log_event.LogEvent.{LogEvent}
+use Rattle.nr_ring.specs.declared.words.TheConstants.{MOST_PLACES}
 use Rattle.nr_ring.specs.declared.log_event.LogEvent.TheVariants.{Append, Advance}
 use Rattle.vs_types.specs.declared.limits.TheConstants.{RING}
 
@@ -32,20 +32,20 @@ greatest (x ∷ xs) = max x (greatest xs)
 abbrev pub completed : Log → ℕ
 completed log = greatest log.locals
 
--- the log ends at 65,536 entries
-abbrev pub HasRoom : Log → ℕ → Type 0
-HasRoom log n = tail log + n ≤ LOG_PLACES
+-- a log of so many places has room for so many entries more
+abbrev pub HasRoom : ℕ → Log → ℕ → Type 0
+HasRoom places log n = tail log + n ≤ places
 
 -- no replica has more than 16 entries to take
 abbrev pub AllKeepUp : Log → ℕ → Type 0
 AllKeepUp log n = (replica : ℕ) → replica < length log.locals → tail log + n ≤ local_of log replica + RING
 
--- a batch may be appended: 1 to 16 entries at the log's depth
+-- a batch may be appended: 1 to 16 entries at the log's depth, of which no log has more than MOST_PLACES
 pub record MayAppend (depth : Depth) (log : Log) (batch : List LogEntry) : Type 0 where
   pub some : 1 ≤ length batch
   pub few : length batch ≤ RING
   pub entries : All (IsLogEntry depth) batch
-  pub room : HasRoom log (length batch)
+  pub room : HasRoom MOST_PLACES log (length batch)
   pub kept_up : AllKeepUp log (length batch)
 
 -- a replica may take the entries up to a place: at least one, and none that is not there
@@ -80,10 +80,10 @@ IsLogHistory depth replicas events = MayGoOn depth (new_log replicas) events
 abbrev pub log_after : ℕ → List LogEvent → Log
 log_after replicas events = log_after_events (new_log replicas) events
 
--- why a batch of so many entries is refused: the log would go past its end, or some replica has still to take an entry whose
--- place in the ring the batch needs
-abbrev pub IsEnded : Log → ℕ → Type 0
-IsEnded log n = LOG_PLACES < tail log + n
+-- why a batch of so many entries is refused by a log of so many places: it would go past its end, or some replica has still to take an
+-- entry whose place in the ring the batch needs
+abbrev pub IsEnded : ℕ → Log → ℕ → Type 0
+IsEnded places log n = places < tail log + n
 
 abbrev pub IsFull : Log → ℕ → Type 0
 IsFull log n = (replica : ℕ) × (replica < length log.locals) × (local_of log replica + RING < tail log + n)

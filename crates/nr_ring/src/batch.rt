@@ -8,6 +8,7 @@ ghost use Rattle.nr_ring.specs.LogHistory.{AllKeepUp, HasRoom, Log, MayAppend, l
 ghost use Rattle.nr_ring.specs.Words.{last_ring, spot};
 ghost use Rattle.nr_ring.specs.inside.Batch.{AreSmall, Bars, Explains, IsWritten};
 ghost use Rattle.nr_ring.specs.inside.Held.{IsHeadOf, Remembers};
+ghost use Rattle.nr_ring.specs.declared.words.TheConstants.{MOST_PLACES};
 
 use crate::name::LogName;
 use crate::packed::PackedEntry;
@@ -16,7 +17,7 @@ use crate::ring_log::RingLog;
 use crate::tails::{AppendFault, tails_in};
 use crate::words::{COUNT_WORD, HEAD_WORDS, LAST_WORD, LOCAL_WORDS, TAIL_WORD};
 use arrayvec::ArrayVec;
-use vs_types::{CALLS, LOG_PLACES, LogEntry, RING};
+use vs_types::{CALLS, LogEntry, RING};
 
 /// The second word of an entry in a ring has from this bit on the ring of the entry before it.
 const RING_BEFORE: u64 = 1 << 56;
@@ -43,14 +44,19 @@ pub(crate) fn unpack_all(packed: &[PackedEntry], entries: &mut ArrayVec<LogEntry
     }
 }
 
-/// Tests that so many entries may be appended: the log does not end before, and each replica has the room.
-pub(crate) fn test_room(head: &[u64; HEAD_WORDS], count: u64) -> Result<(), AppendFault>
+/// Tests that so many entries may be appended to a log of so many places: it does not end before, and each replica has the room.
+pub(crate) fn test_room(
+    head: &[u64; HEAD_WORDS],
+    count: u64,
+    places: u64,
+) -> Result<(), AppendFault>
     requires { AreSmall head.now × (count ≤ RING) }
     ensures { (log : Log) (last : ℕ) → IsHeadOf log last head.now
-        → MatchResult result (λ _. HasRoom log count × AllKeepUp log count) (Bars log count) }
+        → MatchResult result (λ _. HasRoom places log count × AllKeepUp log count)
+        (Bars places log count) }
 {
     let end = head[TAIL_WORD] + count;
-    if end > u64::from(LOG_PLACES) {
+    if end > places {
         return Err(AppendFault::LogEnded);
     }
     for replica in 0..head[COUNT_WORD] as usize {
@@ -61,12 +67,12 @@ pub(crate) fn test_room(head: &[u64; HEAD_WORDS], count: u64) -> Result<(), Appe
     Ok(())
 }
 
-/// Why a batch of so many entries was not appended to the log with these first words, which another pass changed.
-pub(crate) fn why_not(head: &[u64; HEAD_WORDS], count: u64) -> AppendFault
+/// Why a batch of so many entries was not appended to the log of so many places with these first words, which another pass changed.
+pub(crate) fn why_not(head: &[u64; HEAD_WORDS], count: u64, places: u64) -> AppendFault
     requires { AreSmall head.now × (count ≤ RING) }
-    ensures { (log : Log) (last : ℕ) → IsHeadOf log last head.now → Explains log count result }
+    ensures { (log : Log) (last : ℕ) → IsHeadOf log last head.now → Explains places log count result }
 {
-    match test_room(head, count) {
+    match test_room(head, count, places) {
         Ok(()) => AppendFault::Moved(tails_in(head)),
         Err(fault) => fault,
     }
@@ -82,25 +88,27 @@ fn spot(ring: u64, place: u64) -> usize
 
 impl<J: LogName> RingLog<J> {
     /// Looks, and tests that so many entries may be appended: the place of the first.
-    pub(crate) fn find_room(&self, pass: &mut Inner<J>, count: u64) -> Result<u32, AppendFault>
+    pub(crate) fn find_room(&self, pass: &mut Inner<J>, count: u64) -> Result<u64, AppendFault>
         requires log { pass.old.cell ≡ self.now }
         requires known { (replica : Option ℕ) × (ring : ℕ)
-            × Remembers J.depth J.replicas J.passes replica ring pass.old }
+            × Remembers J.depth J.replicas J.passes J.places replica ring pass.old }
         requires count { count ≤ RING }
         ensures log { pass.new.cell ≡ pass.old.cell }
         ensures looked { HasLooked J.depth J.replicas pass.old.view pass.new.view }
         ensures known { (replica : Option ℕ) (ring : ℕ)
-            → Remembers J.depth J.replicas J.passes replica ring pass.old
-            → Remembers J.depth J.replicas J.passes replica ring pass.new }
+            → Remembers J.depth J.replicas J.passes J.places replica ring pass.old
+            → Remembers J.depth J.replicas J.passes J.places replica ring pass.new }
         ensures fresh { pass.new.fresh ≡ true }
         ensures place { IfOk result (λ place.
             place ≡ tail (log_after J.replicas pass.new.view.seen)) }
         ensures room { let log = log_after J.replicas pass.new.view.seen in
-            MatchResult result (λ _. HasRoom log count × AllKeepUp log count) (Bars log count) }
+            MatchResult result (λ _. HasRoom J.places log count × AllKeepUp log count)
+            (Bars J.places log count) }
+        ensures most { J.places ≤ MOST_PLACES }
     {
         self.refresh(pass);
-        let place = pass.head()[TAIL_WORD] as u32;
-        test_room(pass.head(), count)?;
+        let place = pass.head()[TAIL_WORD];
+        test_room(pass.head(), count, self.places)?;
         Ok(place)
     }
 
@@ -108,7 +116,7 @@ impl<J: LogName> RingLog<J> {
     pub(crate) fn write(&self, pass: &mut Inner<J>, ring: u8, batch: &[PackedEntry])
         requires log { pass.old.cell ≡ self.now }
         requires known { (replica : Option ℕ)
-            × Remembers J.depth J.replicas J.passes replica ring pass.old }
+            × Remembers J.depth J.replicas J.passes J.places replica ring pass.old }
         requires fresh { pass.old.fresh ≡ true }
         requires may { MayAppend J.depth (log_after J.replicas pass.old.view.seen) batch.now }
         ensures same { (pass.new.cell ≡ pass.old.cell) × (pass.new.number ≡ pass.old.number)
@@ -141,7 +149,7 @@ impl<J: LogName> RingLog<J> {
     )
         requires log { pass.old.cell ≡ self.now }
         requires known { (ring : ℕ)
-            × Remembers J.depth J.replicas J.passes (Some replica) ring pass.old }
+            × Remembers J.depth J.replicas J.passes J.places (Some replica) ring pass.old }
         requires fresh { pass.old.fresh ≡ true }
         requires empty { entries.old.items ≡ [] }
         ensures same { pass.new ≡ pass.old }

@@ -1,7 +1,7 @@
 //! The code of the value of the cell, from which the tails and the ring of the last entry follow: one number, which each event raises.
 ghost use Rattle.std.specs.Prelude.{◌≡◌, ◌≤◌, ◌<◌, ◌+◌, ◌*◌, All, slice_index, slice_set};
-ghost use Rattle.vs_types.specs.declared.limits.TheConstants.{LOG_PLACES, REPLICAS};
-ghost use Rattle.nr_ring.specs.declared.words.TheConstants.{RINGS};
+ghost use Rattle.vs_types.specs.declared.limits.TheConstants.{REPLICAS};
+ghost use Rattle.nr_ring.specs.declared.words.TheConstants.{MOST_PLACES, RINGS};
 ghost use Rattle.nr_ring.specs.inside.Batch.{AreSmall};
 ghost use Rattle.nr_ring.specs.inside.Codes.{above, code_of, local_in, locals_in, most_in, room_of, word_in};
 
@@ -10,7 +10,7 @@ use vs_types::{REPLICAS, RING};
 
 /// How many entries fewer than the ring holds a replica has still to take; 0 for one that is absent.
 fn room_of(tail: u64, local: u64, present: bool) -> u64
-    requires { local ≤ LOG_PLACES }
+    requires { local ≤ MOST_PLACES }
     ensures { result ≡ room_of tail local present }
 {
     if present {
@@ -23,8 +23,8 @@ fn room_of(tail: u64, local: u64, present: bool) -> u64
 /// The code of tails: the tail, the room of each replica, and how many replicas there are.
 #[inline(always)]
 pub(crate) fn code_of(tail: u64, locals: [u64; REPLICAS as usize], count: u64) -> u64
-    requires tail { tail ≤ LOG_PLACES }
-    requires locals { All (λ local. local ≤ LOG_PLACES) locals }
+    requires tail { tail ≤ MOST_PLACES }
+    requires locals { All (λ local. local ≤ MOST_PLACES) locals }
     requires count { count ≤ REPLICAS }
     ensures { result ≡ code_of tail locals count }
 {
@@ -101,7 +101,7 @@ pub(crate) fn locals_in(head: &[u64; HEAD_WORDS]) -> [u64; REPLICAS as usize]
 /// The code of a head with this tail in place of its own, where the last entry is in a ring.
 #[inline(always)]
 pub(crate) fn appended_code(head: &[u64; HEAD_WORDS], tail: u64, ring: u64) -> u64
-    requires small { AreSmall head.now × (tail ≤ LOG_PLACES) × (ring < RINGS) }
+    requires small { AreSmall head.now × (tail ≤ MOST_PLACES) × (ring < RINGS) }
     ensures { result
         ≡ code_of tail (locals_in head.now) (slice_index head.now COUNT_WORD) * RINGS + ring }
 {
@@ -118,7 +118,7 @@ pub(crate) fn advanced_code(
     ring: u64,
 ) -> u64
     requires replica { replica < REPLICAS }
-    requires small { AreSmall head.now × (tail ≤ LOG_PLACES) × (to ≤ LOG_PLACES)
+    requires small { AreSmall head.now × (tail ≤ MOST_PLACES) × (to ≤ MOST_PLACES)
         × (ring < RINGS) }
     ensures { result
         ≡ code_of tail (slice_set (locals_in head.now) replica to)

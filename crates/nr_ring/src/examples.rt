@@ -1,6 +1,7 @@
 //! Worked examples of histories.
 ghost use Rattle.std.specs.Prelude.{◌≡◌, ℕ, [], ◌∷◌, ◌++◌, drop, length};
 ghost use Rattle.vs_types.specs.declared.depth.Depth.TheVariants.{Four};
+ghost use Rattle.vs_types.specs.declared.limits.TheConstants.{LOG_PLACES};
 ghost use Rattle.nr_ring.specs.Examples.{batch_of, filled, freed, half_freed, rounds};
 ghost use Rattle.nr_ring.specs.LogHistory.{IsEnded, IsFull, IsLogHistory, MayAppend, completed, log_after, tail};
 ghost use Rattle.nr_ring.specs.declared.log_event.LogEvent.TheVariants.{Append};
@@ -21,10 +22,10 @@ pub fn ring_fills_and_frees()
         (drop 1 (log_after 2 (freed ++ Append (batch_of 1) ∷ [])).entries) ≡ 16 }
 {}
 
-/// A log of one replica has room for 4,096 rounds of 16 entries, and then for none.
+/// A log of one replica and 65,536 places has room for 4,096 rounds of 16 entries, and then for none.
 pub fn log_ends()
     ensures rounds { IsLogHistory Four 1 (rounds 4096 0) }
     ensures tail { tail (log_after 1 (rounds 4096 0)) ≡ 65536 }
     ensures locals { (log_after 1 (rounds 4096 0)).locals ≡ 65536 ∷ [] }
-    ensures ended { IsEnded (log_after 1 (rounds 4096 0)) 1 }
+    ensures ended { IsEnded LOG_PLACES (log_after 1 (rounds 4096 0)) 1 }
 {}

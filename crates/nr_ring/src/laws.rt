@@ -5,6 +5,7 @@ ghost use Rattle.vs_types.specs.declared.depth.Depth.{Depth};
 ghost use Rattle.vs_types.specs.declared.log_entry.LogEntry.{LogEntry};
 ghost use Rattle.nr_ring.specs.LogHistory.{Log, MayGoOn, MayAppend, IsLogHistory, IsEnded, IsFull, log_after_events, log_after, local_of};
 ghost use Rattle.nr_ring.specs.LogHistory.{completed};
+ghost use Rattle.nr_ring.specs.declared.words.TheConstants.{MOST_PLACES};
 ghost use Rattle.nr_ring.specs.Laws.{HasGoneOn, HasSameTails, FitsTheRing};
 ghost use Rattle.nr_ring.specs.Calls.{HasLooked, HasTaken};
 ghost use Rattle.nr_ring.specs.Entries.{HasAppended};
@@ -106,14 +107,14 @@ pub fn completed_is_a_local_tail()
     ensures greatest { (log : Log) (replica : ℕ) → local_of log replica ≤ completed log }
 {}
 
-/// A batch of 1 to 16 entries at the log's depth may be appended, unless the log would end or is full.
+/// A batch of 1 to 16 entries at the log's depth may be appended, unless the log would go past `MOST_PLACES` or is full.
 pub fn refused_for_a_reason()
     ensures one { (depth : Depth) (log : Log) (batch : List LogEntry)
         → 1 ≤ length batch → length batch ≤ RING → All (IsLogEntry depth) batch
         → MayAppend depth log batch
-        ⊎ (IsEnded log (length batch) ⊎ IsFull log (length batch)) }
+        ⊎ (IsEnded MOST_PLACES log (length batch) ⊎ IsFull log (length batch)) }
     ensures ended { (depth : Depth) (log : Log) (batch : List LogEntry)
-        → MayAppend depth log batch → IsEnded log (length batch) → ⊥ }
+        → MayAppend depth log batch → IsEnded MOST_PLACES log (length batch) → ⊥ }
     ensures full { (depth : Depth) (log : Log) (batch : List LogEntry)
         → MayAppend depth log batch → IsFull log (length batch) → ⊥ }
 {}

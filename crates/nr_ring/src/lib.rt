@@ -29,4 +29,4 @@ pub use pass::LogPass;
 pub use ring_log::RingLog;
 pub use tails::{AppendFault, Moved, Tails};
 pub use view::View;
-pub use words::OTHERS;
+pub use words::{MOST_PLACES, OTHERS};

@@ -1,6 +1,6 @@
 //! A thread's pass to a log.
-ghost use Rattle.std.specs.Prelude.{◌≡◌, ◌<◌, [], ◌∷◌, All, MatchOption};
-ghost use Rattle.nr_ring.specs.LogHistory.{IsLogHistory, log_after};
+ghost use Rattle.std.specs.Prelude.{◌≡◌, ◌<◌, ◌≤◌, [], ◌∷◌, All, MatchOption};
+ghost use Rattle.nr_ring.specs.LogHistory.{IsLogHistory, log_after, tail};
 ghost use Rattle.nr_ring.specs.Pass.{tails_of};
 ghost use Rattle.nr_ring.specs.View.{StartsWith};
 ghost use Rattle.nr_ring.specs.inside.Held.{Remembers};
@@ -34,13 +34,13 @@ impl<J: LogName> Model for LogPass<J> {
 
     ghost view = { λ p. record { log = p.inner.cell; view = p.inner.view } };
 
-    ghost invariant = { λ p. Remembers J.depth J.replicas J.passes p.replica p.ring p.inner };
+    ghost invariant = { λ p. Remembers J.depth J.replicas J.passes J.places p.replica p.ring p.inner };
 }
 
 impl<J: LogName> LogPass<J> {
     /// The pass to a log over one to its cell.
     pub(crate) fn new(inner: Inner<J>, replica: Option<u8>, ring: u8) -> LogPass<J>
-        requires { Remembers J.depth J.replicas J.passes replica ring inner }
+        requires { Remembers J.depth J.replicas J.passes J.places replica ring inner }
         ensures { (result.log ≡ inner.cell) × (result.view ≡ inner.view) }
     {
         LogPass {
@@ -66,12 +66,14 @@ impl<J: LogName> LogPass<J> {
     }
 
     /// Does nothing: its clauses say what holds of every pass. What it has seen is a history, which begins with all that it was
-    /// given. Each replica that it owns is one of the log's, and it has one right to make events.
+    /// given, and has no more entries than the log has places. Each replica that it owns is one of the log's, and it has one right to make
+    /// events.
     pub fn has_seen_a_history(&self)
         ensures history { IsLogHistory J.depth J.replicas self.now.view.seen }
         ensures told { All (StartsWith self.now.view.seen) self.now.view.told }
         ensures owns { All (λ replica. replica < J.replicas) self.now.view.owns }
         ensures rights { self.now.view.rights ≡ 1 }
+        ensures ends { tail (log_after J.replicas self.now.view.seen) ≤ J.places }
     {
         let _known = &self.inner;
     }

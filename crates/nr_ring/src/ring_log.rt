@@ -4,8 +4,10 @@ ghost use Rattle.std.specs.Prelude.{Option, Some, [], ◌∷◌, ◌++◌, lengt
 ghost use Rattle.std.specs.List.{range_with_len};
 ghost use Rattle.version_cell.specs.Passes.{beside};
 ghost use Rattle.vs_types.specs.LogEntry.{IsLogEntry};
+ghost use Rattle.vs_types.specs.declared.limits.TheConstants.{LOG_PLACES};
 ghost use Rattle.nr_ring.specs.Calls.{HasLooked, HasMoved, HasTaken, LiesAhead, Looks, MayTake, copy_of, joint_view};
-ghost use Rattle.nr_ring.specs.LogHistory.{IsLogHistory, MayAdvance, MayAppend, local_of, log_after, tail};
+ghost use Rattle.nr_ring.specs.LogHistory.{HasRoom, IsLogHistory, MayAdvance, MayAppend, local_of, log_after, tail};
+ghost use Rattle.nr_ring.specs.declared.words.TheConstants.{MOST_PLACES};
 ghost use Rattle.nr_ring.specs.declared.log_event.LogEvent.TheVariants.{Append, Advance};
 ghost use Rattle.nr_ring.specs.Entries.{HasAppended, HasAppendedAndTaken, HasTakenAll, IsReason, to_take};
 ghost use Rattle.nr_ring.specs.Pass.{AreApart, new_pass, new_passes, tails_of};
@@ -29,32 +31,34 @@ use arrayvec::ArrayVec;
 use std::alloc::Global;
 use std::marker::{Brand, Model};
 use version_cell::VersionCell;
-use vs_types::{Depth, LogEntry, Memory, REPLICAS, RING};
+use vs_types::{Depth, LOG_PLACES, LogEntry, Memory, REPLICAS, RING};
 
 /// The shared log: a cell with the tails, and for each pass a ring of 16 entries beside it. Contracts see which log it is.
 #[derive(Drop)]
 pub struct RingLog<J: LogName> {
     pub(crate) cell: VersionCell<View, Stored, LogRule<J>, HEAD_WORDS>,
     depth: Depth,
+    pub(crate) places: u64,
 }
 
 impl<J: LogName> Model for RingLog<J> {
-    ghost use Rattle.std.specs.Prelude.{◌≡◌, ◌*◌};
+    ghost use Rattle.std.specs.Prelude.{◌≡◌, ◌≤◌, ◌*◌};
     ghost use Rattle.atomic_table.specs.Seated.{TableId};
     ghost use Rattle.version_cell.specs.Passes.{beside};
-    ghost use Rattle.nr_ring.specs.declared.words.TheConstants.{RING_WORDS};
+    ghost use Rattle.nr_ring.specs.declared.words.TheConstants.{MOST_PLACES, RING_WORDS};
 
     ghost Value = { TableId };
 
     ghost view = { λ l. l.cell };
 
-    ghost invariant = { λ l. (l.depth ≡ J.depth) × (beside l.cell ≡ RING_WORDS * J.passes) };
+    ghost invariant = { λ l. (l.depth ≡ J.depth) × (beside l.cell ≡ RING_WORDS * J.passes)
+        × (l.places ≡ J.places) × (J.places ≤ MOST_PLACES) };
 }
 
 impl<J: LogName> RingLog<J> {
-    /// A log without entries, of 1 to 4 replicas, and its passes: pass r owns replica r, and `others` further passes own none,
-    /// of which there may be 64. Each has one of the rights to make events. It allocates all memory that the log ever needs, and
-    /// never waits.
+    /// A log without entries, of 65,536 places and 1 to 4 replicas, and its passes: pass r owns replica r, and `others` further
+    /// passes own none, of which there may be 64. Each has one of the rights to make events. It allocates all memory that the log
+    /// ever needs, and never waits.
     ///
     /// # Errors
     ///
@@ -69,6 +73,30 @@ impl<J: LogName> RingLog<J> {
         requires replicas { (replicas ≡ J.replicas) × (1 ≤ replicas) × (replicas ≤ REPLICAS) }
         requires others { others ≤ OTHERS }
         requires passes { J.passes ≡ replicas + others }
+        requires places { J.places ≡ LOG_PLACES }
+        ensures { IfOk result (λ made. made.1.items ≡ new_passes made.0 replicas others) }
+    {
+        RingLog::with_places(alloc, depth, replicas, others, u64::from(LOG_PLACES))
+    }
+
+    /// A log without entries of so many places, at most `MOST_PLACES`, and its passes; else as `new`. Its memory is the same whatever
+    /// the number of places.
+    ///
+    /// # Errors
+    ///
+    /// `Memory` where the allocator gives none.
+    pub fn with_places(
+        alloc: Global,
+        depth: Depth,
+        replicas: u8,
+        others: u8,
+        places: u64,
+    ) -> Result<(RingLog<J>, Vec<LogPass<J>>), Memory>
+        requires depth { depth ≡ J.depth }
+        requires replicas { (replicas ≡ J.replicas) × (1 ≤ replicas) × (replicas ≤ REPLICAS) }
+        requires others { others ≤ OTHERS }
+        requires passes { J.passes ≡ replicas + others }
+        requires places { (places ≡ J.places) × (places ≤ MOST_PLACES) }
         ensures { IfOk result (λ made. made.1.items ≡ new_passes made.0 replicas others) }
     {
         let code = code_of(0, [0; 4], u64::from(replicas)) * RINGS;
@@ -76,7 +104,11 @@ impl<J: LogName> RingLog<J> {
         let (cell, mut first) = VersionCell::<View, Stored, LogRule<J>, HEAD_WORDS>::new(
             alloc, code, words,
         )?;
-        let log = RingLog { cell, depth };
+        let log = RingLog {
+            cell,
+            depth,
+            places,
+        };
         let mut passes = Vec::new(alloc);
         passes.reserve(usize::from(replicas) + usize::from(others))?;
         for replica in 0..replicas {
@@ -135,8 +167,8 @@ impl<J: LogName> RingLog<J> {
         ensures log { pass.new.cell ≡ pass.old.cell }
         ensures looked { HasLooked J.depth J.replicas pass.old.view pass.new.view }
         ensures known { (replica : Option ℕ) (ring : ℕ)
-            → Remembers J.depth J.replicas J.passes replica ring pass.old
-            → Remembers J.depth J.replicas J.passes replica ring pass.new }
+            → Remembers J.depth J.replicas J.passes J.places replica ring pass.old
+            → Remembers J.depth J.replicas J.passes J.places replica ring pass.new }
         ensures fresh { pass.new.fresh ≡ true }
     {
         self.cell.look_as::<Looking<J>>(pass);
@@ -148,7 +180,7 @@ impl<J: LogName> RingLog<J> {
     /// # Errors
     ///
     /// `Moved` where another pass's event has come since this pass last saw the cell. The pass has made no event then.
-    pub fn advance(&self, pass: &mut LogPass<J>, to: u32) -> Result<(), Moved>
+    pub fn advance(&self, pass: &mut LogPass<J>, to: u64) -> Result<(), Moved>
         requires log { pass.old.log ≡ self.now }
         requires to { MayTake J.replicas pass.old.view to }
         ensures log { pass.new.log ≡ pass.old.log }
@@ -162,8 +194,7 @@ impl<J: LogName> RingLog<J> {
             unreachable!()
         };
         let local = LOCAL_WORDS + usize::from(replica);
-        let place = u64::from(to);
-        if pass.inner.head()[local] == place {
+        if pass.inner.head()[local] == to {
             return Ok(());
         }
         if self.try_advance::<Brand>(&mut pass.inner, replica, to) {
@@ -173,26 +204,20 @@ impl<J: LogName> RingLog<J> {
     }
 
     /// Raises the local tail of a replica to a place.
-    fn try_advance<E: Happening>(&self, pass: &mut Inner<J>, replica: u8, to: u32) -> bool
+    fn try_advance<E: Happening>(&self, pass: &mut Inner<J>, replica: u8, to: u64) -> bool
         requires log { pass.old.cell ≡ self.now }
         requires known { (ring : ℕ)
-            × Remembers J.depth J.replicas J.passes (Some replica) ring pass.old }
+            × Remembers J.depth J.replicas J.passes J.places (Some replica) ring pass.old }
         requires event { (E.events ≡ Advance replica to ∷ []) × (E.ring < J.passes) }
         requires may { MayAdvance (log_after J.replicas pass.old.view.seen) replica to }
         ensures log { pass.new.cell ≡ pass.old.cell }
         ensures view { MadeOrMoved J.depth J.replicas E.events pass.old.view pass.new.view result }
         ensures known { (ring : ℕ)
-            → Remembers J.depth J.replicas J.passes (Some replica) ring pass.old
-            → Remembers J.depth J.replicas J.passes (Some replica) ring pass.new }
+            → Remembers J.depth J.replicas J.passes J.places (Some replica) ring pass.old
+            → Remembers J.depth J.replicas J.passes J.places (Some replica) ring pass.new }
     {
         let head = pass.head();
-        let code = advanced_code(
-            head,
-            head[TAIL_WORD],
-            replica,
-            u64::from(to),
-            head[LAST_WORD],
-        );
+        let code = advanced_code(head, head[TAIL_WORD], replica, to, head[LAST_WORD]);
         self.exchange::<E>(pass, code)
     }
 
@@ -200,10 +225,10 @@ impl<J: LogName> RingLog<J> {
     ///
     /// # Errors
     ///
-    /// `LogEnded` where the log would go past 65,536 entries; `Full` where some replica would have more than 16 entries to take;
+    /// `LogEnded` where the log would have more entries than places; `Full` where some replica would have more than 16 entries to take;
     /// `Moved` where neither holds, but another pass's event has come since this pass last saw the log. The tails are those of
     /// the log that the pass has then seen, and it has made no event.
-    pub fn append(&self, pass: &mut LogPass<J>, batch: &[LogEntry]) -> Result<u32, AppendFault>
+    pub fn append(&self, pass: &mut LogPass<J>, batch: &[LogEntry]) -> Result<u64, AppendFault>
         requires log { pass.old.log ≡ self.now }
         requires count { (1 ≤ length batch.now) × (length batch.now ≤ RING) }
         requires entries { All (IsLogEntry J.depth) batch.now }
@@ -213,7 +238,7 @@ impl<J: LogName> RingLog<J> {
             HasAppended J.depth J.replicas pass.old.view batch.now place pass.new.view) }
         ensures refused { IfErr result (λ fault.
             HasLooked J.depth J.replicas pass.old.view pass.new.view
-            × IsReason (log_after J.replicas pass.new.view.seen) (length batch.now)
+            × IsReason J.places (log_after J.replicas pass.new.view.seen) (length batch.now)
             pass.old.view pass.new.view fault) }
         ensures history { IsLogHistory J.depth J.replicas pass.new.view.seen }
     {
@@ -225,22 +250,24 @@ impl<J: LogName> RingLog<J> {
         if self.try_append::<Brand>(&mut pass.inner, pass.ring, packed) {
             return Ok(place);
         }
-        Err(why_not(pass.inner.head(), count))
+        Err(why_not(pass.inner.head(), count, self.places))
     }
 
     /// Appends a batch, whose entries lie in the pass's ring.
     fn try_append<E: Happening>(&self, pass: &mut Inner<J>, ring: u8, batch: &[PackedEntry]) -> bool
         requires log { pass.old.cell ≡ self.now }
         requires known { (replica : Option ℕ)
-            × Remembers J.depth J.replicas J.passes replica ring pass.old }
+            × Remembers J.depth J.replicas J.passes J.places replica ring pass.old }
         requires fresh { pass.old.fresh ≡ true }
         requires event { (E.events ≡ Append batch.now ∷ []) × (E.ring ≡ ring) }
         requires may { MayAppend J.depth (log_after J.replicas pass.old.view.seen) batch.now }
+        requires room { HasRoom J.places (log_after J.replicas pass.old.view.seen)
+            (length batch.now) }
         ensures log { pass.new.cell ≡ pass.old.cell }
         ensures view { MadeOrMoved J.depth J.replicas E.events pass.old.view pass.new.view result }
         ensures known { (replica : Option ℕ)
-            → Remembers J.depth J.replicas J.passes replica ring pass.old
-            → Remembers J.depth J.replicas J.passes replica ring pass.new }
+            → Remembers J.depth J.replicas J.passes J.places replica ring pass.old
+            → Remembers J.depth J.replicas J.passes J.places replica ring pass.new }
     {
         self.write(pass, ring, batch);
         let head = pass.head();
@@ -274,17 +301,17 @@ impl<J: LogName> RingLog<J> {
     pub(crate) fn exchange<E: Happening>(&self, pass: &mut Inner<J>, code: u64) -> bool
         requires log { pass.old.cell ≡ self.now }
         requires known { (replica : Option ℕ) × (ring : ℕ)
-            × Remembers J.depth J.replicas J.passes replica ring pass.old }
+            × Remembers J.depth J.replicas J.passes J.places replica ring pass.old }
         requires some { 1 ≤ length E.events }
         requires ring { E.ring < J.passes }
         requires code { code ≡ code_in J.replicas (stored_after E.ring pass.old.value E.events) }
-        requires events { LeadTo J.depth J.replicas pass.old.view E.events }
+        requires events { LeadTo J.depth J.replicas J.places pass.old.view E.events }
         requires stored { AreStored J.replicas E.ring E.events pass.old }
         ensures log { pass.new.cell ≡ pass.old.cell }
         ensures view { MadeOrMoved J.depth J.replicas E.events pass.old.view pass.new.view result }
         ensures known { (replica : Option ℕ) (ring : ℕ)
-            → Remembers J.depth J.replicas J.passes replica ring pass.old
-            → Remembers J.depth J.replicas J.passes replica ring pass.new }
+            → Remembers J.depth J.replicas J.passes J.places replica ring pass.old
+            → Remembers J.depth J.replicas J.passes J.places replica ring pass.new }
     {
         self.cell.exchange_as::<Making<E>, Looking<J>>(pass, code)
     }

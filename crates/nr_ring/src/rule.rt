@@ -20,7 +20,7 @@ impl<J: LogName> CellRule<View, Stored> for LogRule<J> {
     ghost use Rattle.std.specs.List.{range_with_len};
     ghost use Rattle.std.specs.Prelude.{length};
 
-    ghost holds = { IsKept J.depth J.replicas J.passes };
+    ghost holds = { IsKept J.depth J.replicas J.passes J.places };
 
     ghost start = { nothing_stored };
 
@@ -51,7 +51,7 @@ impl<J: LogName> CellOutcome<View, Stored> for Looking<J> {
     ghost use Rattle.nr_ring.specs.Calls.{Looks};
 
     ghost then = { λ before x found after.
-        Looks J.depth J.replicas J.passes found before after };
+        Looks J.depth J.replicas J.passes J.places found before after };
 }
 
 /// Names the events that an exchange makes, one after another, and the ring of the pass that makes them.

@@ -3,7 +3,7 @@ ghost use Rattle.std.specs.Prelude.{◌≡◌, ◌≤◌, ◌<◌, ◌+◌, ℕ,
 ghost use Rattle.std.specs.Prelude.{length};
 ghost use Rattle.vs_types.specs.LogEntry.{IsLogEntry};
 ghost use Rattle.nr_ring.specs.Calls.{HasLooked, HasMoved, LiesAhead};
-ghost use Rattle.nr_ring.specs.LogHistory.{IsLogHistory, MayAdvance, MayAppend, local_of, log_after, tail as tail_of};
+ghost use Rattle.nr_ring.specs.LogHistory.{HasRoom, IsLogHistory, MayAdvance, MayAppend, local_of, log_after, tail as tail_of};
 ghost use Rattle.nr_ring.specs.declared.log_event.LogEvent.TheVariants.{Append, Advance};
 ghost use Rattle.nr_ring.specs.Entries.{HasAppendedAndTaken, HasTakenAll, IsReason, to_take};
 ghost use Rattle.nr_ring.specs.inside.Held.{MadeOrMoved, Remembers};
@@ -73,7 +73,7 @@ impl<J: LogName> RingLog<J> {
     ) -> bool
         requires log { pass.old.cell ≡ self.now }
         requires known { (ring : ℕ)
-            × Remembers J.depth J.replicas J.passes (Some replica) ring pass.old }
+            × Remembers J.depth J.replicas J.passes J.places (Some replica) ring pass.old }
         requires fresh { pass.old.fresh ≡ true }
         requires to { to ≡ tail_of (log_after J.replicas pass.old.view.seen) }
         requires event { (E.events ≡ Advance replica to ∷ []) × (E.ring < J.passes) }
@@ -82,8 +82,8 @@ impl<J: LogName> RingLog<J> {
         ensures log { pass.new.cell ≡ pass.old.cell }
         ensures view { MadeOrMoved J.depth J.replicas E.events pass.old.view pass.new.view result }
         ensures known { (ring : ℕ)
-            → Remembers J.depth J.replicas J.passes (Some replica) ring pass.old
-            → Remembers J.depth J.replicas J.passes (Some replica) ring pass.new }
+            → Remembers J.depth J.replicas J.passes J.places (Some replica) ring pass.old
+            → Remembers J.depth J.replicas J.passes J.places (Some replica) ring pass.new }
         ensures taken { IsTrue result
             → entries.new.items ≡ to_take (log_after J.replicas pass.old.view.seen) replica }
         ensures none { IsFalse result → entries.new.items ≡ [] }
@@ -110,7 +110,7 @@ impl<J: LogName> RingLog<J> {
         pass: &mut LogPass<J>,
         batch: &[PackedEntry],
         before: &mut ArrayVec<PackedEntry, RING>,
-    ) -> Result<u32, AppendFault>
+    ) -> Result<u64, AppendFault>
         requires log { pass.old.log ≡ self.now }
         requires owner { (replica : ℕ) × (pass.old.view.owns ≡ replica ∷ []) }
         requires count { (1 ≤ length batch.now) × (length batch.now ≤ RING) }
@@ -122,7 +122,7 @@ impl<J: LogName> RingLog<J> {
             pass.old.view batch.now place before.new.items pass.new.view) }
         ensures refused { IfErr result (λ fault.
             HasLooked J.depth J.replicas pass.old.view pass.new.view
-            × IsReason (log_after J.replicas pass.new.view.seen) (length batch.now)
+            × IsReason J.places (log_after J.replicas pass.new.view.seen) (length batch.now)
             pass.old.view pass.new.view fault) }
         ensures none { OnErr result (before.new.items ≡ []) }
         ensures history { IsLogHistory J.depth J.replicas pass.new.view.seen }
@@ -136,7 +136,7 @@ impl<J: LogName> RingLog<J> {
         if self.try_append_and_take::<Brand>(&mut pass.inner, ring, replica, batch, before) {
             return Ok(place);
         }
-        Err(why_not(pass.inner.head(), count))
+        Err(why_not(pass.inner.head(), count, self.places))
     }
 
     /// Appends a batch, whose entries lie in the pass's ring, and raises the local tail of a replica to the tail after it; gives the
@@ -150,16 +150,18 @@ impl<J: LogName> RingLog<J> {
         before: &mut ArrayVec<PackedEntry, RING>,
     ) -> bool
         requires log { pass.old.cell ≡ self.now }
-        requires known { Remembers J.depth J.replicas J.passes (Some replica) ring pass.old }
+        requires known { Remembers J.depth J.replicas J.passes J.places (Some replica) ring pass.old }
         requires fresh { pass.old.fresh ≡ true }
         requires may { MayAppend J.depth (log_after J.replicas pass.old.view.seen) batch.now }
+        requires room { HasRoom J.places (log_after J.replicas pass.old.view.seen)
+            (length batch.now) }
         requires event { (E.events ≡ Append batch.now
             ∷ Advance replica (tail_of (log_after J.replicas pass.old.view.seen) + length batch.now)
             ∷ []) × (E.ring ≡ ring) }
         requires empty { before.old.items ≡ [] }
         ensures log { pass.new.cell ≡ pass.old.cell }
         ensures view { MadeOrMoved J.depth J.replicas E.events pass.old.view pass.new.view result }
-        ensures known { Remembers J.depth J.replicas J.passes (Some replica) ring pass.new }
+        ensures known { Remembers J.depth J.replicas J.passes J.places (Some replica) ring pass.new }
         ensures taken { IsTrue result
             → before.new.items ≡ to_take (log_after J.replicas pass.old.view.seen) replica }
         ensures none { IsFalse result → before.new.items ≡ [] }

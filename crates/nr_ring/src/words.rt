@@ -16,6 +16,9 @@ pub const RING_WORDS: usize = 2 * RING;
 /// The most rings of a log: an entry names the ring of the one before it in 7 bits.
 pub const RINGS: u64 = 128;
 
+/// The most places of a log: 15 times 2^30. The code of its cell has 34 bits for the tail.
+pub const MOST_PLACES: u64 = 16_106_127_360;
+
 /// The word of the tail.
 pub const TAIL_WORD: usize = 0;
 

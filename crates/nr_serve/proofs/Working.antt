@@ -1,5 +1,5 @@
 -- A thread that works through its script, request by request.
-use Rattle.std.proofs.Common.{◌≡◌, ℕ, ◌+◌, ◌<◌, List, [], ◌∷◌, ◌++◌, All, length, map, take, get_or, cond, refl, ap, sym, subst, inl, inr, ◌∙◌, arith}
+use Rattle.std.proofs.Common.{◌≡◌, ℕ, ◌+◌, ◌<◌, ◌≤◌, List, [], ◌∷◌, ◌++◌, All, length, map, take, get_or, cond, refl, ap, sym, subst, inl, inr, ◌∙◌, arith}
 use Rattle.std.specs.Prelude.{flat_map}
 use Rattle.std.proofs.Math.ListN.{length-append, length-map, get_or-append}
 use Rattle.std.proofs.lemmas.List.{append_assoc, flat_map_more, map-append, take_more}
@@ -13,7 +13,7 @@ use Rattle.vs_types.specs.declared.request.Query.{Query}
 use Rattle.vs_types.specs.declared.request.Query.TheVariants.{Update, Resolve, Access}
 use Rattle.vs_types.specs.Step.{allow, look}
 use Rattle.nr_ring.specs.Laws.{HasGoneOn}
-use Rattle.nr_ring.specs.LogHistory.{IsLogHistory, Log, log_after}
+use Rattle.nr_ring.specs.LogHistory.{IsLogHistory, Log, log_after, tail}
 use Rattle.nr_ring.specs.Pass.{Known, TableId}
 use Rattle.nr_ring.specs.declared.log_event.LogEvent.{LogEvent}
 use Rattle.nr_ring.specs.declared.view.View.{View}
@@ -207,19 +207,27 @@ ends clock log thread script done pen pass said is all = record {
 
 -- ---- the names of a log and its replicas say how the service is laid out
 
-pub named_history : (layout : Layout) (depth : Depth) (replicas tables : ℕ) (seen : List LogEvent) → IsNamed layout depth replicas tables
+pub named_history : (layout : Layout) (depth : Depth) (replicas places tables : ℕ) (seen : List LogEvent) → IsNamed layout depth replicas places tables
     → IsLogHistory depth replicas seen → IsLogHistory layout.depth layout.replicas seen
-named_history layout depth replicas tables seen named is =
+named_history layout depth replicas places tables seen named is =
     subst (λ (d : Depth). IsLogHistory d layout.replicas seen) (sym named.depth_is)
     (subst (λ (r : ℕ). IsLogHistory depth r seen) (sym named.replicas_are) is)
 
-pub named_heard : (layout : Layout) (depth : Depth) (replicas tables : ℕ) (a b : View) → IsNamed layout depth replicas tables
+pub named_heard : (layout : Layout) (depth : Depth) (replicas places tables : ℕ) (a b : View) → IsNamed layout depth replicas places tables
     → HasHeard depth replicas a b → HasHeard layout.depth layout.replicas a b
-named_heard layout depth replicas tables a b named is =
+named_heard layout depth replicas places tables a b named is =
     subst (λ (d : Depth). HasHeard d layout.replicas a b) (sym named.depth_is)
     (subst (λ (r : ℕ). HasHeard depth r a b) (sym named.replicas_are) is)
 
 -- ---- one call
+
+-- what came of a call was reached in the log
+pub true_within : (layout : Layout) (log : Log) (number : ℕ) (request : Query) (at : ℕ) (answer : answers.Answer)
+    → IsTrueOf layout log number request (Answer at answer) → at ≤ tail log
+true_within layout log number (Update action) at answer is =
+    omega (arith, slice_get_within log.entries at (record { call = number; op = action }) is.stands)
+true_within layout log number (Resolve address) at answer is = is.known
+true_within layout log number (Access address mode access) at answer is = is.known
 
 -- a call, and its reply
 pub called_and_answered : (clock : ClockId) (request : Query) (before middle after : PenState) (pass : Known) (number replied at : ℕ) (answer : answers.Answer)

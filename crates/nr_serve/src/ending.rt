@@ -1,5 +1,6 @@
 //! The end of a run: its threads have ended, and what they hand back is settled, written down and audited.
 ghost use Rattle.std.specs.Prelude.{◌≡◌, List, All, IfOk, length, map};
+ghost use Rattle.vs_types.specs.declared.limits.TheConstants.{LOG_PLACES};
 ghost use Rattle.vs_types.specs.declared.request.Query.{Query};
 ghost use Rattle.nr_audit.specs.Headline.{AreRightWith};
 ghost use Rattle.nr_audit.specs.Verdict.{IsVerdictOf};
@@ -62,6 +63,7 @@ fn written<J: LogName, K: ReplicasName>(
 ) -> Result<Vec<u8>, Memory>
     requires config { config ≡ clock.layout }
     requires names { (config.depth ≡ J.depth) × (config.replicas ≡ J.replicas) }
+    requires places { J.places ≡ LOG_PLACES }
     requires pens { AreAllPens clock pens.items }
     requires passes { All (λ pass. pass.log ≡ K.log) passes.old }
     ensures passes { passes.new ≡ passes.old }
@@ -119,6 +121,7 @@ pub(crate) fn ending<J: LogName, K: ReplicasName>(
 ) -> Result<Outcome<J>, Memory>
     requires config { config ≡ clock.layout }
     requires names { (config.depth ≡ J.depth) × (config.replicas ≡ J.replicas) }
+    requires places { J.places ≡ LOG_PLACES }
     requires pens { AreAllPens clock (pens_of workers.items) }
     requires passes { All (λ pass. pass.log ≡ K.log) (passes_of workers.items) }
     ensures verified { (scripts : List (List Query)) → length scripts ≡ config.threads

@@ -43,7 +43,7 @@ impl<J: LogName> Job<J> {
         team: &Team<'_, J, K, G>,
     ) -> Worker<J>
         requires layout { team.now.replicas.now ≡ team.now.clock.now.layout }
-        requires names { IsNamed team.now.clock.now.layout J.depth J.replicas K.tables }
+        requires names { IsNamed team.now.clock.now.layout J.depth J.replicas J.places K.tables }
         requires ready { IsReadyJob team.now.clock.now K.log self }
         ensures { IsDone team.now.clock.now K.log self result }
     {
@@ -70,7 +70,7 @@ fn work_through<J: LogName, K: ReplicasName, G: Gate, R: Wait>(
     said: &mut Vec<Said>,
 )
     requires layout { team.now.replicas.now ≡ team.now.clock.now.layout }
-    requires names { IsNamed team.now.clock.now.layout J.depth J.replicas K.tables }
+    requires names { IsNamed team.now.clock.now.layout J.depth J.replicas J.places K.tables }
     requires ready { IsReady team.now.clock.now K.log thread script.now pen.old pass.old }
     requires said { (said.old.items ≡ []) × (length script.now ≤ vec_capacity said.old) }
     ensures { IsServed team.now.clock.now K.log thread script.now

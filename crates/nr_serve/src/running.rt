@@ -49,6 +49,7 @@ fn begin<J: LogName>(
     requires depth { config.depth ≡ J.depth }
     requires replicas { config.replicas ≡ J.replicas }
     requires passes { J.passes ≡ config.replicas + config.threads }
+    requires places { J.places ≡ LOG_PLACES }
     requires scripts { AreScripts config (map (λ script. script.items) scripts.now) }
     ensures layout { IfOk result
         (λ made. (made.opened.layout ≡ config) × (made.clock.layout ≡ config)) }
@@ -89,6 +90,7 @@ fn go_on<
 ) -> Result<Outcome<J>, Fail<NoThread>>
     requires depth { config.depth ≡ J.depth }
     requires replicas { config.replicas ≡ J.replicas }
+    requires places { J.places ≡ LOG_PLACES }
     requires tables { config.tables ≡ K.tables }
     requires log { beginning.opened.log ≡ K.log }
     requires scripts { AreScripts config (map (λ script. script.items) scripts.items) }
@@ -129,7 +131,7 @@ fn go_on<
 /// request of its script, or with the first call that is stopped: by the gate, by the limit of turns, or as its replica doesn't confirm
 /// the answer.
 /// There is a script for each thread of the configuration, with at most 65,536 requests in all; the log's name has the depth, the
-/// replicas, and as many passes as there are replicas and threads.
+/// replicas, as many passes as there are replicas and threads, and 65,536 places.
 ///
 /// Waits for the threads and for locks. It allocates the memory of the replicas and of the record, and at the end
 /// that of the trace and of its audit; the threads take none.
@@ -148,6 +150,7 @@ pub fn run<J: LogName + Send + Sync, G: Gate + Sync, R: Threads + Wait + Sync>(
     requires depth { config.depth ≡ J.depth }
     requires replicas { config.replicas ≡ J.replicas }
     requires passes { J.passes ≡ config.replicas + config.threads }
+    requires places { J.places ≡ LOG_PLACES }
     requires scripts { AreScripts config (map (λ script. script.items) scripts.items) }
     ensures verified { IfOk result
         (IfVerified (IsVerifiedRun config (map (λ script. script.items) scripts.items))) }

@@ -1,8 +1,8 @@
 //! What all threads of a run share, and what each does for one request.
-ghost use Rattle.std.specs.Prelude.{◌≡◌, ◌<◌, IfSome, None};
+ghost use Rattle.std.specs.Prelude.{◌≡◌, ◌<◌, ◌≤◌, IfSome, None};
 ghost use Rattle.vs_types.specs.Query.{IsQuery};
-ghost use Rattle.vs_types.specs.declared.limits.TheConstants.{CALLS};
-ghost use Rattle.nr_ring.specs.LogHistory.{log_after};
+ghost use Rattle.vs_types.specs.declared.limits.TheConstants.{CALLS, LOG_PLACES};
+ghost use Rattle.nr_ring.specs.LogHistory.{log_after, tail};
 ghost use Rattle.nr_record.specs.Pen.{calls_in};
 ghost use Rattle.nr_replicas.specs.Replicas.{HasHeard};
 ghost use Rattle.nr_serve.specs.inside.Calls.{IsTrueOf};
@@ -14,6 +14,16 @@ use nr_replicas::{Gate, Point, Replicas, ReplicasName, Signal};
 use nr_ring::{LogName, LogPass};
 use std::sync::Wait;
 use vs_types::{Answer, Query, Request};
+
+/// A place of a log of 65,536 places, or its end, as it is in a trace.
+fn in_trace<J: LogName>(pass: &LogPass<J>, at: u64) -> u32
+    requires places { J.places ≡ LOG_PLACES }
+    requires known { at ≤ tail (log_after J.replicas pass.now.view.seen) }
+    ensures { result ≡ at }
+{
+    pass.has_seen_a_history();
+    at as u32
+}
 
 /// What all threads of a run share: the replicas, the clock, the gate, and how many turns each call has.
 #[derive(Drop)]
@@ -36,7 +46,7 @@ impl<J: LogName, K: ReplicasName, G: Gate> Team<'_, J, K, G> {
         request: Request,
     ) -> Said
         requires layout { self.now.replicas.now ≡ self.now.clock.now.layout }
-        requires names { IsNamed self.now.clock.now.layout J.depth J.replicas K.tables }
+        requires names { IsNamed self.now.clock.now.layout J.depth J.replicas J.places K.tables }
         requires pen { (pen.old.clock ≡ self.now.clock.now) × (pen.old.waiting ≡ None)
             × (calls_in pen.old.made < pen.old.quota) }
         requires pass { pass.old.log ≡ K.log }
@@ -52,9 +62,10 @@ impl<J: LogName, K: ReplicasName, G: Gate> Team<'_, J, K, G> {
         if self.gate.at(thread, Point::Called) == Signal::Stop {
             return Said::Stopped;
         }
-        let Some((at, answer)) = self.ask(rt, pass, thread, number, request) else {
+        let Some((reached, answer)) = self.ask(rt, pass, thread, number, request) else {
             return Said::Stopped;
         };
+        let at = in_trace(pass, reached);
         if self.gate.at(thread, Point::Answered) == Signal::Stop {
             return Said::Stopped;
         }
@@ -70,9 +81,9 @@ impl<J: LogName, K: ReplicasName, G: Gate> Team<'_, J, K, G> {
         thread: u16,
         number: u32,
         request: Request,
-    ) -> Option<(u32, Answer)>
+    ) -> Option<(u64, Answer)>
         requires layout { self.now.replicas.now ≡ self.now.clock.now.layout }
-        requires names { IsNamed self.now.clock.now.layout J.depth J.replicas K.tables }
+        requires names { IsNamed self.now.clock.now.layout J.depth J.replicas J.places K.tables }
         requires pass { pass.old.log ≡ K.log }
         requires thread { thread < self.now.clock.now.layout.threads }
         requires number { number < CALLS }

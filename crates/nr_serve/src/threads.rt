@@ -50,7 +50,7 @@ pub(crate) fn serve_all<
     passes: Vec<LogPass<J>>,
 ) -> Result<Vec<Worker<J>>, Fail<NoThread>>
     requires layout { team.now.replicas.now ≡ team.now.clock.now.layout }
-    requires names { IsNamed team.now.clock.now.layout J.depth J.replicas K.tables }
+    requires names { IsNamed team.now.clock.now.layout J.depth J.replicas J.places K.tables }
     requires few { team.now.clock.now.layout.threads ≤ THREADS }
     requires scripts { AreScripts team.now.clock.now.layout
         (map (λ script. script.items) scripts.items) }
@@ -134,7 +134,7 @@ fn run_all<
     workers: Vec<Worker<J>>,
 ) -> Option<Vec<Worker<J>>>
     requires layout { team.now.replicas.now ≡ team.now.clock.now.layout }
-    requires names { IsNamed team.now.clock.now.layout J.depth J.replicas K.tables }
+    requires names { IsNamed team.now.clock.now.layout J.depth J.replicas J.places K.tables }
     requires ready { All (IsReadyJob team.now.clock.now K.log) jobs.items }
     requires handles { (handles.items ≡ []) × (length jobs.items ≤ vec_capacity handles) }
     requires workers { (workers.items ≡ []) × (length jobs.items ≤ vec_capacity workers) }
@@ -146,7 +146,7 @@ fn run_all<
         rt,
         |scope| -> Option<Vec<Worker<J>>>
             requires { (team.now.replicas.now ≡ team.now.clock.now.layout)
-                × IsNamed team.now.clock.now.layout J.depth J.replicas K.tables
+                × IsNamed team.now.clock.now.layout J.depth J.replicas J.places K.tables
                 × All (IsReadyJob team.now.clock.now K.log) jobs.items
                 × ((handles.items ≡ []) × (length jobs.items ≤ vec_capacity handles))
                 × ((workers.items ≡ []) × (length jobs.items ≤ vec_capacity workers)) }
@@ -177,7 +177,7 @@ fn start_all<
     handles: Vec<Started<J, K>>,
 ) -> (bool, Vec<Started<J, K>>)
     requires layout { team.now.replicas.now ≡ team.now.clock.now.layout }
-    requires names { IsNamed team.now.clock.now.layout J.depth J.replicas K.tables }
+    requires names { IsNamed team.now.clock.now.layout J.depth J.replicas J.places K.tables }
     requires ready { All (IsReadyJob team.now.clock.now K.log) jobs.items }
     requires handles { (handles.items ≡ []) × (length jobs.items ≤ vec_capacity handles) }
     ensures few { length result.1.items ≤ length jobs.items }
@@ -189,7 +189,7 @@ fn start_all<
         let promise = Finished::of(&job);
         let worker = move || -> Worker<J>
             requires { (team.now.replicas.now ≡ team.now.clock.now.layout)
-                × IsNamed team.now.clock.now.layout J.depth J.replicas K.tables
+                × IsNamed team.now.clock.now.layout J.depth J.replicas J.places K.tables
                 × IsReadyJob team.now.clock.now K.log job }
             ensures { IsDone team.entry.now.clock.now K.log job result }
         { job.work(rt, team) };

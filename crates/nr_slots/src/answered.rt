@@ -11,7 +11,7 @@ use vs_types::{Answer, Op};
 #[derive(Clone, Copy, Debug, PartialEq, Eq)]
 pub struct Answered {
     update: Waiting,
-    place: u32,
+    place: u64,
     answer: Answer,
 }
 
@@ -38,7 +38,7 @@ impl Model for Answered {
 impl Answered {
     /// An update that was answered so, at this place of the log.
     #[inline(always)]
-    pub fn new(update: Waiting, place: u32, answer: Answer) -> Answered
+    pub fn new(update: Waiting, place: u64, answer: Answer) -> Answered
         ensures { result ≡ record {
           thread = update.thread;
           call = update.call;
@@ -88,7 +88,7 @@ impl Answered {
 
     /// Its place in the log.
     #[inline(always)]
-    pub fn place(self) -> u32
+    pub fn place(self) -> u64
         ensures { result ≡ self.place }
     {
         self.place

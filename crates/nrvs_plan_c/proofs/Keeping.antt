@@ -1,14 +1,17 @@
 -- A planner is kept whole: its codes read back as they were.
 use Rattle.std.specs.Prelude.{IfSome, nat_eq, if◌then◌else◌}
-use Rattle.std.proofs.Common.{◌≡◌, ℕ, subst, Bool, true, false, Option, Some, None, List, ◌++◌, length, take, refl, sym, ap, ◌∙◌}
+use Rattle.std.proofs.Common.{◌≡◌, ℕ, zero, suc, ◌+◌, ◌≤◌, arith, subst, Bool, true, false, Option, Some, None, List, ◌++◌, length, take, refl, sym, ap, ◌∙◌}
 use Rattle.std.proofs.Math.Seq.{take-append_seam}
+use Rattle.std.proofs.lemmas.Bool.{ne_eqb}
 use Rattle.vs_types.specs.Codes.{rights_code}
+use Rattle.vs_types.specs.Depth.{levels}
 use Rattle.vs_types.specs.Space.{Space}
 use Rattle.vs_types.specs.declared.page.Rights.{Rights}
 use Rattle.vs_walk.specs.Memory.{Memory}
 use Rattle.vs_plan.specs.declared.plan.Plan as plans
 use Rattle.vs_plan.specs.declared.plan.Store.{Store}
 use Rattle.vs_plan.specs.declared.planner.Phase.{Phase}
+use Rattle.vs_plan.specs.declared.planner.Phase.TheVariants as phases
 use Rattle.vs_plan.specs.declared.planner.Planner.{Planner}
 use Rattle.vs_plan.specs.declared.request.Request.{Request}
 use Rattle.vs_plan.specs.declared.target.Target.{Target}
@@ -16,7 +19,33 @@ use Rattle.vs_plan.specs.Premise.{IsPremise}
 use Rattle.vs_plan.specs.Request.{address_of}
 use Rattle.vs_plan.specs.Right.{IsRight}
 use Rattle.nrvs_plan_c.specs.declared.kept.Call.{Call}
-use Rattle.nrvs_plan_c.specs.Kept.{request_in, rights_in}
+use Rattle.nrvs_plan_c.specs.declared.kept.Plan.{Plan}
+use Rattle.nrvs_plan_c.specs.Kept.{depth_in, phase_in, request_in, rights_in, shows_left, target_at, target_in}
+
+-- but on the first way down of an unmap a way is gone for the page table that the plan is for
+not_brief : (code : ℕ) → 1 ≤ code → nat_eq code 0 ≡ false
+not_brief code some = ne_eqb code 0 (λ none. omega (arith, some, none))
+
+abbrev target_by : Call → Bool → Target
+target_by call brief =
+    record { depth = depth_in call.levels; pinned = if brief then 1 else call.pinned; phys_bits = call.phys_bits; root = call.root }
+
+pub target_kept : (call : Call) (code : ℕ) → 1 ≤ code → target_at code call ≡ target_in call
+target_kept call code some = ap (target_by call) (not_brief code some)
+
+pub ended_target : (plan : Plan) → plan.way.phase ≡ 5 → target_at plan.way.phase plan.call ≡ target_in plan.call
+ended_target plan is = target_kept plan.call plan.way.phase (omega (arith, is))
+
+pub one_way : (plan : Plan) → 1 ≤ plan.way.phase → shows_left plan ≡ plan.way.level
+one_way plan some =
+    let none : (if nat_eq plan.way.phase 0 then levels (depth_in plan.call.levels) else 0) ≡ 0 =
+    ap (λ (b : Bool). if b then levels (depth_in plan.call.levels) else 0) (not_brief plan.way.phase some) in
+    omega (arith, none)
+
+pub goes_down : (code : ℕ) → code ≤ 1 → phase_in code ≡ phases.Descent
+goes_down zero few = refl
+goes_down (suc zero) few = refl
+goes_down (suc (suc code)) few = absurd (omega (arith, few))
 
 bits_back : (w u x : Bool) → rights_in (rights_code (record { write = w; user = u; exec = x })) ≡ record { write = w; user = u; exec = x }
 bits_back true true true = refl

@@ -7,5 +7,9 @@ mod EndsTold
 mod AllowedBits
 mod Walking
 mod AtOnce
+mod CallKinds
+mod Shown
+mod EndsHere
+mod RangesBegun
 mod RunNumbers
 mod RangesMoved

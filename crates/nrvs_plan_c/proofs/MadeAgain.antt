@@ -11,7 +11,7 @@ use Rattle.vs_plan.specs.declared.plan.Reply as outcomes
 use Rattle.vs_plan.specs.declared.plan.Reply.TheVariants as replies
 use Rattle.vs_plan.specs.declared.plan.Store.{Store}
 use Rattle.vs_plan.specs.Again.{HasFlagsSet, IsPlanAgain, flags_into, new_again, told_again, with_flags_of, bits_again as bits_made, fill_again as fill_made}
-use Rattle.vs_plan.specs.Right.{Changes}
+use Rattle.vs_plan.specs.Answered.{Changes}
 use Rattle.nrvs_plan_c.specs.declared.kept.Plan.{Plan}
 use Rattle.nrvs_plan_c.specs.declared.told.Reply.{Reply}
 use Rattle.nrvs_plan_c.specs.Told.{IsFillTold, IsTold, bits_told, plan_again, reply_numbers, store_again, store_at}

@@ -1,6 +1,7 @@
 -- The planner that is kept in C's struct between two calls.
-use Rattle.std.specs.Prelude.{ℕ, ◌==◌, ◌/◌, ◌%◌, ◌≤◌, ◌||◌, Bool, min, nat_eq, take, if◌then◌else◌}
+use Rattle.std.specs.Prelude.{ℕ, ◌+◌, ◌==◌, ◌/◌, ◌%◌, ◌≤◌, ◌||◌, Bool, min, nat_eq, take, if◌then◌else◌}
 use Rattle.std.specs.Int.{bit_at}
+use Rattle.vs_types.specs.Depth.{levels}
 use Rattle.vs_types.specs.declared.depth.Depth.{Depth}
 use Rattle.vs_types.specs.declared.depth.Depth.TheVariants.{Four, Five}
 use Rattle.vs_types.specs.declared.page.Page.{Page}
@@ -39,14 +40,15 @@ rights_at bits = record { write = bit_at bits 1 == 1; user = bit_at bits 2 == 1;
 abbrev pub phase_in : ℕ → Phase
 phase_in code =
     if nat_eq code 0 then Descent
-    else if nat_eq code 1 then Search
-    else if nat_eq code 2 then Growth
-    else if nat_eq code 3 then Division
+    else if nat_eq code 1 then Descent
+    else if nat_eq code 2 then Search
+    else if nat_eq code 3 then Growth
+    else if nat_eq code 4 then Division
     else Ended
 
 -- whether a frame is waited for in the phase of a code
 abbrev pub takes_frame : ℕ → Bool
-takes_frame code = nat_eq code 2 || nat_eq code 3
+takes_frame code = nat_eq code 3 || nat_eq code 4
 
 -- the page table of C's target, in which no level is above 5
 abbrev pub target_of : Target → targets.Target
@@ -56,6 +58,11 @@ target_of target =
 -- the page table that a plan is for
 abbrev pub target_in : Call → targets.Target
 target_in call = record { depth = depth_in call.levels; pinned = call.pinned; phys_bits = call.phys_bits; root = call.root }
+
+-- the page table that a way is gone for in the phase of a code: on the first way down of an unmap, 0, each table stays
+abbrev pub target_at : ℕ → Call → targets.Target
+target_at code call =
+    record { depth = depth_in call.levels; pinned = if nat_eq code 0 then 1 else call.pinned; phys_bits = call.phys_bits; root = call.root }
 
 -- a page of these numbers
 abbrev pub page_in : ℕ → ℕ → ℕ → ℕ → Page
@@ -78,7 +85,7 @@ request_in call =
 -- the planner
 abbrev pub planner_in : Plan → Planner
 planner_in plan = record {
-  target = target_in plan.call;
+  target = target_at plan.way.phase plan.call;
   request = request_in plan.call;
   phase = phase_in plan.way.phase;
   level = plan.way.level;
@@ -92,6 +99,10 @@ planner_in plan = record {
   below = plan.met.below;
   stores = record { items = take plan.store_count plan.stores };
 }
+
+-- how many frames are shown at most: on the first way down of an unmap those of a second one too
+abbrev pub shows_left : Plan → ℕ
+shows_left plan = plan.way.level + (if nat_eq plan.way.phase 0 then levels (depth_in plan.call.levels) else 0)
 
 -- what a planner waits for in a phase
 abbrev pub IsWaiting : Phase → Planner → Type 0

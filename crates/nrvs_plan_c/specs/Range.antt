@@ -1,5 +1,5 @@
 -- A range's planner that is kept in C's struct between two calls, and its runs in numbers.
-use Rattle.std.specs.Prelude.{◌≡◌, ◌≢◌, ℕ, ◌+◌, ◌*◌, ◌^◌, ◌<◌, ◌≤◌, ◌⊎◌, List, Option, cond, nat_eq}
+use Rattle.std.specs.Prelude.{◌≡◌, ◌≢◌, ℕ, ◌+◌, ◌*◌, ◌^◌, ◌<◌, ◌≤◌, ◌⊎◌, ◌||◌, Bool, List, Option, cond, nat_eq, nat_lt, if◌then◌else◌}
 use Rattle.std.specs.Int.Bits.{bit_and}
 use Rattle.vs_types.specs.Codes.{size_code}
 use Rattle.vs_types.specs.Page.{bytes_of}
@@ -8,20 +8,35 @@ use Rattle.vs_types.specs.declared.page.Rights.{Rights}
 use Rattle.vs_walk.specs.Memory.{Memory}
 use Rattle.vs_plan.specs.declared.plan.TheConstants.{MOST_UNLINKED}
 use Rattle.vs_plan.specs.declared.request.Request.{Request}
+use Rattle.vs_plan.specs.declared.request.Request.TheVariants.{Map}
 use Rattle.vs_plan.specs.declared.target.Target.{Target}
 use Rattle.vs_plan.specs.Premise.{IsPremise}
-use Rattle.vs_plan.specs.Request.{address_of}
+use Rattle.vs_plan.specs.Request.{address_of, request_fault}
 use Rattle.vs_plan.specs.Shown.{IsShown}
 use Rattle.vs_range.specs.declared.planner.RangePlanner.{RangePlanner}
 use Rattle.vs_range.specs.declared.run.Forget.{Forget}
 use Rattle.vs_range.specs.declared.run.Forget.TheVariants.{Nothing, Pages}
 use Rattle.vs_range.specs.declared.run.Run as ranged
-use Rattle.vs_range.specs.Planner.{IsRanged, IsRunNext, IsHarvestNext, IsAbsentFor, EndsBeyond, range_sees}
+use Rattle.vs_range.specs.Planner.{are_pages, IsRanged, IsRunNext, IsHarvestNext, IsAbsentFor, EndsBeyond, range_sees}
 use Rattle.vs_range.specs.Run.{word_after}
 use Rattle.nrvs_plan_c.specs.declared.codes.TheConstants.{ENDED}
+use Rattle.nrvs_plan_c.specs.declared.kept.Target as targets
 use Rattle.nrvs_plan_c.specs.declared.range.Run.{Run}
-use Rattle.nrvs_plan_c.specs.Kept.{IsSound, phase_in, planner_in, request_in, size_in, target_in}
+use Rattle.nrvs_plan_c.specs.Kept.{IsSound, page_in, phase_in, planner_in, request_in, size_in, target_in, target_of}
 use Rattle.nrvs_plan_c.specs.Next.{IsPlanned, status_in}
+use Rattle.nrvs_plan_c.specs.Status.{begun_status, target_status}
+
+-- whether so many bytes are those of pages of the size of a code, of one at least; or the code means none
+abbrev pub are_whole : ℕ → ℕ → Bool
+are_whole size bytes = nat_lt 2 size || are_pages (size_in size) bytes
+
+-- the status of a map over so many bytes as it begins: 11 where they are no whole pages, else that of the map of its first page
+abbrev pub map_range_status : targets.Target → ℕ → ℕ → ℕ → ℕ → ℕ → ℕ → ℕ
+map_range_status target base size physical rights bits bytes =
+    if are_whole size bytes then target_status target.levels target.phys_bits
+    (if nat_lt 2 size then 6 else if nat_lt 7 rights then 7
+    else begun_status (request_fault (target_of target) (Map (page_in base size physical rights) bits)))
+    else 11
 
 -- the planner of the range
 abbrev pub range_in : Run → RangePlanner
@@ -32,6 +47,7 @@ pub record IsSoundRange (run : Run) : Type 0 where
   pub plan : IsSound run.plan
   pub base : address_of (request_in run.plan.call) ≡ run.base
   pub kind : IsRanged (request_in run.plan.call)
+  pub phase : 1 ≤ run.plan.way.phase
 
 -- the words of how many frames it asks for at most
 abbrev pub range_sees_in : Run → ℕ

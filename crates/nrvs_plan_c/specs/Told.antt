@@ -7,7 +7,7 @@ use Rattle.vs_plan.specs.declared.plan.Fill.{Fill}
 use Rattle.vs_plan.specs.declared.plan.Flush.{Flush}
 use Rattle.vs_plan.specs.declared.plan.Flush.TheVariants as flushes
 use Rattle.vs_plan.specs.Again.{IsPlanAgain, flags_into, with_flags_of}
-use Rattle.vs_plan.specs.Right.{Changes}
+use Rattle.vs_plan.specs.Answered.{Changes}
 use Rattle.vs_plan.specs.declared.plan.Plan as plans
 use Rattle.vs_plan.specs.declared.plan.Reply as outcomes
 use Rattle.vs_plan.specs.declared.plan.Reply.TheVariants as replies

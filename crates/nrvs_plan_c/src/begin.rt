@@ -1,13 +1,18 @@
 //! How a plan begins.
-ghost use Rattle.std.specs.Prelude.{◌≡◌, ◌≢◌, MatchResult};
-ghost use Rattle.vs_plan.specs.Request.{request_fault};
-ghost use Rattle.nrvs_plan_c.specs.Kept.{request_in, target_in, target_of};
+ghost use Rattle.std.specs.Prelude.{◌≡◌, ◌≢◌, ◌≤◌, ℕ, MatchResult};
+ghost use Rattle.vs_types.specs.Depth.{levels};
+ghost use Rattle.vs_plan.specs.declared.request.Request.{Request};
+ghost use Rattle.vs_plan.specs.Request.{IsRequest, request_fault};
+ghost use Rattle.vs_plan.specs.Target.{highest_link};
+ghost use Rattle.nrvs_plan_c.specs.declared.codes.TheConstants.{DESCENT};
+ghost use Rattle.nrvs_plan_c.specs.Kept.{depth_in, request_in, target_at, target_in, target_of};
 ghost use Rattle.nrvs_plan_c.specs.Next.{HasBegun};
 ghost use Rattle.nrvs_plan_c.specs.Status.{begun_status, target_status};
 
-use crate::kept::{Call, Plan, Target, keep};
+use crate::allowed::all_allowed;
+use crate::codes::{BRIEF, DESCENT, depth_in};
+use crate::kept::{Call, Plan, Target, Way};
 use crate::status::{BAD_LEVELS, PHYS_BITS, SEE, status_of};
-use vs_plan::Planner;
 
 /// A level above that of each root.
 const ABOVE_ROOTS: u32 = 6;
@@ -47,18 +52,69 @@ pub(crate) fn call_of(target: &Target, kind: u8, address: u64) -> Result<Call, u
 }
 
 /// Begins a plan.
+#[inline(always)]
 pub(crate) fn begin(plan: &mut Plan, call: Call) -> u32
     ensures status { result ≡ begun_status (request_fault (target_in call) (request_in call)) }
     ensures call { result ≡ 32 → plan.new.call ≡ call }
     ensures begun { result ≡ 32 → HasBegun plan.new }
     ensures refused { result ≢ 32 → plan.new ≡ plan.old }
 {
-    match Planner::new(call.target(), call.request()) {
-        Ok(planner) => {
+    match call.request().test(call.target()) {
+        Ok(()) => {
             plan.call = call;
-            keep(plan, &planner);
+            start(plan, if call.kind == 1 { BRIEF } else { DESCENT });
             SEE
         }
         Err(fault) => status_of(fault),
     }
+}
+
+/// Asks for the words of the root.
+#[inline(always)]
+pub(crate) fn start(plan: &mut Plan, phase: u8)
+    requires good { IsRequest (target_in plan.old.call) (request_in plan.old.call) }
+    requires phase { phase ≤ DESCENT }
+    ensures begun { HasBegun plan.new }
+    ensures call { plan.new.call ≡ plan.old.call }
+    ensures phase { plan.new.way.phase ≡ phase }
+    ensures level { plan.new.way.level ≡ levels (depth_in plan.old.call.levels) }
+{
+    let stop = first_stop(plan, phase);
+    let level = depth_in(plan.call.levels).levels();
+    plan.frame = plan.call.root;
+    plan.store_count = 0;
+    plan.way = Way {
+        allowed: all_allowed(),
+        phase,
+        level,
+        stop,
+        height: 0,
+    };
+}
+
+/// The level of the lowest table that stays, before any was seen: it is looked for by the second way of an unmap alone.
+fn first_stop(plan: &Plan, phase: u8) -> u8
+    requires { phase ≤ DESCENT }
+    ensures most { result ≤ highest_link (target_at phase plan.now.call) }
+    ensures all { (base : ℕ) → request_in plan.now.call ≡ Request.Unmap base
+        → highest_link (target_at phase plan.now.call) ≤ result }
+{
+    if phase == BRIEF {
+        return 0;
+    }
+    if plan.call.kind != 1 {
+        return 0;
+    }
+    highest_link(plan)
+}
+
+/// The level of the highest tables whose links may be cleared.
+fn highest_link(plan: &Plan) -> u8
+    ensures { result ≡ highest_link (target_in plan.now.call) }
+{
+    let levels = depth_in(plan.call.levels).levels();
+    if plan.call.pinned == 0 {
+        return levels;
+    }
+    levels.min(plan.call.pinned - 1)
 }

@@ -1,18 +1,22 @@
 //! What the numbers mean that are kept.
-ghost use Rattle.std.specs.Prelude.{◌≡◌};
+ghost use Rattle.std.specs.Prelude.{◌≡◌, ◌≤◌};
 ghost use Rattle.nrvs_plan_c.specs.Kept.{depth_in, size_in, rights_in, phase_in, takes_frame};
 
 use vs_plan::Phase;
 use vs_types::{Depth, Rights, Size};
 
+/// The code of the phase on the first way down of an unmap, which looks at no table above the page's own: where that is left empty, a
+/// second way does.
+pub(crate) const BRIEF: u8 = 0;
+
 /// The code of the phase on the way down.
-pub(crate) const DESCENT: u8 = 0;
+pub(crate) const DESCENT: u8 = 1;
 
 /// The greatest code of a phase in which words are waited for.
-pub(crate) const SEARCH: u8 = 1;
+pub(crate) const SEARCH: u8 = 2;
 
 /// The code of the phase in which the plan is there.
-pub(crate) const ENDED: u8 = 4;
+pub(crate) const ENDED: u8 = 5;
 
 /// The code of the answer that something is done, which names no page.
 pub(crate) const DONE: u8 = 0;
@@ -21,7 +25,7 @@ pub(crate) const DONE: u8 = 0;
 pub(crate) fn takes_frame(code: u8) -> bool
     ensures { result ≡ takes_frame code }
 {
-    code == 2 || code == 3
+    code == 3 || code == 4
 }
 
 /// The depth with so many levels.
@@ -57,28 +61,29 @@ pub(crate) fn rights_in(code: u8) -> Rights
     }
 }
 
-/// How far a planner is by a code below 5.
+/// How far a planner is by a code below 6.
 pub(crate) fn phase_in(code: u8) -> Phase
     ensures { result ≡ phase_in code }
 {
     match code {
-        0 => Phase::Descent,
-        1 => Phase::Search,
-        2 => Phase::Growth,
-        3 => Phase::Division,
+        0 | 1 => Phase::Descent,
+        2 => Phase::Search,
+        3 => Phase::Growth,
+        4 => Phase::Division,
         _ => Phase::Ended,
     }
 }
 
 /// The code of how far a planner is.
 pub(crate) fn code_of(phase: Phase) -> u8
-    ensures { phase_in result ≡ phase }
+    ensures is { phase_in result ≡ phase }
+    ensures some { 1 ≤ result }
 {
     match phase {
-        Phase::Descent => 0,
-        Phase::Search => 1,
-        Phase::Growth => 2,
-        Phase::Division => 3,
-        Phase::Ended => 4,
+        Phase::Descent => 1,
+        Phase::Search => 2,
+        Phase::Growth => 3,
+        Phase::Division => 4,
+        Phase::Ended => 5,
     }
 }

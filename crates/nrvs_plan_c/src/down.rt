@@ -1,127 +1,108 @@
-//! How a planner goes down by a link where it is kept, in C's struct: what most calls of `nrvs_plan_see` do.
-ghost use Rattle.std.specs.Prelude.{◌≡◌, ◌≢◌, ◌<◌, ◌≤◌, ◌⊎◌, ℕ, Some, IsTrue, IsFalse, slice_index};
+//! How a plan goes down by a link where it is kept, in C's struct: what most calls of `nrvs_plan_see` do.
+ghost use Rattle.std.specs.Prelude.{◌≡◌, ◌≢◌, ◌/◌, ◌<◌, ◌≤◌, ℕ, List, Some, IsTrue, IsFalse, slice_index};
 ghost use Rattle.std.specs.FinMap as finite;
 ghost use Rattle.vs_types.specs.Depth.{index_at};
 ghost use Rattle.vs_types.specs.declared.frame.TheConstants.{FRAME_WORDS};
 ghost use Rattle.vs_walk.specs.Memory.{Memory};
-ghost use Rattle.vs_plan.specs.declared.request.Request.{Request};
 ghost use Rattle.vs_plan.specs.Request.{lowest_of};
 ghost use Rattle.vs_plan.specs.Shown.{IsShown};
+ghost use Rattle.nrvs_plan_c.specs.declared.codes.TheConstants.{DESCENT};
 ghost use Rattle.nrvs_plan_c.specs.Kept.{IsSound, planner_in, request_in};
 
 use crate::allowed::narrowed;
-use crate::codes::size_in;
 use crate::kept::{Call, Plan};
+use crate::walk::is_link;
 use vs_plan::FrameWords;
-use vs_types::{Entry, FRAME_WORDS, Meaning, index_at};
+use vs_types::FRAME_WORDS;
 
-impl Call {
-    /// The level at which the way ends at the latest.
-    fn lowest(self) -> u8
-        ensures { result ≡ lowest_of (request_in self) }
-    {
-        if self.kind == 0 {
-            size_in(self.size).level()
-        } else {
-            1
-        }
-    }
-}
-
-/// Goes on to the table to which this word leads, which was read of these words, where the way doesn't end here. Whether it did: else
-/// nothing is changed.
-pub(crate) fn go_down<W: FrameWords>(plan: &mut Plan, words: &mut W, word: u64) -> bool
+/// Goes on to the table to which this word leads, which was read of these words, where the way doesn't end here, and no other word of the
+/// table is asked for. Whether it did: else nothing is changed.
+#[inline(always)]
+pub(crate) fn go_down(plan: &mut Plan, word: u64) -> bool
     requires sound { IsSound plan.old }
-    requires descent { plan.old.way.phase ≡ 0 }
-    requires read { word ≡ slice_index (W.words words.old)
-        (index_at plan.old.way.level plan.old.call.address) }
-    requires unread { (i : ℕ) → i < FRAME_WORDS
-        → i ≢ index_at plan.old.way.level plan.old.call.address → W.is_unread words.old i }
-    ensures stays { IsFalse result → (plan.new ≡ plan.old) × (words.new ≡ words.old) }
+    requires descent { plan.old.way.phase ≤ DESCENT }
+    ensures stays { IsFalse result → plan.new ≡ plan.old }
     ensures sound { IsSound plan.new }
     ensures call { plan.new.call ≡ plan.old.call }
     ensures phase { plan.new.way.phase ≡ plan.old.way.phase }
     ensures fewer { IsTrue result → plan.new.way.level < plan.old.way.level }
-    ensures shown { IsTrue result → (memory : Memory) → IsShown memory (planner_in plan.old)
-        → finite.get memory plan.old.frame ≡ Some (W.words words.old)
+    ensures shown { IsTrue result → (memory : Memory) (words : List ℕ)
+        → IsShown memory (planner_in plan.old)
+        → word ≡ slice_index words (index_at plan.old.way.level plan.old.call.address)
+        → finite.get memory plan.old.frame ≡ Some words
         → IsShown memory (planner_in plan.new) }
 {
     let level = plan.way.level;
-    if level <= plan.call.lowest() {
+    if level < plan.way.stop {
         return false;
     }
-    let Meaning::Table(next, _) = Entry::new(word).read(level) else {
-        return false;
-    };
-    if next >= plan.call.target().frames_end() {
+    if !goes_on_below(plan.call, level) {
         return false;
     }
-    plan.way.stop = stop_at(plan, words, index_at(level, plan.call.address));
+    if !is_link(word) {
+        return false;
+    }
+    let address = word % (1 << 52);
+    if address >> plan.call.phys_bits != 0 {
+        return false;
+    }
     plan.met.numbers[level as usize] = plan.frame;
     plan.met.words[level as usize] = word;
     plan.way.allowed = narrowed(plan.way.allowed, word);
-    plan.frame = next;
+    plan.frame = address / 4096;
     plan.way.level = level - 1;
     true
 }
 
-/// The level of the lowest table that stays, where the next one has these words, and its entry this index.
-fn stop_at<W: FrameWords>(plan: &Plan, words: &mut W, index: usize) -> u8
-    requires in_range { index < FRAME_WORDS }
-    requires unread { (i : ℕ) → i < FRAME_WORDS → i ≢ index → W.is_unread words.old i }
-    ensures at_most { result ≤ plan.now.way.stop }
-    ensures alone { ((result ≡ plan.now.way.level)
-        × ((base : ℕ) → request_in plan.now.call ≡ Request.Unmap base
-        → plan.now.way.level < plan.now.way.stop
-        → (i : ℕ) × (i ≢ index) × (slice_index (W.words words.old) i ≢ 0)))
-        ⊎ ((result ≡ plan.now.way.stop)
-        × (plan.now.way.level < plan.now.way.stop
-        → (i : ℕ) → i < FRAME_WORDS → i ≢ index → slice_index (W.words words.old) i ≡ 0)) }
+/// Whether a way may go on below a table of this level.
+fn goes_on_below(call: Call, level: u8) -> bool
+    requires { 1 ≤ level }
+    ensures below { IsTrue result → lowest_of (request_in call) < level }
+    ensures some { IsTrue result → 2 ≤ level }
 {
-    if plan.way.level >= plan.way.stop {
-        return plan.way.stop;
-    }
-    if plan.call.kind != 1 {
-        return plan.way.level;
-    }
-    if is_alone(words, index) {
-        return plan.way.stop;
-    }
-    plan.way.level
+    call.size < level - 1
 }
 
-/// Whether each word of a frame but that at the index is 0. In a filled table the word beside it decides.
-fn is_alone<W: FrameWords>(words: &mut W, index: usize) -> bool
+/// Whether a frame has a word other than 0 beside that at the index. In most the one next to it decides.
+#[inline(always)]
+pub(crate) fn has_other<W: FrameWords>(words: &mut W, index: usize) -> bool
     requires in_range { index < FRAME_WORDS }
     requires unread { (i : ℕ) → i < FRAME_WORDS → i ≢ index → W.is_unread words.old i }
-    ensures alone { IsTrue result → (i : ℕ) → i < FRAME_WORDS → i ≢ index
-        → slice_index (W.words words.old) i ≡ 0 }
-    ensures other { IsFalse result
+    ensures { IsTrue result
         → (i : ℕ) × (i ≢ index) × (slice_index (W.words words.old) i ≢ 0) }
 {
     let beside = if index % 2 == 0 { index + 1 } else { index - 1 };
-    if words.read(beside) != 0 {
-        return false;
-    }
-    let pair = index / 2 * 2;
-    are_clear(words, 0, pair) && are_clear(words, pair + 2, FRAME_WORDS)
+    words.read(beside) != 0 || has_other_pair(words, index / 2)
 }
 
-/// Whether the words of a frame from one index to another are all 0: each is looked at.
-fn are_clear<W: FrameWords>(words: &mut W, from: usize, to: usize) -> bool
+/// Whether a frame has a word other than 0 outside a pair. In most another of its eight decides.
+#[inline(never)]
+fn has_other_pair<W: FrameWords>(words: &mut W, pair: usize) -> bool
+    requires in_range { pair < FRAME_WORDS / 2 }
+    requires unread { (i : ℕ) → i < FRAME_WORDS → i / 2 ≢ pair → W.is_unread words.old i }
+    ensures { IsTrue result
+        → (i : ℕ) × (i / 2 ≢ pair) × (slice_index (W.words words.old) i ≢ 0) }
+{
+    let eight = pair / 4 * 8;
+    has_word(words, eight, pair * 2)
+        || has_word(words, pair * 2 + 2, eight + 8)
+        || has_word(words, 0, eight)
+        || has_word(words, eight + 8, FRAME_WORDS)
+}
+
+/// Whether a word of a frame from one index to another is not 0: each is looked at.
+fn has_word<W: FrameWords>(words: &mut W, from: usize, to: usize) -> bool
     requires in_range { to ≤ FRAME_WORDS }
     requires unread { (i : ℕ) → from ≤ i → i < to → W.is_unread words.old i }
     ensures same { W.words words.new ≡ W.words words.old }
     ensures others { (i : ℕ) → (from ≤ i → to ≤ i) → W.is_unread words.old i
         → W.is_unread words.new i }
-    ensures clear { IsTrue result → (i : ℕ) → from ≤ i → i < to
-        → slice_index (W.words words.old) i ≡ 0 }
-    ensures other { IsFalse result
+    ensures other { IsTrue result
         → (i : ℕ) × (from ≤ i) × (i < to) × (slice_index (W.words words.old) i ≢ 0) }
 {
-    let mut clear = true;
+    let mut found = false;
     for i in from..to {
-        clear = clear & (words.read(i) == 0);
+        found = found | (words.read(i) != 0);
     }
-    clear
+    found
 }

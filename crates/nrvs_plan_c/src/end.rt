@@ -60,11 +60,13 @@ impl End {
 }
 
 /// Maps a page of 4 KiB where nothing is mapped.
+#[inline(always)]
 pub(crate) fn end_map(plan: &mut Plan, end: End, base: u64, physical: u64, rights: u8, bits: u64)
     requires bits { AreBits bits }
     requires aligned { physical % 4096 ≡ 0 }
     requires in_range { physical < 2 ^ 52 }
     ensures made { IsMade plan.new }
+    ensures call { plan.new.call ≡ plan.old.call }
     ensures right { IsRightFor (Request.Map (page_in base 0 physical rights) bits) base end plan.new }
 {
     if end.is_page() {
@@ -88,8 +90,10 @@ pub(crate) fn end_map(plan: &mut Plan, end: End, base: u64, physical: u64, right
 }
 
 /// Removes the page; the table stays.
+#[inline(always)]
 pub(crate) fn end_unmap(plan: &mut Plan, end: End, base: u64)
     ensures made { IsMade plan.new }
+    ensures call { plan.new.call ≡ plan.old.call }
     ensures right { (target : targets.Target) (memory : Memory) → IsRequest target (Request.Unmap base)
         → IsEndOf target memory base end → (end.word % 2 ≡ 1 → Stays target memory base end)
         → IsPlanned target (Request.Unmap base) memory plan.new [] }
@@ -109,8 +113,10 @@ pub(crate) fn end_unmap(plan: &mut Plan, end: End, base: u64)
 }
 
 /// Gives the page other rights.
+#[inline(always)]
 pub(crate) fn end_protect(plan: &mut Plan, end: End, base: u64, rights: u8)
     ensures made { IsMade plan.new }
+    ensures call { plan.new.call ≡ plan.old.call }
     ensures right { IsRightFor (Request.Protect base (rights_in rights)) base end plan.new }
 {
     if !end.is_page() {
@@ -128,6 +134,7 @@ pub(crate) fn end_protect(plan: &mut Plan, end: End, base: u64, rights: u8)
 }
 
 /// Lets the page lead to another physical address, with other rights.
+#[inline(always)]
 pub(crate) fn end_remap(
     plan: &mut Plan,
     end: End,
@@ -138,6 +145,7 @@ pub(crate) fn end_remap(
 )
     requires { phys_bits ≤ 52 }
     ensures made { IsMade plan.new }
+    ensures call { plan.new.call ≡ plan.old.call }
     ensures right { (target : targets.Target) (memory : Memory) → target.phys_bits ≡ phys_bits
         → IsRequest target (Request.Remap base physical (rights_in rights))
         → IsEndOf target memory base end
@@ -167,8 +175,10 @@ pub(crate) fn end_remap(
 }
 
 /// Answers with the page.
+#[inline(always)]
 pub(crate) fn end_ask(plan: &mut Plan, end: End, address: u64)
     ensures made { IsMade plan.new }
+    ensures call { plan.new.call ≡ plan.old.call }
     ensures right { IsRightFor (Request.Ask address) address end plan.new }
 {
     if !end.is_page() {
@@ -188,6 +198,7 @@ pub(crate) fn end_ask(plan: &mut Plan, end: End, address: u64)
 /// Writes a plan that gives the page another word, if it is another.
 fn write_change(plan: &mut Plan, end: End, base: u64, new: u64)
     ensures made { IsMade plan.new }
+    ensures call { plan.new.call ≡ plan.old.call }
     ensures same { new ≡ end.word → HasNone (changed_reply end) (bits_in K4 end.word) plan.new }
     ensures other { new ≢ end.word
         → HasStore end new (changed_reply end) (bits_in K4 end.word) 1 base plan.new }

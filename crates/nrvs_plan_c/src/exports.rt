@@ -1,8 +1,6 @@
 //! The calls for C.
-ghost use Rattle.std.specs.Prelude.{◌≡◌, ◌≢◌, ◌↔◌, ◌<◌, ◌-◌, ◌⊎◌, ◌≤◌, [], ◌∷◌, ◌++◌, ℕ, Some, None, IfSome, IsFalse, nat_lt, slice_index, if◌then◌else◌};
+ghost use Rattle.std.specs.Prelude.{◌≡◌, ◌≢◌, ◌↔◌, ◌<◌, ◌-◌, ◌⊎◌, ◌≤◌, [], ◌∷◌, ◌++◌, ℕ, Some, None, IfSome, IsFalse, IsTrue, nat_lt, slice_index, if◌then◌else◌};
 ghost use Rattle.std.specs.FinMap as finite;
-ghost use Rattle.vs_types.specs.Depth.{index_at};
-ghost use Rattle.vs_types.specs.declared.frame.TheConstants.{FRAME_WORDS};
 ghost use Rattle.vs_walk.specs.Memory.{Memory};
 ghost use Rattle.vs_plan.specs.declared.request.Request.{Request};
 ghost use Rattle.vs_plan.specs.declared.plan.TheConstants.{MOST_UNLINKED};
@@ -11,20 +9,19 @@ ghost use Rattle.vs_plan.specs.Planner.{IsSpareFor, frames_given};
 ghost use Rattle.vs_plan.specs.Request.{request_fault};
 ghost use Rattle.vs_plan.specs.Shown.{IsShown};
 ghost use Rattle.nrvs_plan_c.specs.declared.codes.TheConstants.{DESCENT, ENDED, SEARCH};
-ghost use Rattle.nrvs_plan_c.specs.Kept.{IsSound, page_in, phase_in, planner_in, request_in, rights_in, takes_frame, target_in, target_of};
+ghost use Rattle.nrvs_plan_c.specs.Kept.{IsSound, page_in, phase_in, planner_in, request_in, rights_in, shows_left, takes_frame, target_in, target_of};
 ghost use Rattle.nrvs_plan_c.specs.Next.{HasBegun, IsNextOf, status_in};
 ghost use Rattle.nrvs_plan_c.specs.Told.{plan_again, store_at};
 ghost use Rattle.nrvs_plan_c.specs.Status.{begun_status, target_status};
 
 use crate::begin::{begin, call_of};
 use crate::codes::{DESCENT, ENDED, SEARCH, takes_frame};
-use crate::down::go_down;
 use crate::kept::{Call, Plan, Target, Words, open};
 use crate::next::go_on;
-use crate::status::{BAD_RIGHTS, BAD_SIZE, NOT_ASKED, PLANNED, SEE};
+use crate::see::{go_on_down, search_these};
+use crate::status::{BAD_RIGHTS, BAD_SIZE, NOT_ASKED, PLANNED};
 use crate::told::{bits_again, is_linking};
-use vs_plan::FrameWords;
-use vs_types::index_at;
+use vs_plan::{PlainWords, Planner};
 
 /// Begins the plan of a map.
 #[inline(never)]
@@ -222,17 +219,16 @@ pub extern "C" fn nrvs_plan_see(plan: &mut Plan, words: &Words) -> u32
     ensures sound { IsSound plan.new }
     ensures call { plan.new.call ≡ plan.old.call }
     ensures refused { result ≡ 17 → plan.new ≡ plan.old }
-    ensures fewer { result ≡ 32 → plan.new.way.level < plan.old.way.level }
+    ensures fewer { result ≡ 32 → shows_left plan.new < shows_left plan.old }
     ensures given { result ≡ 33 → frames_given (planner_in plan.new) ≡ [] }
     ensures next { result ≢ 17 → (memory : Memory) → IsShown memory (planner_in plan.old)
         → finite.get memory plan.old.frame ≡ Some words.now.word
         → IsNextOf memory plan.new [] result }
 {
-    if plan.way.phase > SEARCH {
-        return NOT_ASKED;
+    if plan.way.phase > DESCENT {
+        return see_later(plan, words);
     }
-    let mut words = vs_plan::PlainWords(&words.word);
-    see_each_once(plan, &mut words)
+    go_on_down(plan, PlainWords(&words.word))
 }
 
 /// Takes a frame whose words are all 0: `Planner::give`.
@@ -278,9 +274,9 @@ pub extern "C" fn nrvs_plan_give_none(plan: &mut Plan) -> u32
     give(plan, None)
 }
 
-/// Where the store at an index finds a word in place of its `old` that has other flags and is the same else: the plan with that word in
-/// its place (`Store::again`), and its flags in the bits that are said of the page's entry, or by a split in what the frame is filled
-/// with (`Fill::again`); as `Plan::again` has it.
+/// Call this if the store at an index finds a word that differs from its `old` in flags alone. The plan gets that word in its place
+/// (`Store::again`). The word's flags go into the bits that are said of the page's entry, or by a split into what the frame is filled
+/// with (`Fill::again`), as by `Plan::again`.
 #[unsafe(no_mangle)]
 pub extern "C" fn nrvs_plan_again(plan: &mut Plan, index: usize, found: u64) -> u32
     requires { IsSound plan.old }
@@ -308,88 +304,39 @@ pub extern "C" fn nrvs_plan_again(plan: &mut Plan, index: usize, found: u64) -> 
     PLANNED
 }
 
-/// Takes the words of the frame that is asked for, and reads none of them twice.
-pub(crate) fn see_each_once<W: FrameWords>(plan: &mut Plan, words: &mut W) -> u32
+/// Takes the words of a frame that isn't asked for on the way down.
+#[inline(never)]
+fn see_later(plan: &mut Plan, words: &Words) -> u32
     requires sound { IsSound plan.old }
-    requires waits { plan.old.way.phase ≤ SEARCH }
-    requires unread { (i : ℕ) → i < FRAME_WORDS → W.is_unread words.old i }
-    ensures asked { result ≢ 17 }
-    ensures status { result ≡ status_in (phase_in plan.new.way.phase) }
+    requires searches { DESCENT < plan.old.way.phase }
+    ensures asked { (result ≡ 17) ↔ (SEARCH < plan.old.way.phase) }
+    ensures status { result ≢ 17 → result ≡ status_in (phase_in plan.new.way.phase) }
     ensures ended { result ≡ 0 → plan.new.way.phase ≡ ENDED }
     ensures named { result ≡ 0 → plan.new.unlinked_count ≤ MOST_UNLINKED }
     ensures sound { IsSound plan.new }
     ensures call { plan.new.call ≡ plan.old.call }
-    ensures fewer { result ≡ 32 → plan.new.way.level < plan.old.way.level }
+    ensures refused { result ≡ 17 → plan.new ≡ plan.old }
+    ensures fewer { result ≡ 32 → shows_left plan.new < shows_left plan.old }
     ensures given { result ≡ 33 → frames_given (planner_in plan.new) ≡ [] }
-    ensures next { (memory : Memory) → IsShown memory (planner_in plan.old)
-        → finite.get memory plan.old.frame ≡ Some (W.words words.old)
+    ensures next { result ≢ 17 → (memory : Memory) → IsShown memory (planner_in plan.old)
+        → finite.get memory plan.old.frame ≡ Some words.now.word
         → IsNextOf memory plan.new [] result }
 {
-    if plan.way.phase != DESCENT {
-        return see(plan, words);
+    if plan.way.phase > SEARCH {
+        return NOT_ASKED;
     }
-    let word = words.read(index_at(plan.way.level, plan.call.address));
-    if go_down(plan, words, word) {
-        return SEE;
-    }
-    follow(plan, words, word)
-}
-
-/// Takes the words of the frame that is asked for, by the planner that is kept.
-fn see<W: FrameWords>(plan: &mut Plan, words: &mut W) -> u32
-    requires sound { IsSound plan.old }
-    requires waits { plan.old.way.phase ≤ SEARCH }
-    requires unread { (i : ℕ) → i < FRAME_WORDS → W.is_unread words.old i }
-    ensures asked { result ≢ 17 }
-    ensures status { result ≡ status_in (phase_in plan.new.way.phase) }
-    ensures ended { result ≡ 0 → plan.new.way.phase ≡ ENDED }
-    ensures named { result ≡ 0 → plan.new.unlinked_count ≤ MOST_UNLINKED }
-    ensures sound { IsSound plan.new }
-    ensures call { plan.new.call ≡ plan.old.call }
-    ensures fewer { result ≡ 32 → plan.new.way.level < plan.old.way.level }
-    ensures given { result ≡ 33 → frames_given (planner_in plan.new) ≡ [] }
-    ensures next { (memory : Memory) → IsShown memory (planner_in plan.old)
-        → finite.get memory plan.old.frame ≡ Some (W.words words.old)
-        → IsNextOf memory plan.new [] result }
-{
-    let mut planner = open(plan);
-    let step = planner.see(words);
-    go_on(plan, &planner, &step)
-}
-
-/// Takes the words of the frame that is asked for on the way down, by the word of its entry, which was read, by the planner that is kept.
-fn follow<W: FrameWords>(plan: &mut Plan, words: &mut W, word: u64) -> u32
-    requires sound { IsSound plan.old }
-    requires descent { plan.old.way.phase ≡ DESCENT }
-    requires read { word ≡ slice_index (W.words words.old)
-        (index_at plan.old.way.level plan.old.call.address) }
-    requires unread { (i : ℕ) → i < FRAME_WORDS
-        → i ≢ index_at plan.old.way.level plan.old.call.address → W.is_unread words.old i }
-    ensures asked { result ≢ 17 }
-    ensures status { result ≡ status_in (phase_in plan.new.way.phase) }
-    ensures ended { result ≡ 0 → plan.new.way.phase ≡ ENDED }
-    ensures named { result ≡ 0 → plan.new.unlinked_count ≤ MOST_UNLINKED }
-    ensures sound { IsSound plan.new }
-    ensures call { plan.new.call ≡ plan.old.call }
-    ensures fewer { result ≡ 32 → plan.new.way.level < plan.old.way.level }
-    ensures given { result ≡ 33 → frames_given (planner_in plan.new) ≡ [] }
-    ensures next { (memory : Memory) → IsShown memory (planner_in plan.old)
-        → finite.get memory plan.old.frame ≡ Some (W.words words.old)
-        → IsNextOf memory plan.new [] result }
-{
-    let mut planner = open(plan);
-    let step = planner.follow(word, words);
-    go_on(plan, &planner, &step)
+    search_these(plan, PlainWords(&words.word))
 }
 
 /// Takes a frame, or none.
-fn give(plan: &mut Plan, frame: Option<u64>) -> u32
+pub(crate) fn give(plan: &mut Plan, frame: Option<u64>) -> u32
     requires { IsSound plan.old }
     ensures asked { (result ≡ 17) ↔ (IsFalse (takes_frame plan.old.way.phase)) }
     ensures status { result ≢ 17 → result ≡ status_in (phase_in plan.new.way.phase) }
     ensures ended { result ≡ 0 → plan.new.way.phase ≡ ENDED }
     ensures named { result ≡ 0 → plan.new.unlinked_count ≤ MOST_UNLINKED }
     ensures ends { result ≢ 32 }
+    ensures phase { 1 ≤ plan.old.way.phase → 1 ≤ plan.new.way.phase }
     ensures sound { IsSound plan.new }
     ensures call { plan.new.call ≡ plan.old.call }
     ensures refused { result ≡ 17 → plan.new ≡ plan.old }
@@ -404,7 +351,32 @@ fn give(plan: &mut Plan, frame: Option<u64>) -> u32
     if !takes_frame(plan.way.phase) {
         return NOT_ASKED;
     }
-    let mut planner = open(plan);
+    give_by(&mut open(plan), plan, frame)
+}
+
+/// The same, by the planner that is kept.
+#[inline(never)]
+fn give_by(planner: &mut Planner, plan: &mut Plan, frame: Option<u64>) -> u32
+    requires sound { IsSound plan.old }
+    requires takes { IsTrue (takes_frame plan.old.way.phase) }
+    requires planner { planner.old ≡ planner_in plan.old }
+    requires target { planner.old.target ≡ target_in plan.old.call }
+    ensures asked { result ≢ 17 }
+    ensures status { result ≡ status_in (phase_in plan.new.way.phase) }
+    ensures ended { result ≡ 0 → plan.new.way.phase ≡ ENDED }
+    ensures named { result ≡ 0 → plan.new.unlinked_count ≤ MOST_UNLINKED }
+    ensures ends { result ≢ 32 }
+    ensures phase { 1 ≤ plan.new.way.phase }
+    ensures sound { IsSound plan.new }
+    ensures call { plan.new.call ≡ plan.old.call }
+    ensures fewer { result ≡ 33 → plan.new.way.level - plan.new.way.height
+        < plan.old.way.level - plan.old.way.height }
+    ensures given { result ≡ 33 → IfSome frame (λ number. frames_given (planner_in plan.new)
+        ≡ frames_given (planner_in plan.old) ++ number ∷ []) }
+    ensures next { (memory : Memory) → IsShown memory (planner_in plan.old)
+        → IfSome frame (λ number. IsSpareFor memory (planner_in plan.old) number)
+        → IsNextOf memory plan.new (frame ∷ []) result }
+{
     let step = planner.give(frame);
-    go_on(plan, &planner, &step)
+    go_on(plan, planner, &step)
 }

@@ -4,8 +4,8 @@ ghost use Rattle.nrvs_plan_c.specs.Direct.{HasSeen};
 ghost use Rattle.nrvs_plan_c.specs.Kept.{request_in, target_in};
 ghost use Rattle.nrvs_plan_c.specs.Next.{HasBegun};
 
-use crate::exports::see_each_once;
 use crate::kept::{Plan, Words};
+use crate::see::see_each_once;
 use crate::status::SEE;
 use crate::walk::frame_at;
 use vs_plan::PlainWords;
@@ -34,8 +34,7 @@ fn see_in(plan: &mut Plan, frames: &[Words], first: u64) -> u32
         let Some(words) = frame_at(frames, first, plan.frame) else {
             return SEE;
         };
-        let mut words = PlainWords(&words.word);
-        status = see_each_once(plan, &mut words);
+        status = see_each_once(plan, PlainWords(&words.word));
     }
     status
 }

@@ -1,10 +1,10 @@
 //! C's structs, and the planner that is kept in one between two calls.
 ghost use Rattle.std.specs.Prelude.{◌≡◌, ◌≤◌};
 ghost use Rattle.vs_plan.specs.declared.plan.TheConstants.{MOST_STORES};
-ghost use Rattle.nrvs_plan_c.specs.Kept.{planner_in, request_in, target_in};
+ghost use Rattle.nrvs_plan_c.specs.Kept.{planner_in, request_in, target_at, target_in};
 
 use crate::allowed::{allowed_of, rights_at};
-use crate::codes::{code_of, depth_in, phase_in, rights_in, size_in};
+use crate::codes::{BRIEF, code_of, depth_in, phase_in, rights_in, size_in};
 use crate::told::Reply;
 use arrayvec::ArrayVec;
 use vs_plan::{Fill, MOST_STORES, MOST_UNLINKED, Planner, Request, Store};
@@ -39,9 +39,9 @@ pub struct Call {
     pub root: u64,
     /// The address.
     pub address: u64,
-    /// Of a map, a remap and a collapse: the physical address. Of an unmap of parts: the number of the first.
+    /// The physical address of a map, a remap or a collapse; the number of the first part of an unmap of parts.
     pub physical: u64,
-    /// Of a map: the bits of the page's entry beside its address and its rights. Of an unmap of parts: how many.
+    /// The bits of a map's entry beside its address and its rights; how many parts an unmap of parts has.
     pub bits: u64,
     /// 4 or 5.
     pub levels: u8,
@@ -52,19 +52,19 @@ pub struct Call {
     /// 0 a map, 1 an unmap, 2 a protect, 3 what only asks, 4 a remap, 5 a split, 6 a join, 7 a prune, 8 an unmap of parts, 9 a
     /// collapse.
     pub kind: u8,
-    /// Of a map: the code of the size.
+    /// The code of a map's size.
     pub size: u8,
-    /// Of a map, a protect, a remap and a collapse: the code of the rights.
+    /// The code of the rights of a map, a protect, a remap or a collapse.
     pub rights: u8,
 }
 
-/// Where the way is, as a planner has it.
+/// How far the way has come, as a planner has it.
 #[repr(C)]
 #[derive(Clone, Copy, Debug, PartialEq, Eq)]
 pub struct Way {
     /// What the entries on the way allow, at the places that these bits have in an entry; bit 63 is set where instructions may be fetched.
     pub allowed: u64,
-    /// 0 and 1: words are waited for; 2 and 3: a frame; 4: nothing, since the plan is there.
+    /// 0 to 2: words are waited for; 3 and 4: a frame; 5: nothing, since the plan is there.
     pub phase: u8,
     pub level: u8,
     pub stop: u8,
@@ -129,7 +129,22 @@ impl Call {
         }
     }
 
+    /// The page table that a way is gone for in the phase of a code.
+    fn target_at(self, code: u8) -> vs_plan::Target
+        ensures { result ≡ target_at code self }
+    {
+        let target = self.target();
+        if code == BRIEF {
+            return vs_plan::Target {
+                pinned: 1,
+                ..target
+            };
+        }
+        target
+    }
+
     /// What is to be done.
+    #[inline(always)]
     pub(crate) fn request(self) -> Request
         ensures { result ≡ request_in self }
     {
@@ -157,16 +172,18 @@ impl Call {
 }
 
 /// The planner that is kept.
+#[inline(never)]
 pub(crate) fn open(plan: &Plan) -> Planner
     requires { plan.now.store_count ≤ MOST_STORES }
-    ensures { result ≡ planner_in plan.now }
+    ensures is { result ≡ planner_in plan.now }
+    ensures target { 1 ≤ plan.now.way.phase → result.target ≡ target_in plan.now.call }
 {
     let mut stores = ArrayVec::new();
     let Ok(()) = stores.try_extend_from_slice(&plan.stores[..plan.store_count]) else {
         unreachable!();
     };
     Planner {
-        target: plan.call.target(),
+        target: plan.call.target_at(plan.way.phase),
         request: plan.call.request(),
         phase: phase_in(plan.way.phase),
         level: plan.way.level,
@@ -189,6 +206,7 @@ pub(crate) fn keep(plan: &mut Plan, planner: &Planner)
     ensures kept { planner_in plan.new ≡ planner.now }
     ensures same { plan.new.call ≡ plan.old.call }
     ensures count { plan.new.store_count ≤ MOST_STORES }
+    ensures phase { 1 ≤ plan.new.way.phase }
 {
     plan.frame = planner.number;
     plan.met.base = planner.base;

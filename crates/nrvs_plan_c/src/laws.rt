@@ -4,7 +4,7 @@ ghost use Rattle.vs_plan.specs.Again.{HasFlagsSet};
 ghost use Rattle.nrvs_plan_c.specs.declared.kept.Plan.{Plan};
 ghost use Rattle.nrvs_plan_c.specs.Told.{IsMadeAgain, store_at};
 
-/// Where a store finds its word with other flags, the numbers that `nrvs_plan_again` leaves are those of the plan that `Plan::again` makes,
+/// If a store finds its word with other flags, the numbers that `nrvs_plan_again` leaves are those of the plan that `Plan::again` makes,
 /// which is right for the memory with that word (`plans_are_right_again`).
 pub fn plans_are_made_again()
     ensures { (plan : Plan) (index found : ℕ) → index < plan.store_count

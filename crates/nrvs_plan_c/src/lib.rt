@@ -20,6 +20,7 @@ mod parts;
 mod range;
 mod range_in;
 mod run_told;
+mod see;
 mod status;
 mod told;
 mod walk;

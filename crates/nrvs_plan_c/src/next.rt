@@ -16,6 +16,7 @@ use crate::told::write;
 use vs_plan::{Planner, Step};
 
 /// Keeps the planner, or writes its plan.
+#[inline(never)]
 pub(crate) fn go_on(plan: &mut Plan, planner: &Planner, step: &Step) -> u32
     requires target { planner.now.target ≡ target_in plan.old.call }
     requires request { planner.now.request ≡ request_in plan.old.call }
@@ -25,6 +26,7 @@ pub(crate) fn go_on(plan: &mut Plan, planner: &Planner, step: &Step) -> u32
     ensures asked { result ≢ 17 }
     ensures status { result ≡ status_in (phase_in plan.new.way.phase) }
     ensures ended { result ≡ 0 → plan.new.way.phase ≡ ENDED }
+    ensures phase { 1 ≤ plan.new.way.phase }
     ensures named { result ≡ 0 → plan.new.unlinked_count ≤ MOST_UNLINKED }
     ensures level { result ≡ 32 → plan.new.way.level ≡ sees_left planner.now step.now }
     ensures sees { result ≡ 32 → gives_left planner.now step.now ≡ levels planner.now.target.depth }

@@ -6,23 +6,25 @@ ghost use Rattle.vs_walk.specs.Memory.{Memory};
 ghost use Rattle.vs_plan.specs.declared.request.Request.{Request};
 ghost use Rattle.vs_plan.specs.declared.plan.TheConstants.{MOST_UNLINKED};
 ghost use Rattle.vs_plan.specs.Planner.{IsSpareFor, frames_given};
-ghost use Rattle.vs_plan.specs.Request.{request_fault};
+ghost use Rattle.vs_plan.specs.Request.{address_of, request_fault};
 ghost use Rattle.vs_plan.specs.Shown.{IsShown};
+ghost use Rattle.vs_range.specs.Planner.{IsRanged};
 ghost use Rattle.nrvs_plan_c.specs.declared.codes.TheConstants.{SEARCH};
 ghost use Rattle.nrvs_plan_c.specs.Kept.{page_in, phase_in, planner_in, request_in, rights_in, takes_frame, target_in, target_of};
-ghost use Rattle.nrvs_plan_c.specs.Range.{HasBegunRange, IsRangeNextOf, IsRangeStatus, IsSoundRange, KeepsRange, range_sees_in};
+ghost use Rattle.nrvs_plan_c.specs.Next.{HasBegun};
+ghost use Rattle.nrvs_plan_c.specs.Range.{are_whole, map_range_status, HasBegunRange, IsRangeNextOf, IsRangeStatus, IsSoundRange, KeepsRange, range_sees_in};
 ghost use Rattle.nrvs_plan_c.specs.Status.{begun_status, target_status};
 
-use crate::codes::{DESCENT, SEARCH};
+use crate::begin::start;
+use crate::codes::{DESCENT, SEARCH, size_in};
 use crate::down::go_down;
-use crate::exports::{
-    nrvs_plan_ask, nrvs_plan_give, nrvs_plan_give_none, nrvs_plan_map, nrvs_plan_protect,
-    nrvs_plan_unmap, see_each_once,
-};
+use crate::exports::{give, nrvs_plan_ask, nrvs_plan_map, nrvs_plan_protect, nrvs_plan_unmap};
 use crate::kept::{Plan, Target, Words};
 use crate::run_told::{go_on_range, open_range};
-use crate::status::{NOT_ASKED, SEE};
+use crate::see::search;
+use crate::status::{NOT_ASKED, SEE, UNALIGNED};
 use vs_plan::{FrameWords, PlainWords};
+use vs_range::are_pages;
 use vs_types::index_at;
 
 /// A range of pages, how far it is, and in the end a run of words of one table, or a plan.
@@ -44,7 +46,7 @@ pub struct Run {
     pub flush: u32,
     /// How many bytes the pages have, or how many no page has.
     pub covered: u64,
-    /// Where the range begins.
+    /// The first address of the range.
     pub base: u64,
     /// How many bytes it has.
     pub bytes: u64,
@@ -54,7 +56,7 @@ pub struct Run {
     pub plan: Plan,
 }
 
-/// Begins a range of pages that are mapped, physically too one after another.
+/// Begins a range of pages that are mapped, physically too one after another: `bytes` are whole pages, one at least.
 #[unsafe(no_mangle)]
 pub extern "C" fn nrvs_plan_map_range(
     run: &mut Run,
@@ -66,18 +68,20 @@ pub extern "C" fn nrvs_plan_map_range(
     bits: u64,
     bytes: u64,
 ) -> u32
-    ensures status { result ≡ target_status target.now.levels target.now.phys_bits
-        (if nat_lt 2 size then 6 else if nat_lt 7 rights then 7
-        else begun_status (request_fault (target_of target.now)
-        (Request.Map (page_in base size physical rights) bits))) }
+    ensures status { result
+        ≡ map_range_status target.now base size physical rights bits bytes }
     ensures begun { result ≡ 32 → HasBegunRange (target_of target.now)
         (Request.Map (page_in base size physical rights) bits) bytes run.new }
     ensures refused { result ≢ 32 → run.new ≡ run.old }
 {
-    let begun = nrvs_plan_map(&mut run.plan, target, base, size, physical, rights, bits);
-    if begun == SEE {
-        begin_range(run, base, bytes);
+    if !are_whole(size, bytes) {
+        return UNALIGNED;
     }
+    let begun = nrvs_plan_map(&mut run.plan, target, base, size, physical, rights, bits);
+    if begun != SEE {
+        return begun;
+    }
+    begin_range(run, base, bytes);
     begun
 }
 
@@ -96,9 +100,10 @@ pub extern "C" fn nrvs_plan_unmap_range(
     ensures refused { result ≢ 32 → run.new ≡ run.old }
 {
     let begun = nrvs_plan_unmap(&mut run.plan, target, base);
-    if begun == SEE {
-        begin_range(run, base, bytes);
+    if begun != SEE {
+        return begun;
     }
+    begin_range(run, base, bytes);
     begun
 }
 
@@ -119,9 +124,10 @@ pub extern "C" fn nrvs_plan_protect_range(
     ensures refused { result ≢ 32 → run.new ≡ run.old }
 {
     let begun = nrvs_plan_protect(&mut run.plan, target, base, rights);
-    if begun == SEE {
-        begin_range(run, base, bytes);
+    if begun != SEE {
+        return begun;
     }
+    begin_range(run, base, bytes);
     begun
 }
 
@@ -140,9 +146,10 @@ pub extern "C" fn nrvs_plan_harvest_range(
     ensures refused { result ≢ 32 → run.new ≡ run.old }
 {
     let begun = nrvs_plan_ask(&mut run.plan, target, base);
-    if begun == SEE {
-        begin_range(run, base, bytes);
+    if begun != SEE {
+        return begun;
     }
+    begin_range(run, base, bytes);
     begun
 }
 
@@ -184,7 +191,7 @@ pub extern "C" fn nrvs_run_give(run: &mut Run, frame: u64) -> u32
         → IsSpareFor memory (planner_in run.old.plan) frame
         → IsRangeNextOf memory run.new (Some frame ∷ []) result }
 {
-    nrvs_plan_give(&mut run.plan, frame)
+    give(&mut run.plan, Some(frame))
 }
 
 /// Says that there is no frame: `RangePlanner::give`.
@@ -200,13 +207,25 @@ pub extern "C" fn nrvs_run_give_none(run: &mut Run) -> u32
     ensures next { result ≢ 17 → (memory : Memory) → IsShown memory (planner_in run.old.plan)
         → IsRangeNextOf memory run.new (None ∷ []) result }
 {
-    nrvs_plan_give_none(&mut run.plan)
+    give(&mut run.plan, None)
 }
 
-/// A range begins, whose first page's plan has begun.
-fn begin_range(run: &mut Run, base: u64, bytes: u64)
-    ensures { run.new ≡ record run.old { base = base; bytes = bytes; own = 0 } }
+/// Whether so many bytes are those of pages of the size of this code, of one at least; or the code means none.
+fn are_whole(size: u32, bytes: u64) -> bool
+    ensures { result ≡ are_whole size bytes }
 {
+    size > 2 || are_pages(size_in(size as u8), bytes)
+}
+
+/// A range begins, whose first page's plan has begun: each table on its way is looked at.
+fn begin_range(run: &mut Run, base: u64, bytes: u64)
+    requires begun { HasBegun run.old.plan }
+    requires base { address_of (request_in run.old.plan.call) ≡ base }
+    requires kind { IsRanged (request_in run.old.plan.call) }
+    ensures begun { HasBegunRange (target_in run.old.plan.call) (request_in run.old.plan.call)
+        bytes run.new }
+{
+    start(&mut run.plan, DESCENT);
     run.base = base;
     run.bytes = bytes;
     run.own = 0;
@@ -228,10 +247,10 @@ pub(crate) fn see_range<W: FrameWords>(run: &mut Run, words: &mut W) -> u32
         → IsRangeNextOf memory run.new [] result }
 {
     if run.plan.way.phase != DESCENT {
-        return see_each_once(&mut run.plan, words);
+        return search(&mut run.plan, words);
     }
     let word = words.read(index_at(run.plan.way.level, run.plan.call.address));
-    if go_down(&mut run.plan, words, word) {
+    if go_down(&mut run.plan, word) {
         return SEE;
     }
     let mut range = open_range(run);

@@ -3,7 +3,7 @@ ghost use Rattle.std.specs.Prelude.{◌≡◌, ◌≢◌, nat_lt, if◌then◌el
 ghost use Rattle.vs_plan.specs.declared.request.Request.{Request};
 ghost use Rattle.vs_plan.specs.Request.{request_fault};
 ghost use Rattle.nrvs_plan_c.specs.Kept.{page_in, request_in, rights_in, target_in, target_of};
-ghost use Rattle.nrvs_plan_c.specs.Range.{HasBegunRange};
+ghost use Rattle.nrvs_plan_c.specs.Range.{map_range_status, HasBegunRange};
 ghost use Rattle.nrvs_plan_c.specs.RangeIn.{HasSeenRange};
 ghost use Rattle.nrvs_plan_c.specs.Status.{begun_status, target_status};
 
@@ -30,15 +30,11 @@ pub extern "C" fn nrvs_plan_map_range_in(
     bits: u64,
     bytes: u64,
 ) -> u32
-    ensures refused { let begun = target_status target.now.levels target.now.phys_bits
-        (if nat_lt 2 size then 6 else if nat_lt 7 rights then 7
-        else begun_status (request_fault (target_of target.now)
-        (Request.Map (page_in base size physical rights) bits))) in
+    ensures refused { let begun =
+        map_range_status target.now base size physical rights bits bytes in
         begun ≢ 32 → (result ≡ begun) × (run.new ≡ run.old) }
-    ensures seen { let begun = target_status target.now.levels target.now.phys_bits
-        (if nat_lt 2 size then 6 else if nat_lt 7 rights then 7
-        else begun_status (request_fault (target_of target.now)
-        (Request.Map (page_in base size physical rights) bits))) in
+    ensures seen { let begun =
+        map_range_status target.now base size physical rights bits bytes in
         begun ≡ 32 → HasSeenRange (target_of target.now)
         (Request.Map (page_in base size physical rights) bits) bytes first frames.now run.new result }
 {

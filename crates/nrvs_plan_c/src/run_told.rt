@@ -27,7 +27,9 @@ const BUT_FLAGS: u64 = u64::MAX - 96;
 /// The range's planner that is kept.
 pub(crate) fn open_range(run: &Run) -> RangePlanner
     requires { run.now.plan.store_count ≤ MOST_STORES }
-    ensures { result ≡ range_in run.now }
+    ensures is { result ≡ range_in run.now }
+    ensures target { 1 ≤ run.now.plan.way.phase
+        → result.planner.target ≡ target_in run.now.plan.call }
 {
     RangePlanner {
         planner: open(&run.plan),

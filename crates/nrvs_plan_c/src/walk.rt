@@ -83,7 +83,7 @@ fn are_within(frames: &[Words], first: u64, phys_bits: u32) -> bool
 }
 
 /// Whether a word above level 1 leads to a table.
-fn is_link(word: u64) -> bool
+pub(crate) fn is_link(word: u64) -> bool
     ensures { IsTrue result → (level : ℕ) → 2 ≤ level
         → meaning level word ≡ Meaning.Table (word % 2 ^ 52 / 2 ^ 12) (rights_of word) }
 {

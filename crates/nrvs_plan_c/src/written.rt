@@ -12,6 +12,7 @@ use vs_plan::Store;
 /// Writes a plan that changes nothing.
 pub(crate) fn write_none(plan: &mut Plan, reply: Reply, bits: u64)
     ensures made { IsMade plan.new }
+    ensures call { plan.new.call ≡ plan.old.call }
     ensures none { HasNone reply bits plan.new }
 {
     plan.reply = reply;
@@ -36,6 +37,7 @@ pub(crate) fn write_store(
     base: u64,
 )
     ensures made { IsMade plan.new }
+    ensures call { plan.new.call ≡ plan.old.call }
     ensures store { HasStore end new reply bits flush base plan.new }
 {
     plan.reply = reply;

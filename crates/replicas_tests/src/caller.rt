@@ -12,7 +12,7 @@ use vs_types::{Access, Answer, CALLS, Depth, Mode, Op, Query};
 #[derive(Clone, Copy, Debug, PartialEq, Eq)]
 pub enum Said {
     /// The place of an update, or how many entries a read saw; and the answer.
-    Answer(u32, Answer),
+    Answer(u64, Answer),
     /// Why an update was not answered.
     Fault(UpdateFault),
     /// A read was not answered.
@@ -150,7 +150,7 @@ impl<'a, J: LogName, K: ReplicasName> Caller<'a, J, K> {
     }
 }
 
-fn said_to_a_read(read: Result<(u32, Answer), Stopped>) -> Said {
+fn said_to_a_read(read: Result<(u64, Answer), Stopped>) -> Said {
     match read {
         Ok((at, answer)) => Said::Answer(at, answer),
         Err(Stopped) => Said::Stopped,

@@ -19,7 +19,7 @@ const ALL_BUT_TWO: u32 = ENTRIES - 2;
 fn unmap_often(rt: &impl Abort, alloc: Global, count: u32, then: &[Step]) -> Plan {
     let mut plan = Plan::new(alloc);
     for call in 0..count {
-        let step = Step::update(0, call, Asks::Unmap, call, Answer::NotMapped);
+        let step = Step::update(0, call, Asks::Unmap, u64::from(call), Answer::NotMapped);
         plan.place(rt, step);
     }
     for step in then {
@@ -50,8 +50,14 @@ fn go_to_the_end<R: Wait + Abort + Threads + Sync>(
         Step::fault(0, ENTRIES, Asks::Unmap, TURNS, ended),
         Step::fault(0, ENTRIES + 1, Asks::Unmap, TURNS, occupied),
         Step::fault(0, ENTRIES + 2, Asks::Unmap, TURNS, occupied),
-        Step::read(0, 0x400000, ENTRIES, Answer::NotMapped),
-        Step::access(0, 0x400000, Access::Read, ENTRIES, Answer::Fault(4)),
+        Step::read(0, 0x400000, u64::from(ENTRIES), Answer::NotMapped),
+        Step::access(
+            0,
+            0x400000,
+            Access::Read,
+            u64::from(ENTRIES),
+            Answer::Fault(4),
+        ),
     ];
     let mut plan = unmap_often(rt, alloc, ENTRIES, &at_the_end);
     for step in others {
@@ -77,7 +83,7 @@ fn log_ends(rt: HostRuntime) {
 #[test]
 fn log_ends_for_other_threads(rt: HostRuntime) {
     let others = [
-        Step::read(1, 0x400000, ENTRIES, Answer::NotMapped),
+        Step::read(1, 0x400000, u64::from(ENTRIES), Answer::NotMapped),
         Step::fault(1, 131_071, Asks::Unmap, TURNS, UpdateFault::Ended(131_071)),
         Step::fault(1, 131_070, Asks::Unmap, TURNS, UpdateFault::Occupied),
     ];
@@ -110,7 +116,7 @@ fn batch_stays_at_the_end(rt: HostRuntime) {
             TURNS,
             UpdateFault::Ended(last + 3),
         ),
-        Step::read(3, 0x400000, last, Answer::NotMapped),
+        Step::read(3, 0x400000, u64::from(last), Answer::NotMapped),
     ];
     let plan = unmap_often(&rt, rt.alloc(), last, &at_the_end);
     let case = Case {

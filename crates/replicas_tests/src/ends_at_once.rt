@@ -34,7 +34,7 @@ fn fill<J: LogName, K: ReplicasName, R: Wait + Abort>(rt: &R, caller: &mut Calle
     let open = CountingGate::new(None);
     for call in 0..ALONE {
         let said = caller.ask(rt, call, query, turns, &open);
-        assert!(rt; matches!(said, Said::Answer(place, _) if place == call));
+        assert!(rt; matches!(said, Said::Answer(place, _) if place == u64::from(call)));
     }
 }
 

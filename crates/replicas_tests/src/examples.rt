@@ -66,7 +66,7 @@ fn leave_replicas_alone<R: Wait + Abort + Threads + Sync>(
             1 => (MAP, Answer::Overlap(0x400000)),
             _ => (Asks::Unmap, Answer::Removed(0x1000, Size::K4, Rights::ALL)),
         };
-        plan.place(rt, Step::update(0, call, asks, call, answer));
+        plan.place(rt, Step::update(0, call, asks, u64::from(call), answer));
     }
     for replicas in [2, 3, 4] {
         Case {

@@ -10,7 +10,7 @@ use vs_plain::PlainSpace;
 use vs_types::{Config, Op, Query};
 
 /// Whether a call of this number may be answered so, which is at that place of the log, or nowhere in it.
-fn may_be_told(made: Made, call: u32, place: Option<u32>) -> bool {
+fn may_be_told(made: Made, call: u32, place: Option<u64>) -> bool {
     match (made.query, made.said) {
         (Query::Update(_), Said::Answer(at, _)) => place == Some(at),
         (Query::Update(_), Said::Fault(UpdateFault::Stopped(stopped))) => stopped == call,
@@ -22,9 +22,9 @@ fn may_be_told(made: Made, call: u32, place: Option<u32>) -> bool {
 }
 
 /// The place in the log of each of so many calls, of which each is there once at most.
-fn places_of(rt: &impl Abort, alloc: Global, calls: &[u32], count: usize) -> Vec<Option<u32>> {
-    let mut places = vec![in alloc; None::<u32>; count].expect(rt, "memory");
-    let mut place = 0u32;
+fn places_of(rt: &impl Abort, alloc: Global, calls: &[u32], count: usize) -> Vec<Option<u64>> {
+    let mut places = vec![in alloc; None::<u64>; count].expect(rt, "memory");
+    let mut place = 0u64;
     for call in calls {
         let stands = places
             .get_mut(*call as usize)
@@ -37,7 +37,7 @@ fn places_of(rt: &impl Abort, alloc: Global, calls: &[u32], count: usize) -> Vec
 }
 
 /// Each call was answered what fits to where it is in the log.
-fn judge_places(rt: &impl Abort, made: &[Made], places: &[Option<u32>]) {
+fn judge_places(rt: &impl Abort, made: &[Made], places: &[Option<u64>]) {
     let mut call = 0u32;
     for (made, place) in made.iter().zip(places.iter()) {
         let may = may_be_told(*made, call, *place);
@@ -48,7 +48,7 @@ fn judge_places(rt: &impl Abort, made: &[Made], places: &[Option<u32>]) {
 }
 
 /// Each read that saw just as many entries as the space has was answered as the space answers it.
-fn judge_reads(rt: &impl Abort, made: &[Made], entries: u32, space: &PlainSpace) {
+fn judge_reads(rt: &impl Abort, made: &[Made], entries: u64, space: &PlainSpace) {
     for (call, made) in made.iter().enumerate() {
         let wanted = match made.query {
             Query::Update(_) => continue,
@@ -69,7 +69,7 @@ fn judge_answers(rt: &impl Abort, alloc: Global, config: Config, settled: &Settl
     let mut updates = Vec::new(alloc);
     let mut space = PlainSpace::new(alloc, config.tables(), config.depth());
     judge_reads(rt, made, 0, &space);
-    let mut entries = 0u32;
+    let mut entries = 0u64;
     for call in settled.calls.as_slice() {
         let update = judge_update(rt, made, *call, &mut space);
         updates.push(update).expect(rt, "memory");

@@ -27,6 +27,12 @@ mod held;
 #[cfg(test)]
 mod judge;
 #[cfg(test)]
+mod log;
+#[cfg(test)]
+mod machine;
+#[cfg(test)]
+mod node;
+#[cfg(test)]
 mod scene;
 #[cfg(test)]
 mod sizes;

@@ -1,5 +1,6 @@
 //! New replicas, on which a test makes its calls, and what is left of them.
 ghost use Rattle.std.specs.Prelude.{◌≡◌, ◌≤◌, ◌+◌, All, [], length, replicate};
+ghost use Rattle.vs_types.specs.declared.limits.TheConstants.{LOG_PLACES};
 ghost use Rattle.nr_ring.specs.Pass.{new_pass};
 
 use crate::caller::{Caller, Made};
@@ -72,6 +73,7 @@ fn run_on_log<J: LogName + Send + Sync, R: Wait + Abort + Threads + Sync>(
     requires depth { config.depth ≡ J.depth }
     requires replicas { config.replicas ≡ J.replicas }
     requires passes { J.passes ≡ config.replicas + config.threads }
+    requires places { J.places ≡ LOG_PLACES }
 {
     let (new, passes) = OpenReplicas::<J>::new(alloc, config).expect(rt, "memory");
     run_named::<J, Brand, R>(rt, alloc, config, new, passes, test)

@@ -20,7 +20,7 @@ fn as_many_threads_as_can_be(rt: HostRuntime) {
             thread,
             131_071 - place,
             Asks::Map(place),
-            place,
+            u64::from(place),
             Answer::Done,
         );
         plan.place(&rt, step);
@@ -74,7 +74,7 @@ fn as_many_tables_as_can_be(rt: HostRuntime) {
         let thread = (n % 2) as u16;
         plan.place(
             &rt,
-            Step::update(thread, n, Asks::Map(n.min(4_086)), n, answer),
+            Step::update(thread, n, Asks::Map(n.min(4_086)), u64::from(n), answer),
         );
     }
     let case = Case {

@@ -54,7 +54,7 @@ pub struct Step {
 
 impl Step {
     /// The update is answered so.
-    pub fn update(thread: u16, call: u32, asks: Asks, place: u32, answer: Answer) -> Step {
+    pub fn update(thread: u16, call: u32, asks: Asks, place: u64, answer: Answer) -> Step {
         Step {
             thread,
             call,
@@ -76,7 +76,7 @@ impl Step {
     }
 
     /// The address looks so after so many entries.
-    pub fn read(thread: u16, address: u64, at: u32, answer: Answer) -> Step {
+    pub fn read(thread: u16, address: u64, at: u64, answer: Answer) -> Step {
         Step {
             thread,
             call: 0,
@@ -87,7 +87,7 @@ impl Step {
     }
 
     /// An access in user mode is answered so after so many entries.
-    pub fn access(thread: u16, address: u64, access: Access, at: u32, answer: Answer) -> Step {
+    pub fn access(thread: u16, address: u64, access: Access, at: u64, answer: Answer) -> Step {
         Step {
             thread,
             call: 0,

@@ -94,13 +94,12 @@ pub fn make<J: LogName, K: ReplicasName, R: Wait + Abort>(
     let open = CountingGate::new(None);
     let said = caller.ask(rt, call, drawn.query, drawn.turns, &open);
     if let Said::Answer(at, _) = said {
-        let at = u64::from(at);
         assert!(rt;
             known <= at,
             "call {call} is at {at}, and {known} entries were known"
         );
         let entries = match drawn.query {
-            Query::Update(_) => at + 1,
+            Query::Update(_) => at.saturating_add(1),
             _ => at,
         };
         shared.known.fetch_max(entries, Ordering::SeqCst);

@@ -63,7 +63,7 @@ fn meet_a_full_ring<R: Wait + Abort + Threads + Sync>(
 ) {
     let mut plan = Plan::new(alloc);
     for call in 0..16 {
-        let step = Step::update(0, call, Asks::Unmap, call, Answer::NotMapped);
+        let step = Step::update(0, call, Asks::Unmap, u64::from(call), Answer::NotMapped);
         plan.place(rt, step);
     }
     let last = Step {

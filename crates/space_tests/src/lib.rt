@@ -13,6 +13,8 @@ mod lent;
 #[cfg(test)]
 mod plain;
 #[cfg(test)]
+mod plan;
+#[cfg(test)]
 mod space;
 #[cfg(test)]
 mod types;

@@ -33,7 +33,8 @@ use Rattle.vs_plan.specs.Bits.{bits_in, flagged, placed, with_address, with_righ
 use Rattle.vs_plan.specs.Changes.{larger, smaller}
 use Rattle.vs_plan.specs.Premise.{IsPremise}
 use Rattle.vs_plan.specs.Request.{address_of, refusal, stepped}
-use Rattle.vs_plan.specs.Right.{IsDue, IsEntryOf, IsPut, IsReply, IsRight, IsSplit, IsTold, IsWritten, begun}
+use Rattle.vs_plan.specs.Answered.{IsDue, IsReply}
+use Rattle.vs_plan.specs.Right.{IsEntryOf, IsPut, IsRight, IsSplit, IsTold, IsWritten, begun}
 use Rattle.vs_plan.specs.Stores.{filled, FindTheirWords}
 use Rattle.vs_plan.proofs.FillsAgain.{same_fills, split_again}
 use Rattle.vs_plan.proofs.FlaggedEntries.{ArePaired, alike_zero, place_stays, rights_stay, same_store, same_stores, same_word, alike_back, zip_both}

@@ -19,7 +19,8 @@ use Rattle.vs_plan.specs.declared.target.Target.{Target}
 use Rattle.vs_plan.specs.Other.{IsShared, MeetsNone, LeadsNotTo, AreBeside, IsBeside}
 use Rattle.vs_plan.specs.Premise.{IsPremise, HasOwnWay}
 use Rattle.vs_plan.specs.Request.{address_of}
-use Rattle.vs_plan.specs.Right.{IsRight, IsNewTable, written_frames, space_after, begun, ended}
+use Rattle.vs_plan.specs.Answered.{space_after}
+use Rattle.vs_plan.specs.Right.{IsRight, IsNewTable, written_frames, begun, ended}
 use Rattle.vs_plan.specs.Shown.{frames_of}
 use Rattle.vs_plan.specs.Target.{PinsRoot}
 use Rattle.vs_plan.proofs.BesidePlans.{meets_unshared, other_table, begins_shared, begins_none, filled_other, filled_root, are, is_other}

@@ -42,7 +42,8 @@ use Rattle.vs_plan.specs.Bits.{bits_in, page_word, flagged}
 use Rattle.vs_plan.specs.Changes.{larger, collapse, collapse_refusal, not_over}
 use Rattle.vs_plan.specs.Premise.{IsPremise}
 use Rattle.vs_plan.specs.Request.{address_of, stepped, refusal}
-use Rattle.vs_plan.specs.Right.{IsEntryOf, IsLike, IsMeantBy, IsUnlinkedBy, KeepsApart, KeepsTable, IsRight}
+use Rattle.vs_plan.specs.Answered.{IsLike, KeepsApart, KeepsTable}
+use Rattle.vs_plan.specs.Right.{IsEntryOf, IsMeantBy, IsUnlinkedBy, IsRight}
 use Rattle.vs_plan.specs.Shown.{IsTableMet}
 use Rattle.vs_plan.specs.Stores.{stored}
 use Rattle.vs_plan.specs.Target.{highest_link}

@@ -18,7 +18,7 @@ use Rattle.vs_plan.specs.declared.planner.Planner.{Planner}
 use Rattle.vs_plan.specs.declared.request.Request.TheVariants.{Unmap}
 use Rattle.vs_plan.specs.Request.{address_of, lowest_of}
 use Rattle.vs_plan.specs.Shown.{IsTableMet, HasOneWord, HasOtherWord, HasMet, IsDescended, IsShown, IsShownIn}
-use Rattle.vs_plan.specs.Right.{LeadsBeyond}
+use Rattle.vs_plan.specs.Answered.{LeadsBeyond}
 use Rattle.vs_plan.specs.Target.{frames_end, highest_link}
 use Rattle.vs_plan.specs.Way.{IsWay}
 use Rattle.vs_plan.specs.inside.Ended.{HasEnded}

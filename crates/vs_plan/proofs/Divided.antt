@@ -1,5 +1,5 @@
 -- The split of a page, as the code has it.
-use Rattle.std.proofs.Common.{◌≡◌, ℕ, zero, suc, ◌+◌, ◌-◌, ◌%◌, ◌^◌, ◌<◌, ◌≤◌, [], ◌∷◌, Option, Some, None, refl, sym, ap, subst, ◌∙◌, arith}
+use Rattle.std.proofs.Common.{◌≡◌, ℕ, zero, suc, ◌+◌, ◌-◌, ◌%◌, ◌^◌, ◌<◌, ◌≤◌, [], ◌∷◌, Option, Some, None, inl, inr, refl, sym, ap, subst, ◌∙◌, arith}
 use lib.Pow.{pow_mono}
 use Rattle.std.specs.Prelude.{slice_index}
 use Rattle.arrayvec.specs.ArrayVec.{ArrayVec}
@@ -28,12 +28,12 @@ use Rattle.vs_plan.specs.Bits.{bits_in}
 use Rattle.vs_plan.specs.Changes.{smaller, smallest, split_refusal}
 use Rattle.vs_plan.specs.Planner.{Divides}
 use Rattle.vs_plan.specs.Premise.{IsPremise, IsSpare}
-use Rattle.vs_plan.specs.Request.{IsRequest, address_of, refusal}
+use Rattle.vs_plan.specs.Request.{IsRequest, IsWhole, address_of, refusal}
 use Rattle.vs_plan.specs.Right.{IsRight}
 use Rattle.vs_plan.specs.Shown.{IsDivided}
 use Rattle.vs_plan.specs.Target.{frames_end, HasPhysBits}
 use Rattle.vs_plan.specs.Way.{IsWay}
-use Rattle.vs_plan.specs.inside.Ended.{IsAtEnd, IsNoMap, HasEnded, IsRightAt, ChangesNothing}
+use Rattle.vs_plan.specs.inside.Ended.{IsAtEnd, IsNoMap, HasEnded, IsRightAt, ChangesNothing, DividesAround}
 use Rattle.vs_plan.proofs.Asking.{IsOfPage, page_met, offset_met}
 use Rattle.vs_plan.proofs.Dividing.{never_refused, parts_fill, split_parts}
 use Rattle.vs_plan.proofs.Gaps.{unmapped_parts}
@@ -120,7 +120,7 @@ module _ {memory : Memory} {p : Planner} (divided : IsDivided memory p) (request
   pub division_due : refusal p.target space p.request ≡ None
   division_due = divides_due p.target space p.request divided.divides ∙ ap (split_refusal space) divided.place ∙ never_refused p.target p.level divided_end divided.large divided.page.2 divided.aligned
 
-  pub divided_right : {base number phys : ℕ} {own : Rights} → p.request ≡ Split base → meaning p.level (slice_index p.words p.level) ≡ entry.Leaf phys own
+  divided_right : {base number phys : ℕ} {own : Rights} → p.request ≡ Split base → meaning p.level (slice_index p.words p.level) ≡ entry.Leaf phys own
       → number < frames_end p.target → IsSpare p.target.depth memory p.target.root number
       → meaning p.level (table_word number) ≡ entry.Table number all_rights → {plan : Plan}
       → plan.reply ≡ replies.Answer (answers.Changed (intersection p.rights own)) → plan.bits ≡ bits_in (size_at p.level) (slice_index p.words p.level)
@@ -136,7 +136,7 @@ module _ {memory : Memory} {p : Planner} (divided : IsDivided memory p) (request
       divided.large says
       (subst (λ b. b % bytes_of (size_at p.level) ≡ 0) same divided.aligned) number within spare leads))
 
-  pub unmapped_right : {base first count number phys : ℕ} {own : Rights} → p.request ≡ UnmapPart base first count
+  unmapped_right : {base first count number phys : ℕ} {own : Rights} → p.request ≡ UnmapPart base first count
       → meaning p.level (slice_index p.words p.level) ≡ entry.Leaf phys own → first + count ≤ 512
       → number < frames_end p.target → IsSpare p.target.depth memory p.target.root number
       → meaning p.level (table_word number) ≡ entry.Table number all_rights → {plan : Plan}
@@ -152,3 +152,20 @@ module _ {memory : Memory} {p : Planner} (divided : IsDivided memory p) (request
       (unmapped_parts p.target p.level (subst (EndAt p.target memory space p.level p.number p.rights (slice_index p.words p.level)) same divided_end)
       divided.large says
       (subst (λ b. b % bytes_of (size_at p.level) ≡ 0) same divided.aligned) number within spare leads first count fits))
+
+  -- all parts, or those outside of a gap
+  pub parts_right : {base gap count number phys : ℕ} {own : Rights} → DividesAround p.request base gap count
+      → meaning p.level (slice_index p.words p.level) ≡ entry.Leaf phys own
+      → number < frames_end p.target → IsSpare p.target.depth memory p.target.root number
+      → meaning p.level (table_word number) ≡ entry.Table number all_rights → {plan : Plan}
+      → plan.reply ≡ replies.Answer (answers.Changed (intersection p.rights own)) → plan.bits ≡ bits_in (size_at p.level) (slice_index p.words p.level)
+      → plan.fill ≡ Some (record (parts_fill number base p.level (slice_index p.words p.level) phys own) { gap = gap; gap_count = count })
+      → plan.stores.items ≡ store_at p.number (index_at p.level base) (slice_index p.words p.level) (table_word number) ∷ []
+      → plan.flush ≡ flushes.Range base (size_at p.level) → plan.unlinked.items ≡ []
+      → IsRight p.target p.request memory space (Some number ∷ []) plan
+  parts_right {base} {gap} {count} {number} {phys} {own} (inl (is, none, few)) says within spare leads reply told fill stores flush unlinked =
+      let around : ℕ → ℕ → Option Fill = λ g n.
+      Some (record (parts_fill number base p.level (slice_index p.words p.level) phys own) { gap = g; gap_count = n }) in
+      divided_right is says within spare leads reply told (fill ∙ ap (λ g. around g count) none ∙ ap (around 0) few) stores flush unlinked
+  parts_right (inr is) says within spare leads reply told fill stores flush unlinked =
+      unmapped_right is says (subst (IsWhole p.target) is request.whole).1.within within spare leads reply told fill stores flush unlinked

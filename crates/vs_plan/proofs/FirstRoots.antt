@@ -28,7 +28,8 @@ use Rattle.vs_plan.specs.declared.target.Target.{Target}
 use Rattle.vs_plan.specs.Premise.{IsPremise, HasOwnWay}
 use Rattle.vs_plan.specs.Request.{IsRequest, address_of, stepped, refusal}
 use Rattle.vs_plan.specs.Changes.{join, join_refusal}
-use Rattle.vs_plan.specs.Right.{IsRight, IsPut, Fits, IsDue, space_after, begun, ended}
+use Rattle.vs_plan.specs.Answered.{IsDue, space_after}
+use Rattle.vs_plan.specs.Right.{IsRight, IsPut, Fits, begun, ended}
 use Rattle.vs_plan.specs.Stores.{stored_all, filled}
 use Rattle.vs_plan.proofs.Changing.{change_here, change_cases}
 use Rattle.vs_plan.proofs.Given.{change_begins}

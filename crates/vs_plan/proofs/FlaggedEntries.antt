@@ -31,7 +31,8 @@ use Rattle.vs_plan.specs.declared.target.Target.{Target}
 use Rattle.vs_plan.specs.Again.{HasFlagsSet, flags_into, with_flags_of}
 use Rattle.vs_plan.specs.Bits.{with_address, with_rights, unflagged}
 use Rattle.vs_plan.specs.Premise.{IsSpare, HasOwnWay}
-use Rattle.vs_plan.specs.Right.{AreLikeBelow, FollowBelow, IsEntryOf, HasWord}
+use Rattle.vs_plan.specs.Answered.{AreLikeBelow, FollowBelow}
+use Rattle.vs_plan.specs.Right.{IsEntryOf, HasWord}
 use Rattle.vs_plan.specs.Stores.{stored, stored_all, FindTheirWords}
 use Rattle.vs_plan.specs.Way.{IsWay}
 use Rattle.vs_plan.proofs.FlagsKept.{flags_table}

@@ -9,7 +9,7 @@ use Rattle.vs_space.proofs.FlaggedWords.{flagged_meaning}
 use Rattle.vs_space.proofs.Regions.{level_back}
 use Rattle.vs_plan.specs.Again.{HasFlagsSet}
 use Rattle.vs_plan.specs.Bits.{AreBits, unflagged, flagged}
-use Rattle.vs_plan.specs.Right.{Follows}
+use Rattle.vs_plan.specs.Answered.{Follows}
 use Rattle.vs_plan.proofs.OtherFlags.{flags_set}
 use Rattle.vs_plan.proofs.RunWords.{leaf_parts, leaf_later}
 

@@ -25,7 +25,8 @@ use Rattle.vs_plan.specs.Changes.{change_page}
 use Rattle.vs_plan.specs.Other.{HasSameTables}
 use Rattle.vs_plan.specs.Premise.{IsPremise}
 use Rattle.vs_plan.specs.Request.{address_of, stepped}
-use Rattle.vs_plan.specs.Right.{IsRight, IsReply, IsPut, IsMeantBy, IsFlushed, IsWritten, IsUnlinkedBy, IsOneWay, Changes, space_after, begun}
+use Rattle.vs_plan.specs.Answered.{IsReply, Changes, space_after}
+use Rattle.vs_plan.specs.Right.{IsRight, IsPut, IsMeantBy, IsFlushed, IsWritten, IsUnlinkedBy, IsOneWay, begun}
 use Rattle.vs_plan.specs.Stores.{stored_all, filled, FindTheirWords, AreSafe}
 use Rattle.vs_plan.proofs.Changing.{change_inside}
 use Rattle.vs_plan.proofs.Sufficing.{AreUnreached}

@@ -29,8 +29,9 @@ use Rattle.vs_plan.specs.declared.request.Request.TheVariants.{Map, Unmap, Prune
 use Rattle.vs_plan.specs.declared.target.Target.{Target}
 use Rattle.vs_plan.specs.Premise.{IsPremise}
 use Rattle.vs_plan.specs.Request.{address_of, refusal, stepped}
-use Rattle.vs_plan.specs.Right.{IsReply, refusal_in, space_after, IsWritten, IsOneWay, IsTold, IsPut, IsAlready, IsFlushed, IsRight, AllowsLess, WantsMore}
-use Rattle.vs_plan.specs.Right.{IsDue, LeadsBeyond}
+use Rattle.vs_plan.specs.Answered.{IsReply, refusal_in, space_after, AllowsLess, WantsMore}
+use Rattle.vs_plan.specs.Right.{IsWritten, IsOneWay, IsTold, IsPut, IsAlready, IsFlushed, IsRight}
+use Rattle.vs_plan.specs.Answered.{IsDue, LeadsBeyond}
 use Rattle.vs_plan.specs.Target.{frames_end}
 use Rattle.vs_plan.specs.Stores.{stored, stored_all, AreSafe}
 use Rattle.vs_plan.specs.Way.{IsWay}

@@ -35,7 +35,8 @@ use Rattle.vs_plan.specs.Bits.{with_rights}
 use Rattle.vs_plan.specs.Changes.{larger}
 use Rattle.vs_plan.specs.Premise.{IsPremise, HasOwnWay}
 use Rattle.vs_plan.specs.Request.{address_of, stepped}
-use Rattle.vs_plan.specs.Right.{IsRight, IsMeant, OfPage, OfLink, OfSpare, IsEntryOf, IsSplit, space_after, begun}
+use Rattle.vs_plan.specs.Answered.{space_after}
+use Rattle.vs_plan.specs.Right.{IsRight, IsMeant, OfPage, OfLink, OfSpare, IsEntryOf, IsSplit, begun}
 use Rattle.vs_plan.specs.Stores.{stored, stored_all, FindTheirWords}
 use Rattle.vs_plan.specs.Flushed.{Suffices}
 use Rattle.vs_plan.proofs.Orders.{AllAdd}

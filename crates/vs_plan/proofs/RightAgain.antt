@@ -32,9 +32,11 @@ use Rattle.vs_plan.specs.declared.target.Target.{Target}
 use Rattle.vs_plan.specs.Changes.{phys_refusal}
 use Rattle.vs_plan.specs.Premise.{HasOwnWay, IsSpare}
 use Rattle.vs_plan.specs.Request.{address_of, stepped, refusal}
-use Rattle.vs_plan.specs.Right.{IsReply, IsDue, space_after, LiesOverEmpty, AllowsLess, WantsMore, KeepsApart, IsOnWay, IsMeant, OfPage, OfLink, OfSpare}
+use Rattle.vs_plan.specs.Answered.{IsReply, IsDue, space_after, LiesOverEmpty, AllowsLess, WantsMore, KeepsApart}
+use Rattle.vs_plan.specs.Right.{IsOnWay, IsMeant, OfPage, OfLink, OfSpare}
 use Rattle.vs_plan.specs.Right.{IsMeantBy, IsUnlinked, IsLeft, IsUnlinkedBy, IsPruned, IsOneWay, IsTold, IsEntryOf, IsPut, Fits, IsSoAlready}
-use Rattle.vs_plan.specs.Right.{IsAlready, IsFlushed, IsMeantByJoin, IsWritten, written_frames, HasNoneToPrune, KeepsTable, LeadsBeyond, LiesInPinned}
+use Rattle.vs_plan.specs.Answered.{KeepsTable, LeadsBeyond, LiesInPinned}
+use Rattle.vs_plan.specs.Right.{IsAlready, IsFlushed, IsMeantByJoin, IsWritten, written_frames, HasNoneToPrune}
 use Rattle.vs_plan.specs.Target.{frames_end}
 use Rattle.vs_plan.specs.Stores.{stored, stored_all, filled, FindTheirWords}
 use Rattle.vs_plan.proofs.Changing.{why_here}

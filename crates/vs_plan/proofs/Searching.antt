@@ -30,7 +30,8 @@ use Rattle.vs_plan.specs.declared.planner.Planner.{Planner}
 use Rattle.vs_plan.specs.declared.request.Request.TheVariants.{Map}
 use Rattle.vs_plan.specs.Premise.{IsPremise}
 use Rattle.vs_plan.specs.Request.{IsRequest, IsMapped, IsWhole, address_of, lowest_of, stepped}
-use Rattle.vs_plan.specs.Right.{IsRight, LiesOverEmpty}
+use Rattle.vs_plan.specs.Answered.{LiesOverEmpty}
+use Rattle.vs_plan.specs.Right.{IsRight}
 use Rattle.vs_plan.specs.Shown.{IsSearched, IsShown, IsShownIn}
 use Rattle.vs_plan.specs.Target.{frames_end}
 use Rattle.vs_plan.specs.Way.{IsWay}

@@ -5,6 +5,7 @@ pub mod Premise
 pub mod Changes
 pub mod Request
 pub mod Stores
+pub mod Answered
 pub mod Right
 pub mod Again
 pub mod Planner

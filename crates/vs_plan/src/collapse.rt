@@ -6,7 +6,7 @@ ghost use Rattle.vs_types.specs.declared.frame.TheConstants.{FRAME_WORDS};
 ghost use Rattle.vs_types.specs.declared.page.Size.{Size};
 ghost use Rattle.vs_plan.specs.declared.request.Request.{Request};
 ghost use Rattle.vs_plan.specs.Changes.{larger, not_over};
-ghost use Rattle.vs_plan.specs.Right.{IsLike};
+ghost use Rattle.vs_plan.specs.Answered.{IsLike};
 ghost use Rattle.vs_plan.specs.inside.Ended.{IsAtEnd, IsFirstUnlike, IsRightWith};
 
 use crate::plan::{Flush, Plan, Reply, Store};
@@ -18,6 +18,7 @@ use vs_types::{Answer, Entry, FRAME_WORDS, Meaning, Page, Rights, Size, index_at
 
 impl Planner {
     /// Puts one page in the place of those of the table at the end of the way, which has these words, where they are like the first.
+    #[inline(never)]
     pub(crate) fn plan_collapse<W: FrameWords>(
         &self,
         base: u64,

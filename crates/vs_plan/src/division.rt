@@ -1,12 +1,11 @@
 //! The end of a split, and of an unmap of parts: a frame filled with the parts of a page.
 ghost use Rattle.std.specs.Prelude.{◌≡◌, ◌<◌, [], ◌∷◌, Some};
 ghost use Rattle.vs_walk.specs.Memory.{Memory};
-ghost use Rattle.vs_plan.specs.declared.request.Request.{Request};
 ghost use Rattle.vs_plan.specs.Planner.{HasGiven, AwaitsDivision, Awaits, Divides, IsSpareFor, sees_left};
 ghost use Rattle.vs_plan.specs.Shown.{IsDivided, IsNext};
 ghost use Rattle.vs_plan.specs.Request.{address_of};
 ghost use Rattle.vs_plan.specs.Target.{frames_end};
-ghost use Rattle.vs_plan.specs.inside.Ended.{IsAtEnd, HasEnded, IsEnd};
+ghost use Rattle.vs_plan.specs.inside.Ended.{DividesAround, HasEnded, IsAtEnd, IsEnd};
 
 use crate::plan::{Fill, Flush, Plan, Reply, Step, Store};
 use crate::planner::{Phase, Planner};
@@ -16,6 +15,7 @@ use vs_types::{Answer, Entry, Meaning, Page, Size, index_at};
 
 impl Planner {
     /// Asks for the frame of the table of the parts, where a page that can be split begins at the end of the way.
+    #[inline(never)]
     pub(crate) fn end_split(&mut self, base: u64, word: u64) -> Step
         requires end { IsAtEnd self.old }
         requires divides { Divides self.old.request }
@@ -46,10 +46,11 @@ impl Planner {
         Step::Give
     }
 
-    /// Fills this frame with the entries of the parts of the page, and links it in the page's place.
-    pub(crate) fn divide(&mut self, base: u64, number: u64) -> Step
+    /// Fills this frame with the entries of the parts of the page, but for those in a gap, and links it in the page's place.
+    #[inline(never)]
+    pub(crate) fn divide(&mut self, base: u64, gap: u64, gap_count: u64, number: u64) -> Step
         requires awaits { AwaitsDivision self.old }
-        requires request { self.old.request ≡ Request.Split base }
+        requires request { DividesAround self.old.request base gap gap_count }
         requires in_range { number < frames_end self.old.target }
         ensures same { (self.new.target ≡ self.old.target)
             × (self.new.request ≡ self.old.request) }
@@ -77,8 +78,8 @@ impl Planner {
             frame: number,
             first: page_word(part, bits),
             step: part.size.bytes(),
-            gap: 0,
-            gap_count: 0,
+            gap,
+            gap_count,
         });
         plan.stores.push(Store {
             frame: self.number,

@@ -22,6 +22,7 @@ use vs_types::{Answer, Entry, Meaning, Page, Size, index_at};
 impl Planner {
     /// Takes a frame whose words are all 0, or none. It asks for one frame a level below that of the root at most, and only where
     /// all that it asks for are used.
+    #[inline(never)]
     pub fn give(&mut self, frame: Option<u64>) -> Step
         requires { AwaitsFrame self.old }
         ensures same { (self.new.target ≡ self.old.target)
@@ -42,13 +43,14 @@ impl Planner {
         }
         match self.request {
             Request::Map(page, bits) => self.grow_on(page, bits, number),
-            Request::Split(base) => self.divide(base, number),
-            Request::UnmapPart(base, first, count) => self.divide_part(base, first, count, number),
+            Request::Split(base) => self.divide(base, 0, 0, number),
+            Request::UnmapPart(base, gap, count) => self.divide(base, gap, count, number),
             _ => unreachable!(),
         }
     }
 
     /// Fills the next new table, in this frame, and links them all if it was the last.
+    #[inline(never)]
     fn grow_on(&mut self, page: Page, bits: u64, number: u64) -> Step
         requires awaits { AwaitsGrowth self.old }
         requires request { self.old.request ≡ Request.Map page bits }
@@ -70,6 +72,7 @@ impl Planner {
     }
 
     /// Ends with a plan that changes nothing.
+    #[inline(always)]
     pub(crate) fn refuse(&mut self, reply: Reply) -> Step
         ensures same { self.new ≡ record self.old { phase = Phase.Ended } }
         ensures planned { IsPlanned reply result }
@@ -79,6 +82,7 @@ impl Planner {
     }
 
     /// Maps the page at the end of its way, where nothing is mapped.
+    #[inline(always)]
     pub(crate) fn end_map(&mut self, page: Page, bits: u64, word: u64) -> Step
         requires end { IsAtEnd self.old }
         requires request { self.old.request ≡ Request.Map page bits }

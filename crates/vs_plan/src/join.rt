@@ -10,7 +10,7 @@ ghost use Rattle.vs_types.specs.declared.page.Rights.{Rights};
 ghost use Rattle.vs_types.specs.declared.page.Size.{Size};
 ghost use Rattle.vs_plan.specs.declared.request.Request.{Request};
 ghost use Rattle.vs_plan.specs.Changes.{larger, not_first};
-ghost use Rattle.vs_plan.specs.Right.{Follows};
+ghost use Rattle.vs_plan.specs.Answered.{Follows};
 ghost use Rattle.vs_plan.specs.inside.Ended.{IsAtEnd, IsFirstApart, IsRightWith, IsWholeStore};
 
 use crate::plan::{Flush, Plan, Reply, Store};
@@ -21,6 +21,7 @@ use vs_types::{Answer, Entry, FRAME_WORDS, Meaning, Page, Rights, Size, index_at
 
 impl Planner {
     /// Puts one page in the place of those of the table at the end of the way, which has these words, where they follow on from the first.
+    #[inline(never)]
     pub(crate) fn plan_join<W: FrameWords>(&self, base: u64, word: u64, words: &mut W) -> Plan
         requires end { IsAtEnd self.now }
         requires request { self.now.request ≡ Request.Join base }

@@ -20,7 +20,8 @@ ghost use Rattle.vs_plan.specs.Other.{AreBeside, HasSameTables, IsBeside, IsRigh
 ghost use Rattle.vs_plan.specs.Premise.{IsPremise, HasOwnWay};
 ghost use Rattle.vs_plan.specs.Processor.{Moment, Is, MayFind, IsUpToDate};
 ghost use Rattle.vs_plan.specs.Request.{IsRequest, address_of};
-ghost use Rattle.vs_plan.specs.Right.{IsRight, space_after, begun, ended};
+ghost use Rattle.vs_plan.specs.Answered.{space_after};
+ghost use Rattle.vs_plan.specs.Right.{IsRight, begun, ended};
 ghost use Rattle.vs_plan.specs.Target.{PinsRoot};
 
 /// An access of a processor that is up to date finds what a walk of the memory finds. It stays up to date while the memory stays.

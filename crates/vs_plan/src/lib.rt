@@ -16,7 +16,6 @@ pub mod flags;
 mod growth;
 mod join;
 pub mod laws;
-mod part;
 mod plan;
 mod planner;
 mod prune;

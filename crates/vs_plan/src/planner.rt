@@ -122,6 +122,7 @@ impl Planner {
     }
 
     /// Takes the words of the frame that was asked for. It asks for one frame a level at most.
+    #[inline(never)]
     pub fn see<W: FrameWords>(&mut self, words: &mut W) -> Step
         requires awaits { AwaitsWords self.old }
         requires unread { (i : ℕ) → i < FRAME_WORDS → W.is_unread words.old i }
@@ -242,6 +243,7 @@ impl Planner {
     }
 
     /// Does what the request asks at the end of the way, at this word.
+    #[inline(never)]
     fn end<W: FrameWords>(&mut self, word: u64, words: &mut W) -> Step
         requires end { IsAtEnd self.old }
         requires unread { ((base : ℕ) → self.old.request ≡ Request.Unmap base → ⊥)
@@ -276,6 +278,7 @@ impl Planner {
     }
 
     /// Finds the page of the address at the end of the way.
+    #[inline(never)]
     fn plan_ask(&self, address: u64, word: u64) -> Plan
         requires end { IsAtEnd self.now }
         requires request { self.now.request ≡ Request.Ask address }
@@ -290,7 +293,8 @@ impl Planner {
         Plan::nothing(Reply::Answer(answer), bits_in(size, word))
     }
 
-    /// Where no page covers the address.
+    /// The plan if no page covers the address.
+    #[inline(never)]
     pub(crate) fn plan_absent(&self, address: u64, word: u64) -> Plan
         requires end { IsAtEnd self.now }
         requires no_map { IsNoMap self.now.request }
@@ -309,6 +313,7 @@ impl Planner {
     }
 
     /// Gives the page at the end of the way other rights, by one store.
+    #[inline(never)]
     fn plan_protect(&self, base: u64, rights: Rights, word: u64) -> Plan
         requires end { IsAtEnd self.now }
         requires request { self.now.request ≡ Request.Protect base rights }
@@ -341,6 +346,7 @@ impl Planner {
     }
 
     /// Removes the page at the end of the way, and then unlinks the tables that are emptied, from the lowest up.
+    #[inline(never)]
     fn plan_unmap(&self, base: u64, word: u64) -> Plan
         requires end { IsAtEnd self.now }
         requires request { self.now.request ≡ Request.Unmap base }

@@ -13,6 +13,7 @@ use vs_types::{Answer, FRAME_WORDS, Size, index_at};
 
 impl Planner {
     /// Unlinks the table at the end of the way, which has these words, where none is present.
+    #[inline(never)]
     pub(crate) fn plan_prune<W: FrameWords>(&self, address: u64, word: u64, words: &mut W) -> Plan
         requires end { IsAtEnd self.now }
         requires request { self.now.request ≡ Request.Prune address }

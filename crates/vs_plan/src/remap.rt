@@ -12,6 +12,7 @@ use vs_types::{Answer, Entry, Meaning, Rights, Size, index_at};
 
 impl Planner {
     /// Lets the page at the end of the way lead to another physical address, with other rights, by one store.
+    #[inline(never)]
     pub(crate) fn plan_remap(&self, base: u64, phys: u64, rights: Rights, word: u64) -> Plan
         requires end { IsAtEnd self.now }
         requires request { self.now.request ≡ Request.Remap base phys rights }

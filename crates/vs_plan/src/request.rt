@@ -130,7 +130,8 @@ impl Request {
     /// # Errors
     ///
     /// `BadRequest`, the first that holds.
-    pub(crate) fn test(self, target: Target) -> Result<(), BadRequest>
+    #[inline(always)]
+    pub fn test(self, target: Target) -> Result<(), BadRequest>
         ensures { MatchResult result (λ _. request_fault target self ≡ None)
             (λ e. request_fault target self ≡ Some e) }
     {
@@ -158,6 +159,7 @@ impl Request {
 }
 
 /// Tests a page that is to be mapped, whose base is canonical.
+#[inline(always)]
 fn test_page(page: Page, bits: u64, phys_bits: u8) -> Result<(), BadRequest>
     requires { phys_bits ≤ 52 }
     ensures { MatchResult result (λ _. page_fault page bits phys_bits ≡ None)

@@ -15,6 +15,7 @@ use vs_types::{Answer, Entry, FRAME_WORDS, Meaning};
 
 impl Planner {
     /// Goes on towards the first page below the level of the one that is to be mapped.
+    #[inline(never)]
     pub(crate) fn search<W: FrameWords>(&mut self, words: &mut W) -> Step
         requires awaits { AwaitsWords self.old }
         requires phase { self.old.phase ≡ Phase.Search }

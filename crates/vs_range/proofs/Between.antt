@@ -6,8 +6,8 @@ use Rattle.std.proofs.Math.Seq.{take-length}
 use Rattle.std.proofs.Math.Nat.{le_refl}
 use Rattle.std.proofs.lemmas.List.Elements.{Contains-append_left, Contains-append_right, Contains-append_cases}
 use Rattle.vs_types.proofs.Lists.{Contains-head, Contains-tail}
-use Rattle.vs_types.specs.Depth.{entry_bytes, IsCanonical}
-use Rattle.vs_types.specs.Entry.{size_at}
+use Rattle.vs_types.specs.Depth.{entry_bytes, levels, IsCanonical}
+use Rattle.vs_types.specs.Entry.{all_rights, size_at}
 use Rattle.vs_types.specs.Page.{intersection}
 use Rattle.vs_types.specs.Space.{Space}
 use Rattle.vs_types.specs.declared.depth.Depth.{Depth}
@@ -19,7 +19,9 @@ use Rattle.vs_walk.specs.Walk.{walk, walk_from}
 use Rattle.vs_walk.specs.declared.walk.Walk.{Walk}
 use Rattle.vs_walk.specs.declared.walk.Walk.TheVariants.{Mapped}
 use Rattle.vs_walk.proofs.Walks.{walk_nowhere}
+use Rattle.vs_space.specs.Flags.{AreSameButFlags}
 use Rattle.vs_space.specs.Path.{found_at}
+use Rattle.vs_space.proofs.Flagged.{flagged_found}
 use Rattle.vs_space.proofs.Paths.{walk_found, walk_lost, found_same}
 use Rattle.vs_space.proofs.Writes.{found_alike, get_written_other}
 use Rattle.vs_plan.specs.declared.plan.Store.{Store}
@@ -27,20 +29,23 @@ use Rattle.vs_plan.specs.declared.target.Target.{Target}
 use Rattle.vs_plan.specs.Flushed.{Suffices, while_stored}
 use Rattle.vs_plan.specs.Processor.{page_number, region_number, Kept, Translation, PagingEntry, KeptBefore, OfRoot, OfTable, OfPage}
 use Rattle.vs_plan.specs.Processor.{Moment, Is, MayKeep, MayFind, ByTranslation, ByWalk, IsUpToDate}
-use Rattle.vs_plan.specs.Right.{begun, ended, space_after}
+use Rattle.vs_plan.specs.Answered.{space_after}
+use Rattle.vs_plan.specs.Right.{begun, ended}
 use Rattle.vs_plan.specs.Shown.{frames_of}
 use Rattle.vs_plan.specs.Stores.{stored, stored_all}
+use Rattle.vs_plan.specs.Lived.{AreButFlags}
 use Rattle.vs_plan.proofs.Filled.{walk_as}
 use Rattle.vs_plan.proofs.Kept.{IsClosed, all_kept, Reads, entry_path, page_regions, region_index, region_wider}
 use Rattle.vs_plan.proofs.PlansSuffice.{form_of, are_for, plan_suffices}
 use Rattle.vs_plan.proofs.Stored.{stored_elsewhere}
 use Rattle.vs_range.specs.Several.{Call, IsRightThen, AreRight, FindsOneOf, while_planned}
+use Rattle.vs_range.proofs.OfFlags.{flags_reads, flags_walk, lived_finds}
 use Rattle.vs_range.proofs.Several.{given, same, stays_gone, spared_gone, unwritten_gone, up_to_date}
 use Rattle.vs_range.proofs.Unlinked.{no_link, goes_or_named, entry_after}
 
 -- a walk from a table that leads to no other is that of its frame
 old_walk : (memory now : Memory) (level number : ℕ) (rights : Rights) (address : ℕ) → finite.get now number ≡ finite.get memory number
-    → ((next : ℕ) (own : Rights) → found_at level memory number address ≢ Some (entry.Table next own))
+    → ((next : ℕ) (own : Rights) → 1 ≤ level → found_at level memory number address ≢ Some (entry.Table next own))
     → walk_from now level number rights address ≡ walk_from memory level number rights address
 old_walk memory now zero number rights address alike ends = walk_nowhere now number rights address ∙ sym (walk_nowhere memory number rights address)
 old_walk memory now (suc below) number rights address alike ends = by (found_at (suc below) memory number address) refl
@@ -51,7 +56,7 @@ old_walk memory now (suc below) number rights address alike ends = by (found_at 
     by : (found : Option Meaning) → found_at (suc below) memory number address ≡ found
         → walk_from now (suc below) number rights address ≡ walk_from memory (suc below) number rights address
     by None is = walk_lost now below number rights address (there ∙ is) ∙ sym (walk_lost memory below number rights address is)
-    by (Some (entry.Table next own)) is = absurd (ends next own is)
+    by (Some (entry.Table next own)) is = absurd (ends next own (omega arith) is)
     by (Some entry.Absent) is =
         walk_found now below number rights address entry.Absent (there ∙ is) ∙ sym (walk_found memory below number rights address entry.Absent is)
     by (Some entry.Reserved) is =
@@ -74,7 +79,7 @@ frames_take (suc n) (s ∷ later) number among = ⊎_elim
 -- a table that was unlinked: its entries lead to no table, and what a walk from it finds is what an access may find
 record IsOld (depth : Depth) (memory : Memory) (Finds : ℕ → Walk → Type 0) (gone : List ℕ) (level region number : ℕ) (rights : Rights) : Type 0 where
   pub named : Contains gone number
-  pub ends : (address next : ℕ) (own : Rights) → IsCanonical depth address → region_number level address ≡ region
+  pub ends : (address next : ℕ) (own : Rights) → 1 ≤ level → IsCanonical depth address → region_number level address ≡ region
       → found_at level memory number address ≢ Some (entry.Table next own)
   pub finds : (address : ℕ) → IsCanonical depth address → region_number level address ≡ region
       → Finds address (walk_from memory level number rights address)
@@ -121,7 +126,7 @@ module _ (depth : Depth) (root : ℕ) (memory : Memory) (Finds : ℕ → Walk �
     of_table = λ address below number next rights own canonical table found. ⊎_elim
         (λ held. inl (OfTable address below number next rights own canonical held found))
         (λ (old : IsOld depth memory Finds gone (suc below) (region_number (suc below) address) number rights).
-        absurd (old.ends address next own canonical refl
+        absurd (old.ends address next own (omega arith) canonical refl
         (sym (found_alike (suc below) memory now number address (alike number old.named)) ∙ found)))
         table;
     of_page = λ address below number phys rights own canonical table found. ⊎_elim
@@ -220,7 +225,7 @@ module _ (target : Target) (memory : Memory) (space : Space) (gone : List ℕ) (
       (λ (old : IsOld target.depth memory Finds gone level (region_number level address) number rights).
       subst (Finds address)
       (sym (old_walk memory (stored_all start (take done stores)) level number rights address (as_then done number old.named)
-      (λ next own. old.ends address next own canonical refl)))
+      (λ next own some. old.ends address next own some canonical refl)))
       (old.finds address canonical refl))
       (during done (PagingEntry level (region_number level address) number rights) held)
 
@@ -231,7 +236,7 @@ module _ (target : Target) (memory : Memory) (space : Space) (gone : List ℕ) (
       → IsOld target.depth after Finds (call.plan.unlinked.items ++ gone) level region number rights
   newly_old level region number rights named held reads = record {
     named = Contains-append_left call.plan.unlinked.items gone number named;
-    ends = λ address next own canonical at found.
+    ends = λ address next own some canonical at found.
         no_link (given target memory space gone call then) number level address next own named
         (entry_path target.depth target.root start level region number rights reads address at) found;
     finds = λ address canonical at. all_finds address (walk_from after level number rights address) canonical
@@ -246,10 +251,10 @@ module _ (target : Target) (memory : Memory) (space : Space) (gone : List ℕ) (
       let alike = unwritten_gone target memory space gone call then number old.named in
       record {
         named = Contains-append_right call.plan.unlinked.items gone number old.named;
-        ends = λ address next own canonical at found. old.ends address next own canonical at
+        ends = λ address next own some canonical at found. old.ends address next own some canonical at
             (sym (found_alike level memory after number address alike) ∙ found);
         finds = λ address canonical at. subst (Finds address)
-            (sym (old_walk memory after level number rights address alike (λ next own. old.ends address next own canonical at)))
+            (sym (old_walk memory after level number rights address alike (λ next own some. old.ends address next own some canonical at)))
             (old.finds address canonical at);
       }
 
@@ -277,6 +282,23 @@ module _ (target : Target) (memory : Memory) (space : Space) (gone : List ℕ) (
       suffices level region number rights now))
       (λ old. inr (still_old level region number rights old))
       (during_all (PagingEntry level region number rights) held)
+
+-- ---- flags that are set between two plans
+
+flags_besides : {memory flagged : Memory} → AreSameButFlags memory flagged → (depth : Depth) (root : ℕ) (Finds : ℕ → Walk → Type 0) (gone : List ℕ)
+    (kept : Kept) → Besides depth root memory Finds gone (Is memory ∷ []) kept → Besides depth root flagged Finds gone (Is flagged ∷ []) kept
+flags_besides same_flags depth root Finds gone (Translation level page frame rights) is =
+    ⊎_elim (λ held. inl (flags_reads same_flags depth root (Translation level page frame rights) held)) (λ finds. inr finds) is
+flags_besides {memory} {flagged} same_flags depth root Finds gone (PagingEntry level region number rights) is = ⊎_elim
+    (λ held. inl (flags_reads same_flags depth root (PagingEntry level region number rights) held))
+    (λ (old : IsOld depth memory Finds gone level region number rights). inr (record {
+      named = old.named;
+      ends = λ address next own some canonical at found.
+          old.ends address next own some canonical at (sym (flagged_found same_flags level number address some) ∙ found);
+      finds = λ address canonical at.
+          subst (Finds address) (sym (flags_walk same_flags level number rights address)) (old.finds address canonical at);
+    }))
+    is
 
 -- ---- all plans
 
@@ -309,11 +331,15 @@ between_all : (target : Target) (memory : Memory) (space : Space) (gone : List �
     (while_stored (begun call.memory call.plan) (take done call.plan.stores.items) (while_planned calls earlier)) address end
     → Finds address end
 between_all target memory space gone Finds [] call earlier are covers first =
-    access_finds target memory space gone call are.0 Finds earlier first covers.0 covers.1
+    access_finds target are.0.flagged space gone call are.0.right Finds earlier
+    (λ kept held. flags_besides are.0.flags target.depth target.root Finds gone kept (first kept held))
+    (λ address end is. covers.0 address end (is ∙ flags_walk are.0.flags (levels target.depth) target.root all_rights address)) covers.1
 between_all target memory space gone Finds (one ∷ calls) call earlier are covers first =
     between_all target (ended one.memory one.plan) (space_after target one.request space one.plan.reply) (one.plan.unlinked.items ++ gone) Finds
     calls call (while_stored (begun one.memory one.plan) one.plan.stores.items earlier) are.1 covers.1
-    (besides_after target memory space gone one are.0 Finds earlier first covers.0
+    (besides_after target are.0.flagged space gone one are.0.right Finds earlier
+    (λ kept held. flags_besides are.0.flags target.depth target.root Finds gone kept (first kept held))
+    (λ address end is. covers.0 address end (is ∙ flags_walk are.0.flags (levels target.depth) target.root all_rights address))
     (covers_first target.depth target.root Finds (ended one.memory one.plan) (calls ++ call ∷ []) covers.1))
 
 begins_up_to_date : (target : Target) (memory : Memory) (Finds : ℕ → Walk → Type 0) (earlier : List Moment)
@@ -335,3 +361,16 @@ several_between target memory space calls call earlier done address end are is f
     (λ a e finds. finds))
     (begins_up_to_date target memory (FindsOneOf target.depth target.root memory (calls ++ call ∷ [])) earlier is)
     done address end few canonical find
+
+pub lived_between : (target : Target) (memory now : Memory) (space : Space) (calls : List Call) (call : Call) (earlier lived : List Moment)
+    (done address : ℕ) (end : Walk) → AreRight target memory space [] (calls ++ call ∷ [])
+    → IsUpToDate target.depth target.root memory earlier → done ≤ length call.plan.stores.items → IsCanonical target.depth address
+    → AreButFlags lived (while_stored (begun call.memory call.plan) (take done call.plan.stores.items) (while_planned calls earlier))
+    → AreSameButFlags (stored_all (begun call.memory call.plan) (take done call.plan.stores.items)) now
+    → MayFind target.depth target.root now lived address end
+    → FindsOneOf target.depth target.root memory (calls ++ call ∷ []) address end
+lived_between target memory now space calls call earlier lived done address end are is few canonical lives same_flags find =
+    several_between target memory space calls call earlier done address end are is few canonical
+    (lived_finds target.depth target.root lived
+    (while_stored (begun call.memory call.plan) (take done call.plan.stores.items) (while_planned calls earlier))
+    (stored_all (begun call.memory call.plan) (take done call.plan.stores.items)) now lives same_flags address end find)

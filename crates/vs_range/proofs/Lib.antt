@@ -1,3 +1,5 @@
+pub mod AtOnce
+pub mod OfFlags
 pub mod Stands
 pub mod Unlinked
 pub mod Several

@@ -18,12 +18,13 @@ use Rattle.vs_plan.specs.Processor.{Is, MayKeep}
 use Rattle.vs_plan.specs.Stores.{stored_all, FindTheirWords}
 use Rattle.vs_plan.proofs.Kept.{Reads, stays_up_to_date}
 use Rattle.vs_range.specs.declared.run.Run.{Run}
-use Rattle.vs_range.specs.Run.{if_new, stores_from, flushes_in, SwitchesOnce, IsRunRight}
+use Rattle.vs_range.specs.Run.{if_new, stores_from, stores_of, flushes_in, SwitchesOnce, IsRunRight}
 use Rattle.vs_range.specs.Several.{while_planned, flushed_by}
+use Rattle.vs_range.proofs.OfFlags.{lived_up_to_date}
 use Rattle.vs_range.proofs.Moments.{more_flushed}
 use Rattle.vs_range.proofs.OnTable.{IsAtTable}
 use Rattle.vs_range.proofs.Sequence.{HasCalls, IsPaged, sequence}
-use Rattle.vs_range.proofs.Several.{several_suffice}
+use Rattle.vs_range.proofs.Several.{several_suffice, flushed_lived}
 
 -- a store that changes its word
 pub is_new : (store : Store) → store.old ≢ store.new → if_new store ≡ store ∷ []
@@ -57,7 +58,9 @@ module _ (target : Target) (request : Request) (base : ℕ) (given : Rights) (ru
     found = subst (FindTheirWords memory) stores_are has_calls.found;
     switches = λ address. subst (SwitchesOnce target.depth target.root address memory) stores_are (has_calls.switches address);
     flushed = has_calls.flushed;
-    suffices = λ earlier is kept held.
+    suffices = λ earlier lived now is lives same_flags. lived_up_to_date target.depth target.root (flushed_by (flushes_in run.forget) lived)
+        (flushed_by (flushes_in run.forget) (while_stored memory (stores_of memory run) earlier)) (stored_all memory (stores_of memory run)) now
+        (flushed_lived (flushes_in run.forget) lived (while_stored memory (stores_of memory run) earlier) lives) same_flags (λ kept held.
         subst (λ m. Reads target.depth target.root m kept) (has_calls.ended ∙ ap (stored_all memory) stores_are)
         (several_suffice target memory space has_calls.calls (flushes_in run.forget) (Is memory ∷ earlier)
         (has_calls.right [] (λ none. absurd (omega (arith, none.1)))) has_calls.flushed
@@ -66,5 +69,5 @@ module _ (target : Target) (request : Request) (base : ℕ) (given : Rights) (ru
         (while_stored memory (stores_from run words 0 run.count) earlier) (while_planned has_calls.calls (Is memory ∷ earlier))
         (has_calls.moments earlier (Is memory ∷ earlier) (λ k h. h)) kept
         (subst (λ (stores : List Store). MayKeep target.depth target.root (flushed_by (flushes_in run.forget) (while_stored memory stores earlier)) kept)
-        (sym stores_are) held)));
+        (sym stores_are) held))));
   }

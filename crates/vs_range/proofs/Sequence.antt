@@ -26,7 +26,7 @@ use Rattle.vs_plan.specs.Flushed.{while_stored}
 use Rattle.vs_plan.specs.Premise.{IsPremise}
 use Rattle.vs_plan.specs.Processor.{Kept, KeptBefore, IsDropped, Moment, Is}
 use Rattle.vs_plan.specs.Request.{IsRequest, address_of}
-use Rattle.vs_plan.specs.Right.{Changes, space_after}
+use Rattle.vs_plan.specs.Answered.{Changes, space_after}
 use Rattle.vs_plan.specs.Stores.{stored, stored_all, FindTheirWords}
 use Rattle.vs_plan.specs.Way.{IsWay}
 use Rattle.vs_plan.proofs.EntryStores.{walk_off, way_stays}
@@ -36,6 +36,7 @@ use Rattle.vs_plan.proofs.Stored.{used_word}
 use Rattle.vs_range.specs.declared.run.Run.{Run}
 use Rattle.vs_range.specs.Run.{if_new, store_of, stores_from, pages_on, AskInTurn, IsWalkedAlike, SwitchesOnce}
 use Rattle.vs_range.specs.Several.{Call, AreRight, ended_all, while_planned, unlinked_by, IsDroppedByOne, HaveAll}
+use Rattle.vs_range.proofs.AtOnce.{at_once}
 use Rattle.vs_range.proofs.Moments.{KeepsNoMore, more_is}
 use Rattle.vs_range.proofs.Unlinked.{in_one}
 use Rattle.vs_range.proofs.OnTable.{page_on, IsPageOn, is_page_on, level_few, IsAtTable, end_on}
@@ -104,13 +105,13 @@ module _ (target : Target) (request : Request) (size : Size) (base frame : ℕ) 
       many = ap suc rest_of.many;
       asked = (refl, rest_of.asked);
       right = λ gone apart. (
-        record {
+        at_once (record {
           tables = λ level address n at. refl;
           stays = λ n named. refl;
           spared = λ n named none. absurd (omega (arith, none.1));
           premise = premise;
           right = right;
-        },
+        }),
         rest_of.right gone apart,
       );
       done = All-cons (λ (c : Call). Changes c.plan.reply) (call []) rest_of.calls changed rest_of.done;
@@ -142,13 +143,13 @@ module _ (target : Target) (request : Request) (size : Size) (base frame : ℕ) 
         many = ap suc rest_of.many;
         asked = (refl, rest_of.asked);
         right = λ gone apart. (
-          record {
+          at_once (record {
             tables = λ level address n at. refl;
             stays = λ n named. refl;
             spared = λ n named one. apart (subst (Contains gone) (in_one frame n one) named);
             premise = premise;
             right = right;
-          },
+          }),
           rest_of.right gone apart,
         );
         done = All-cons (λ (c : Call). Changes c.plan.reply) (call (s ∷ [])) rest_of.calls changed rest_of.done;

@@ -11,7 +11,9 @@ use Rattle.vs_types.specs.declared.page.Rights.{Rights}
 use Rattle.vs_types.specs.declared.entry.Meaning.TheVariants as entry
 use Rattle.vs_types.proofs.Maps.{get-insert_other}
 use Rattle.vs_walk.specs.Memory.{Memory}
+use Rattle.vs_space.specs.Flags.{AreSameButFlags}
 use Rattle.vs_space.specs.Path.{found_at, table_at}
+use Rattle.vs_space.proofs.Flagged.{flagged_found}
 use Rattle.vs_space.proofs.Writes.{found_alike}
 use Rattle.vs_plan.specs.declared.plan.Fill.{Fill}
 use Rattle.vs_plan.specs.declared.plan.Flush.{Flush}
@@ -21,9 +23,11 @@ use Rattle.vs_plan.specs.Flushed.{while_stored}
 use Rattle.vs_plan.specs.Other.{HasSameTables}
 use Rattle.vs_plan.specs.Processor.{page_number, region_number, Kept, Translation, PagingEntry, KeptBefore, OfPage}
 use Rattle.vs_plan.specs.Processor.{Moment, Is, Flushes, IsDropped, MayKeep, IsUpToDate}
-use Rattle.vs_plan.specs.Right.{begun, ended, space_after, written_frames}
+use Rattle.vs_plan.specs.Answered.{space_after}
+use Rattle.vs_plan.specs.Right.{begun, ended, written_frames}
 use Rattle.vs_plan.specs.Shown.{frames_of}
 use Rattle.vs_plan.specs.Stores.{filled}
+use Rattle.vs_plan.specs.Lived.{AreButFlags, Flushed}
 use Rattle.vs_plan.proofs.Filled.{table_as}
 use Rattle.vs_plan.proofs.Given.{IsGiven, parts_of, all_unreached}
 use Rattle.vs_plan.proofs.Kept.{Reads, entry_path}
@@ -33,6 +37,7 @@ use Rattle.vs_plan.proofs.Stored.{stored_elsewhere}
 use Rattle.vs_plan.proofs.Sufficing.{AreUnreached}
 use Rattle.vs_plan.proofs.Unread.{unread_keeps}
 use Rattle.vs_range.specs.Several.{Call, IsRightThen, AreRight, ended_all, unlinked_by, while_planned, flushed_by, IsDroppedByOne, HaveAll}
+use Rattle.vs_range.proofs.OfFlags.{flags_read, flags_reads, flags_table, lived_up_to_date}
 use Rattle.vs_range.proofs.Stands.{IsStale, Stands, last_moment, kept_on, Beside, begins_beside, beside_stores}
 use Rattle.vs_range.proofs.Unlinked.{no_link, goes_or_named, entry_after}
 
@@ -104,7 +109,7 @@ module _ (target : Target) (memory : Memory) (space : Space) (gone : List ℕ) (
         record {
           named = Contains-append_right call.plan.unlinked.items gone number stale.named;
           dropped = inr stale.dropped;
-          ends = λ address next own canonical at found. stale.ends address next own canonical at (sym (alike address) ∙ found);
+          ends = λ address next own some canonical at found. stale.ends address next own some canonical at (sym (alike address) ∙ found);
           pages = λ address phys own some canonical at found spared.
               let kept = Translation level (page_number level address) phys (intersection rights own) in
               comes_after kept
@@ -122,7 +127,7 @@ module _ (target : Target) (memory : Memory) (space : Space) (gone : List ℕ) (
     newly_stale level region number rights named held reads dropped = record {
       named = Contains-append_left call.plan.unlinked.items gone number named;
       dropped = inl dropped;
-      ends = λ address next own canonical at found.
+      ends = λ address next own some canonical at found.
           no_link given number level address next own named (entry_path target.depth target.root start level region number rights reads address at) found;
       pages = λ address phys own some canonical at found spared. comes_after (Translation level (page_number level address) phys (intersection rights own))
           (read_last level region number rights address phys own some canonical at held found) (λ d. spared (inl d));
@@ -187,6 +192,35 @@ module _ (target : Target) (memory : Memory) (space : Space) (gone : List ℕ) (
       (then.right.reaches level address number at))
       (Contains-append_cases call.plan.unlinked.items gone number named)
 
+-- ---- flags that are set between two plans
+
+module _ {memory flagged : Memory} (same_flags : AreSameButFlags memory flagged) (target : Target) where
+  flags_stale : (flushes : List Flush) (gone : List ℕ) (level region number : ℕ) (rights : Rights)
+      → IsStale target.depth target.root memory flushes gone level region number rights
+      → IsStale target.depth target.root flagged flushes gone level region number rights
+  flags_stale flushes gone level region number rights stale = record {
+    named = stale.named;
+    dropped = stale.dropped;
+    ends = λ address next own some canonical at found.
+        stale.ends address next own some canonical at (sym (flagged_found same_flags level number address some) ∙ found);
+    pages = λ address phys own some canonical at found spared.
+        flags_reads same_flags target.depth target.root (Translation level (page_number level address) phys (intersection rights own))
+        (stale.pages address phys own some canonical at (sym (flagged_found same_flags level number address some) ∙ found) spared);
+  }
+
+  flags_stand : (flushes : List Flush) (gone : List ℕ) (kept : Kept) → Stands target.depth target.root memory flushes gone kept
+      → Stands target.depth target.root flagged flushes gone kept
+  flags_stand flushes gone (Translation level page frame rights) stands =
+      λ spared. flags_reads same_flags target.depth target.root (Translation level page frame rights) (stands spared)
+  flags_stand flushes gone (PagingEntry level region number rights) stands = ⊎_elim
+      (λ fresh. inl (flags_reads same_flags target.depth target.root (PagingEntry level region number rights) fresh))
+      (λ stale. inr (flags_stale flushes gone level region number rights stale))
+      stands
+
+  flags_unreached : (gone : List ℕ) → AreUnreached target.depth target.root memory gone → AreUnreached target.depth target.root flagged gone
+  flags_unreached gone before number named level address at =
+      before number named level address (sym (flags_table same_flags target.depth target.root level address) ∙ at)
+
 -- ---- all plans
 
 abbrev all_flushes : List Flush → List Call → List Flush
@@ -206,14 +240,15 @@ stand_all target memory space gone flushes [] earlier are first = first
 stand_all target memory space gone flushes (call ∷ calls) earlier are first =
     stand_all target (ended call.memory call.plan) (space_after target call.request space call.plan.reply) (call.plan.unlinked.items ++ gone)
     (call.plan.flush ∷ flushes) calls (while_stored (begun call.memory call.plan) call.plan.stores.items earlier) are.1
-    (stands_then target memory space gone call are.0 flushes earlier first)
+    (stands_then target are.0.flagged space gone call are.0.right flushes earlier
+    (λ kept held. flags_stand are.0.flags target flushes gone kept (first kept held)))
 
 unreached_all : (target : Target) (memory : Memory) (space : Space) (gone : List ℕ) (calls : List Call) → AreRight target memory space gone calls
     → AreUnreached target.depth target.root memory gone → AreUnreached target.depth target.root (ended_all memory calls) (all_gone gone calls)
 unreached_all target memory space gone [] are before = before
 unreached_all target memory space gone (call ∷ calls) are before =
     unreached_all target (ended call.memory call.plan) (space_after target call.request space call.plan.reply) (call.plan.unlinked.items ++ gone)
-    calls are.1 (unreached_then target memory space gone call are.0 before)
+    calls are.1 (unreached_then target are.0.flagged space gone call are.0.right (flags_unreached are.0.flags target gone before))
 
 -- what they unlink is gone then
 gone_stays : (gone : List ℕ) (calls : List Call) (number : ℕ) → Contains gone number → Contains (all_gone gone calls) number
@@ -278,3 +313,33 @@ several_freed target memory space calls moments level region number rights are i
     let reached = entry_reached target.depth target.root (ended_all memory calls) level region number rights
     (is (PagingEntry level region number rights) held) in
     several_unreached target memory space calls number are named level reached.0 reached.1
+
+-- ---- whatever flags are set meanwhile
+
+pub flushed_lived : (flushes : List Flush) (lived told : List Moment) → AreButFlags lived told
+    → AreButFlags (flushed_by flushes lived) (flushed_by flushes told)
+flushed_lived [] lived told are = are
+flushed_lived (flush ∷ flushes) lived told are =
+    flushed_lived flushes (Flushes flush ∷ lived) (Flushes flush ∷ told) (Flushed lived told flush are)
+
+module _ (target : Target) (memory now : Memory) (space : Space) (calls : List Call) where
+  pub lived_suffice : (flushes : List Flush) (earlier lived : List Moment) → AreRight target memory space [] calls → HaveAll flushes calls
+      → IsUpToDate target.depth target.root memory earlier → AreButFlags lived (while_planned calls earlier)
+      → AreSameButFlags (ended_all memory calls) now → IsUpToDate target.depth target.root now (flushed_by flushes lived)
+  lived_suffice flushes earlier lived are all is lives same_flags =
+      lived_up_to_date target.depth target.root (flushed_by flushes lived) (flushed_by flushes (while_planned calls earlier))
+      (ended_all memory calls) now (flushed_lived flushes lived (while_planned calls earlier) lives) same_flags
+      (several_suffice target memory space calls flushes earlier are all is)
+
+  pub lived_unreached : (number : ℕ) → AreRight target memory space [] calls → AreSameButFlags (ended_all memory calls) now
+      → Contains (unlinked_by calls) number → (level address : ℕ) → table_at (levels target.depth) now target.root level address ≢ Some number
+  lived_unreached number are same_flags named level address at =
+      several_unreached target memory space calls number are named level address
+      (sym (flags_table same_flags target.depth target.root level address) ∙ at)
+
+  pub lived_freed : (moments : List Moment) (level region number : ℕ) (rights : Rights) → AreRight target memory space [] calls
+      → AreSameButFlags (ended_all memory calls) now → IsUpToDate target.depth target.root now moments → Contains (unlinked_by calls) number
+      → MayKeep target.depth target.root moments (PagingEntry level region number rights) → ⊥
+  lived_freed moments level region number rights are same_flags is named held =
+      several_freed target memory space calls moments level region number rights are
+      (λ kept h. flags_read same_flags target.depth target.root kept (is kept h)) named held

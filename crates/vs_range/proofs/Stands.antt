@@ -26,7 +26,7 @@ use Rattle.vs_range.specs.Several.{IsDroppedByOne}
 pub record IsStale (depth : Depth) (root : ℕ) (memory : Memory) (flushes : List Flush) (gone : List ℕ) (level region number : ℕ) (rights : Rights) : Type 0 where
   pub named : Contains gone number
   pub dropped : IsDroppedByOne flushes (PagingEntry level region number rights)
-  pub ends : (address next : ℕ) (own : Rights) → IsCanonical depth address → region_number level address ≡ region
+  pub ends : (address next : ℕ) (own : Rights) → 1 ≤ level → IsCanonical depth address → region_number level address ≡ region
       → found_at level memory number address ≢ Some (entry.Table next own)
   pub pages : (address phys : ℕ) (own : Rights) → 1 ≤ level → IsCanonical depth address → region_number level address ≡ region
       → found_at level memory number address ≡ Some (entry.Leaf phys own)
@@ -85,7 +85,7 @@ module _ (depth : Depth) (root : ℕ) (memory : Memory) (flushes : List Flush) (
     of_table = λ address below number next rights own canonical table found. ⊎_elim
         (λ held. inl (OfTable address below number next rights own canonical held found))
         (λ (stale : IsStale depth root memory flushes gone (suc below) (region_number (suc below) address) number rights).
-        absurd (stale.ends address next own canonical (λ i. region_number (suc below) address)
+        absurd (stale.ends address next own (omega arith) canonical (λ i. region_number (suc below) address)
         (sym (found_alike (suc below) memory now number address (alike number stale.named)) ∙ found)))
         table;
     of_page = λ address below number phys rights own canonical table found. ⊎_elim

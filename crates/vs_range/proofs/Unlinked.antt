@@ -33,7 +33,8 @@ use Rattle.vs_plan.specs.Premise.{HasOwnWay}
 use Rattle.vs_plan.specs.Processor.{region_number, Kept, Translation, PagingEntry, OfRoot, OfTable}
 use Rattle.vs_plan.specs.Processor.{Moment, Is, IsDropped, MayKeep, IsUpToDate}
 use Rattle.vs_plan.specs.Request.{address_of}
-use Rattle.vs_plan.specs.Right.{IsMeant, OfPage as OfEntry, OfLink, OfSpare, IsMeantBy, IsUnlinkedBy, IsPut, Follows, IsLike}
+use Rattle.vs_plan.specs.Answered.{Follows, IsLike}
+use Rattle.vs_plan.specs.Right.{IsMeant, OfPage as OfEntry, OfLink, OfSpare, IsMeantBy, IsUnlinkedBy, IsPut}
 use Rattle.vs_plan.specs.Stores.{stored, stored_all, FindTheirWords}
 use Rattle.vs_plan.proofs.Filled.{table_as}
 use Rattle.vs_plan.proofs.Forms.{HasForm, Adds, Clears, Unlinks, Replaces, Resizes, IsOnceFor, AreFor, takes}

@@ -1,3 +1,4 @@
 pub mod Several
 pub mod Run
 pub mod Planner
+pub mod Direct

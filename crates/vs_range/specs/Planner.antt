@@ -1,5 +1,6 @@
 -- What the planner of a range waits for, and what its next step means.
-use Rattle.std.specs.Prelude.{◌≡◌, ◌≢◌, ℕ, ◌+◌, ◌*◌, ◌%◌, ◌^◌, ◌<◌, ◌≤◌, ◌⊎◌, List, [], All, Option, Some, cond, min, slice_index, unwrap_or}
+use Rattle.std.specs.Prelude.{◌≡◌, ◌≢◌, ℕ, ◌+◌, ◌*◌, ◌%◌, ◌^◌, ◌<◌, ◌≤◌, ◌⊎◌, Bool, List, [], All, Option, Some, cond, min, not, slice_index, unwrap_or}
+use Rattle.std.specs.Prelude.{◌&&◌, ◌==◌, if◌then◌else◌}
 use Rattle.std.specs.FinMap as finite
 use Rattle.vs_types.specs.Entry.{meaning}
 use Rattle.vs_types.specs.Depth.{index_at, IsCanonical}
@@ -14,13 +15,16 @@ use Rattle.vs_walk.specs.Walk.{walk}
 use Rattle.vs_walk.specs.declared.walk.Walk.TheVariants.{NotMapped}
 use Rattle.vs_plan.specs.declared.plan.Step.{Step}
 use Rattle.vs_plan.specs.declared.plan.Step.TheVariants as steps
+use Rattle.vs_plan.specs.declared.request.BadRequest.{BadRequest}
+use Rattle.vs_plan.specs.declared.request.BadRequest.TheVariants.{Unaligned}
 use Rattle.vs_plan.specs.declared.request.Request.{Request}
 use Rattle.vs_plan.specs.declared.request.Request.TheVariants.{Map, Unmap, Protect, Ask}
+use Rattle.vs_plan.specs.declared.target.Target.{Target}
 use Rattle.vs_plan.specs.Bits.{page_word, unflagged}
 use Rattle.vs_plan.specs.Planner.{AwaitsWords, AwaitsFrame, frames_given}
 use Rattle.vs_plan.specs.Premise.{IsPremise}
 use Rattle.vs_plan.specs.Processor.{page_number, Translation}
-use Rattle.vs_plan.specs.Request.{address_of}
+use Rattle.vs_plan.specs.Request.{address_of, request_fault}
 use Rattle.vs_plan.specs.Right.{IsRight}
 use Rattle.vs_plan.specs.Shown.{IsShown}
 use Rattle.vs_plan.specs.Stores.{FindTheirWords}
@@ -32,6 +36,16 @@ use Rattle.vs_range.specs.declared.run.Forget.TheVariants as forget
 use Rattle.vs_range.specs.declared.run.Run.{Run}
 use Rattle.vs_range.specs.Run.{stores_of, flushes_in, IsRunRight}
 use Rattle.vs_range.specs.Several.{IsDroppedByOne}
+
+-- ---- what a map over a range asks
+
+-- whether so many bytes are those of pages of a size, of one at least
+abbrev pub are_pages : Size → ℕ → Bool
+are_pages size bytes = not (bytes == 0) && (bytes % bytes_of size == 0)
+
+-- the first thing that is wrong with a map of so many bytes: they are no whole pages; else what is wrong with the map of the first page
+abbrev pub map_fault : Target → Page → ℕ → ℕ → Option BadRequest
+map_fault target page bits bytes = if are_pages page.size bytes then request_fault target (Map page bits) else Some Unaligned
 
 -- ---- what it waits for
 

@@ -8,6 +8,7 @@ use Rattle.vs_types.specs.declared.depth.Depth.{Depth}
 use Rattle.vs_types.specs.declared.page.Size.{Size}
 use Rattle.vs_walk.specs.Memory.{Memory}
 use Rattle.vs_walk.specs.Walk.{walk}
+use Rattle.vs_space.specs.Flags.{AreSameButFlags}
 use Rattle.vs_plan.specs.declared.plan.Flush.{Flush}
 use Rattle.vs_plan.specs.declared.plan.Flush.TheVariants as flushes
 use Rattle.vs_plan.specs.declared.plan.Store.{Store}
@@ -16,8 +17,9 @@ use Rattle.vs_plan.specs.declared.request.Request.TheVariants.{Map, Unmap, Prote
 use Rattle.vs_plan.specs.declared.target.Target.{Target}
 use Rattle.vs_plan.specs.Bits.{with_rights, unflagged}
 use Rattle.vs_plan.specs.Flushed.{while_stored}
+use Rattle.vs_plan.specs.Lived.{AreButFlags}
 use Rattle.vs_plan.specs.Processor.{Moment, IsUpToDate}
-use Rattle.vs_plan.specs.Right.{Changes}
+use Rattle.vs_plan.specs.Answered.{Changes}
 use Rattle.vs_plan.specs.Stores.{stored, stored_all, FindTheirWords}
 use Rattle.vs_range.specs.declared.run.Change.{Change}
 use Rattle.vs_range.specs.declared.run.Change.TheVariants.{Write, Clear, Allow, Unflag}
@@ -100,10 +102,11 @@ flushes_in (Pages base size count) = pages_flushed base size 0 count
 
 -- ---- all of it
 
--- after the stores and the flushes each processor that was up to date before them is so again
+-- after the stores and the flushes each processor that was up to date before them is so again, whatever flags were set meanwhile
 abbrev pub SufficesAfter : Depth → ℕ → Memory → List Store → List Flush → Type 0
-SufficesAfter depth root memory stores flushes = (earlier : List Moment) → IsUpToDate depth root memory earlier
-    → IsUpToDate depth root (stored_all memory stores) (flushed_by flushes (while_stored memory stores earlier))
+SufficesAfter depth root memory stores flushes = (earlier lived : List Moment) (now : Memory) → IsUpToDate depth root memory earlier
+    → AreButFlags lived (while_stored memory stores earlier) → AreSameButFlags (stored_all memory stores) now
+    → IsUpToDate depth root now (flushed_by flushes lived)
 
 -- a run for a request, in a memory that translates as the space
 pub record IsRunRight (target : Target) (request : Request) (memory : Memory) (space : Space) (run : Run) : Type 0 where

@@ -6,6 +6,7 @@ use Rattle.vs_types.specs.declared.depth.Depth.{Depth}
 use Rattle.vs_walk.specs.Memory.{Memory}
 use Rattle.vs_walk.specs.Walk.{walk}
 use Rattle.vs_walk.specs.declared.walk.Walk.{Walk}
+use Rattle.vs_space.specs.Flags.{AreSameButFlags}
 use Rattle.vs_plan.specs.declared.plan.Flush.{Flush}
 use Rattle.vs_plan.specs.declared.plan.Plan.{Plan}
 use Rattle.vs_plan.specs.declared.request.Request.{Request}
@@ -15,7 +16,8 @@ use Rattle.vs_plan.specs.Other.{HasSameTables}
 use Rattle.vs_plan.specs.Premise.{IsPremise}
 use Rattle.vs_plan.specs.Processor.{Kept, IsDropped, Moment, Flushes}
 use Rattle.vs_plan.specs.Request.{address_of}
-use Rattle.vs_plan.specs.Right.{IsRight, written_frames, space_after, begun, ended}
+use Rattle.vs_plan.specs.Answered.{space_after}
+use Rattle.vs_plan.specs.Right.{IsRight, written_frames, begun, ended}
 
 -- a call that was planned: what was asked, which frames were offered, the memory as it was then, and the plan
 pub record Call : Type 0 where
@@ -24,8 +26,8 @@ pub record Call : Type 0 where
   pub memory : Memory
   pub plan : Plan
 
--- before a plan: since the plan before it the memory has changed only where no way leads; these frames, which are unlinked, are as they were,
--- and the plan writes into none of them; what a plan asks of the memory holds, and it is right
+-- before a plan: the memory has changed only where no way leads; these frames, which are unlinked, are as they were, and the plan writes
+-- into none of them; what a plan asks of the memory holds, and it is right
 pub record IsRightThen (target : Target) (memory : Memory) (space : Space) (gone : List ℕ) (call : Call) : Type 0 where
   pub tables : HasSameTables target.depth target.root memory call.memory
   pub stays : (number : ℕ) → Contains gone number → finite.get call.memory number ≡ finite.get memory number
@@ -33,11 +35,19 @@ pub record IsRightThen (target : Target) (memory : Memory) (space : Space) (gone
   pub premise : IsPremise target.depth call.memory target.root (address_of call.request) space
   pub right : IsRight target call.request call.memory space call.offered call.plan
 
--- plans are right one after another, each where those before it have left the memory and the space; these frames were unlinked before the first
+-- before a plan: since the plan before it processors may have set flags in entries, or a caller cleared them, in frames that are unlinked too;
+-- but for that it is right then
+pub record IsRightButFlags (target : Target) (memory : Memory) (space : Space) (gone : List ℕ) (call : Call) : Type 0 where
+  pub flagged : Memory
+  pub flags : AreSameButFlags memory flagged
+  pub right : IsRightThen target flagged space gone call
+
+-- plans are right one after another, each where those before it have left the memory, flags apart, and the space; these frames were unlinked
+-- before the first
 abbrev pub AreRight : Target → Memory → Space → List ℕ → List Call → Type 0
 AreRight target memory space gone [] = Unit {0}
 AreRight target memory space gone (call ∷ calls) =
-    IsRightThen target memory space gone call
+    IsRightButFlags target memory space gone call
     × AreRight target (ended call.memory call.plan) (space_after target call.request space call.plan.reply) (call.plan.unlinked.items ++ gone) calls
 
 -- the memory after all plans

@@ -1,6 +1,7 @@
 //! Ranges of pages in a page table whose frames a kernel keeps itself: one run of words for each table, and one flush for all.
 #![tactic(auto)]
 
+mod direct;
 pub mod laws;
 mod made;
 mod planner;
@@ -10,5 +11,7 @@ mod search;
 mod table;
 mod word;
 
+pub use direct::plan_in;
 pub use planner::{RangePlanner, RangeStep};
+pub use room::are_pages;
 pub use run::{Change, Forget, Run};

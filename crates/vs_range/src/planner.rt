@@ -1,5 +1,5 @@
 //! The planner of a range: the way of its first page, and then a run of pages in the table in which that ends.
-ghost use Rattle.std.specs.Prelude.{◌≡◌, ◌≢◌, ◌+◌, ◌<◌, ◌≤◌, ℕ, [], Some, IfSome, List, MatchResult, ◌∷◌, cond, slice_index};
+ghost use Rattle.std.specs.Prelude.{◌≡◌, ◌≢◌, ◌+◌, ◌<◌, ◌≤◌, ℕ, [], Some, IfSome, List, MatchResult, ◌∷◌, cond, slice_index, true};
 ghost use Rattle.std.specs.FinMap as finite;
 ghost use Rattle.vs_types.specs.declared.frame.TheConstants.{FRAME_WORDS};
 ghost use Rattle.vs_types.specs.Depth.{index_at};
@@ -9,8 +9,9 @@ ghost use Rattle.vs_plan.specs.Request.{IsRequest, request_fault, address_of};
 ghost use Rattle.vs_plan.specs.Shown.{IsShown};
 ghost use Rattle.vs_plan.specs.declared.request.Request.{Request};
 ghost use Rattle.vs_plan.specs.declared.planner.Phase.{Phase};
-ghost use Rattle.vs_range.specs.Planner.{IsRanged, AwaitsRange, AwaitsNext, as_range, HasGivenFor, HasRoom, IsRangeNext, range_sees, range_sees_left};
+ghost use Rattle.vs_range.specs.Planner.{IsRanged, AwaitsRange, AwaitsNext, are_pages, as_range, map_fault, HasGivenFor, HasRoom, IsRangeNext, range_sees, range_sees_left};
 
+use crate::room::are_pages;
 use crate::run::Run;
 use vs_plan::{BadRequest, FrameWords, Phase, Plan, Planner, Request, Step, Target};
 use vs_types::{Page, Rights, Size, index_at};
@@ -23,7 +24,7 @@ use vs_types::{Page, Rights, Size, index_at};
 pub struct RangePlanner {
     /// The planner of the first page.
     pub planner: Planner,
-    /// Where the range begins.
+    /// The first address of the range.
     pub base: u64,
     /// How many bytes it has.
     pub bytes: u64,
@@ -55,7 +56,7 @@ impl RangePlanner {
     ///
     /// # Errors
     ///
-    /// `BadRequest`, the first that holds for the first page.
+    /// `BadRequest::Unaligned` where the bytes are 0, or no multiple of the page's size; else the first that holds for the first page.
     pub fn map_range(
         target: Target,
         page: Page,
@@ -65,11 +66,16 @@ impl RangePlanner {
         ensures made { MatchResult result
             (λ r. IsRequest target (Request.Map page bits) × (r.planner.target ≡ target)
             × (r.planner.request ≡ Request.Map page bits) × (r.bytes ≡ bytes))
-            (λ e. request_fault target (Request.Map page bits) ≡ Some e) }
+            (λ e. map_fault target page bits bytes ≡ Some e) }
+        ensures whole { MatchResult result
+            (λ r. are_pages page.size bytes ≡ true) (λ e. Unit {0}) }
         ensures awaits { MatchResult result (λ r. AwaitsRange r) (λ e. Unit {0}) }
         ensures shown { MatchResult result
             (λ r. (memory : Memory) → IsShown memory r.planner) (λ e. Unit {0}) }
     {
+        if !are_pages(page.size, bytes) {
+            return Err(BadRequest::Unaligned);
+        }
         let planner = Planner::new(target, Request::Map(page, bits))?;
         Ok(RangePlanner {
             planner,

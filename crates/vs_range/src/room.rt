@@ -2,8 +2,16 @@
 ghost use Rattle.std.specs.Prelude.{◌≡◌, ◌+◌, ◌*◌, ◌<◌, ◌≤◌, ◌⊎◌, ◌^◌, ℕ, min};
 ghost use Rattle.vs_types.specs.Depth.{entry_bytes};
 ghost use Rattle.vs_types.specs.Page.{bytes_of};
+ghost use Rattle.vs_range.specs.Planner.{are_pages};
 
 use vs_types::{Page, Size};
+
+/// Whether so many bytes are those of pages of this size, of one at least.
+pub fn are_pages(size: Size, bytes: u64) -> bool
+    ensures { result ≡ are_pages size bytes }
+{
+    bytes != 0 && bytes % size.bytes() == 0
+}
 
 /// How many pages of this size so many bytes have room for.
 pub(crate) fn pages_in(size: Size, bytes: u64) -> u64

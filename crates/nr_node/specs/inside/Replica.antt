@@ -5,7 +5,7 @@ use Rattle.vs_types.specs.declared.limits.TheConstants.{LOG_PLACES, TABLES}
 use Rattle.vs_types.specs.declared.log_entry.LogEntry.{LogEntry}
 use Rattle.vs_space.specs.Table.{PageTable, IsTableOf}
 use Rattle.nr_node.specs.Spaces.{answer_at, space_of}
-use Rattle.nr_node.specs.declared.told.Told.{Told}
+use Rattle.nr_node.specs.inside.Told.{Told}
 
 -- what contracts see of a replica: its depth, how many tables it may have, and the entries that it has applied
 pub record ReplicaState : Type 0 where

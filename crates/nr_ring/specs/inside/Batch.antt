@@ -1,6 +1,6 @@
 -- A batch on its way into a ring, and the bounds that bar it.
 use Rattle.std.specs.Prelude.{◌≡◌, ◌⊎◌, ℕ, ◌+◌, ◌*◌, ◌%◌, ◌<◌, ◌≤◌, List, Some, length, slice_get, slice_index}
-use Rattle.vs_types.specs.declared.limits.TheConstants.{LOG_PLACES, REPLICAS}
+use Rattle.vs_types.specs.declared.limits.TheConstants.{REPLICAS}
 use Rattle.vs_types.specs.declared.log_entry.LogEntry.{LogEntry}
 use Rattle.nr_ring.specs.LogHistory.{Log, AllKeepUp, HasRoom, IsEnded, IsFull}
 use Rattle.nr_ring.specs.Pass.{tails_of}
@@ -13,19 +13,19 @@ use Rattle.nr_ring.specs.declared.view.View.{View}
 use Rattle.nr_ring.specs.declared.tails.AppendFault.{AppendFault}
 use Rattle.nr_ring.specs.declared.tails.AppendFault.TheVariants.{LogEnded, Full, Moved}
 use Rattle.vs_types.specs.declared.limits.TheConstants.{RING}
-use Rattle.nr_ring.specs.declared.words.TheConstants.{COUNT_WORD, LAST_WORD, RINGS, RING_WORDS}
+use Rattle.nr_ring.specs.declared.words.TheConstants.{COUNT_WORD, LAST_WORD, MOST_PLACES, RINGS, RING_WORDS}
 
--- the bound that bars so many entries from the log
-abbrev pub Bars : Log → ℕ → AppendFault → Type 0
-Bars log n LogEnded = IsEnded log n
-Bars log n (Full tails) = (tails ≡ tails_of log) × HasRoom log n × IsFull log n
-Bars log n (Moved tails) = ⊥
+-- the bound that bars so many entries from a log of so many places
+abbrev pub Bars : ℕ → Log → ℕ → AppendFault → Type 0
+Bars places log n LogEnded = IsEnded places log n
+Bars places log n (Full tails) = (tails ≡ tails_of log) × HasRoom places log n × IsFull log n
+Bars places log n (Moved tails) = ⊥
 
 -- why so many entries were not appended to the log, where another pass's event came in between
-abbrev pub Explains : Log → ℕ → AppendFault → Type 0
-Explains log n LogEnded = IsEnded log n
-Explains log n (Full tails) = (tails ≡ tails_of log) × HasRoom log n × IsFull log n
-Explains log n (Moved tails) = (tails ≡ tails_of log) × HasRoom log n × AllKeepUp log n
+abbrev pub Explains : ℕ → Log → ℕ → AppendFault → Type 0
+Explains places log n LogEnded = IsEnded places log n
+Explains places log n (Full tails) = (tails ≡ tails_of log) × HasRoom places log n × IsFull log n
+Explains places log n (Moved tails) = (tails ≡ tails_of log) × HasRoom places log n × AllKeepUp log n
 
 -- the first n entries of a batch are in the words of a ring, at their places from one on
 pub record IsWritten (ring before place n : ℕ) (batch : List LogEntry) (own : List ℕ) : Type 0 where
@@ -40,6 +40,6 @@ AreStored replicas ring events pass = (at word : ℕ) → Needs replicas (stored
 
 -- what a head says is small
 pub record AreSmall (head : List ℕ) : Type 0 where
-  pub tails : (word : ℕ) → word < COUNT_WORD → slice_index head word ≤ LOG_PLACES
+  pub tails : (word : ℕ) → word < COUNT_WORD → slice_index head word ≤ MOST_PLACES
   pub replicas : slice_index head COUNT_WORD ≤ REPLICAS
   pub last : slice_index head LAST_WORD < RINGS

@@ -4,7 +4,7 @@ use Rattle.std.specs.Prelude.{◌≡◌, ℕ, ◌+◌, ◌-◌, ◌*◌, ◌<◌
 use Rattle.version_cell.specs.Passes.{CellPass}
 use Rattle.vs_types.specs.declared.depth.Depth.{Depth}
 use Rattle.vs_types.specs.declared.limits.TheConstants.{REPLICAS}
-use Rattle.nr_ring.specs.LogHistory.{IsLogHistory, Log, MayFollow, completed, local_of, log_after, tail}
+use Rattle.nr_ring.specs.LogHistory.{IsLogHistory, Log, MayFollow, completed, local_of, log_after, log_after_event, tail}
 use Rattle.nr_ring.specs.View.{StartsWith}
 use Rattle.nr_ring.specs.Calls.{HasLooked, HasMoved, MayMake, with_event, with_events}
 use Rattle.nr_ring.specs.declared.log_event.LogEvent.{LogEvent}
@@ -32,13 +32,15 @@ pub record IsHeadOf (log : Log) (last : ℕ) (head : List ℕ) : Type 0 where
 
 -- the value is all that the pass has seen, among which are the events that it made; it begins with all that it was given; the pass has
 -- one right to make events; and its own words are those of a ring
-pub record Remembers (depth : Depth) (replicas passes : ℕ) (replica : Option ℕ) (ring : ℕ) (pass : CellPass View Stored) : Type 0 where
+pub record Remembers (depth : Depth) (replicas passes places : ℕ) (replica : Option ℕ) (ring : ℕ) (pass : CellPass View Stored)
+    : Type 0 where
   pub few : replicas ≤ REPLICAS
   pub few_rings : passes ≤ RINGS
   pub is_history : IsLogHistory depth replicas pass.view.seen
   pub value_is : pass.value.history ≡ pass.view.seen
   pub each_ring : length pass.value.rings ≡ tail (log_after replicas pass.view.seen)
   pub rings_below : All (λ ring. ring < passes) pass.value.rings
+  pub ends : tail (log_after replicas pass.view.seen) ≤ places
   pub from_is : pass.from ≡ RING_WORDS * ring
   pub own_long : length pass.own ≡ RING_WORDS
   pub ring_below : ring < passes
@@ -73,11 +75,12 @@ abbrev pub rest_of : ℕ → Option ℕ → List ℕ
 rest_of replicas None = []
 rest_of replicas (Some replica) = range_with_len (replica + 1) (replicas - (replica + 1))
 
--- a pass may make these events, one after another
-abbrev pub LeadTo : Depth → ℕ → View → List LogEvent → Type 0
-LeadTo depth replicas view [] = ⊤
-LeadTo depth replicas view (event ∷ events) =
-    MayFollow depth (log_after replicas view.seen) event × MayMake view event × LeadTo depth replicas (with_event view event) events
+-- a pass may make these events, one after another, in a log of so many places
+abbrev pub LeadTo : Depth → ℕ → ℕ → View → List LogEvent → Type 0
+LeadTo depth replicas places view [] = ⊤
+LeadTo depth replicas places view (event ∷ events) =
+    MayFollow depth (log_after replicas view.seen) event × MayMake view event × LeadTo depth replicas places (with_event view event) events
+    × (tail (log_after_event (log_after replicas view.seen) event) ≤ places)
 
 -- what a try to make events shows: the pass made them, or it looked and another pass's event has come
 abbrev pub MadeOrMoved : Depth → ℕ → List LogEvent → View → View → Bool → Type 0

@@ -3,6 +3,7 @@ use Rattle.std.specs.Prelude.{◌≡◌, ℕ, ◌+◌, ◌<◌, List, [], ◌∷
 use Rattle.vs_types.specs.Config.{Layout}
 use Rattle.vs_types.specs.Query.{IsQuery}
 use Rattle.vs_types.specs.declared.depth.Depth.{Depth}
+use Rattle.vs_types.specs.declared.limits.TheConstants.{LOG_PLACES}
 use Rattle.vs_types.specs.declared.request.Query.{Query}
 use Rattle.nr_ring.specs.LogHistory.{IsLogHistory, log_after}
 use Rattle.nr_ring.specs.Pass.{Known, TableId}
@@ -11,10 +12,11 @@ use Rattle.nr_serve.specs.inside.Calls.{IsServed, IsTrueOf, MadeCall, WorkerStat
 use Rattle.nr_serve.specs.declared.said.Said.{Said}
 use Rattle.nr_serve.specs.declared.said.Said.TheVariants.{Answer, Stopped}
 
--- the layout is that of the names of a log and its replicas
-pub record IsNamed (layout : Layout) (depth : Depth) (replicas tables : ℕ) : Type 0 where
+-- the layout is that of the names of a log, which has 65,536 places, and its replicas
+pub record IsNamed (layout : Layout) (depth : Depth) (replicas places tables : ℕ) : Type 0 where
   pub depth_is : layout.depth ≡ depth
   pub replicas_are : layout.replicas ≡ replicas
+  pub places_are : places ≡ LOG_PLACES
   pub tables_are : layout.tables ≡ tables
 
 -- what a thread is given

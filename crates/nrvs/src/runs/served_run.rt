@@ -2,6 +2,7 @@
 ghost use Rattle.std.specs.Prelude.{◌≡◌, ◌+◌, ℕ, List, IfErr, IfOk, None, false, map, string_bytes, true};
 ghost use Rattle.std.specs.Io.KnownBytes.{Appends};
 ghost use Rattle.vs_types.specs.Query.{AreScripts};
+ghost use Rattle.vs_types.specs.declared.limits.TheConstants.{LOG_PLACES};
 ghost use Rattle.audit_readers.specs.Answers.{WritesReport};
 ghost use Rattle.audit_readers.specs.Refusals.{WritesAnswersAlone};
 ghost use Rattle.nrvs.specs.ServedRun.{IsRunEnd, IsRunFault, IsServedRun, TellsRun, outcome_status, told_of};
@@ -96,6 +97,7 @@ fn run_named<J: LogName + Send + Sync, W: Write, T: Threads + Wait + Sync>(
     requires depth { config.depth ≡ J.depth }
     requires replicas { config.replicas ≡ J.replicas }
     requires passes { J.passes ≡ config.replicas + config.threads }
+    requires places { J.places ≡ LOG_PLACES }
     requires scripts { AreScripts config (map (λ script. script.items) scripts.items) }
     ensures ok { IfOk result (λ status. (text : List ℕ)
         × TellsRun config (map (λ script. script.items) scripts.items) as_trace text status

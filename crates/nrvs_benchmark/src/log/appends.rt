@@ -2,6 +2,7 @@
 ghost use Rattle.std.specs.Prelude.{◌≡◌, ◌+◌, ◌≤◌, ◌∷◌, ℕ, [], All, length};
 ghost use Rattle.vs_types.specs.LogEntry.{IsLogEntry};
 ghost use Rattle.vs_types.specs.declared.depth.Depth.TheVariants.{Four};
+ghost use Rattle.vs_types.specs.declared.limits.TheConstants.{LOG_PLACES};
 
 use crate::clock::now;
 use crate::fault::ProgFault;
@@ -47,6 +48,7 @@ pub fn append<J: LogName + Send + Sync, R: Threads + Wait + Clock + Sync>(
     requires depth { J.depth ≡ Four }
     requires threads { (threads ≡ J.replicas) × (1 ≤ threads) × (threads ≤ 4) }
     requires passes { J.passes ≡ threads + 1 }
+    requires places { J.places ≡ LOG_PLACES }
     requires calls { calls ≤ 65536 }
 {
     let (log, mut passes) = RingLog::<J>::new(alloc, Depth::Four, threads, 1)?;

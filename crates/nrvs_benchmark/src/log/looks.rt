@@ -1,6 +1,7 @@
 //! Looks: each thread looks at a log to which nothing is appended meanwhile.
 ghost use Rattle.std.specs.Prelude.{◌≡◌, ◌+◌, ◌≤◌, All};
 ghost use Rattle.vs_types.specs.declared.depth.Depth.TheVariants.{Four};
+ghost use Rattle.vs_types.specs.declared.limits.TheConstants.{LOG_PLACES};
 
 use crate::clock::now;
 use crate::fault::ProgFault;
@@ -32,6 +33,7 @@ pub fn look<J: LogName + Send + Sync, R: Threads + Wait + Clock + Sync>(
     requires depth { J.depth ≡ Four }
     requires threads { (threads ≡ J.replicas) × (1 ≤ threads) × (threads ≤ 4) }
     requires passes { J.passes ≡ threads + 1 }
+    requires places { J.places ≡ LOG_PLACES }
 {
     let (log, mut passes) = RingLog::<J>::new(alloc, Depth::Four, threads, 1)?;
     let Some(mut own) = passes.pop() else {
@@ -92,7 +94,7 @@ fn look_often<J: LogName>(log: &RingLog<J>, mut pass: LogPass<J>, calls: u32) ->
 {
     let mut tails = 0u64;
     for _ in 0..calls {
-        tails = tails.wrapping_add(u64::from(log.look(&mut pass).tail));
+        tails = tails.wrapping_add(log.look(&mut pass).tail);
     }
     tails
 }

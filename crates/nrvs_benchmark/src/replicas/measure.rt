@@ -1,6 +1,7 @@
 //! The calls of all threads, and the time that they take.
 ghost use Rattle.std.specs.Prelude.{◌≡◌, ◌+◌, ◌<◌, ◌≤◌, All};
 ghost use Rattle.vs_types.specs.declared.depth.Depth.TheVariants.{Four};
+ghost use Rattle.vs_types.specs.declared.limits.TheConstants.{LOG_PLACES};
 
 use crate::clock::now;
 use crate::fault::ProgFault;
@@ -60,6 +61,7 @@ pub fn measure<J: LogName + Send + Sync, R: Threads + Wait + Clock + Sync>(
     requires depth { (config.depth ≡ Four) × (J.depth ≡ Four) }
     requires replicas { config.replicas ≡ J.replicas }
     requires passes { J.passes ≡ config.replicas + config.threads }
+    requires places { J.places ≡ LOG_PLACES }
 {
     let (opened, passes) = OpenReplicas::<J>::new(alloc, config)?;
     measure_named::<J, Brand, R>(rt, alloc, config, opened, passes, work)

@@ -1,5 +1,5 @@
 -- Where a way ends. No public clause cites it.
-use Rattle.std.specs.Prelude.{◌≡◌, ◌≢◌, ℕ, ◌+◌, ◌^◌, ◌%◌, ◌<◌, ◌≤◌, List, [], Some, None, slice_index, length}
+use Rattle.std.specs.Prelude.{◌≡◌, ◌≢◌, ◌⊎◌, ℕ, ◌+◌, ◌^◌, ◌%◌, ◌<◌, ◌≤◌, List, [], Some, None, slice_index, length}
 use Rattle.std.specs.FinMap as finite
 use Rattle.vs_types.specs.Depth.{levels, index_at}
 use Rattle.vs_types.specs.Entry.{meaning, size_at}
@@ -24,7 +24,8 @@ use Rattle.vs_plan.specs.Bits.{page_word, bits_in, flagged}
 use Rattle.vs_plan.specs.Changes.{larger}
 use Rattle.vs_plan.specs.Premise.{IsPremise}
 use Rattle.vs_plan.specs.Request.{IsRequest, address_of, lowest_of}
-use Rattle.vs_plan.specs.Right.{IsRight, Follows, IsLike}
+use Rattle.vs_plan.specs.Answered.{Follows, IsLike}
+use Rattle.vs_plan.specs.Right.{IsRight}
 use Rattle.vs_plan.specs.Shown.{HasMet}
 use Rattle.vs_plan.specs.Way.{IsWay}
 
@@ -131,3 +132,7 @@ pub record IsWholeStore (planner : Planner) (base phys : ℕ) (own : Rights) (wo
     new = page_word (record { base = base; size = larger (size_at planner.level); rights = intersection allowed own; phys = phys })
         (flagged (bits_in (size_at planner.level) word));
   }
+
+-- a request that divides a page: into all its parts, or into those outside of a gap
+abbrev pub DividesAround : Request → ℕ → ℕ → ℕ → Type 0
+DividesAround request base gap count = ((request ≡ Split base) × (gap ≡ 0) × (count ≡ 0)) ⊎ (request ≡ UnmapPart base gap count)

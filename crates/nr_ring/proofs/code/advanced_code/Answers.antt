@@ -4,7 +4,7 @@ use Rattle.nr_ring.specs.inside.Codes.{code_of}
 use Rattle.nr_ring.proofs.Codes.{small_codes, small_locals, small_still}
 use Rattle.nr_ring.proofs.code.advanced_code.Goals as goal
 
-small : (c : goal.After-code_of) → code_of c.args.tail (set c.locals_in-locals.result c.from.result c.args.to) (slice_index c.args.head.now 6) < 2 ^ 48
+small : (c : goal.After-code_of) → code_of c.args.tail (set c.locals_in-locals.result c.from.result c.args.to) (slice_index c.args.head.now 6) < 2 ^ 57
 small c =
     let locals = c.locals_in-locals.result in
     let is = c.requires.small in

@@ -14,7 +14,7 @@ loop-done-init g c =
     let replicas = g.J.LogName.replicas in
     let tables = g.K.ReplicasName.tables in
     let log = g.K.ReplicasName.log in
-    let history = named_history clock.layout depth replicas tables c.args.pass.now.view.seen c.requires.names c.has_seen_a_history.ensures.history in
+    let history = named_history clock.layout depth replicas g.J.LogName.places tables c.args.pass.now.view.seen c.requires.names c.has_seen_a_history.ensures.history in
     let Here : List Said → Type 0 = λ l. IsUnderWay clock log c.args.thread c.args.script.now 0 c.args.pen.now c.args.pass.now l in (
       subst Here (sym c.requires.said.0) (begins clock log c.args.thread c.args.script.now c.args.pen.now c.args.pass.now c.requires.ready history),
       c.requires.said.1,
@@ -28,7 +28,7 @@ next g c = record {
   within = c.loop-done-test.true;
   request_is = c.index-script-done.is;
   same_log = c.call-item.ensures.log;
-  heard = named_heard c.args.team.now.clock.now.layout g.J.LogName.depth g.J.LogName.replicas g.K.ReplicasName.tables c.loop-done.pass.view
+  heard = named_heard c.args.team.now.clock.now.layout g.J.LogName.depth g.J.LogName.replicas g.J.LogName.places g.K.ReplicasName.tables c.loop-done.pass.view
       c.call-item.new.pass.view c.requires.names c.call-item.ensures.heard;
   called = c.call-item.ensures.called;
 }

@@ -1,27 +1,35 @@
-use Rattle.std.proofs.Common.{ℕ, sym, ap, subst, ◌∙◌, arith}
+use Rattle.std.proofs.Common.{ℕ, inr, refl, sym, ap, ◌∙◌, arith}
 use Rattle.std.specs.Prelude.{slice_index}
 use Rattle.vs_types.specs.Depth.{index_at}
-use Rattle.vs_types.specs.Entry.{meaning}
-use Rattle.vs_types.specs.Page.{intersection}
 use Rattle.vs_walk.proofs.Walks.{few_levels}
 use Rattle.vs_plan.specs.Planner.{AwaitsWords}
-use Rattle.vs_plan.specs.Shown.{IsDescended, IsShownIn}
+use Rattle.vs_plan.specs.Shown.{IsDescended}
 use Rattle.vs_plan.proofs.Descending.{shown_on}
-use Rattle.nrvs_plan_c.specs.Kept.{IsWaiting, phase_in, planner_in, rights_at}
-use Rattle.nrvs_plan_c.proofs.Keeping.{address_in}
-use Rattle.nrvs_plan_c.proofs.AllowedBits.{table_rights}
+use Rattle.nrvs_plan_c.specs.Kept.{phase_in, planner_in}
+use Rattle.nrvs_plan_c.proofs.Keeping.{address_in, goes_down}
+use Rattle.nrvs_plan_c.proofs.Shown.{awaits_down, descended_down, frame_within, sound_below}
 use Rattle.nrvs_plan_c.proofs.down.go_down.Goals as goal
 
+pub goes_on_below-requires : goal.goes_on_below-requires
+goes_on_below-requires c = (awaits_down c.args.plan.now c.requires.descent c.requires.sound).some
+
+pub returns-clause-sound : goal.returns-clause-sound
+returns-clause-sound c =
+    let plan = c.args.plan.now in
+    let down = c.if-not-goes_on_below.false in
+    let awaits : AwaitsWords (planner_in plan) = awaits_down plan c.requires.descent c.requires.sound in
+    sound_below plan c.requires.descent _ _ _ _ c.requires.sound (c.goes_on_below.ensures.some down) refl (c.goes_on_below.ensures.below down)
+    (frame_within _ plan.call.phys_bits awaits.request.phys_bits.from c.if-address-plan-ne0.false)
+
 pub returns-clause-shown : goal.returns-clause-shown
-returns-clause-shown g c = λ did memory shown there.
+returns-clause-shown c = λ did memory words shown read there.
     let p = planner_in c.args.plan.now in
-    let descended : IsDescended memory p = subst (λ (n : ℕ). IsShownIn (phase_in n) memory p) c.requires.descent shown in
-    let awaits : AwaitsWords p = subst (λ (n : ℕ). IsWaiting (phase_in n) p) c.requires.descent c.requires.sound.waits in
+    let descended : IsDescended memory p = descended_down c.args.plan.now c.requires.descent memory shown in
+    let awaits : AwaitsWords p = awaits_down c.args.plan.now c.requires.descent c.requires.sound in
     let few = few_levels p.target.depth in
-    shown_on (c.requires.read ∙ ap (slice_index (g.W.FrameWords.words c.args.words.now)) (sym c.index_at.ensures.is)) descended.met descended.way there
-    (c.index_at.ensures.is ∙ ap (index_at c.args.plan.now.way.level) (sym (address_in c.args.plan.now.call)))
-    c.stop_at-plan.ensures.at_most c.stop_at-plan.ensures.alone (omega (arith, few, awaits.few)) (omega (arith, few, awaits.few))
-    awaits.some (ap (meaning c.args.plan.now.way.level) (sym c.new.ensures) ∙ sym c.in-Table.ensures)
-    (c.narrowed-plan.ensures ∙ ap (intersection (rights_at c.args.plan.now.way.allowed))
-    (sym (table_rights c.args.plan.now.way.level c.args.word _ _ (ap (meaning c.args.plan.now.way.level) (sym c.new.ensures) ∙ sym c.in-Table.ensures))))
-    (ap phase_in c.requires.descent)
+    let link = c.if-not-goes_on_below.false in
+    shown_on {stop = c.args.plan.now.way.stop} read descended.met descended.way there
+    (ap (index_at c.args.plan.now.way.level) (sym (address_in c.args.plan.now.call)))
+    (omega arith) (inr (refl, λ low. absurd (omega (arith, low, c.if-level-plan.false)))) (omega (arith, few, awaits.few)) (omega (arith, few, awaits.few))
+    awaits.some (c.is_link.ensures c.if-not-is_link.false c.args.plan.now.way.level (c.goes_on_below.ensures.some link))
+    c.narrowed-plan.ensures (goes_down c.args.plan.now.way.phase c.requires.descent)

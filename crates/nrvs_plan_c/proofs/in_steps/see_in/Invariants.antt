@@ -5,7 +5,7 @@ use Rattle.vs_plan.specs.declared.plan.TheConstants.{MOST_UNLINKED}
 use Rattle.vs_plan.specs.Planner.{frames_given}
 use Rattle.nrvs_plan_c.specs.declared.codes.TheConstants.{ENDED}
 use Rattle.nrvs_plan_c.specs.Direct.{HasFramesWithin}
-use Rattle.nrvs_plan_c.specs.Kept.{IsSound, phase_in, planner_in, target_in}
+use Rattle.nrvs_plan_c.specs.Kept.{IsSound, phase_in, planner_in, shows_left, target_in}
 use Rattle.nrvs_plan_c.specs.Next.{IsNextOf, status_in}
 use Rattle.nrvs_plan_c.proofs.in_steps.see_in.Given as goal
 
@@ -19,4 +19,4 @@ invariant-loop-status l = IsSound l.plan
     × ((memory : Memory) → HasFramesWithin (target_in l.fn.plan.call) memory l.fn.first l.fn.frames → IsNextOf memory l.plan [] l.status)
 
 abbrev pub decreases-loop-status : goal.decreases-loop-status
-decreases-loop-status l = if nat_eq l.status 32 then l.plan.way.level + 1 else 0
+decreases-loop-status l = if nat_eq l.status 32 then shows_left l.plan + 1 else 0

@@ -3,7 +3,7 @@ use Rattle.vs_range.specs.declared.planner.RangeStep.{RangeStep}
 use Rattle.vs_range.specs.Planner.{IsRangeNext}
 use Rattle.nrvs_plan_c.specs.Kept.{request_in, target_in}
 use Rattle.nrvs_plan_c.specs.Range.{range_in}
-use Rattle.nrvs_plan_c.proofs.Keeping.{right_as}
+use Rattle.nrvs_plan_c.proofs.Keeping.{ended_target, right_as}
 use Rattle.nrvs_plan_c.proofs.RangesMoved.{run_as, harvest_as}
 use Rattle.nrvs_plan_c.proofs.run_told.go_on_range.Goals as goal
 
@@ -32,7 +32,7 @@ returns-in-Runs-clause-next c = λ memory offered next. record {
   planned = λ e. absurd (omega (arith, e));
   runs = λ e. (
     c.in-Runs.made,
-    run_as memory c.args.range.now (range_in c.write_run.new.run) (c.requires.target ∙ ap target_in (sym c.write_run.ensures.kept.call))
+    run_as memory c.args.range.now (range_in c.write_run.new.run) (c.requires.target ∙ ap target_in (sym c.write_run.ensures.kept.call) ∙ sym (ended_target c.write_run.new.run.plan c.write_run.ensures.ended))
         (c.requires.request ∙ ap request_in (sym c.write_run.ensures.kept.call)) (c.requires.base ∙ sym c.write_run.ensures.kept.base)
         (c.requires.bytes ∙ sym c.write_run.ensures.kept.bytes) c.in-Runs.made (sym c.write_run.ensures.level)
         (subst (λ (s : RangeStep). IsRangeNext memory c.args.range.now offered s) c.in-Runs.is next),
@@ -53,7 +53,7 @@ returns-in-Harvests-clause-next c = λ memory offered next.
       runs = λ e. absurd (omega (arith, e));
       harvests = λ e. (
         c.in-Harvests.made,
-        harvest_as memory c.args.range.now (range_in c.write_run-in-Harvests.new.run) (c.requires.target ∙ ap target_in (sym wrote.kept.call))
+        harvest_as memory c.args.range.now (range_in c.write_run-in-Harvests.new.run) (c.requires.target ∙ ap target_in (sym wrote.kept.call) ∙ sym (ended_target c.write_run-in-Harvests.new.run.plan wrote.ended))
             (c.requires.request ∙ ap request_in (sym wrote.kept.call)) (c.requires.base ∙ sym wrote.kept.base)
             (c.requires.bytes ∙ sym wrote.kept.bytes) c.in-Harvests.made (sym wrote.level)
             (subst (λ (s : RangeStep). IsRangeNext memory c.args.range.now offered s) c.in-Harvests.is next),

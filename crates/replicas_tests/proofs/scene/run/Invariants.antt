@@ -3,4 +3,4 @@ use Rattle.replicas_tests.proofs.scene.run.Given as goal
 
 -- the log is laid out as the configuration says
 abbrev pub ghosts-run_on_log : goal.ghosts-run_on_log
-ghosts-run_on_log g a = record { depth = a.config.depth; replicas = a.config.replicas; passes = a.config.replicas + a.config.threads }
+ghosts-run_on_log g a = record { depth = a.config.depth; replicas = a.config.replicas; passes = a.config.replicas + a.config.threads; places = 65536 }

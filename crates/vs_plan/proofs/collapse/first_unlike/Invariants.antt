@@ -1,5 +1,5 @@
 use Rattle.std.proofs.Common.{◌≡◌, ◌<◌, ◌≤◌, ℕ, get_or}
-use Rattle.vs_plan.specs.Right.{IsLike}
+use Rattle.vs_plan.specs.Answered.{IsLike}
 use Rattle.vs_plan.proofs.collapse.first_unlike.Given as goal
 
 abbrev pub invariant-loop-index : goal.invariant-loop-index

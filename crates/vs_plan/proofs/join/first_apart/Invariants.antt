@@ -1,5 +1,5 @@
 use Rattle.std.proofs.Common.{◌≡◌, ◌<◌, ◌≤◌, ℕ, get_or}
-use Rattle.vs_plan.specs.Right.{Follows}
+use Rattle.vs_plan.specs.Answered.{Follows}
 use Rattle.vs_plan.proofs.join.first_apart.Given as goal
 
 abbrev pub invariant-loop-index : goal.invariant-loop-index

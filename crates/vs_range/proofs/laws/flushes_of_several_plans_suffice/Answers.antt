@@ -1,6 +1,11 @@
-use Rattle.vs_range.proofs.Several.{several_suffice, several_unreached, several_freed}
-use Rattle.vs_range.proofs.Between.{several_between}
+use Rattle.vs_range.proofs.Several.{lived_suffice, lived_unreached, lived_freed}
+use Rattle.vs_range.proofs.Between.{lived_between}
 use Rattle.vs_range.proofs.laws.flushes_of_several_plans_suffice.Goals as goal
 
 pub returns : goal.returns
-returns c = record { after = several_suffice; unreached = several_unreached; freed = several_freed; between = several_between }
+returns c = record {
+  after = λ target memory now space calls. lived_suffice target memory now space calls;
+  unreached = λ target memory now space calls. lived_unreached target memory now space calls;
+  freed = λ target memory now space calls. lived_freed target memory now space calls;
+  between = lived_between;
+}

@@ -21,6 +21,7 @@ invariant_of-self g c =
     let looked = c.in_err-take.ensures.moved.0 in (
       looked_node _ _ self.pass c.take.new.pass self.replica self.batch.items self.first looked is.0,
       looked_follows _ _ self.pass c.take.new.pass self.replica self.batch.items self.first looked is.0 is.1,
+      is.2,
     )
 
 pub returns-in_err-take-clause-stayed : goal.returns-in_err-take-clause-stayed
@@ -63,7 +64,7 @@ apply_all-requires-clause-room g c =
     let self = c.self.inside in
     let is = c.self.invariant in
     let room = took_room _ _ self.pass c.take.new.pass self.replica self.batch.items self.first c.take.new.entries.items
-    (took_all _ _ self.pass.view c.take.new.pass.view c.take.new.entries.items c.in_ok-take.ensures.taken is.0.owner) is.0 is.1 in
+    (took_all _ _ self.pass.view c.take.new.pass.view c.take.new.entries.items c.in_ok-take.ensures.taken is.0.owner) is.0 is.1 g.J.LogName.places c.has_seen_a_history.ensures.ends is.2 in
     omega (arith, room, ap (λ (l : List LogEntry). length l) c.as_slice.ensures.value)
 
 pub answer-requires-clause-stand : goal.answer-requires-clause-stand
@@ -91,6 +92,7 @@ invariant_of-self-2 g c =
       subst Is (sym c.keep_unplaced.ensures) (took_node _ _ self.pass c.take.new.pass self.replica next self.batch.items self.first entries all is.0),
       took_follows _ _ self.pass c.take.new.pass self.replica next self.batch.items c.keep_unplaced.new.batch.items self.first None entries
           all is.0 is.1 applied,
+      is.2,
     )
 
 pub returns-clause-caught_up : goal.returns-clause-caught_up

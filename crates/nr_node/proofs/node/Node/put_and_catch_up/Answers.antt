@@ -33,6 +33,7 @@ invariant_of-self g c =
     let looked = c.in_err-append_and_take.ensures.refused.0 in (
       looked_node _ _ self.pass c.append_and_take.new.pass self.replica self.batch.items self.first looked is.0,
       looked_follows _ _ self.pass c.append_and_take.new.pass self.replica self.batch.items self.first looked is.0 is.1,
+      is.2,
     )
 
 pub returns-in_err-append_and_take-clause-stayed : goal.returns-in_err-append_and_take-clause-stayed
@@ -53,7 +54,7 @@ apply_all-requires-clause-fit g c =
     let self = c.self.inside in
     let is = c.self.invariant in
     let did = put_and_took _ _ self.pass c.append_and_take.new.pass self.replica self.batch.items self.first _ c.ask_for.new.asked _ _ _ c.self.view_is
-    c.requires.some c.len.ensures.value c.ask_for.ensures.entries c.in_ok-append_and_take.ensures.done c.self.invariant in
+    c.requires.some c.len.ensures.value c.ask_for.ensures.entries c.in_ok-append_and_take.ensures.done (c.self.invariant.0, c.self.invariant.1) in
     let Fit : List LogEntry → Type 0 = λ l. All (IsLogEntry self.replica.depth) l in
     subst Fit (sym c.as_slice.ensures.value) (put_fit _ _ _ _ _ _ _ _ did self.replica.depth is.1.depth_is).0
 
@@ -61,8 +62,8 @@ pub apply_all-requires-clause-room : goal.apply_all-requires-clause-room
 apply_all-requires-clause-room g c =
     let self = c.self.inside in
     let did = put_and_took _ _ self.pass c.append_and_take.new.pass self.replica self.batch.items self.first _ c.ask_for.new.asked _ _ _ c.self.view_is
-    c.requires.some c.len.ensures.value c.ask_for.ensures.entries c.in_ok-append_and_take.ensures.done c.self.invariant in
-    let room = put_room _ _ _ _ _ _ _ _ did in
+    c.requires.some c.len.ensures.value c.ask_for.ensures.entries c.in_ok-append_and_take.ensures.done (c.self.invariant.0, c.self.invariant.1) in
+    let room = put_room _ _ _ _ _ _ _ _ did g.J.LogName.places c.has_seen_a_history.ensures.ends c.self.invariant.2 in
     omega (arith, room, ap (λ (l : List LogEntry). length l) c.as_slice.ensures.value)
 
 pub apply_batch-requires-clause-fit : goal.apply_batch-requires-clause-fit
@@ -70,15 +71,15 @@ apply_batch-requires-clause-fit g c =
     let self = c.self.inside in
     let is = c.self.invariant in
     let did = put_and_took _ _ self.pass c.append_and_take.new.pass self.replica self.batch.items self.first _ c.ask_for.new.asked _ _ _ c.self.view_is
-    c.requires.some c.len.ensures.value c.ask_for.ensures.entries c.in_ok-append_and_take.ensures.done c.self.invariant in
+    c.requires.some c.len.ensures.value c.ask_for.ensures.entries c.in_ok-append_and_take.ensures.done (c.self.invariant.0, c.self.invariant.1) in
     (put_fit _ _ _ _ _ _ _ _ did c.apply_all.new.self.depth (ap (λ (r : ReplicaState). r.depth) c.apply_all.ensures ∙ is.1.depth_is)).1
 
 pub apply_batch-requires-clause-room : goal.apply_batch-requires-clause-room
 apply_batch-requires-clause-room g c =
     let self = c.self.inside in
     let did = put_and_took _ _ self.pass c.append_and_take.new.pass self.replica self.batch.items self.first _ c.ask_for.new.asked _ _ _ c.self.view_is
-    c.requires.some c.len.ensures.value c.ask_for.ensures.entries c.in_ok-append_and_take.ensures.done c.self.invariant in
-    let room = put_room _ _ _ _ _ _ _ _ did in
+    c.requires.some c.len.ensures.value c.ask_for.ensures.entries c.in_ok-append_and_take.ensures.done (c.self.invariant.0, c.self.invariant.1) in
+    let room = put_room _ _ _ _ _ _ _ _ did g.J.LogName.places c.has_seen_a_history.ensures.ends c.self.invariant.2 in
     omega (
       arith,
       room,
@@ -92,16 +93,17 @@ pub invariant_of-self-2 : goal.invariant_of-self-2
 invariant_of-self-2 g c =
     let self = c.self.inside in
     let did = put_and_took _ _ self.pass c.append_and_take.new.pass self.replica self.batch.items self.first _ c.ask_for.new.asked _ _ _ c.self.view_is
-    c.requires.some c.len.ensures.value c.ask_for.ensures.entries c.in_ok-append_and_take.ensures.done c.self.invariant in
+    c.requires.some c.len.ensures.value c.ask_for.ensures.entries c.in_ok-append_and_take.ensures.done (c.self.invariant.0, c.self.invariant.1) in
     let both = both_applied self.replica c.apply_all.new.self c.apply_batch.new.self _ _ _ c.apply_all.ensures c.as_slice.ensures.value
     c.apply_batch.ensures.applied in
-    (put_left _ _ _ _ _ _ _ _ did _ both _ _ self.first c.self.view_is c.requires.unplaced c.clear-2.ensures).1
+    let left = put_left _ _ _ _ _ _ _ _ did _ both _ _ self.first c.self.view_is c.requires.unplaced c.clear-2.ensures in
+    (left.1.0, left.1.1, c.self.invariant.2)
 
 pub returns-clause-caught_up : goal.returns-clause-caught_up
 returns-clause-caught_up g c =
     let self = c.self.inside in
     let did = put_and_took _ _ self.pass c.append_and_take.new.pass self.replica self.batch.items self.first _ c.ask_for.new.asked _ _ _ c.self.view_is
-    c.requires.some c.len.ensures.value c.ask_for.ensures.entries c.in_ok-append_and_take.ensures.done c.self.invariant in
+    c.requires.some c.len.ensures.value c.ask_for.ensures.entries c.in_ok-append_and_take.ensures.done (c.self.invariant.0, c.self.invariant.1) in
     let both = both_applied self.replica c.apply_all.new.self c.apply_batch.new.self _ _ _ c.apply_all.ensures c.as_slice.ensures.value
     c.apply_batch.ensures.applied in
     (put_left _ _ _ _ _ _ _ _ did _ both _ _ self.first c.self.view_is c.requires.unplaced c.clear-2.ensures).0
@@ -116,7 +118,7 @@ returns-clause-own g c =
     let next = c.apply_batch.new.self in
     let later = log_after g.J.LogName.replicas after.view.seen in
     let did = put_and_took _ _ self.pass c.append_and_take.new.pass self.replica self.batch.items self.first _ c.ask_for.new.asked _ _ _ c.self.view_is
-    c.requires.some c.len.ensures.value c.ask_for.ensures.entries c.in_ok-append_and_take.ensures.done c.self.invariant in
+    c.requires.some c.len.ensures.value c.ask_for.ensures.entries c.in_ok-append_and_take.ensures.done (c.self.invariant.0, c.self.invariant.1) in
     let both = both_applied self.replica mid next _ _ _ c.apply_all.ensures c.as_slice.ensures.value c.apply_batch.ensures.applied in
     let Own : Depth → ℕ → List LogEntry → Type 0 = λ d t l.
     IfSome c.apply_batch.new.own (λ update. IsAnsweredIn d t l c.args.wanted update.0 update.1) in
@@ -141,7 +143,7 @@ returns-clause-placed g c =
     let later = log_after g.J.LogName.replicas after.view.seen in
     let batch = self.batch.items in
     let did = put_and_took _ _ self.pass c.append_and_take.new.pass self.replica self.batch.items self.first _ c.ask_for.new.asked _ _ _ c.self.view_is
-    c.requires.some c.len.ensures.value c.ask_for.ensures.entries c.in_ok-append_and_take.ensures.done c.self.invariant in
+    c.requires.some c.len.ensures.value c.ask_for.ensures.entries c.in_ok-append_and_take.ensures.done (c.self.invariant.0, c.self.invariant.1) in
     let both = both_applied self.replica mid next _ _ _ c.apply_all.ensures c.as_slice.ensures.value c.apply_batch.ensures.applied in
     let first : length mid.entries ≡ length later.entries - length batch = omega (
       arith,

@@ -1,8 +1,8 @@
-use Rattle.std.proofs.Common.{◌≡◌, ◌<◌, List, length, ap, sym, subst, ◌∙◌, arith}
+use Rattle.std.proofs.Common.{◌≡◌, ◌<◌, ◌++◌, List, [], ◌∷◌, length, ap, sym, subst, ◌∙◌, arith}
 use Rattle.std.proofs.Math.Seq.{take-length}
 use Rattle.std.proofs.lemmas.List.{length-map}
 use Rattle.vs_types.specs.declared.limits.TheConstants.{LOG_PLACES}
-use Rattle.nr_node.specs.declared.told.Told.{Told}
+use Rattle.nr_node.specs.inside.Told.{Told}
 use Rattle.vs_types.specs.Step.{step}
 use Rattle.vs_space.specs.Table.{IsTableStep}
 use Rattle.vs_types.specs.declared.log_entry.LogEntry.{LogEntry}
@@ -19,7 +19,7 @@ invariant_of-self g c =
     (arith, c.requires.room, ap (λ (r : ReplicaState). length r.entries) c.self.view_is, length-map told (λ (u : Told). u.entry)) in
     let P : List Told → Type 0 = λ l. IsReplica c.apply-answer.new.self l (Rattle.std.specs.Vec.vec_capacity c.push_reserved.new.self) in
     let Steps : LogEntry → Type 0 = λ e. IsTableStep c.self.inside.space e.op c.apply-answer.result c.apply-answer.new.self in
-    subst P (sym c.push_reserved.ensures.items)
+    subst P (sym (c.push_reserved.ensures.items ∙ ap (λ (u : Told). told ++ u ∷ []) c.new.ensures))
     (one_more c.self.inside.space c.apply-answer.new.self told t _ _ c.self.invariant (subst Steps c.entry-op.ensures.is c.apply-answer.ensures) few
     c.push_reserved.ensures.capacity)
 

@@ -14,7 +14,7 @@ read-requires g c =
       (
         c.refresh.ensures.log ∙ ap (λ (k : Known). k.log) c.pass.view_is ∙ c.requires.log,
         (
-          (c.pass.inside.ring, owner_remembers _ _ _ c.pass.inside.replica (Some c.in-Some.replica) c.pass.inside.ring c.refresh.new.pass is c.in-Some.is),
+          (c.pass.inside.ring, owner_remembers _ _ _ _ c.pass.inside.replica (Some c.in-Some.replica) c.pass.inside.ring c.refresh.new.pass is c.in-Some.is),
           (c.refresh.ensures.fresh, c.new-packed.ensures),
         ),
       ),
@@ -23,5 +23,5 @@ read-requires g c =
 pub invariant_of-pass : goal.invariant_of-pass
 invariant_of-pass g c =
     let Is : CellPass View Stored → Type 0 = λ p.
-    Remembers g.J.LogName.depth g.J.LogName.replicas g.J.LogName.passes c.pass.inside.replica c.pass.inside.ring p in
+    Remembers g.J.LogName.depth g.J.LogName.replicas g.J.LogName.passes g.J.LogName.places c.pass.inside.replica c.pass.inside.ring p in
     subst Is (sym c.read.ensures.same) (c.refresh.ensures.known c.pass.inside.replica c.pass.inside.ring c.pass.invariant)

@@ -18,10 +18,10 @@ meet_as-requires g c =
         (
           search rules,
           (
-            copy_forks _ _ _ _ _,
+            copy_forks _ _ _ _ _ _,
             (
-              (λ part. join_merges _ _ _ _ _ _ copy refl),
-              λ value further. meeting_recalls _ _ _ _ _ _ _ _ c.told.inside.inner c.pass.inside.inner copy value c.told.invariant c.pass.invariant
+              (λ part. join_merges _ _ _ _ _ _ _ copy refl),
+              λ value further. meeting_recalls _ _ _ _ _ _ _ _ _ c.told.inside.inner c.pass.inside.inner copy value c.told.invariant c.pass.invariant
                   refl further,
             ),
           ),
@@ -32,12 +32,12 @@ meet_as-requires g c =
 pub invariant_of-told : goal.invariant_of-told
 invariant_of-told g c =
     let same = c.meet_as.ensures.same in
-    met_remembers _ _ _ _ _ c.told.inside.inner c.meet_as.new.told (copy_of c.pass.inside.inner.view) c.told.invariant refl same.2 same.3 c.meet_as.ensures.rule
+    met_remembers _ _ _ _ _ _ c.told.inside.inner c.meet_as.new.told (copy_of c.pass.inside.inner.view) c.told.invariant refl same.2 same.3 c.meet_as.ensures.rule
 
 pub invariant_of-pass : goal.invariant_of-pass
 invariant_of-pass g c =
     let now = c.meet_as.ensures.pass in
-    remembers_still _ _ _ _ _ c.pass.inside.inner c.meet_as.new.pass c.pass.invariant now.3 now.2 now.4
+    remembers_still _ _ _ _ _ _ c.pass.inside.inner c.meet_as.new.pass c.pass.invariant now.3 now.2 now.4
     (ap (λ (l : List ℕ). length l) now.5)
 
 pub returns-clause-met : goal.returns-clause-met

@@ -22,7 +22,7 @@ loop-place-init g c =
     let is = c.requires.known.1 in
     let pass = c.args.pass.now in
     let log = log_after g.J.LogName.replicas pass.view.seen in
-    let head = head_is g.J.LogName.depth g.J.LogName.replicas g.J.LogName.passes (Some c.args.replica) c.requires.known.0 pass is c.head-head.result.now
+    let head = head_is g.J.LogName.depth g.J.LogName.replicas g.J.LogName.passes g.J.LogName.places (Some c.args.replica) c.requires.known.0 pass is c.head-head.result.now
     c.head-head.ensures in
     let all : length log.entries ≤ slice_index c.head-head.result.now 0 = omega (arith, head.tail_is) in
     let fits = history_fits g.J.LogName.depth g.J.LogName.replicas pass.view.seen is.is_history in
@@ -38,12 +38,12 @@ loop-place-init g c =
 pub spot-at-requires : goal.spot-at-requires
 spot-at-requires g c =
     let is = c.requires.known.1 in
-    let low = before_low g.J.LogName.depth g.J.LogName.replicas g.J.LogName.passes (Some c.args.replica) c.requires.known.0 c.args.pass.now
+    let low = before_low g.J.LogName.depth g.J.LogName.replicas g.J.LogName.passes g.J.LogName.places (Some c.args.replica) c.requires.known.0 c.args.pass.now
     is c.loop-place.place in
     omega (arith, c.loop-place.invariant.ring, low, is.few_rings)
 
 -- the entry that is read next
-record IsNext (depth : Depth) (replicas passes : ℕ) (p : CellPass View Stored) (place at : ℕ) : Type 0 where
+record IsNext (depth : Depth) (replicas passes places : ℕ) (p : CellPass View Stored) (place at : ℕ) : Type 0 where
   entry : LogEntry
   there : slice_get (log_after replicas p.view.seen).entries place ≡ Some entry
   fit : IsLogEntry depth entry
@@ -51,13 +51,13 @@ record IsNext (depth : Depth) (replicas passes : ℕ) (p : CellPass View Stored)
   first : CanCountOn replicas at (slice_index (stored_words entry (ring_before p.value.rings place)) 0) p
   second : CanCountOn replicas (at + 1) (slice_index (stored_words entry (ring_before p.value.rings place)) 1) p
 
-next : (depth : Depth) (replicas passes r mine : ℕ) (p : CellPass View Stored) (head : List ℕ) (from place ring at : ℕ)
-    → Remembers depth replicas passes (Some r) mine p → Tells replicas p.value head → from ≡ slice_index head (2 + r) → from < place
-    → place ≤ slice_index head 0 → ring ≡ ring_before p.value.rings place → at ≡ spot ring (place - 1) → IsNext depth replicas passes p (place - 1) at
-next depth replicas passes r mine p head from place ring at is told from_is low high ring_is at_is =
+next : (depth : Depth) (replicas passes places r mine : ℕ) (p : CellPass View Stored) (head : List ℕ) (from place ring at : ℕ)
+    → Remembers depth replicas passes places (Some r) mine p → Tells replicas p.value head → from ≡ slice_index head (2 + r) → from < place
+    → place ≤ slice_index head 0 → ring ≡ ring_before p.value.rings place → at ≡ spot ring (place - 1) → IsNext depth replicas passes places p (place - 1) at
+next depth replicas passes places r mine p head from place ring at is told from_is low high ring_is at_is =
     let log = log_after replicas p.view.seen in
     let before = place - 1 in
-    let are = head_is depth replicas passes (Some r) mine p is head told in
+    let are = head_is depth replicas passes places (Some r) mine p is head told in
     let lt : before < length log.entries = omega (arith, are.tail_is) in
     let it = item_of log.entries before lt in
     let up : place ≡ suc before = omega arith in
@@ -65,9 +65,9 @@ next depth replicas passes r mine p head from place ring at is told from_is low 
     let here : at ≡ spot (slice_index p.value.rings before) before = at_is ∙ ap (λ (n : ℕ). spot n before) its in
     let few : r < 4 = omega (arith, is.few, is.owned_below r refl) in
     let untaken : local_of log r ≤ before = omega (arith, are.locals_are r few, from_is) in
-    let both = counted_on depth replicas passes r mine p is before it.0 untaken it.1 in
+    let both = counted_on depth replicas passes places r mine p is before it.0 untaken it.1 in
     let word : ℕ → ℕ = λ k. slice_index (stored_words it.0 (ring_before p.value.rings before)) k in
-    let small = ring_low depth replicas passes (Some r) mine p is before in
+    let small = ring_low depth replicas passes places (Some r) mine p is before in
     let none : spot (slice_index p.value.rings before) before + 0 ≡ at = omega (arith, here) in
     let one : spot (slice_index p.value.rings before) before + 1 ≡ at + 1 = omega (arith, here) in
     record {
@@ -85,7 +85,7 @@ load-operation-requires g c =
     let is = c.requires.known.1 in
     let l = c.loop-place.invariant in
     let from_is = ap (λ (n : ℕ). slice_index c.head-head.result.now (2 + n)) c.from.ensures in
-    let it = next g.J.LogName.depth replicas g.J.LogName.passes c.args.replica c.requires.known.0 c.args.pass.now c.head-head.result.now
+    let it = next g.J.LogName.depth replicas g.J.LogName.passes g.J.LogName.places c.args.replica c.requires.known.0 c.args.pass.now c.head-head.result.now
     (slice_index c.head-head.result.now (2 + c.from.result)) c.loop-place.place c.loop-place.ring c.spot-at.result is c.head-head.ensures from_is
     c.loop-place-test.true c.loop-place.auto.place l.ring c.spot-at.ensures in
     let Counts : CellPass View Stored → Type 0 = λ p. (word : ℕ) × CanCountOn replicas c.spot-at.result word p in
@@ -110,7 +110,7 @@ load-rest-requires g c =
     let is = c.requires.known.1 in
     let l = c.loop-place.invariant in
     let from_is = ap (λ (n : ℕ). slice_index c.head-head.result.now (2 + n)) c.from.ensures in
-    let it = next g.J.LogName.depth replicas g.J.LogName.passes c.args.replica c.requires.known.0 c.args.pass.now c.head-head.result.now
+    let it = next g.J.LogName.depth replicas g.J.LogName.passes g.J.LogName.places c.args.replica c.requires.known.0 c.args.pass.now c.head-head.result.now
     (slice_index c.head-head.result.now (2 + c.from.result)) c.loop-place.place c.loop-place.ring c.spot-at.result is c.head-head.ensures from_is
     c.loop-place-test.true c.loop-place.auto.place l.ring c.spot-at.ensures in
     let same = c.load-operation.ensures.same ∙ l.same in
@@ -137,7 +137,7 @@ of-requires g c =
     let is = c.requires.known.1 in
     let l = c.loop-place.invariant in
     let from_is = ap (λ (n : ℕ). slice_index c.head-head.result.now (2 + n)) c.from.ensures in
-    let it = next depth replicas g.J.LogName.passes c.args.replica c.requires.known.0 c.args.pass.now c.head-head.result.now
+    let it = next depth replicas g.J.LogName.passes g.J.LogName.places c.args.replica c.requires.known.0 c.args.pass.now c.head-head.result.now
     (slice_index c.head-head.result.now (2 + c.from.result)) c.loop-place.place c.loop-place.ring c.spot-at.result is c.head-head.ensures from_is
     c.loop-place-test.true c.loop-place.auto.place l.ring c.spot-at.ensures in
     let before = ring_before c.args.pass.now.value.rings (c.loop-place.place - 1) in
@@ -161,7 +161,7 @@ push-requires g c =
     let is = c.requires.known.1 in
     let seen = c.args.pass.now.view.seen in
     let log = log_after replicas seen in
-    let are = head_is depth replicas g.J.LogName.passes (Some c.args.replica) c.requires.known.0 c.args.pass.now is c.head-head.result.now
+    let are = head_is depth replicas g.J.LogName.passes g.J.LogName.places (Some c.args.replica) c.requires.known.0 c.args.pass.now is c.head-head.result.now
     c.head-head.ensures in
     let fits = history_fits depth replicas seen is.is_history in
     let low : c.args.replica < 4 = omega (arith, is.few, is.owned_below c.args.replica refl) in
@@ -178,7 +178,7 @@ loop-place-preserved g c =
     let l = c.loop-place.invariant in
     let log = log_after replicas c.args.pass.now.view.seen in
     let from_is = ap (λ (n : ℕ). slice_index c.head-head.result.now (2 + n)) c.from.ensures in
-    let it = next depth replicas g.J.LogName.passes c.args.replica c.requires.known.0 c.args.pass.now c.head-head.result.now
+    let it = next depth replicas g.J.LogName.passes g.J.LogName.places c.args.replica c.requires.known.0 c.args.pass.now c.head-head.result.now
     (slice_index c.head-head.result.now (2 + c.from.result)) c.loop-place.place c.loop-place.ring c.spot-at.result is c.head-head.ensures from_is
     c.loop-place-test.true c.loop-place.auto.place l.ring c.spot-at.ensures in
     let before = ring_before c.args.pass.now.value.rings (c.loop-place.place - 1) in
@@ -207,7 +207,7 @@ returns-clause-read g c =
     let replicas = g.J.LogName.replicas in
     let is = c.requires.known.1 in
     let log = log_after replicas c.args.pass.now.view.seen in
-    let are = head_is depth replicas g.J.LogName.passes (Some c.args.replica) c.requires.known.0 c.args.pass.now is c.head-head.result.now
+    let are = head_is depth replicas g.J.LogName.passes g.J.LogName.places (Some c.args.replica) c.requires.known.0 c.args.pass.now is c.head-head.result.now
     c.head-head.ensures in
     let low : c.args.replica < 4 = omega (arith, is.few, is.owned_below c.args.replica refl) in
     let from_is = ap (λ (n : ℕ). slice_index c.head-head.result.now (2 + n)) c.from.ensures in

@@ -19,7 +19,7 @@ split_pass-pass-requires g c =
         search rules,
         (
           c.requires.first.0 ∙ sym c.self.view_is,
-          (c.requires.rings.1, split_forks _ _ _ _ _ _ _ _ _ (subst P (sym c.requires.first.1) (cut_owned replicas c.args.replica)) shares),
+          (c.requires.rings.1, split_forks _ _ _ _ _ _ _ _ _ _ (subst P (sym c.requires.first.1) (cut_owned replicas c.args.replica)) shares),
         ),
       ),
     )
@@ -31,7 +31,7 @@ new-requires g c =
     let view = given.1 ∙ ap (λ (v : View). offshoot v (take 1 v.owns) 1) c.requires.first.1
     ∙ ap (λ owns. new_view owns 1) (gives_first replicas c.args.replica c.requires.few.1) in (
       omega arith,
-      new_remembers g.J.LogName.depth replicas g.J.LogName.passes c.args.replica c.args.ring c.split_pass-pass.result c.requires.few.0
+      new_remembers g.J.LogName.depth replicas g.J.LogName.passes g.J.LogName.places c.args.replica c.args.ring c.split_pass-pass.result c.requires.few.0
           (omega (arith, c.requires.few.2)) c.requires.few.1 c.requires.rings.2 view (given.2 ∙ c.requires.value) (given.3 ∙ c.requires.rings.0)
           (ap (λ (l : List ℕ). length l) given.4 ∙ length-take-le 32 c.args.first.now.own c.requires.rings.1),
     )

@@ -19,8 +19,8 @@ meet_as-requires g c =
         (
           search rules,
           (
-            owner_forks _ _ _ _ its,
-            ((λ part. gather_merges _ _ _ _ _ own (owner_of its) begins refl), λ words further. existing_recalls _ _ _ _ _ words),
+            owner_forks _ _ _ _ _ its,
+            ((λ part. gather_merges _ _ _ _ _ _ own (owner_of its) begins refl), λ words further. existing_recalls _ _ _ _ _ _ words),
           ),
         ),
       ),

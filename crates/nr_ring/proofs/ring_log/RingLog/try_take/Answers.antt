@@ -17,20 +17,20 @@ use Rattle.nr_ring.proofs.Leads.{advance_coded, advance_leads}
 use Rattle.nr_ring.proofs.ring_log.RingLog.try_take.Goals as goal
 
 pub advanced_code-code-requires-clause-replica : goal.advanced_code-code-requires-clause-replica
-advanced_code-code-requires-clause-replica g c = low_replica _ _ _ c.args.replica c.requires.known.0 c.args.pass.now c.requires.known.1
+advanced_code-code-requires-clause-replica g c = low_replica _ _ _ _ c.args.replica c.requires.known.0 c.args.pass.now c.requires.known.1
 
 pub advanced_code-code-requires-clause-small : goal.advanced_code-code-requires-clause-small
 advanced_code-code-requires-clause-small g c =
     let Is : CellPass View Stored → Type 0 =
-    λ p. Remembers g.J.LogName.depth g.J.LogName.replicas g.J.LogName.passes (Some c.args.replica) c.requires.known.0 p in
+    λ p. Remembers g.J.LogName.depth g.J.LogName.replicas g.J.LogName.passes g.J.LogName.places (Some c.args.replica) c.requires.known.0 p in
     let is = subst Is (sym c.read.ensures.same) c.requires.known.1 in
     let mine = c.requires.known.0 in
     let p = c.read.new.pass in
-    let small = head_small _ _ _ (Some c.args.replica) mine p is c.head-head.result.now c.head-head.ensures in
-    let head = head_is _ _ _ (Some c.args.replica) mine p is c.head-head.result.now c.head-head.ensures in
+    let small = head_small _ _ _ _ (Some c.args.replica) mine p is c.head-head.result.now c.head-head.ensures in
+    let head = head_is _ _ _ _ (Some c.args.replica) mine p is c.head-head.result.now c.head-head.ensures in
     let end = ap (λ (p : CellPass View Stored). tail (log_after g.J.LogName.replicas p.view.seen)) c.read.ensures.same in
     let tail_low = small.tails 0 (omega arith) in
-    let low : c.args.to ≤ 65536 = omega (arith, tail_low, head.tail_is, end, c.requires.to) in
+    let low : c.args.to ≤ 16106127360 = omega (arith, tail_low, head.tail_is, end, c.requires.to) in
     (small, low, low, small.last)
 
 pub exchange-requires : goal.exchange-requires
@@ -38,13 +38,14 @@ exchange-requires g c =
     let depth = g.J.LogName.depth in
     let replicas = g.J.LogName.replicas in
     let passes = g.J.LogName.passes in
+    let places = g.J.LogName.places in
     let r = c.args.replica in
     let to = c.args.to in
     let ring = g.E.Happening.ring in
     let p = c.read.new.pass in
     let mine = c.requires.known.0 in
     let back = sym c.read.ensures.same in
-    let Is : CellPass View Stored → Type 0 = λ p. Remembers depth replicas passes (Some r) mine p in
+    let Is : CellPass View Stored → Type 0 = λ p. Remembers depth replicas passes places (Some r) mine p in
     let May : CellPass View Stored → Type 0 = λ p. MayAdvance (log_after replicas p.view.seen) r to in
     let End : CellPass View Stored → Type 0 = λ p. to ≡ tail (log_after replicas p.view.seen) in
     let is = subst Is back c.requires.known.1 in
@@ -53,12 +54,12 @@ exchange-requires g c =
     let code = c.advanced_code-code.result in
     let event = sym c.requires.event.0 in
     let end : to ≡ slice_index head 0 = subst End back c.requires.to
-    ∙ sym (head_is depth replicas passes (Some r) mine p is head c.head-head.ensures).tail_is in
-    let coded = advance_coded depth replicas passes r mine p is ring head to to code c.head-head.ensures may end c.advanced_code-code.ensures in
-    let leads = advance_leads depth replicas passes r mine p is to may in
-    let stored = advance_stored depth replicas passes (Some r) mine ring p r to is may in
+    ∙ sym (head_is depth replicas passes places (Some r) mine p is head c.head-head.ensures).tail_is in
+    let coded = advance_coded depth replicas passes places r mine p is ring head to to code c.head-head.ensures may end c.advanced_code-code.ensures in
+    let leads = advance_leads depth replicas passes places r mine p is to may in
+    let stored = advance_stored depth replicas passes places (Some r) mine ring p r to is may in
     let Coded : List LogEvent → Type 0 = λ events. code ≡ code_in replicas (stored_after ring p.value events) in
-    let Leads : List LogEvent → Type 0 = λ events. LeadTo depth replicas p.view events in
+    let Leads : List LogEvent → Type 0 = λ events. LeadTo depth replicas places p.view events in
     let Are : List LogEvent → Type 0 = λ events. AreStored replicas ring events p in (
       search rules,
       (
@@ -79,7 +80,7 @@ returns-then-exchange-clause-view g c =
 
 pub returns-then-exchange-clause-known : goal.returns-then-exchange-clause-known
 returns-then-exchange-clause-known g c = λ ring is.
-    let Is : CellPass View Stored → Type 0 = λ p. Remembers g.J.LogName.depth g.J.LogName.replicas g.J.LogName.passes (Some c.args.replica) ring p in
+    let Is : CellPass View Stored → Type 0 = λ p. Remembers g.J.LogName.depth g.J.LogName.replicas g.J.LogName.passes g.J.LogName.places (Some c.args.replica) ring p in
     c.exchange.ensures.known (Some c.args.replica) ring (subst Is (sym c.read.ensures.same) is)
 
 pub returns-clause-view : goal.returns-clause-view
@@ -90,5 +91,5 @@ returns-clause-view g c =
 
 pub returns-clause-known : goal.returns-clause-known
 returns-clause-known g c = λ ring is.
-    let Is : CellPass View Stored → Type 0 = λ p. Remembers g.J.LogName.depth g.J.LogName.replicas g.J.LogName.passes (Some c.args.replica) ring p in
+    let Is : CellPass View Stored → Type 0 = λ p. Remembers g.J.LogName.depth g.J.LogName.replicas g.J.LogName.passes g.J.LogName.places (Some c.args.replica) ring p in
     c.exchange.ensures.known (Some c.args.replica) ring (subst Is (sym c.read.ensures.same) is)

@@ -3,4 +3,4 @@ use Rattle.vs_types.specs.declared.depth.Depth.TheVariants.{Four}
 use Rattle.nrvs_benchmark.proofs.log.command.make_appends.Given as goal
 
 abbrev pub ghosts-append : goal.ghosts-append
-ghosts-append g a = record { depth = Four; replicas = a.threads; passes = a.threads + 1 }
+ghosts-append g a = record { depth = Four; replicas = a.threads; passes = a.threads + 1; places = 65536 }

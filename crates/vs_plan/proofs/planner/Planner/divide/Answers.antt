@@ -9,7 +9,7 @@ use Rattle.vs_plan.specs.declared.plan.Flush.TheVariants as flushes
 use Rattle.vs_plan.specs.declared.plan.Reply.TheVariants as replies
 use Rattle.vs_plan.specs.Bits.{bits_in, page_word}
 use Rattle.vs_plan.specs.Changes.{smaller}
-use Rattle.vs_plan.proofs.Divided.{divided_right, fill_as, frame_few, part_aligned}
+use Rattle.vs_plan.proofs.Divided.{fill_as, frame_few, parts_right, part_aligned}
 use Rattle.vs_plan.proofs.Parts.{only_store}
 use Rattle.vs_plan.proofs.planner.Planner.divide.Goals as goal
 
@@ -40,11 +40,11 @@ returns-clause-next c = λ memory divided spare space premise.
     c.page_word.ensures.written
     ∙ ap (λ (z : Size). page_word (record { base = c.args.base; size = z; rights = own; phys = phys }) c.bits_in-bits.result) small
     ∙ ap (page_word (record { base = c.args.base; size = smaller (size_at p.level); rights = own; phys = phys })) bits in
-    divided_right divided c.requires.awaits.request premise c.requires.request says c.requires.in_range spare.spare
+    parts_right divided c.requires.awaits.request premise c.requires.request says c.requires.in_range spare.spare
     (ap (meaning p.level) (sym c.table.ensures.written) ∙ c.table.ensures.read_back p.level divided.large)
     (c.nothing-plan.ensures.reply_is ∙ ap (λ r. replies.Answer (answers.Changed r)) c.intersection.ensures)
     (c.nothing-plan.ensures.bits_are ∙ bits)
-    (fill_as number 0 0 first (c.bytes.ensures ∙ ap bytes_of small))
+    (fill_as number c.args.gap c.args.gap_count first (c.bytes.ensures ∙ ap bytes_of small))
     (c.push.ensures.items ∙ only_store c.nothing-plan.result.stores.items c.nothing-plan.ensures.stores p.number word c.index_at.ensures.is
     (c.word.ensures ∙ c.table.ensures.written))
     (ap (flushes.Range c.args.base) c.at_level-size.ensures) c.nothing-plan.ensures.unlinked

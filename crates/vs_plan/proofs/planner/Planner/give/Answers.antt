@@ -37,8 +37,8 @@ grow_on-requires-clause-awaits c = waits_growth c.args.self.now c.requires c.in-
 pub divide-requires-clause-awaits : goal.divide-requires-clause-awaits
 divide-requires-clause-awaits c = waits_division c.args.self.now c.requires (subst Divides (sym c.in-Split.is) tt)
 
-pub divide_part-requires-clause-awaits : goal.divide_part-requires-clause-awaits
-divide_part-requires-clause-awaits c = waits_division c.args.self.now c.requires (subst Divides (sym c.in-UnmapPart.is) tt)
+pub divide-requires-in-UnmapPart-clause-awaits : goal.divide-requires-in-UnmapPart-clause-awaits
+divide-requires-in-UnmapPart-clause-awaits c = waits_division c.args.self.now c.requires (subst Divides (sym c.in-UnmapPart.is) tt)
 
 pub returns-in-Map-clause-next : goal.returns-in-Map-clause-next
 returns-in-Map-clause-next c = λ memory shown spare.
@@ -60,5 +60,5 @@ returns-in-UnmapPart-clause-next c = λ memory shown spare.
     let p = c.args.self.now in
     let awaits = waits_division p c.requires (subst Divides (sym c.in-UnmapPart.is) tt) in
     let spare_for : IsSpareFor memory p c.in-Some.number = subst (λ (o : Option ℕ). IfSome o (λ number. IsSpareFor memory p number)) c.in-Some.is spare in
-    subst (λ (o : Option ℕ). IsNext memory c.divide_part.new.self (o ∷ []) c.divide_part.result) (sym c.in-Some.is)
-    (c.divide_part.ensures.next memory (divided_shown p awaits shown) spare_for)
+    subst (λ (o : Option ℕ). IsNext memory c.divide-in-UnmapPart.new.self (o ∷ []) c.divide-in-UnmapPart.result) (sym c.in-Some.is)
+    (c.divide-in-UnmapPart.ensures.next memory (divided_shown p awaits shown) spare_for)

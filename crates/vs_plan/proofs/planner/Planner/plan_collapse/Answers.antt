@@ -5,7 +5,7 @@ use Rattle.vs_types.specs.declared.page.Size.{Size}
 use Rattle.vs_plan.specs.declared.plan.Flush.TheVariants as flushes
 use Rattle.vs_plan.specs.Bits.{bits_in, flagged, page_word}
 use Rattle.vs_plan.specs.Changes.{larger, not_over}
-use Rattle.vs_plan.specs.Right.{IsLike}
+use Rattle.vs_plan.specs.Answered.{IsLike}
 use Rattle.vs_plan.specs.inside.Ended.{IsFirstUnlike}
 use Rattle.vs_plan.proofs.Collapsing.{refused_right, less_right, pinned_right, unlike_right, collapse_right}
 use Rattle.vs_plan.proofs.Asking.{read_leaf, inside_right}

@@ -4,7 +4,7 @@ use Rattle.vs_plan.specs.declared.plan.Flush.TheVariants as flushes
 use Rattle.vs_plan.specs.declared.plan.Store.{Store}
 use Rattle.vs_plan.specs.Bits.{bits_in}
 use Rattle.vs_plan.specs.Changes.{larger, not_first}
-use Rattle.vs_plan.specs.Right.{Follows}
+use Rattle.vs_plan.specs.Answered.{Follows}
 use Rattle.vs_plan.specs.inside.Ended.{IsFirstApart}
 use Rattle.vs_plan.proofs.Joining.{first_right, pinned_right, apart_right, join_right}
 use Rattle.vs_plan.proofs.Asking.{read_leaf, inside_right}

@@ -1,0 +1,25 @@
+//! Refused growths of memory: the run of four lines, each of whose growths `tests/programs` refuses in turn. Where the growth that is
+//! refused is that of starting a thread, there is no thread.
+use crate::serve::scene::{TURNS, verified};
+use crate::serve::scripts::{map_a, resolve_a, unmap_a};
+use nr_serve::{AlwaysGo, Said};
+use std::test::Fail;
+use vs_types::{Answer, Rights, Size};
+
+#[test]
+fn whole_run(rt: HostRuntime) -> Result<(), Fail> {
+    let alloc = rt.alloc();
+    let script = vec![in alloc; map_a(&rt), resolve_a(&rt), unmap_a(&rt), resolve_a(&rt)]?;
+    let shown = verified(&rt, alloc, 1, vec![in alloc; script]?, TURNS, &AlwaysGo)?;
+    shown.assert_said(
+        &rt,
+        0,
+        &[
+            Said::Answer(0, Answer::Done),
+            Said::Answer(1, Answer::Mapped(0x1123, Size::K4, Rights::ALL)),
+            Said::Answer(1, Answer::Removed(0x1000, Size::K4, Rights::ALL)),
+            Said::Answer(2, Answer::NotMapped),
+        ],
+    );
+    Ok(())
+}

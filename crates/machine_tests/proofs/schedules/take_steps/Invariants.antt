@@ -1,5 +1,0 @@
-use Rattle.nr_machine.specs.Sound.{IsSound}
-use Rattle.machine_tests.proofs.schedules.take_steps.Given as goal
-
-abbrev pub invariant-steps : goal.invariant-steps
-invariant-steps l = IsSound l.node
