@@ -1,7 +1,7 @@
 """The evidence of a verdict, as `nrvs explain --json` has it: its sentence of what is wrong, the facts that show it, and what of the
 run is marked.
 
-One function for each fault, over the names of docs/FORMATS.md, "What shows a fault". Nothing is sought here and nothing is judged.
+One function for each fault, over the names of docs/man/nrvs-explain.1.md, "JSON". Nothing is sought here and nothing is judged.
 """
 import dataclasses
 import json
