@@ -103,7 +103,8 @@
  *     shares tables with it, begins before that, whichever its address is, but by the holder of the lock. The law of a flush is of
  *     processors that keep nothing but what walks of the memory find now [IsUpToDate, in Suffices]. One flush that is left out voids it
  *     for every later plan. Several plans may go before one flush that drops all that theirs drop, where none writes into a frame that
- *     one before it has unlinked: such a frame is free only after that flush [flushes_of_several_plans_suffice, of vs_range];
+ *     one before it has unlinked: such a frame is free only after that flush [flushes_of_several_plans_suffice, of vs_range]. The law
+ *     takes the parts of that flush one right after another: of reads between two of them nothing is proved;
  *   - from the root on, each canonical address is translated with no frame that is missing and no reserved bit, and each page that is there
  *     lies below physical 2^51. That is asked of the whole address space: one such word anywhere, and nothing is said of any plan
  *     [IsPremise: translates, is_space];
