@@ -103,8 +103,9 @@
  *     shares tables with it, begins before that, whichever its address is, but by the holder of the lock. The law of a flush is of
  *     processors that keep nothing but what walks of the memory find now [IsUpToDate, in Suffices]. One flush that is left out voids it
  *     for every later plan. Several plans may go before one flush that drops all that theirs drop, where none writes into a frame that
- *     one before it has unlinked: such a frame is free only after that flush [flushes_of_several_plans_suffice, of vs_range]. The law
- *     takes the parts of that flush one right after another: of reads between two of them nothing is proved;
+ *     one before it has unlinked: such a frame is free only after that flush [flushes_of_several_plans_suffice, of vs_range]. A processor
+ *     may read between the parts of that flush, if their order is right: the first drops what is kept of tables too, as each invlpg does;
+ *     or they are the plans' own, in their order [the law flushes_come_in_order]. No plan begins before the last part is done;
  *   - from the root on, each canonical address is translated with no frame that is missing and no reserved bit, and each page that is there
  *     lies below physical 2^51. That is asked of the whole address space: one such word anywhere, and nothing is said of any plan
  *     [IsPremise: translates, is_space];
@@ -388,10 +389,12 @@ uint32_t nrvs_plan_again(struct nrvs_plan *plan, uint64_t index, uint64_t found)
  *     ended, unlinked, of IsRunRight];
  *   - each store finds the word that was shown, but for flags that were set since [found]; each address is walked as before up to one of
  *     the stores at most, and from that one on as after them all [switches]: so a processor never finds a page that is half changed;
- *   - a processor that was up to date before the run is so again after it and the flush of each of its pages, or none [flushed, suffices;
- *     forgets]. Runs and plans may follow one another before one flush that drops all that theirs drop, whatever flags processors set
- *     meanwhile; an access that is made meanwhile finds what a walk finds before the first or after one of them [the law
- *     flushes_of_several_plans_suffice: after, between];
+ *   - it is of the table to which the way of the base leads, from the entry for the base on, of pages of that table's level, and its words
+ *     change as was asked [IsRunOf];
+ *   - a processor that was up to date before the run is so again after it and the flush of each of its pages, or none, in any order, whatever
+ *     it reads meanwhile [flushed, suffices; forgets]. Runs and plans may follow one another before one flush that drops all that theirs
+ *     drop, whatever flags processors set meanwhile; an access that is made meanwhile finds what a walk finds before the first or after one
+ *     of them [the law flushes_of_several_plans_suffice: read, between, flushing];
  *   - a harvest finds present entries of pages, clears their flags 5 and 6 and nothing else, and its flush drops what is kept of its pages,
  *     so that a processor sets the flags again [IsHarvestNext: cleared, found, dropped].
  *
@@ -419,15 +422,17 @@ enum {
 	 * of a harvest what nrvs_plan_ask answers of a page that begins before the base [planned] */
 	NRVS_RUN = 34,     /* a run of pages from the base on [runs] */
 	NRVS_HARVEST = 35, /* the same, whose exchanges find flags and clear them [harvests] */
-	NRVS_ABSENT = 36,  /* no page has any of the first `covered` bytes, of which there are some; nothing is to be done [absent] */
+	NRVS_ABSENT = 36,  /* no page has any of the first `covered` bytes, of which there are some; nothing is to be done. They end with an
+			    * entry, and the table ends there or its next entry is present. Never by a map [absent] */
 	NRVS_ENDS_BEYOND = 37 /* the page that begins at the base has this `size` and ends beyond the range; nothing is to be done, and none is
-			    * split [beyond] */
+			    * split. Never by a map [beyond] */
 };
 
 /* Begins a range of so many bytes: NRVS_SEE, or what nrvs_plan_map of its first page, nrvs_plan_unmap, nrvs_plan_protect and nrvs_plan_ask
  * of its base are refused for; the struct is then as it was [status, begun, refused]. By a map the pages follow one another physically
  * too. It is refused with NRVS_UNALIGNED before all else where `bytes` are 0, or no multiple of a `size` that there is: so it never goes
- * beyond its range [status: map_range_status]. An unmap, a protect and a harvest take pages of all sizes; a run has those of one.
+ * beyond its range [status: map_range_status]. Then each range is refused with NRVS_NOT_CANONICAL that goes beyond the last address, where
+ * base + bytes is more than 2^64 [range_status]. An unmap, a protect and a harvest take pages of all sizes; a run has those of one.
  */
 uint32_t nrvs_plan_map_range(struct nrvs_run *run, const struct nrvs_target *target, uint64_t base, uint32_t size, uint64_t physical,
 			     uint32_t rights, uint64_t bits, uint64_t bytes);
@@ -440,7 +445,7 @@ uint32_t nrvs_plan_harvest_range(struct nrvs_run *run, const struct nrvs_target 
  */
 uint32_t nrvs_run_see(struct nrvs_run *run, const uint64_t words[512]);
 
-/* As nrvs_plan_give and nrvs_plan_give_none [next, given]. NRVS_NOT_ASKED where no frame is waited for [asked]. */
+/* As nrvs_plan_give and nrvs_plan_give_none [next, given, fewer]. NRVS_NOT_ASKED where no frame is waited for [asked]. */
 uint32_t nrvs_run_give(struct nrvs_run *run, uint64_t frame);
 uint32_t nrvs_run_give_none(struct nrvs_run *run);
 

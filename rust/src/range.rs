@@ -136,7 +136,8 @@ impl RangePlanner {
     ///
     /// # Errors
     ///
-    /// What is wrong with the target or the first page. Before that, of a map, `Unaligned`: the bytes are 0, or no multiple of the page's size.
+    /// What is wrong with the target or the first page. Before that `NotCanonical`: the bytes go beyond the last address. And of a map, first of
+    /// all, `Unaligned`: the bytes are 0, or no multiple of the page's size.
     pub fn begin(
         &mut self,
         target: &Target,

@@ -170,6 +170,13 @@ fn ranges_that_are_refused() {
     assert_eq!(refused(of(1)), BadPlan::Request(BadRequest::Unaligned));
     let beyond = of(0).behind((1 << 46) - (1 << 30));
     assert_eq!(refused(beyond), BadPlan::Request(BadRequest::PhysRange));
+    // the last page of all, and one that would follow on from it
+    let last = RangeRequest::Unmap {
+        base: 0xffff_ffff_ffff_f000,
+    };
+    assert!(RangePlanner::new().begin(&target, last, 4096).is_ok());
+    let beyond = RangePlanner::new().begin(&target, last, 8192).unwrap_err();
+    assert_eq!(beyond, BadPlan::Request(BadRequest::NotCanonical));
     // a map of no whole pages
     for bytes in [0, 1, 4097] {
         let bad = RangePlanner::new()

@@ -261,15 +261,37 @@ static void free_unlinked(const struct nrvs_plan *plan, const struct request *r)
 	}
 }
 
-/* After the flushes of all plans that wait: what is kept is what is there, and the unlinked frames are free. */
+/* Between two flushes a processor reads on, from the root and from tables that it keeps, which may be unlinked. */
+static void reads_on(void)
+{
+	unsigned i;
+	for (i = 0; i < 4 && kept.link_count; i++) {
+		const uint64_t at = draw(&seed, kept.link_count);
+		const struct link link = kept.links[at];
+		kept.links[at] = kept.links[0];
+		kept.links[0] = link;
+		keep_walk(&kept, &memory, target.levels, target.root, link.base + (draw(&seed, 512) << 12));
+	}
+}
+
+/* After the flushes of all plans that wait, in their order: what is kept is what is there, and the unlinked frames are free. */
 static void flush_and_free(void)
 {
 	unsigned i, k;
 	for (k = 0; k < waiting_count; k++) {
 		const struct nrvs_plan *plan = &waiting[k].plan;
+		const unsigned links = kept.link_count;
+		struct kept before = kept;
 		if (PLANT != 16 || k + 1 == waiting_count) /* planted: the flush of the last alone */
 			forget(&kept, plan->flush, plan->flush_base, plan->flush_size);
+		if (PLANT == 18) { /* planted: what is kept of tables is dropped behind all else */
+			memcpy(kept.links, before.links, sizeof before.links);
+			kept.link_count = links;
+		}
+		reads_on();
 	}
+	if (PLANT == 18)
+		kept.link_count = 0;
 	for (k = 0; k < waiting_count; k++) {
 		CHECK(agrees(&kept, &memory, target.levels, target.root, waiting[k].request.address));
 		for (i = 1; i < PROBES; i++)

@@ -1,7 +1,8 @@
 /* Drawn ranges. Each is carried out run by run, word by word, in a memory whose frames lie anywhere; each page's change is what a plain
  * list of pages answers to a call for that page alone. Before each word a processor walks at drawn addresses, sets flags, and keeps what it
- * found. The flushes come after one range or after several, with those of splits, unmaps of parts and collapses between them: then nothing
- * that is kept leads elsewhere than the memory, and the frames that were unlinked are free.
+ * found. The flushes come after one range or after several, with those of splits, unmaps of parts and collapses between them, in the order of
+ * what they are of; and between two of them the processor goes on. Then nothing that is kept leads elsewhere than the memory, and the frames
+ * that were unlinked are free.
  */
 #include "calls.h"
 #include "kept.h"
@@ -23,7 +24,7 @@ static struct space space;
 static struct kept kept;
 static struct nrvs_target target;
 static uint64_t seed;
-static unsigned pages, runs, plans, refused, flagged, found_flags, absent, beyond, unlinked, batches, parts;
+static unsigned pages, runs, plans, refused, flagged, found_flags, absent, beyond, unlinked, batches, parts, late;
 
 /* What was carried out and waits for its flush: of so many pages, or of a plan. */
 static struct {
@@ -92,7 +93,7 @@ static void flush_one(unsigned k)
 	uint64_t i, count = PLANT == 23 && waiting[k].count ? 1 : waiting[k].count; /* planted: of the first page alone */
 	if (PLANT == 26 && k + 1 != waiting_count) /* planted: the last flush alone */
 		return;
-	for (i = 0; i < count; i++)
+	for (i = 0; i < count; i++, goes_on(waiting[k].base))
 		forget(&kept, waiting[k].flush, waiting[k].base + i * BYTES[waiting[k].size], waiting[k].size);
 	if (!waiting[k].count)
 		forget(&kept, plan->flush, plan->flush_base, plan->flush_size);
@@ -112,8 +113,10 @@ static void free_unlinked(const struct nrvs_plan *plan)
 static void flush_all(void)
 {
 	unsigned i, k;
-	for (k = 0; k < waiting_count; k++)
+	for (k = 0; k < waiting_count; k++) {
 		flush_one(k);
+		goes_on(waiting[k].count ? waiting[k].base : waiting[k].plan.flush_base);
+	}
 	for (k = 0; k < waiting_count; k++) {
 		const uint64_t bytes = BYTES[waiting[k].size];
 		for (i = 0; i < 4; i++)
@@ -312,6 +315,18 @@ static void check_absent(const struct nrvs_run *run, uint64_t base)
 	absent++;
 }
 
+/* A plan for a page alone changes it only where a map links a table, or an unmap unlinks one; and the page lies in the range. A page that
+ * begins there is harvested, and not only looked at.
+ */
+static void check_alone(const struct nrvs_plan *plan, struct request r, const struct page *page, uint64_t bytes)
+{
+	CHECK(r.kind != ASKS || !page || page->base != r.address);
+	if (!plan->store_count)
+		return;
+	CHECK((r.kind == MAPS && plan->store_count > 1) || (r.kind == UNMAPS && plan->unlinked_count));
+	CHECK(r.kind == MAPS || (page && BYTES[page->size] <= bytes));
+}
+
 /* One step of a range: how many bytes come after it, or 0 where it ends. */
 static uint64_t one_step(struct request r, uint64_t bytes)
 {
@@ -322,22 +337,27 @@ static uint64_t one_step(struct request r, uint64_t bytes)
 	uint32_t step;
 	take_stock(&stock);
 	step = begin_range(&run, r, bytes);
-	if (step != NRVS_SEE) { /* the page lies beyond the physical addresses, or isn't canonical */
+	if (step != NRVS_SEE) { /* the page lies beyond the physical addresses, or isn't canonical; or the range goes beyond the last address */
 		CHECK((r.kind == MAPS && step == NRVS_PHYS_RANGE) || step == NRVS_NOT_CANONICAL);
+		late += r.address && bytes > 0 - r.address;
 		bytes = 0;
 	}
+	CHECK(!bytes || !r.address || bytes <= 0 - r.address);
 	step = step == NRVS_SEE ? drive_range(&run, step, &stock) : step;
-	if (step == NRVS_PLANNED)
+	if (step == NRVS_PLANNED) {
+		check_alone(&run.plan, r, page, bytes);
 		return planned(&run.plan, r, &stock);
+	}
 	while (stock.count > 0)
 		memory_free(&memory, stock.frames[--stock.count]);
 	if (bytes == 0)
 		return 0;
 	if (step == NRVS_ENDS_BEYOND) {
-		CHECK(page && page->base == r.address && page->size == run.size && bytes < BYTES[page->size]);
+		CHECK(r.kind != MAPS && page && page->base == r.address && page->size == run.size && bytes < BYTES[page->size]);
 		beyond++;
 		return 0;
 	}
+	CHECK(step != NRVS_ABSENT || r.kind != MAPS);
 	if (step == NRVS_ABSENT) {
 		check_absent(&run, r.address);
 		return run.covered;
@@ -360,6 +380,8 @@ static struct request any_request(uint64_t *bytes)
 	if (draw(&seed, 32) == 0 && r.kind == MAPS) /* near the end of the physical addresses */
 		r.physical = (UINT64_C(1) << (target.phys_bits > 51 ? 51 : target.phys_bits)) - (1 + draw(&seed, 4)) * size;
 	r.bits = r.kind == MAPS ? draw(&seed, 4) << 9 : 0;
+	if (draw(&seed, 64) == 0) /* near the last address */
+		r.address = 0 - (1 + draw(&seed, 16)) * size;
 	*bytes = r.kind == MAPS && r.size ? (1 + draw(&seed, 3)) * size : (1 + draw(&seed, draw(&seed, 3) ? 24 : 1100)) << 12;
 	return r;
 }
@@ -435,6 +457,6 @@ int main(int count, char **words)
 	printf("%u pages in %u runs, %u plans, %u ranges cut off, %u gaps, %u pages that end beyond\n", pages, runs, plans, refused, absent,
 	       beyond);
 	printf("%u flags met, %u harvested, %u tables unlinked, %u flushes of several\n", flagged, found_flags, unlinked, batches);
-	CHECK(runs && plans && refused && absent && beyond && flagged && found_flags && unlinked && batches && parts);
+	CHECK(runs && plans && refused && absent && beyond && flagged && found_flags && unlinked && batches && parts && late);
 	return counts();
 }

@@ -8,7 +8,7 @@ use Rattle.vs_plan.specs.declared.target.Target.{Target}
 use Rattle.vs_plan.specs.Premise.{IsPremise}
 use Rattle.vs_range.specs.declared.planner.RangePlanner.{RangePlanner}
 use Rattle.vs_range.specs.declared.run.Run.{Run}
-use Rattle.vs_range.specs.Planner.{IsRunNext, IsHarvestNext, IsAbsentFor, EndsBeyond}
+use Rattle.vs_range.specs.Planner.{IsMap, IsRunNext, IsHarvestNext, IsAbsentFor, EndsBeyond}
 
 abbrev moved : RangePlanner → Target → Request → ℕ → ℕ → ℕ → RangePlanner
 moved r target request level base bytes =
@@ -26,21 +26,64 @@ module _ (memory : Memory) (r s : RangePlanner) (target : r.planner.target ≡ s
   pub run_as : (made : Run) → r.planner.level ≡ s.planner.level → IsRunNext memory r made → IsRunNext memory s made
   run_as made level is =
       let at = subst (λ (x : RangePlanner). IsRunNext memory x made) (between s.planner.level level) is in
-      record { some = at.some; within = at.within; longest = at.longest; forgets = at.forgets; right = at.right }
+      record {
+        of_table = record {
+          rights = at.of_table.rights;
+          way = at.of_table.way;
+          level = at.of_table.level;
+          index = at.of_table.index;
+          aligned = at.of_table.aligned;
+          change = at.of_table.change;
+        };
+        some = at.some;
+        within = at.within;
+        longest = at.longest;
+        forgets = at.forgets;
+        right = at.right;
+      }
 
   pub harvest_as : (made : Run) → r.planner.level ≡ s.planner.level → IsHarvestNext memory r made → IsHarvestNext memory s made
   harvest_as made level is =
       let at = subst (λ (x : RangePlanner). IsHarvestNext memory x made) (between s.planner.level level) is in
-      record { some = at.some; within = at.within; longest = at.longest; forgets = at.forgets; found = at.found; cleared = at.cleared; dropped = at.dropped }
+      record {
+        kind = at.kind;
+        of_table = record {
+          rights = at.of_table.rights;
+          way = at.of_table.way;
+          level = at.of_table.level;
+          index = at.of_table.index;
+          aligned = at.of_table.aligned;
+          change = at.of_table.change;
+        };
+        pages = at.pages;
+        some = at.some;
+        within = at.within;
+        longest = at.longest;
+        forgets = at.forgets;
+        found = at.found;
+        cleared = at.cleared;
+        dropped = at.dropped;
+      }
 
   pub absent_as : (gap : ℕ) → IsAbsentFor memory r gap → IsAbsentFor memory s gap
   absent_as gap is =
       let at = subst (λ (x : RangePlanner). IsAbsentFor memory x gap) (between r.planner.level (λ i. r.planner.level)) is in
-      record { some = at.some; nothing = at.nothing }
+      record {
+        kind = at.kind;
+        some = at.some;
+        nothing = at.nothing;
+        level = at.level;
+        number = at.number;
+        rights = at.rights;
+        way = at.way;
+        gap = at.gap;
+        whole = at.whole;
+        longest = at.longest;
+      }
 
   abbrev Beyond : RangePlanner → Size → Type 0
-  Beyond x size = (space : Space) → IsPremise x.planner.target.depth memory x.planner.target.root x.base space
-      → EndsBeyond space x.base x.bytes size
+  Beyond x size = (IsMap x.planner.request → ⊥) × ((space : Space)
+      → IsPremise x.planner.target.depth memory x.planner.target.root x.base space → EndsBeyond space x.base x.bytes size)
 
   pub beyond_as : (size : Size) → Beyond r size → Beyond s size
   beyond_as size is =

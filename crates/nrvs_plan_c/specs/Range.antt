@@ -5,6 +5,7 @@ use Rattle.vs_types.specs.Codes.{size_code}
 use Rattle.vs_types.specs.Page.{bytes_of}
 use Rattle.vs_types.specs.Space.{Space}
 use Rattle.vs_types.specs.declared.page.Rights.{Rights}
+use Rattle.vs_types.specs.declared.page.Size.{Size}
 use Rattle.vs_walk.specs.Memory.{Memory}
 use Rattle.vs_plan.specs.declared.plan.TheConstants.{MOST_UNLINKED}
 use Rattle.vs_plan.specs.declared.request.Request.{Request}
@@ -17,7 +18,7 @@ use Rattle.vs_range.specs.declared.planner.RangePlanner.{RangePlanner}
 use Rattle.vs_range.specs.declared.run.Forget.{Forget}
 use Rattle.vs_range.specs.declared.run.Forget.TheVariants.{Nothing, Pages}
 use Rattle.vs_range.specs.declared.run.Run as ranged
-use Rattle.vs_range.specs.Planner.{are_pages, IsRanged, IsRunNext, IsHarvestNext, IsAbsentFor, EndsBeyond, range_sees}
+use Rattle.vs_range.specs.Planner.{are_pages, IsMap, IsRanged, IsRunNext, IsHarvestNext, IsAbsentFor, EndsBeyond, range_sees}
 use Rattle.vs_range.specs.Run.{word_after}
 use Rattle.nrvs_plan_c.specs.declared.codes.TheConstants.{ENDED}
 use Rattle.nrvs_plan_c.specs.declared.kept.Target as targets
@@ -30,12 +31,16 @@ use Rattle.nrvs_plan_c.specs.Status.{begun_status, target_status}
 abbrev pub are_whole : ℕ → ℕ → Bool
 are_whole size bytes = nat_lt 2 size || are_pages (size_in size) bytes
 
--- the status of a map over so many bytes as it begins: 11 where they are no whole pages, else that of the map of its first page
+-- the status of a range as it begins: 10 where it goes beyond the last address, else that of the call on its first page
+abbrev pub range_status : ℕ → ℕ → ℕ → ℕ
+range_status base bytes status = if nat_lt (2 ^ 64) (base + bytes) then 10 else status
+
+-- the status of a map over so many bytes as it begins: 11 where they are no whole pages, else that of the range
 abbrev pub map_range_status : targets.Target → ℕ → ℕ → ℕ → ℕ → ℕ → ℕ → ℕ
 map_range_status target base size physical rights bits bytes =
-    if are_whole size bytes then target_status target.levels target.phys_bits
+    if are_whole size bytes then range_status base bytes (target_status target.levels target.phys_bits
     (if nat_lt 2 size then 6 else if nat_lt 7 rights then 7
-    else begun_status (request_fault (target_of target) (Map (page_in base size physical rights) bits)))
+    else begun_status (request_fault (target_of target) (Map (page_in base size physical rights) bits))))
     else 11
 
 -- the planner of the range
@@ -60,6 +65,8 @@ pub record HasBegunRange (target : Target) (request : Request) (bytes : ℕ) (ru
   pub of_target : target_in run.plan.call ≡ target
   pub of_request : request_in run.plan.call ≡ request
   pub of_bytes : run.bytes ≡ bytes
+  pub ends : run.base + run.bytes ≤ 2 ^ 64
+  pub together : run.own ≡ 0
   pub shown : (memory : Memory) → IsShown memory (planner_in run.plan)
 
 -- what is asked is kept
@@ -105,6 +112,6 @@ pub record IsRangeNextOf (memory : Memory) (run : Run) (offered : List (Option �
   pub runs : status ≡ 34 → (made : ranged.Run) × IsRunNext memory (range_in run) made × IsRunTold run made
   pub harvests : status ≡ 35 → (made : ranged.Run) × IsHarvestNext memory (range_in run) made × IsRunTold run made
   pub absent : status ≡ 36 → IsAbsentFor memory (range_in run) run.covered
-  pub beyond : status ≡ 37 → (space : Space)
+  pub beyond : status ≡ 37 → (size : Size) × (run.size ≡ size_code size) × ((IsMap (request_in run.plan.call) → ⊥) × ((space : Space)
       → IsPremise (target_in run.plan.call).depth memory (target_in run.plan.call).root run.base space
-      → EndsBeyond space run.base run.bytes (size_in run.size)
+      → EndsBeyond space run.base run.bytes size))

@@ -1,7 +1,8 @@
 //! Ranges of pages for C: runs of words, one table after another.
-ghost use Rattle.std.specs.Prelude.{◌≡◌, ◌≢◌, ◌↔◌, ◌<◌, ◌≤◌, ◌⊎◌, [], ◌∷◌, ◌++◌, ℕ, Some, None, IfSome, IsFalse, nat_lt, slice_index, if◌then◌else◌};
+ghost use Rattle.std.specs.Prelude.{◌≡◌, ◌≢◌, ◌↔◌, ◌+◌, ◌-◌, ◌^◌, ◌<◌, ◌≤◌, [], ◌∷◌, ◌++◌, ℕ, Some, None, IsFalse, nat_lt, slice_index, if◌then◌else◌};
 ghost use Rattle.std.specs.FinMap as finite;
 ghost use Rattle.vs_types.specs.declared.frame.TheConstants.{FRAME_WORDS};
+ghost use Rattle.vs_types.specs.Depth.{index_at};
 ghost use Rattle.vs_walk.specs.Memory.{Memory};
 ghost use Rattle.vs_plan.specs.declared.request.Request.{Request};
 ghost use Rattle.vs_plan.specs.declared.plan.TheConstants.{MOST_UNLINKED};
@@ -9,10 +10,10 @@ ghost use Rattle.vs_plan.specs.Planner.{IsSpareFor, frames_given};
 ghost use Rattle.vs_plan.specs.Request.{address_of, request_fault};
 ghost use Rattle.vs_plan.specs.Shown.{IsShown};
 ghost use Rattle.vs_range.specs.Planner.{IsRanged};
-ghost use Rattle.nrvs_plan_c.specs.declared.codes.TheConstants.{SEARCH};
+ghost use Rattle.nrvs_plan_c.specs.declared.codes.TheConstants.{DESCENT, SEARCH};
 ghost use Rattle.nrvs_plan_c.specs.Kept.{page_in, phase_in, planner_in, request_in, rights_in, takes_frame, target_in, target_of};
 ghost use Rattle.nrvs_plan_c.specs.Next.{HasBegun};
-ghost use Rattle.nrvs_plan_c.specs.Range.{are_whole, map_range_status, HasBegunRange, IsRangeNextOf, IsRangeStatus, IsSoundRange, KeepsRange, range_sees_in};
+ghost use Rattle.nrvs_plan_c.specs.Range.{are_whole, map_range_status, range_in, range_sees_in, range_status, HasBegunRange, IsRangeNextOf, IsRangeStatus, IsSoundRange, KeepsRange};
 ghost use Rattle.nrvs_plan_c.specs.Status.{begun_status, target_status};
 
 use crate::begin::start;
@@ -22,9 +23,9 @@ use crate::exports::{give, nrvs_plan_ask, nrvs_plan_map, nrvs_plan_protect, nrvs
 use crate::kept::{Plan, Target, Words};
 use crate::run_told::{go_on_range, open_range};
 use crate::see::search;
-use crate::status::{NOT_ASKED, SEE, UNALIGNED};
+use crate::status::{NOT_ASKED, NOT_CANONICAL, SEE, UNALIGNED};
 use vs_plan::{FrameWords, PlainWords};
-use vs_range::are_pages;
+use vs_range::{RangePlanner, are_pages, ends_late};
 use vs_types::index_at;
 
 /// A range of pages, how far it is, and in the end a run of words of one table, or a plan.
@@ -77,6 +78,9 @@ pub extern "C" fn nrvs_plan_map_range(
     if !are_whole(size, bytes) {
         return UNALIGNED;
     }
+    if ends_late(base, bytes) {
+        return NOT_CANONICAL;
+    }
     let begun = nrvs_plan_map(&mut run.plan, target, base, size, physical, rights, bits);
     if begun != SEE {
         return begun;
@@ -93,12 +97,16 @@ pub extern "C" fn nrvs_plan_unmap_range(
     base: u64,
     bytes: u64,
 ) -> u32
-    ensures status { result ≡ target_status target.now.levels target.now.phys_bits
-        (begun_status (request_fault (target_of target.now) (Request.Unmap base))) }
+    ensures status { result ≡ range_status base bytes
+        (target_status target.now.levels target.now.phys_bits
+        (begun_status (request_fault (target_of target.now) (Request.Unmap base)))) }
     ensures begun { result ≡ 32
         → HasBegunRange (target_of target.now) (Request.Unmap base) bytes run.new }
     ensures refused { result ≢ 32 → run.new ≡ run.old }
 {
+    if ends_late(base, bytes) {
+        return NOT_CANONICAL;
+    }
     let begun = nrvs_plan_unmap(&mut run.plan, target, base);
     if begun != SEE {
         return begun;
@@ -116,13 +124,17 @@ pub extern "C" fn nrvs_plan_protect_range(
     bytes: u64,
     rights: u32,
 ) -> u32
-    ensures status { result ≡ target_status target.now.levels target.now.phys_bits
+    ensures status { result ≡ range_status base bytes
+        (target_status target.now.levels target.now.phys_bits
         (if nat_lt 7 rights then 7 else begun_status (request_fault (target_of target.now)
-        (Request.Protect base (rights_in rights)))) }
+        (Request.Protect base (rights_in rights))))) }
     ensures begun { result ≡ 32 → HasBegunRange (target_of target.now)
         (Request.Protect base (rights_in rights)) bytes run.new }
     ensures refused { result ≢ 32 → run.new ≡ run.old }
 {
+    if ends_late(base, bytes) {
+        return NOT_CANONICAL;
+    }
     let begun = nrvs_plan_protect(&mut run.plan, target, base, rights);
     if begun != SEE {
         return begun;
@@ -139,12 +151,16 @@ pub extern "C" fn nrvs_plan_harvest_range(
     base: u64,
     bytes: u64,
 ) -> u32
-    ensures status { result ≡ target_status target.now.levels target.now.phys_bits
-        (begun_status (request_fault (target_of target.now) (Request.Ask base))) }
+    ensures status { result ≡ range_status base bytes
+        (target_status target.now.levels target.now.phys_bits
+        (begun_status (request_fault (target_of target.now) (Request.Ask base)))) }
     ensures begun { result ≡ 32
         → HasBegunRange (target_of target.now) (Request.Ask base) bytes run.new }
     ensures refused { result ≢ 32 → run.new ≡ run.old }
 {
+    if ends_late(base, bytes) {
+        return NOT_CANONICAL;
+    }
     let begun = nrvs_plan_ask(&mut run.plan, target, base);
     if begun != SEE {
         return begun;
@@ -185,6 +201,8 @@ pub extern "C" fn nrvs_run_give(run: &mut Run, frame: u64) -> u32
     ensures sound { IsSoundRange run.new }
     ensures kept { KeepsRange run.old run.new }
     ensures refused { result ≡ 17 → run.new ≡ run.old }
+    ensures fewer { result ≡ 33 → run.new.plan.way.level - run.new.plan.way.height
+        < run.old.plan.way.level - run.old.plan.way.height }
     ensures given { result ≡ 33 → frames_given (planner_in run.new.plan)
         ≡ frames_given (planner_in run.old.plan) ++ frame ∷ [] }
     ensures next { result ≢ 17 → (memory : Memory) → IsShown memory (planner_in run.old.plan)
@@ -204,6 +222,8 @@ pub extern "C" fn nrvs_run_give_none(run: &mut Run) -> u32
     ensures sound { IsSoundRange run.new }
     ensures kept { KeepsRange run.old run.new }
     ensures refused { result ≡ 17 → run.new ≡ run.old }
+    ensures fewer { result ≡ 33 → run.new.plan.way.level - run.new.plan.way.height
+        < run.old.plan.way.level - run.old.plan.way.height }
     ensures next { result ≢ 17 → (memory : Memory) → IsShown memory (planner_in run.old.plan)
         → IsRangeNextOf memory run.new (None ∷ []) result }
 {
@@ -221,6 +241,7 @@ fn are_whole(size: u32, bytes: u64) -> bool
 fn begin_range(run: &mut Run, base: u64, bytes: u64)
     requires begun { HasBegun run.old.plan }
     requires base { address_of (request_in run.old.plan.call) ≡ base }
+    requires ends { base + bytes ≤ 2 ^ 64 }
     requires kind { IsRanged (request_in run.old.plan.call) }
     ensures begun { HasBegunRange (target_in run.old.plan.call) (request_in run.old.plan.call)
         bytes run.new }
@@ -253,7 +274,35 @@ pub(crate) fn see_range<W: FrameWords>(run: &mut Run, words: &mut W) -> u32
     if go_down(&mut run.plan, word) {
         return SEE;
     }
-    let mut range = open_range(run);
+    follow_by(&mut open_range(run), run, word, words)
+}
+
+/// The same on the way down, by the range's planner that is kept, and the word of its entry.
+#[inline(never)]
+fn follow_by<W: FrameWords>(
+    range: &mut RangePlanner,
+    run: &mut Run,
+    word: u64,
+    words: &mut W,
+) -> u32
+    requires sound { IsSoundRange run.old }
+    requires descent { run.old.plan.way.phase ≡ DESCENT }
+    requires range { range.old ≡ range_in run.old }
+    requires target { range.old.planner.target ≡ target_in run.old.plan.call }
+    requires read { word ≡ slice_index (W.words words.old)
+        (index_at run.old.plan.way.level run.old.plan.call.address) }
+    requires unread { (i : ℕ) → i < FRAME_WORDS
+        → i ≢ index_at run.old.plan.way.level run.old.plan.call.address → W.is_unread words.old i }
+    ensures asked { result ≢ 17 }
+    ensures status { IsRangeStatus run.new result }
+    ensures sound { IsSoundRange run.new }
+    ensures kept { KeepsRange run.old run.new }
+    ensures fewer { result ≡ 32 → range_sees_in run.new < range_sees_in run.old }
+    ensures given { result ≡ 33 → frames_given (planner_in run.new.plan) ≡ [] }
+    ensures next { (memory : Memory) → IsShown memory (planner_in run.old.plan)
+        → finite.get memory run.old.plan.frame ≡ Some (W.words words.old)
+        → IsRangeNextOf memory run.new [] result }
+{
     let step = range.follow(word, words);
-    go_on_range(run, &range, &step)
+    go_on_range(run, range, &step)
 }

@@ -3,7 +3,7 @@ ghost use Rattle.std.specs.Prelude.{◌≡◌, ◌≢◌, nat_lt, if◌then◌el
 ghost use Rattle.vs_plan.specs.declared.request.Request.{Request};
 ghost use Rattle.vs_plan.specs.Request.{request_fault};
 ghost use Rattle.nrvs_plan_c.specs.Kept.{page_in, request_in, rights_in, target_in, target_of};
-ghost use Rattle.nrvs_plan_c.specs.Range.{map_range_status, HasBegunRange};
+ghost use Rattle.nrvs_plan_c.specs.Range.{map_range_status, range_status, HasBegunRange};
 ghost use Rattle.nrvs_plan_c.specs.RangeIn.{HasSeenRange};
 ghost use Rattle.nrvs_plan_c.specs.Status.{begun_status, target_status};
 
@@ -55,11 +55,13 @@ pub extern "C" fn nrvs_plan_unmap_range_in(
     base: u64,
     bytes: u64,
 ) -> u32
-    ensures refused { let begun = target_status target.now.levels target.now.phys_bits
-        (begun_status (request_fault (target_of target.now) (Request.Unmap base))) in
+    ensures refused { let begun = range_status base bytes
+        (target_status target.now.levels target.now.phys_bits
+        (begun_status (request_fault (target_of target.now) (Request.Unmap base)))) in
         begun ≢ 32 → (result ≡ begun) × (run.new ≡ run.old) }
-    ensures seen { let begun = target_status target.now.levels target.now.phys_bits
-        (begun_status (request_fault (target_of target.now) (Request.Unmap base))) in
+    ensures seen { let begun = range_status base bytes
+        (target_status target.now.levels target.now.phys_bits
+        (begun_status (request_fault (target_of target.now) (Request.Unmap base)))) in
         begun ≡ 32 → HasSeenRange (target_of target.now)
         (Request.Unmap base) bytes first frames.now run.new result }
 {
@@ -81,13 +83,15 @@ pub extern "C" fn nrvs_plan_protect_range_in(
     bytes: u64,
     rights: u32,
 ) -> u32
-    ensures refused { let begun = target_status target.now.levels target.now.phys_bits
+    ensures refused { let begun = range_status base bytes
+        (target_status target.now.levels target.now.phys_bits
         (if nat_lt 7 rights then 7 else begun_status (request_fault (target_of target.now)
-        (Request.Protect base (rights_in rights)))) in
+        (Request.Protect base (rights_in rights))))) in
         begun ≢ 32 → (result ≡ begun) × (run.new ≡ run.old) }
-    ensures seen { let begun = target_status target.now.levels target.now.phys_bits
+    ensures seen { let begun = range_status base bytes
+        (target_status target.now.levels target.now.phys_bits
         (if nat_lt 7 rights then 7 else begun_status (request_fault (target_of target.now)
-        (Request.Protect base (rights_in rights)))) in
+        (Request.Protect base (rights_in rights))))) in
         begun ≡ 32 → HasSeenRange (target_of target.now)
         (Request.Protect base (rights_in rights)) bytes first frames.now run.new result }
 {
@@ -108,11 +112,13 @@ pub extern "C" fn nrvs_plan_harvest_range_in(
     base: u64,
     bytes: u64,
 ) -> u32
-    ensures refused { let begun = target_status target.now.levels target.now.phys_bits
-        (begun_status (request_fault (target_of target.now) (Request.Ask base))) in
+    ensures refused { let begun = range_status base bytes
+        (target_status target.now.levels target.now.phys_bits
+        (begun_status (request_fault (target_of target.now) (Request.Ask base)))) in
         begun ≢ 32 → (result ≡ begun) × (run.new ≡ run.old) }
-    ensures seen { let begun = target_status target.now.levels target.now.phys_bits
-        (begun_status (request_fault (target_of target.now) (Request.Ask base))) in
+    ensures seen { let begun = range_status base bytes
+        (target_status target.now.levels target.now.phys_bits
+        (begun_status (request_fault (target_of target.now) (Request.Ask base)))) in
         begun ≡ 32 → HasSeenRange (target_of target.now)
         (Request.Ask base) bytes first frames.now run.new result }
 {

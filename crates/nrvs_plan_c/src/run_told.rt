@@ -25,6 +25,7 @@ const BUT_RIGHTS: u64 = (1 << 63) - 7;
 const BUT_FLAGS: u64 = u64::MAX - 96;
 
 /// The range's planner that is kept.
+#[inline(never)]
 pub(crate) fn open_range(run: &Run) -> RangePlanner
     requires { run.now.plan.store_count ≤ MOST_STORES }
     ensures is { result ≡ range_in run.now }
@@ -40,6 +41,7 @@ pub(crate) fn open_range(run: &Run) -> RangePlanner
 }
 
 /// Keeps a range's planner, or writes its run or its plan.
+#[inline(never)]
 pub(crate) fn go_on_range(run: &mut Run, range: &RangePlanner, step: &RangeStep) -> u32
     requires sound { IsSoundRange run.old }
     requires target { range.now.planner.target ≡ target_in run.old.plan.call }

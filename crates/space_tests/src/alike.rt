@@ -3,13 +3,13 @@
 ghost use Rattle.std.specs.Prelude.{◌≡◌};
 ghost use Rattle.std.specs.FinMap as finite;
 
+use crate::both::{Both, Told};
 use crate::cases::{
     ACCESS, BOTH_HALVES, BOTH_HALVES_OF_FIVE, Call, FULL, FULL_OF_FIVE, GIGABYTE, LAST_PAGE,
     OVERLAP, PROTECT, Row, UNMAP,
 };
 use std::alloc::Global;
 use std::process::Abort;
-use vs_alike::{Both, Told};
 use vs_arena::{FrameStore, RawArena, VecArena};
 use vs_types::{Answer, Depth, Query};
 

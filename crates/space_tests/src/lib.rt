@@ -6,6 +6,7 @@
 mod alike;
 #[cfg(test)]
 mod arena;
+pub mod both;
 #[cfg(test)]
 mod cases;
 #[cfg(test)]

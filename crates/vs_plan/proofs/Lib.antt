@@ -21,7 +21,7 @@ pub mod Words
 pub mod RunWords
 pub mod PartSpaces
 mod OtherFlags
-mod FlagsKept
+pub mod FlagsKept
 mod FlaggedEntries
 mod RightAgain
 mod PutAgain

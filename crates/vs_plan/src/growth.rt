@@ -82,7 +82,7 @@ impl Planner {
     }
 
     /// Maps the page at the end of its way, where nothing is mapped.
-    #[inline(always)]
+    #[inline(never)]
     pub(crate) fn end_map(&mut self, page: Page, bits: u64, word: u64) -> Step
         requires end { IsAtEnd self.old }
         requires request { self.old.request ≡ Request.Map page bits }
@@ -119,6 +119,7 @@ impl Planner {
     }
 
     /// Writes the page's entry over this absent one, or begins to fill the new tables that lead to it.
+    #[inline(never)]
     fn grow(&mut self, page: Page, bits: u64, word: u64) -> Step
         requires end { IsAtEnd self.old }
         requires request { self.old.request ≡ Request.Map page bits }

@@ -39,7 +39,7 @@ use Rattle.vs_plan.proofs.Kept.{IsClosed, all_kept, Reads, entry_path, page_regi
 use Rattle.vs_plan.proofs.PlansSuffice.{form_of, are_for, plan_suffices}
 use Rattle.vs_plan.proofs.Stored.{stored_elsewhere}
 use Rattle.vs_range.specs.Several.{Call, IsRightThen, AreRight, FindsOneOf, while_planned}
-use Rattle.vs_range.proofs.OfFlags.{flags_reads, flags_walk, lived_finds}
+use Rattle.vs_plan.proofs.FlagsKept.{flags_reads, flags_walk, lived_finds}
 use Rattle.vs_range.proofs.Several.{given, same, stays_gone, spared_gone, unwritten_gone, up_to_date}
 use Rattle.vs_range.proofs.Unlinked.{no_link, goes_or_named, entry_after}
 

@@ -16,7 +16,7 @@ use Rattle.vs_plan.specs.Stores.{stored, FindTheirWords}
 use Rattle.vs_plan.proofs.Stored.{used_word}
 use Rattle.vs_range.specs.declared.planner.RangePlanner.{RangePlanner}
 use Rattle.vs_range.specs.declared.run.Run.{Run}
-use Rattle.vs_range.specs.Planner.{IsPageWord, IsLongest, IsHarvestNext, harvest_run}
+use Rattle.vs_range.specs.Planner.{IsAsk, IsPageWord, IsLongest, IsHarvestNext, IsRunOf, harvest_run}
 use Rattle.vs_range.specs.Run.{store_of, stores_from}
 use Rattle.vs_range.proofs.PageFlushes.{one_of}
 
@@ -69,16 +69,21 @@ module _ (size : Size) (base frame index level : ℕ) (words : List ℕ) where
           (stores_from (harvest_run size base total frame index) words (suc number) count)
           (pages number (omega arith), refl) rest
 
-pub harvest_next : (memory : Memory) (range : RangePlanner) (words : List ℕ) (size : Size) (index count : ℕ)
+pub harvest_next : (memory : Memory) (range : RangePlanner) (words : List ℕ) (size : Size) (index count : ℕ) → IsAsk range.planner.request
+    → IsRunOf memory range (harvest_run size range.base count range.planner.number index)
     → finite.get memory range.planner.number ≡ Some words → 1 ≤ count → count * bytes_of size ≤ range.bytes
     → ((k : ℕ) → k < count → IsPageWord range.planner.level (slice_index words (index + k)))
     → IsLongest memory range (harvest_run size range.base count range.planner.number index)
     → IsHarvestNext memory range (harvest_run size range.base count range.planner.number index)
-harvest_next memory range words size index count got some within pages longest =
+harvest_next memory range words size index count kind of_table got some within pages longest =
     let same : stores_from (harvest_run size range.base count range.planner.number index) words 0 count
     ≡ stores_from (harvest_run size range.base count range.planner.number index) (unwrap_or (finite.get memory range.planner.number) []) 0 count =
     ap (λ (o : Option (List ℕ)). stores_from (harvest_run size range.base count range.planner.number index) (unwrap_or o []) 0 count) (sym got) in
     record {
+      kind = kind;
+      of_table = of_table;
+      pages = λ number lt. subst (λ (ws : List ℕ). IsPageWord range.planner.level (slice_index ws (index + number)))
+          (ap (λ (o : Option (List ℕ)). unwrap_or o []) (sym got)) (pages number lt);
       some = some;
       within = within;
       longest = longest;

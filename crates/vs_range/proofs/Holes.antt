@@ -82,6 +82,39 @@ entries_fit (suc (suc level)) count some few low = omega arith
 entries_fit (suc level) count some few low = omega arith
 entries_fit level count some few low = absurd (omega arith)
 
+-- the first address behind so many entries, from that of an address on: it is a multiple of an entry's bytes, and the table ends there, or its next
+-- entry is for that address
+pub whole_end : (level base count : ℕ) → 1 ≤ level → level ≤ 5 → base % entry_bytes level < count * entry_bytes level
+    → (base + (count * entry_bytes level - base % entry_bytes level)) % entry_bytes level ≡ 0
+whole_end (suc (suc (suc (suc (suc (suc level)))))) base count some few left = absurd (omega arith)
+whole_end (suc (suc (suc (suc (suc level))))) base count some few left = omega arith
+whole_end (suc (suc (suc (suc level)))) base count some few left = omega arith
+whole_end (suc (suc (suc level))) base count some few left = omega arith
+whole_end (suc (suc level)) base count some few left = omega arith
+whole_end (suc level) base count some few left = omega arith
+whole_end level base count some few left = absurd (omega arith)
+
+pub table_end : (level base count : ℕ) → 1 ≤ level → level ≤ 5 → base % entry_bytes level < count * entry_bytes level
+    → index_at level base + count ≡ 512 → (base + (count * entry_bytes level - base % entry_bytes level)) % table_bytes level ≡ 0
+table_end (suc (suc (suc (suc (suc (suc level)))))) base count some few left all = absurd (omega arith)
+table_end (suc (suc (suc (suc (suc level))))) base count some few left all = omega arith
+table_end (suc (suc (suc (suc level)))) base count some few left all = omega arith
+table_end (suc (suc (suc level))) base count some few left all = omega arith
+table_end (suc (suc level)) base count some few left all = omega arith
+table_end (suc level) base count some few left all = omega arith
+table_end level base count some few left all = absurd (omega arith)
+
+pub next_index : (level base count : ℕ) → 1 ≤ level → level ≤ 5 → base % entry_bytes level < count * entry_bytes level
+    → index_at level base + count < 512
+    → index_at level (base + (count * entry_bytes level - base % entry_bytes level)) ≡ index_at level base + count
+next_index (suc (suc (suc (suc (suc (suc level)))))) base count some few left less = absurd (omega arith)
+next_index (suc (suc (suc (suc (suc level))))) base count some few left less = omega arith
+next_index (suc (suc (suc (suc level)))) base count some few left less = omega arith
+next_index (suc (suc (suc level))) base count some few left less = omega arith
+next_index (suc (suc level)) base count some few left less = omega arith
+next_index (suc level) base count some few left less = omega arith
+next_index level base count some few left less = absurd (omega arith)
+
 module _ (depth : Depth) (m : Memory) (root base level number : ℕ) (rights : Rights) (way : IsWay depth m root base level number rights)
     (some : 1 ≤ level) (few : level ≤ 5) (words : List ℕ) (got : finite.get m number ≡ Some words) (count : ℕ) (room : index_at level base + count ≤ 512)
     (absent : (k : ℕ) → k < count → slice_index words (index_at level base + k) % 2 ≡ 0) where

@@ -1,11 +1,12 @@
 pub mod AtOnce
-pub mod OfFlags
+pub mod Counted
 pub mod Stands
 pub mod Unlinked
 pub mod Several
 pub mod Between
 pub mod OnTable
 pub mod Moments
+pub mod Reading
 pub mod Sequence
 pub mod RunRight
 pub mod PageFlushes
@@ -16,4 +17,5 @@ pub mod Seeing
 pub mod Rooms
 pub mod Holes
 pub mod Harvesting
+pub mod Taking
 pub mod Fours

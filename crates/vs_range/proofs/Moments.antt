@@ -2,16 +2,14 @@
 use Rattle.std.proofs.Common.{ℕ, List, [], ◌∷◌}
 use Rattle.vs_types.specs.declared.depth.Depth.{Depth}
 use Rattle.vs_walk.specs.Memory.{Memory}
-use Rattle.vs_plan.specs.declared.plan.Flush.{Flush}
-use Rattle.vs_plan.specs.Processor.{Kept, KeptBefore, OfRoot, OfTable, OfPage, Moment, Is, Flushes, MayKeep}
+use Rattle.vs_plan.specs.Processor.{Kept, KeptBefore, OfRoot, OfTable, OfPage, Moment, Is, MayKeep}
 use Rattle.vs_plan.proofs.Kept.{IsClosed, all_kept}
-use Rattle.vs_range.specs.Several.{flushed_by}
 
 -- what may be kept after the first moments may be kept after the others
 abbrev pub KeepsNoMore : Depth → ℕ → List Moment → List Moment → Type 0
 KeepsNoMore depth root less more = (kept : Kept) → MayKeep depth root less kept → MayKeep depth root more kept
 
-closed : (depth : Depth) (root : ℕ) (memory : Memory) (moments : List Moment) → IsClosed depth root memory (MayKeep depth root (Is memory ∷ moments))
+pub closed : (depth : Depth) (root : ℕ) (memory : Memory) (moments : List Moment) → IsClosed depth root memory (MayKeep depth root (Is memory ∷ moments))
 closed depth root memory moments = record {
   of_root = λ address canonical. OfRoot address canonical;
   of_table = λ address below number next rights own canonical table found. OfTable address below number next rights own canonical table found;
@@ -23,9 +21,3 @@ pub more_is : (depth : Depth) (root : ℕ) (memory : Memory) (less more : List M
     → KeepsNoMore depth root (Is memory ∷ less) (Is memory ∷ more)
 more_is depth root memory less more no_more kept held =
     all_kept (closed depth root memory more) (λ k before. KeptBefore k (no_more k before)) kept held
-
-pub more_flushed : (depth : Depth) (root : ℕ) (flushes : List Flush) (less more : List Moment) → KeepsNoMore depth root less more
-    → KeepsNoMore depth root (flushed_by flushes less) (flushed_by flushes more)
-more_flushed depth root [] less more no_more = no_more
-more_flushed depth root (flush ∷ flushes) less more no_more =
-    more_flushed depth root flushes (Flushes flush ∷ less) (Flushes flush ∷ more) (λ kept held. (no_more kept held.0, held.1))

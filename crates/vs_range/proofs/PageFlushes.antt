@@ -1,5 +1,5 @@
 -- The flushes of a run have those of its pages.
-use Rattle.std.proofs.Common.{◌≡◌, ◌≢◌, ℕ, zero, suc, ◌+◌, ◌*◌, ◌%◌, ◌/◌, ◌^◌, ◌<◌, ◌≤◌, inl, inr, ⊎_elim, sym, ap, subst, ◌∙◌, arith}
+use Rattle.std.proofs.Common.{◌≡◌, ◌≢◌, refl, [], ℕ, zero, suc, ◌+◌, ◌*◌, ◌%◌, ◌/◌, ◌^◌, ◌<◌, ◌≤◌, inl, inr, ⊎_elim, sym, ap, subst, ◌∙◌, arith}
 use Rattle.std.proofs.lemmas.Bool.{cases_eq}
 use Rattle.vs_types.specs.Depth.{entry_bytes}
 use Rattle.vs_types.specs.Entry.{meaning, rights_of}
@@ -12,7 +12,7 @@ use Rattle.vs_plan.specs.declared.plan.Flush.TheVariants.{Page}
 use Rattle.vs_plan.specs.Processor.{Kept, Translation, PagingEntry, IsDropped}
 use Rattle.vs_plan.proofs.RunWords.{leaf_parts}
 use Rattle.vs_range.specs.Run.{pages_flushed}
-use Rattle.vs_range.specs.Several.{IsDroppedByOne}
+use Rattle.vs_range.specs.Several.{IsDroppedByOne, from_tables}
 
 -- what the flush of a page drops doesn't depend on its size
 any_size : (base : ℕ) (size other : Size) (kept : Kept) → IsDropped (Page base other) kept → IsDropped (Page base size) kept
@@ -27,6 +27,11 @@ one_of base size other number (suc count) from low high kept dropped = ⊎_elim
     (any_size (base + number * bytes_of size) size other kept dropped)))
     (λ (more : number ≢ from). inr (one_of base size other number count (suc from) (omega arith) (omega arith) kept dropped))
     (cases_eq number from)
+
+-- none drops what is kept of tables
+pub pages_leave : (base : ℕ) (size : Size) (from count : ℕ) → from_tables (pages_flushed base size from count) ≡ []
+pages_leave base size from zero = refl
+pages_leave base size from (suc count) = pages_leave base size (suc from) count
 
 -- a page begins at a multiple of 4 KiB
 pub whole_base : (size : Size) (base : ℕ) → base % bytes_of size ≡ 0 → base % 4096 ≡ 0

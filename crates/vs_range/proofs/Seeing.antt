@@ -1,6 +1,6 @@
 -- What the planner of a range has seen makes its run right.
-use Rattle.std.proofs.Common.{◌≡◌, ◌≢◌, ℕ, ◌+◌, ◌-◌, ◌*◌, ◌%◌, ◌<◌, ◌≤◌, ◌⊎◌, List, [], Bool, true, false, Option, Some, inl, inr, ⊎_elim, refl, sym, ap, subst, ◌∙◌, arith}
-use Rattle.std.specs.Prelude.{IsFalse, cond, slice_index, unwrap_or}
+use Rattle.std.proofs.Common.{◌≡◌, ◌≢◌, ℕ, ◌+◌, ◌-◌, ◌*◌, ◌%◌, ◌<◌, ◌≤◌, ◌⊎◌, List, [], Bool, true, false, Option, Some, None, inl, inr, ⊎_elim, refl, sym, ap, subst, ◌∙◌, arith}
+use Rattle.std.specs.Prelude.{IfSome, IsFalse, cond, slice_index, unwrap_or}
 use Rattle.std.specs.FinMap as finite
 use Rattle.std.proofs.lemmas.Bool.{cases_lt}
 use Rattle.vs_types.specs.Depth.{levels, index_at, entry_bytes, IsCanonical}
@@ -30,15 +30,21 @@ use Rattle.vs_plan.specs.Way.{IsWay}
 use Rattle.vs_plan.proofs.Pages.{page_here}
 use Rattle.vs_plan.proofs.Stored.{even_absent}
 use Rattle.vs_range.specs.declared.planner.RangePlanner.{RangePlanner}
-use Rattle.vs_range.specs.Planner.{IsRanged, AwaitsRange, AwaitsNext, as_range, IsPageWord, IsPageAt, IsMapRoom, HasOther, map_run, protect_run, unmap_run}
+use Rattle.vs_range.specs.Planner.{IsRanged, AwaitsRange, AwaitsNext, as_range, IsPageWord, IsPageAt, IsMapRoom, HasOther}
+use Rattle.vs_range.specs.Planner.{IsMap, IsRunOf, change_of, harvest_run, map_run, protect_run, unmap_run, words_in}
 use Rattle.vs_range.specs.declared.run.Run.{Run}
 use Rattle.vs_range.specs.Planner.{EndsBeyond, EndsWith, IsLongest, IsAbsentFor, IsRunNext, IsRangeNext}
 use Rattle.vs_range.specs.Run.{IsRunRight}
-use Rattle.vs_range.proofs.Holes.{rest_low, some_left, hole}
+use Rattle.vs_range.proofs.Holes.{rest_low, some_left, hole, whole_end, table_end, next_index}
 use Rattle.vs_range.proofs.MapRun.{map_run_right}
 use Rattle.vs_range.proofs.OnTable.{IsAtTable}
 use Rattle.vs_range.proofs.ProtectRun.{protect_run_right}
 use Rattle.vs_range.proofs.UnmapRun.{unmap_run_right}
+
+-- what was given, by its parts
+pub some_given : (frame : Option ℕ) (P Q : ℕ → Type 0) → ((number : ℕ) → P number → Q number) → IfSome frame P → IfSome frame Q
+some_given None P Q go is = is
+some_given (Some number) P Q go is = go number is
 
 -- ---- the step of the first page's planner
 
@@ -185,6 +191,19 @@ module _ (memory : Memory) (range : RangePlanner) (awaits : AwaitsRange range) (
 
   -- ---- the runs
 
+  run_of : (run : Run) → run.frame ≡ range.planner.number → run.index ≡ index_at range.planner.level range.base
+      → range.planner.level ≡ level_of run.size → range.base % bytes_of run.size ≡ 0 → run.change ≡ change_of range.planner.request run.size
+      → IsRunOf memory range run
+  run_of run frame index level aligned change = record {
+    rights = range.planner.rights;
+    way = subst (λ n. IsWay range.planner.target.depth memory range.planner.target.root range.base (level_of run.size) n range.planner.rights) (sym frame)
+        (subst (λ l. IsWay range.planner.target.depth memory range.planner.target.root range.base l range.planner.number range.planner.rights) level way);
+    level = level;
+    index = index ∙ ap (λ l. index_at l range.base) level;
+    aligned = aligned;
+    change = change;
+  }
+
   pub map_next : (page : Page) (bits word index count most : ℕ) → range.planner.request ≡ Map page bits → IsMapRoom range page word most
       → index ≡ index_at range.planner.level range.base → 1 ≤ count → count ≤ most
       → ((k : ℕ) → k < count → slice_index words (index + k) % 2 ≡ 0)
@@ -196,6 +215,9 @@ module _ (memory : Memory) (range : RangePlanner) (awaits : AwaitsRange range) (
       let here : index ≡ index_at (level_of page.size) page.base =
       index_is ∙ ap (λ l. index_at l range.base) room.level ∙ ap (index_at (level_of page.size)) (sym place) in
       record {
+        of_table = run_of (map_run page bits count range.planner.number index) refl index_is room.level
+            (subst (λ a. a % bytes_of page.size ≡ 0) place asked.whole.good.aligned)
+            (ap (λ (q : Request). change_of q page.size) (sym request));
         some = some;
         within = room.within count few;
         longest = longest_as memory range words (map_run page bits count range.planner.number index) (Map page bits) request got ends;
@@ -219,6 +241,8 @@ module _ (memory : Memory) (range : RangePlanner) (awaits : AwaitsRange range) (
       → EndsWith range (protect_run size range.base rights count range.planner.number index) words (Protect range.base rights)
       → IsRunNext memory range (protect_run size range.base rights count range.planner.number index)
   protect_next size rights word index count request at allows index_is some room within pages ends = record {
+    of_table = run_of (protect_run size range.base rights count range.planner.number index) refl index_is at.level at.aligned
+        (ap (λ (q : Request). change_of q size) (sym request));
     some = some;
     within = within;
     longest = longest_as memory range words (protect_run size range.base rights count range.planner.number index) (Protect range.base rights) request got ends;
@@ -246,6 +270,8 @@ module _ (memory : Memory) (range : RangePlanner) (awaits : AwaitsRange range) (
       → EndsWith range (unmap_run size range.base count range.planner.number index) words (Unmap range.base)
       → IsRunNext memory range (unmap_run size range.base count range.planner.number index)
   unmap_next size word index count request at index_is some room within pages busy ends = record {
+    of_table = run_of (unmap_run size range.base count range.planner.number index) refl index_is at.level at.aligned
+        (ap (λ (q : Request). change_of q size) (sym request));
     some = some;
     within = within;
     longest = longest_as memory range words (unmap_run size range.base count range.planner.number index) (Unmap range.base) request got ends;
@@ -257,20 +283,60 @@ module _ (memory : Memory) (range : RangePlanner) (awaits : AwaitsRange range) (
         (λ low. busy (subst (λ l. l < highest_link range.planner.target) (sym at.level) low)) memory space got (at_table size at.level space premise));
   }
 
+  pub harvest_of : (size : Size) (word index count : ℕ) → range.planner.request ≡ Ask range.base → IsPageAt range word size
+      → index ≡ index_at range.planner.level range.base
+      → IsRunOf memory range (harvest_run size range.base count range.planner.number index)
+  harvest_of size word index count request at index_is =
+      run_of (harvest_run size range.base count range.planner.number index) refl index_is at.level at.aligned
+      (ap (λ (q : Request). change_of q size) (sym request))
+
   -- no page lies where the entries are absent
-  pub absent_next : (index count bytes : ℕ) → index ≡ index_at range.planner.level range.base → 1 ≤ count → index + count ≤ 512
-      → ((k : ℕ) → k < count → slice_index words (index + k) % 2 ≡ 0) → bytes ≡ entry_bytes range.planner.level → range.planner.level ≤ 5
+  pub absent_next : (index count bytes : ℕ) → (IsMap range.planner.request → ⊥) → index ≡ index_at range.planner.level range.base → 1 ≤ count
+      → index + count ≤ 512 → ((k : ℕ) → k < count → slice_index words (index + k) % 2 ≡ 0)
+      → (count < 512 - index → slice_index words (index + count) % 2 ≢ 0) → bytes ≡ entry_bytes range.planner.level → range.planner.level ≤ 5
       → IsAbsentFor memory range (count * bytes - range.base % bytes)
-  absent_next index count bytes index_is some room absent bytes_is few =
+  absent_next index count bytes kind index_is some room absent behind bytes_is few =
       subst (λ b. IsAbsentFor memory range (count * b - range.base % b)) (sym bytes_is) (record {
-        some = left_some (count * entry_bytes range.planner.level) (range.base % entry_bytes range.planner.level)
-            (some_left count (entry_bytes range.planner.level) (range.base % entry_bytes range.planner.level) some
-            (rest_low range.planner.level range.base awaits.words.some few));
+        kind = kind;
+        some = left_some (count * entry_bytes range.planner.level) (range.base % entry_bytes range.planner.level) left;
         nothing = λ address canonical low high. hole range.planner.target.depth memory range.planner.target.root range.base range.planner.level
             range.planner.number range.planner.rights way awaits.words.some few words got count
             (subst (λ i. i + count ≤ 512) index_is room)
             (λ k lt. subst (λ i. slice_index words (i + k) % 2 ≡ 0) index_is (absent k lt)) some address low high;
+        level = range.planner.level;
+        number = range.planner.number;
+        rights = range.planner.rights;
+        way = way;
+        gap = subst (λ (ws : List ℕ). slice_index ws (index_at range.planner.level range.base) % 2 ≡ 0) words_are
+            (subst (λ i. slice_index words i % 2 ≡ 0) (first_index index ∙ index_is) (absent 0 (omega (arith, some))));
+        whole = whole_end range.planner.level range.base count awaits.words.some few left;
+        longest = ⊎_elim
+            (λ (less : index + count < 512). inr (subst (λ (ws : List ℕ). slice_index ws (index_at range.planner.level (range.base + last)) % 2 ≢ 0)
+            words_are
+            (subst (λ i. slice_index words i % 2 ≢ 0)
+            (ap (λ i. i + count) index_is ∙ sym (next_index range.planner.level range.base count awaits.words.some few left
+            (subst (λ i. i + count < 512) index_is less)))
+            (behind (omega (arith, less))))))
+            (λ (all : 512 ≤ index + count). inl (table_end range.planner.level range.base count awaits.words.some few left
+            (ap (λ i. i + count) (sym index_is) ∙ whole_table index count room all)))
+            (cases_lt (index + count) 512);
       })
     where
+      last : ℕ
+      last = count * entry_bytes range.planner.level - range.base % entry_bytes range.planner.level
+
+      left : range.base % entry_bytes range.planner.level < count * entry_bytes range.planner.level
+      left = some_left count (entry_bytes range.planner.level) (range.base % entry_bytes range.planner.level) some
+          (rest_low range.planner.level range.base awaits.words.some few)
+
+      words_are : words ≡ words_in memory range.planner.number
+      words_are = ap (λ (o : Option (List ℕ)). unwrap_or o []) (sym got)
+
       left_some : (a b : ℕ) → b < a → 1 ≤ a - b
       left_some a b less = omega arith
+
+      first_index : (i : ℕ) → i + 0 ≡ i
+      first_index i = omega arith
+
+      whole_table : (i n : ℕ) → i + n ≤ 512 → 512 ≤ i + n → i + n ≡ 512
+      whole_table i n most least = omega arith

@@ -37,7 +37,8 @@ use Rattle.vs_plan.proofs.Stored.{stored_elsewhere}
 use Rattle.vs_plan.proofs.Sufficing.{AreUnreached}
 use Rattle.vs_plan.proofs.Unread.{unread_keeps}
 use Rattle.vs_range.specs.Several.{Call, IsRightThen, AreRight, ended_all, unlinked_by, while_planned, flushed_by, IsDroppedByOne, HaveAll}
-use Rattle.vs_range.proofs.OfFlags.{flags_read, flags_reads, flags_table, lived_up_to_date}
+use Rattle.vs_plan.proofs.FlagsKept.{flags_read, flags_reads, flags_table, lived_up_to_date}
+use Rattle.vs_range.proofs.Counted.{grown, grown_old, grown_by, grown_now, grown_within, drops_some, all_flushes, all_counted, all_within}
 use Rattle.vs_range.proofs.Stands.{IsStale, Stands, last_moment, kept_on, Beside, begins_beside, beside_stores}
 use Rattle.vs_range.proofs.Unlinked.{no_link, goes_or_named, entry_after}
 
@@ -97,25 +98,26 @@ module _ (target : Target) (memory : Memory) (space : Space) (gone : List ℕ) (
       (plan_suffices target call.request call.memory space call.offered call.plan then.premise then.right).after (Is memory ∷ []) up_to_date kept
       (held, spared)
 
-  module _ (flushes : List Flush) where
+  module _ (flushes counted : List Flush) where
     abbrev StandsThen : Kept → Type 0
-    StandsThen kept = Stands target.depth target.root after (call.plan.flush ∷ flushes) (call.plan.unlinked.items ++ gone) kept
+    StandsThen kept = Stands target.depth target.root after (call.plan.flush ∷ flushes) (grown call.plan.flush counted)
+        (call.plan.unlinked.items ++ gone) kept
 
     -- a table that was stale before
-    still_stale : (level region number : ℕ) (rights : Rights) → IsStale target.depth target.root memory flushes gone level region number rights
-        → IsStale target.depth target.root after (call.plan.flush ∷ flushes) (call.plan.unlinked.items ++ gone) level region number rights
+    still_stale : (level region number : ℕ) (rights : Rights) → IsStale target.depth target.root memory counted gone level region number rights
+        → IsStale target.depth target.root after (grown call.plan.flush counted) (call.plan.unlinked.items ++ gone) level region number rights
     still_stale level region number rights stale =
         let alike = λ (address : ℕ). found_alike level memory after number address (unwritten_gone number stale.named) in
         record {
           named = Contains-append_right call.plan.unlinked.items gone number stale.named;
-          dropped = inr stale.dropped;
+          dropped = grown_old call.plan.flush counted (PagingEntry level region number rights) stale.dropped;
           ends = λ address next own some canonical at found. stale.ends address next own some canonical at (sym (alike address) ∙ found);
           pages = λ address phys own some canonical at found spared.
               let kept = Translation level (page_number level address) phys (intersection rights own) in
               comes_after kept
               (kept_on target.depth target.root start call.plan.stores.items (Is memory ∷ []) kept
-              (stale.pages address phys own some canonical at (sym (alike address) ∙ found) (λ d. spared (inr d))))
-              (λ d. spared (inl d));
+              (stale.pages address phys own some canonical at (sym (alike address) ∙ found) (λ d. spared (grown_old call.plan.flush counted kept d))))
+              (λ d. spared (grown_by call.plan.flush counted (PagingEntry level region number rights) kept stale.dropped d));
         }
 
     -- a table that this plan unlinks
@@ -123,14 +125,17 @@ module _ (target : Target) (memory : Memory) (space : Space) (gone : List ℕ) (
         → MayKeep target.depth target.root (while_stored start call.plan.stores.items (Is memory ∷ [])) (PagingEntry level region number rights)
         → Reads target.depth target.root start (PagingEntry level region number rights)
         → IsDropped call.plan.flush (PagingEntry level region number rights)
-        → IsStale target.depth target.root after (call.plan.flush ∷ flushes) (call.plan.unlinked.items ++ gone) level region number rights
+        → IsStale target.depth target.root after (grown call.plan.flush counted) (call.plan.unlinked.items ++ gone) level region number rights
     newly_stale level region number rights named held reads dropped = record {
       named = Contains-append_left call.plan.unlinked.items gone number named;
-      dropped = inl dropped;
+      dropped = grown_now call.plan.flush counted (PagingEntry level region number rights)
+          (drops_some call.plan.flush level region number rights dropped) dropped;
       ends = λ address next own some canonical at found.
           no_link given number level address next own named (entry_path target.depth target.root start level region number rights reads address at) found;
-      pages = λ address phys own some canonical at found spared. comes_after (Translation level (page_number level address) phys (intersection rights own))
-          (read_last level region number rights address phys own some canonical at held found) (λ d. spared (inl d));
+      pages = λ address phys own some canonical at found spared.
+          let kept = Translation level (page_number level address) phys (intersection rights own) in
+          comes_after kept (read_last level region number rights address phys own some canonical at held found)
+          (λ d. spared (grown_now call.plan.flush counted kept (drops_some call.plan.flush level region number rights dropped) d));
     } where
       read_last : (level region number : ℕ) (rights : Rights) (address phys : ℕ) (own : Rights) → 1 ≤ level → IsCanonical target.depth address
           → region_number level address ≡ region
@@ -165,12 +170,13 @@ module _ (target : Target) (memory : Memory) (space : Space) (gone : List ℕ) (
         call.plan.unlinked.items call.plan.flush given)
         (plan_suffices target call.request call.memory space call.offered call.plan then.premise then.right) level region number rights held)
 
-    module _ (earlier : List Moment)
-        (first : (kept : Kept) → MayKeep target.depth target.root earlier kept → Stands target.depth target.root memory flushes gone kept) where
+    module _ (earlier : List Moment) (within : (kept : Kept) → IsDroppedByOne counted kept → IsDroppedByOne flushes kept)
+        (first : (kept : Kept) → MayKeep target.depth target.root earlier kept → Stands target.depth target.root memory flushes counted gone kept) where
       beside : (kept : Kept) → MayKeep target.depth target.root (while_stored start call.plan.stores.items earlier) kept
-          → Beside target.depth target.root memory flushes gone (while_stored start call.plan.stores.items (Is memory ∷ [])) kept
-      beside = beside_stores target.depth target.root memory flushes gone start call.plan.stores.items earlier (Is memory ∷ []) stays_gone spared_gone
-          (λ kept reads. reads) (λ kept held. begins_beside target.depth target.root memory flushes gone kept (first kept held))
+          → Beside target.depth target.root memory flushes counted gone within (while_stored start call.plan.stores.items (Is memory ∷ [])) kept
+      beside = beside_stores target.depth target.root memory flushes counted gone within start call.plan.stores.items earlier (Is memory ∷ [])
+          stays_gone spared_gone (λ kept reads. reads)
+          (λ kept held. begins_beside target.depth target.root memory flushes counted gone within kept (first kept held))
 
       stands_then : (kept : Kept) → MayKeep target.depth target.root (while_stored start call.plan.stores.items earlier) kept → StandsThen kept
       stands_then (Translation level page frame rights) held = λ spared. comes_after (Translation level page frame rights)
@@ -208,13 +214,13 @@ module _ {memory flagged : Memory} (same_flags : AreSameButFlags memory flagged)
         (stale.pages address phys own some canonical at (sym (flagged_found same_flags level number address some) ∙ found) spared);
   }
 
-  flags_stand : (flushes : List Flush) (gone : List ℕ) (kept : Kept) → Stands target.depth target.root memory flushes gone kept
-      → Stands target.depth target.root flagged flushes gone kept
-  flags_stand flushes gone (Translation level page frame rights) stands =
+  flags_stand : (flushes counted : List Flush) (gone : List ℕ) (kept : Kept) → Stands target.depth target.root memory flushes counted gone kept
+      → Stands target.depth target.root flagged flushes counted gone kept
+  flags_stand flushes counted gone (Translation level page frame rights) stands =
       λ spared. flags_reads same_flags target.depth target.root (Translation level page frame rights) (stands spared)
-  flags_stand flushes gone (PagingEntry level region number rights) stands = ⊎_elim
+  flags_stand flushes counted gone (PagingEntry level region number rights) stands = ⊎_elim
       (λ fresh. inl (flags_reads same_flags target.depth target.root (PagingEntry level region number rights) fresh))
-      (λ stale. inr (flags_stale flushes gone level region number rights stale))
+      (λ stale. inr (flags_stale counted gone level region number rights stale))
       stands
 
   flags_unreached : (gone : List ℕ) → AreUnreached target.depth target.root memory gone → AreUnreached target.depth target.root flagged gone
@@ -223,25 +229,23 @@ module _ {memory flagged : Memory} (same_flags : AreSameButFlags memory flagged)
 
 -- ---- all plans
 
-abbrev all_flushes : List Flush → List Call → List Flush
-all_flushes flushes [] = flushes
-all_flushes flushes (call ∷ calls) = all_flushes (call.plan.flush ∷ flushes) calls
-
-abbrev all_gone : List ℕ → List Call → List ℕ
+abbrev pub all_gone : List ℕ → List Call → List ℕ
 all_gone gone [] = gone
 all_gone gone (call ∷ calls) = all_gone (call.plan.unlinked.items ++ gone) calls
 
-stand_all : (target : Target) (memory : Memory) (space : Space) (gone : List ℕ) (flushes : List Flush) (calls : List Call) (earlier : List Moment)
-    → AreRight target memory space gone calls
-    → ((kept : Kept) → MayKeep target.depth target.root earlier kept → Stands target.depth target.root memory flushes gone kept)
+pub stand_all : (target : Target) (memory : Memory) (space : Space) (gone : List ℕ) (flushes counted : List Flush) (calls : List Call)
+    (earlier : List Moment) → AreRight target memory space gone calls
+    → ((kept : Kept) → IsDroppedByOne counted kept → IsDroppedByOne flushes kept)
+    → ((kept : Kept) → MayKeep target.depth target.root earlier kept → Stands target.depth target.root memory flushes counted gone kept)
     → (kept : Kept) → MayKeep target.depth target.root (while_planned calls earlier) kept
-    → Stands target.depth target.root (ended_all memory calls) (all_flushes flushes calls) (all_gone gone calls) kept
-stand_all target memory space gone flushes [] earlier are first = first
-stand_all target memory space gone flushes (call ∷ calls) earlier are first =
+    → Stands target.depth target.root (ended_all memory calls) (all_flushes flushes calls) (all_counted counted calls) (all_gone gone calls) kept
+stand_all target memory space gone flushes counted [] earlier are within first = first
+stand_all target memory space gone flushes counted (call ∷ calls) earlier are within first =
     stand_all target (ended call.memory call.plan) (space_after target call.request space call.plan.reply) (call.plan.unlinked.items ++ gone)
-    (call.plan.flush ∷ flushes) calls (while_stored (begun call.memory call.plan) call.plan.stores.items earlier) are.1
-    (stands_then target are.0.flagged space gone call are.0.right flushes earlier
-    (λ kept held. flags_stand are.0.flags target flushes gone kept (first kept held)))
+    (call.plan.flush ∷ flushes) (grown call.plan.flush counted) calls (while_stored (begun call.memory call.plan) call.plan.stores.items earlier) are.1
+    (grown_within call.plan.flush flushes counted within)
+    (stands_then target are.0.flagged space gone call are.0.right flushes counted earlier within
+    (λ kept held. flags_stand are.0.flags target flushes counted gone kept (first kept held)))
 
 unreached_all : (target : Target) (memory : Memory) (space : Space) (gone : List ℕ) (calls : List Call) → AreRight target memory space gone calls
     → AreUnreached target.depth target.root memory gone → AreUnreached target.depth target.root (ended_all memory calls) (all_gone gone calls)
@@ -264,7 +268,7 @@ unlinked_gone gone (call ∷ calls) number named = ⊎_elim
     (Contains-append_cases call.plan.unlinked.items (unlinked_by calls) number named)
 
 -- the flushes have all
-have_all : (flushes so_far : List Flush) (calls : List Call) → HaveAll flushes calls
+pub have_all : (flushes so_far : List Flush) (calls : List Call) → HaveAll flushes calls
     → ((kept : Kept) → IsDroppedByOne so_far kept → IsDroppedByOne flushes kept) → (kept : Kept) → IsDroppedByOne (all_flushes so_far calls) kept
     → IsDroppedByOne flushes kept
 have_all flushes so_far [] all first = first
@@ -280,24 +284,26 @@ unflushed target (flush ∷ flushes) moments kept held =
     let rest = unflushed target flushes (Flushes flush ∷ moments) kept held in
     (rest.0.0, λ one. ⊎_elim rest.0.1 rest.1 one)
 
-up_to_date_stands : (target : Target) (memory : Memory) (earlier : List Moment) → IsUpToDate target.depth target.root memory earlier
-    → (kept : Kept) → MayKeep target.depth target.root earlier kept → Stands target.depth target.root memory [] [] kept
+pub up_to_date_stands : (target : Target) (memory : Memory) (earlier : List Moment) → IsUpToDate target.depth target.root memory earlier
+    → (kept : Kept) → MayKeep target.depth target.root earlier kept → Stands target.depth target.root memory [] [] [] kept
 up_to_date_stands target memory earlier is (Translation level page frame rights) held = λ spared. is (Translation level page frame rights) held
 up_to_date_stands target memory earlier is (PagingEntry level region number rights) held = inl (is (PagingEntry level region number rights) held)
 
-stands_spared : (target : Target) (memory : Memory) (flushes : List Flush) (gone : List ℕ) (kept : Kept)
-    → Stands target.depth target.root memory flushes gone kept → (IsDroppedByOne flushes kept → ⊥) → Reads target.depth target.root memory kept
-stands_spared target memory flushes gone (Translation level page frame rights) stands spared = stands spared
-stands_spared target memory flushes gone (PagingEntry level region number rights) stands spared =
-    ⊎_elim (λ fresh. fresh) (λ stale. absurd (spared stale.dropped)) stands
+stands_spared : (target : Target) (memory : Memory) (flushes counted : List Flush) (gone : List ℕ) (kept : Kept)
+    → ((k : Kept) → IsDroppedByOne counted k → IsDroppedByOne flushes k)
+    → Stands target.depth target.root memory flushes counted gone kept → (IsDroppedByOne flushes kept → ⊥) → Reads target.depth target.root memory kept
+stands_spared target memory flushes counted gone (Translation level page frame rights) within stands spared = stands spared
+stands_spared target memory flushes counted gone (PagingEntry level region number rights) within stands spared =
+    ⊎_elim (λ fresh. fresh) (λ stale. absurd (spared (within (PagingEntry level region number rights) stale.dropped))) stands
 
 pub several_suffice : (target : Target) (memory : Memory) (space : Space) (calls : List Call) (flushes : List Flush) (earlier : List Moment)
     → AreRight target memory space [] calls → HaveAll flushes calls → IsUpToDate target.depth target.root memory earlier
     → IsUpToDate target.depth target.root (ended_all memory calls) (flushed_by flushes (while_planned calls earlier))
 several_suffice target memory space calls flushes earlier are all is kept held =
     let before = unflushed target flushes (while_planned calls earlier) kept held in
-    stands_spared target (ended_all memory calls) (all_flushes [] calls) (all_gone [] calls) kept
-    (stand_all target memory space [] [] calls earlier are (up_to_date_stands target memory earlier is) kept before.0)
+    stands_spared target (ended_all memory calls) (all_flushes [] calls) (all_counted [] calls) (all_gone [] calls) kept
+    (all_within [] [] calls (λ k none. none))
+    (stand_all target memory space [] [] [] calls earlier are (λ k none. none) (up_to_date_stands target memory earlier is) kept before.0)
     (λ one. before.1 (have_all flushes [] calls all (λ k none. absurd none) kept one))
 
 pub several_unreached : (target : Target) (memory : Memory) (space : Space) (calls : List Call) (number : ℕ)
@@ -316,7 +322,7 @@ several_freed target memory space calls moments level region number rights are i
 
 -- ---- whatever flags are set meanwhile
 
-pub flushed_lived : (flushes : List Flush) (lived told : List Moment) → AreButFlags lived told
+flushed_lived : (flushes : List Flush) (lived told : List Moment) → AreButFlags lived told
     → AreButFlags (flushed_by flushes lived) (flushed_by flushes told)
 flushed_lived [] lived told are = are
 flushed_lived (flush ∷ flushes) lived told are =

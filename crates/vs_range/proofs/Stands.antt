@@ -33,12 +33,12 @@ pub record IsStale (depth : Depth) (root : ℕ) (memory : Memory) (flushes : Lis
       → (IsDroppedByOne flushes (Translation level (page_number level address) phys (intersection rights own)) → ⊥)
       → Reads depth root memory (Translation level (page_number level address) phys (intersection rights own))
 
--- what may be kept so far may be kept of this memory, but for what the flushes drop
-abbrev pub Stands : Depth → ℕ → Memory → List Flush → List ℕ → Kept → Type 0
-Stands depth root memory flushes gone (Translation level page frame rights) =
+-- what may be kept so far may be kept of this memory, but for what the flushes drop; and tables that were unlinked, of which those that count drop all
+abbrev pub Stands : Depth → ℕ → Memory → List Flush → List Flush → List ℕ → Kept → Type 0
+Stands depth root memory flushes counted gone (Translation level page frame rights) =
     (IsDroppedByOne flushes (Translation level page frame rights) → ⊥) → Reads depth root memory (Translation level page frame rights)
-Stands depth root memory flushes gone (PagingEntry level region number rights) =
-    Reads depth root memory (PagingEntry level region number rights) ⊎ IsStale depth root memory flushes gone level region number rights
+Stands depth root memory flushes counted gone (PagingEntry level region number rights) =
+    Reads depth root memory (PagingEntry level region number rights) ⊎ IsStale depth root memory counted gone level region number rights
 
 -- the last moment of stores is that of the memory after them
 pub last_moment : (memory : Memory) (stores : List Store) (earlier : List Moment)
@@ -54,15 +54,33 @@ kept_on depth root memory (s ∷ later) earlier kept held = kept_on depth root (
 
 -- ---- while the stores of one plan are made
 
-module _ (depth : Depth) (root : ℕ) (memory : Memory) (flushes : List Flush) (gone : List ℕ) where
+module _ (depth : Depth) (root : ℕ) (memory : Memory) (flushes counted : List Flush) (gone : List ℕ)
+    (within : (kept : Kept) → IsDroppedByOne counted kept → IsDroppedByOne flushes kept) where
+  -- reads of this memory add nothing to that
+  pub stands_closed : IsClosed depth root memory (Stands depth root memory flushes counted gone)
+  stands_closed = record {
+    of_root = λ address canonical. inl (OfRoot address canonical);
+    of_table = λ address below number next rights own canonical table found. ⊎_elim
+        (λ held. inl (OfTable address below number next rights own canonical held found))
+        (λ (stale : IsStale depth root memory counted gone (suc below) (region_number (suc below) address) number rights).
+        absurd (stale.ends address next own (omega arith) canonical (λ i. region_number (suc below) address) found))
+        table;
+    of_page = λ address below number phys rights own canonical table found. ⊎_elim
+        (λ held. λ spared. OfPage address below number phys rights own canonical held found)
+        (λ (stale : IsStale depth root memory counted gone (suc below) (region_number (suc below) address) number rights). λ spared.
+        stale.pages address phys own (omega arith) canonical (λ i. region_number (suc below) address) found
+        (λ one. spared (within (Translation (suc below) (page_number (suc below) address) phys (intersection rights own)) one)))
+        table;
+  }
+
   -- beside a processor that began with what this memory says, what another may keep, but for what the flushes drop
   abbrev pub Beside : List Moment → Kept → Type 0
   Beside here (Translation level page frame rights) =
       (IsDroppedByOne flushes (Translation level page frame rights) → ⊥) → MayKeep depth root here (Translation level page frame rights)
   Beside here (PagingEntry level region number rights) =
-      MayKeep depth root here (PagingEntry level region number rights) ⊎ IsStale depth root memory flushes gone level region number rights
+      MayKeep depth root here (PagingEntry level region number rights) ⊎ IsStale depth root memory counted gone level region number rights
 
-  pub begins_beside : (kept : Kept) → Stands depth root memory flushes gone kept → Beside (Is memory ∷ []) kept
+  pub begins_beside : (kept : Kept) → Stands depth root memory flushes counted gone kept → Beside (Is memory ∷ []) kept
   begins_beside (Translation level page frame rights) stands = stands
   begins_beside (PagingEntry level region number rights) stands = stands
 
@@ -84,17 +102,18 @@ module _ (depth : Depth) (root : ℕ) (memory : Memory) (flushes : List Flush) (
     of_root = λ address canonical. inl (OfRoot address canonical);
     of_table = λ address below number next rights own canonical table found. ⊎_elim
         (λ held. inl (OfTable address below number next rights own canonical held found))
-        (λ (stale : IsStale depth root memory flushes gone (suc below) (region_number (suc below) address) number rights).
+        (λ (stale : IsStale depth root memory counted gone (suc below) (region_number (suc below) address) number rights).
         absurd (stale.ends address next own (omega arith) canonical (λ i. region_number (suc below) address)
         (sym (found_alike (suc below) memory now number address (alike number stale.named)) ∙ found)))
         table;
     of_page = λ address below number phys rights own canonical table found. ⊎_elim
         (λ held. λ spared. OfPage address below number phys rights own canonical held found)
-        (λ (stale : IsStale depth root memory flushes gone (suc below) (region_number (suc below) address) number rights). λ spared.
+        (λ (stale : IsStale depth root memory counted gone (suc below) (region_number (suc below) address) number rights). λ spared.
         KeptBefore (Translation (suc below) (page_number (suc below) address) phys (intersection rights own))
         (read (Translation (suc below) (page_number (suc below) address) phys (intersection rights own))
         (stale.pages address phys own (omega arith) canonical (λ i. region_number (suc below) address)
-        (sym (found_alike (suc below) memory now number address (alike number stale.named)) ∙ found) spared)))
+        (sym (found_alike (suc below) memory now number address (alike number stale.named)) ∙ found)
+        (λ one. spared (within (Translation (suc below) (page_number (suc below) address) phys (intersection rights own)) one)))))
         table;
   }
 

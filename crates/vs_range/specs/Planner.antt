@@ -1,9 +1,9 @@
 -- What the planner of a range waits for, and what its next step means.
-use Rattle.std.specs.Prelude.{◌≡◌, ◌≢◌, ℕ, ◌+◌, ◌*◌, ◌%◌, ◌^◌, ◌<◌, ◌≤◌, ◌⊎◌, Bool, List, [], All, Option, Some, cond, min, not, slice_index, unwrap_or}
+use Rattle.std.specs.Prelude.{◌≡◌, ◌≢◌, ℕ, ◌+◌, ◌-◌, ◌*◌, ◌%◌, ◌^◌, ◌<◌, ◌≤◌, ◌⊎◌, Bool, false, List, [], All, Option, Some, cond, min, nat_lt, not, slice_index, unwrap_or}
 use Rattle.std.specs.Prelude.{◌&&◌, ◌==◌, if◌then◌else◌}
 use Rattle.std.specs.FinMap as finite
 use Rattle.vs_types.specs.Entry.{meaning}
-use Rattle.vs_types.specs.Depth.{index_at, IsCanonical}
+use Rattle.vs_types.specs.Depth.{entry_bytes, index_at, levels, table_bytes, IsCanonical}
 use Rattle.vs_types.specs.Page.{level_of, bytes_of, intersection}
 use Rattle.vs_types.specs.Space.{Space, page_at}
 use Rattle.vs_types.specs.declared.page.Page.{Page}
@@ -15,8 +15,9 @@ use Rattle.vs_walk.specs.Walk.{walk}
 use Rattle.vs_walk.specs.declared.walk.Walk.TheVariants.{NotMapped}
 use Rattle.vs_plan.specs.declared.plan.Step.{Step}
 use Rattle.vs_plan.specs.declared.plan.Step.TheVariants as steps
+use Rattle.vs_plan.specs.declared.planner.Phase.TheVariants.{Descent}
 use Rattle.vs_plan.specs.declared.request.BadRequest.{BadRequest}
-use Rattle.vs_plan.specs.declared.request.BadRequest.TheVariants.{Unaligned}
+use Rattle.vs_plan.specs.declared.request.BadRequest.TheVariants.{NotCanonical, Unaligned}
 use Rattle.vs_plan.specs.declared.request.Request.{Request}
 use Rattle.vs_plan.specs.declared.request.Request.TheVariants.{Map, Unmap, Protect, Ask}
 use Rattle.vs_plan.specs.declared.target.Target.{Target}
@@ -24,28 +25,34 @@ use Rattle.vs_plan.specs.Bits.{page_word, unflagged}
 use Rattle.vs_plan.specs.Planner.{AwaitsWords, AwaitsFrame, frames_given}
 use Rattle.vs_plan.specs.Premise.{IsPremise}
 use Rattle.vs_plan.specs.Processor.{page_number, Translation}
-use Rattle.vs_plan.specs.Request.{address_of, request_fault}
+use Rattle.vs_plan.specs.Request.{IsRequest, address_of, request_fault}
 use Rattle.vs_plan.specs.Right.{IsRight}
 use Rattle.vs_plan.specs.Shown.{IsShown}
 use Rattle.vs_plan.specs.Stores.{FindTheirWords}
+use Rattle.vs_plan.specs.Way.{IsWay}
 use Rattle.vs_range.specs.declared.planner.RangePlanner.{RangePlanner}
 use Rattle.vs_range.specs.declared.planner.RangeStep.{RangeStep}
 use Rattle.vs_range.specs.declared.planner.RangeStep.TheVariants.{See, Give, Runs, Harvests, Planned, Absent, Beyond}
+use Rattle.vs_range.specs.declared.run.Change.{Change}
 use Rattle.vs_range.specs.declared.run.Change.TheVariants.{Write, Clear, Allow, Unflag}
 use Rattle.vs_range.specs.declared.run.Forget.TheVariants as forget
 use Rattle.vs_range.specs.declared.run.Run.{Run}
 use Rattle.vs_range.specs.Run.{stores_of, flushes_in, IsRunRight}
 use Rattle.vs_range.specs.Several.{IsDroppedByOne}
 
--- ---- what a map over a range asks
+-- ---- what a range asks
+
+-- what is wrong with a range: it goes beyond the last address; else what is wrong with the call on its first page
+abbrev pub range_fault : Target → Request → ℕ → Option BadRequest
+range_fault target request bytes = if nat_lt (2 ^ 64) (address_of request + bytes) then Some NotCanonical else request_fault target request
 
 -- whether so many bytes are those of pages of a size, of one at least
 abbrev pub are_pages : Size → ℕ → Bool
 are_pages size bytes = not (bytes == 0) && (bytes % bytes_of size == 0)
 
--- the first thing that is wrong with a map of so many bytes: they are no whole pages; else what is wrong with the map of the first page
+-- the first thing that is wrong with a map of so many bytes: they are no whole pages; else what is wrong with the range
 abbrev pub map_fault : Target → Page → ℕ → ℕ → Option BadRequest
-map_fault target page bits bytes = if are_pages page.size bytes then request_fault target (Map page bits) else Some Unaligned
+map_fault target page bits bytes = if are_pages page.size bytes then range_fault target (Map page bits) bytes else Some Unaligned
 
 -- ---- what it waits for
 
@@ -57,11 +64,35 @@ IsRanged (Protect base rights) = Unit {0}
 IsRanged (Ask address) = Unit {0}
 IsRanged request = ⊥
 
+abbrev pub IsMap : Request → Type 0
+IsMap (Map page bits) = Unit {0}
+IsMap request = ⊥
+
+abbrev pub IsAsk : Request → Type 0
+IsAsk (Ask address) = Unit {0}
+IsAsk request = ⊥
+
 -- the planner waits for the words of a frame
 pub record AwaitsRange (range : RangePlanner) : Type 0 where
   pub words : AwaitsWords range.planner
   pub base : address_of range.planner.request ≡ range.base
   pub kind : IsRanged range.planner.request
+
+-- a new planner of so many bytes, from the address of this request on: they end at the last address at the latest
+pub record IsNewRange (target : Target) (request : Request) (bytes : ℕ) (range : RangePlanner) : Type 0 where
+  pub asked : IsRequest target request
+  pub of_target : range.planner.target ≡ target
+  pub of_request : range.planner.request ≡ request
+  pub of_bytes : range.bytes ≡ bytes
+  pub ends : address_of request + bytes ≤ 2 ^ 64
+  pub together : range.alone ≡ false
+  pub awaits : AwaitsRange range
+  pub shown : (memory : Memory) → IsShown memory range.planner
+
+-- what is asked stays
+abbrev pub IsSameRange : RangePlanner → RangePlanner → Type 0
+IsSameRange before after = (after.planner.target ≡ before.planner.target) × (after.planner.request ≡ before.planner.request)
+    × (after.base ≡ before.base) × (after.bytes ≡ before.bytes)
 
 -- it waits for what the step says
 abbrev pub AwaitsNext : RangePlanner → RangeStep → Type 0
@@ -92,6 +123,16 @@ range_sees_left range (Harvests run) = 0
 range_sees_left range (Planned plan) = 0
 range_sees_left range (Absent bytes) = 0
 range_sees_left range (Beyond size) = 0
+
+-- how many frames it asks for after a step at most
+abbrev pub range_gives_left : RangePlanner → RangeStep → ℕ
+range_gives_left range (See number) = levels range.planner.target.depth
+range_gives_left range Give = range.planner.level - range.planner.height
+range_gives_left range (Runs run) = 0
+range_gives_left range (Harvests run) = 0
+range_gives_left range (Planned plan) = 0
+range_gives_left range (Absent bytes) = 0
+range_gives_left range (Beyond size) = 0
 
 -- where a frame is waited for, these were given
 abbrev pub HasGivenFor : RangePlanner → List ℕ → RangeStep → Type 0
@@ -188,6 +229,53 @@ harvest_run size base count frame index = record {
   forget = forget.Pages base size count;
 }
 
+-- how the words change, as was asked
+abbrev pub change_of : Request → Size → Change
+change_of (Map page bits) size = Write (page_word page bits) (bytes_of size)
+change_of (Unmap base) size = Clear
+change_of (Protect base rights) size = Allow rights
+change_of request size = Unflag
+
+-- a run is of the table to which the way of the base leads, from the entry for the base on: of pages of that table's level, which change as was asked
+pub record IsRunOf (memory : Memory) (range : RangePlanner) (run : Run) : Type 0 where
+  pub rights : Rights
+  pub way : IsWay range.planner.target.depth memory range.planner.target.root range.base (level_of run.size) run.frame rights
+  pub level : range.planner.level ≡ level_of run.size
+  pub index : run.index ≡ index_at (level_of run.size) range.base
+  pub aligned : range.base % bytes_of run.size ≡ 0
+  pub change : run.change ≡ change_of range.planner.request run.size
+
+-- the words of a frame
+abbrev pub words_in : Memory → ℕ → List ℕ
+words_in memory number = unwrap_or (finite.get memory number) []
+
+-- a page of this size begins at the base, and its entry is among these words of the table that is seen
+abbrev pub IsSeenPage : RangePlanner → List ℕ → Size → Type 0
+IsSeenPage range words size =
+    (range.planner.phase ≡ Descent) × IsPageAt range (slice_index words (index_at range.planner.level range.base)) size
+
+-- whether such a page is in a run: of an unmap if its table has another word, of a protect if the entries above allow the rights
+abbrev pub IsInRun : RangePlanner → List ℕ → Request → Type 0
+IsInRun range words (Unmap base) = (range.alone ≡ false) × HasOther words (index_at range.planner.level range.base) 1
+IsInRun range words (Protect base rights) = intersection range.planner.rights rights ≡ rights
+IsInRun range words (Ask address) = Unit {0}
+IsInRun range words request = ⊥
+
+abbrev pub IsRunStep : RangeStep → Type 0
+IsRunStep (See number) = ⊥
+IsRunStep Give = ⊥
+IsRunStep (Runs run) = Unit {0}
+IsRunStep (Harvests run) = Unit {0}
+IsRunStep (Planned plan) = ⊥
+IsRunStep (Absent bytes) = ⊥
+IsRunStep (Beyond size) = ⊥
+
+-- a page that is seen at the base is named where it ends beyond the range, and else dealt with in a run, not alone
+pub record TakesPage (range : RangePlanner) (words : List ℕ) (step : RangeStep) : Type 0 where
+  pub beyond : (size : Size) → IsSeenPage range words size → (IsMap range.planner.request → ⊥) → range.bytes < bytes_of size → step ≡ Beyond size
+  pub within : (size : Size) → IsSeenPage range words size → bytes_of size ≤ range.bytes → IsInRun range words range.planner.request
+      → IsRunStep step
+
 -- ---- what its next step means
 
 -- the page that begins at the base ends beyond so many bytes
@@ -198,11 +286,21 @@ pub record EndsBeyond (space : Space) (base bytes : ℕ) (size : Size) : Type 0 
   pub size_is : page.size ≡ size
   pub beyond : bytes < bytes_of size
 
--- nothing is mapped at the first so many bytes of a range, of which there are some
+-- nothing is mapped at the first so many bytes of a range, of which there are some. They end with an entry of the table to which the way of the base
+-- leads, and the table ends there, or the next entry is present
 pub record IsAbsentFor (memory : Memory) (range : RangePlanner) (bytes : ℕ) : Type 0 where
+  pub kind : IsMap range.planner.request → ⊥
   pub some : 1 ≤ bytes
   pub nothing : (address : ℕ) → IsCanonical range.planner.target.depth address → range.base ≤ address → address < range.base + bytes
       → walk range.planner.target.depth memory range.planner.target.root address ≡ NotMapped
+  pub level : ℕ
+  pub number : ℕ
+  pub rights : Rights
+  pub way : IsWay range.planner.target.depth memory range.planner.target.root range.base level number rights
+  pub gap : slice_index (words_in memory number) (index_at level range.base) % 2 ≡ 0
+  pub whole : (range.base + bytes) % entry_bytes level ≡ 0
+  pub longest : ((range.base + bytes) % table_bytes level ≡ 0)
+      ⊎ (slice_index (words_in memory number) (index_at level (range.base + bytes)) % 2 ≢ 0)
 
 -- behind a run nothing follows that the request takes too: for a map the entry is present, or the page would not lie within the physical addresses;
 -- else no page begins there; or it is the only other word of the table, which an unmap leaves for the last
@@ -220,10 +318,11 @@ EndsWith range run words request =
 
 -- so it is as long as it can be
 abbrev pub IsLongest : Memory → RangePlanner → Run → Type 0
-IsLongest memory range run = EndsWith range run (unwrap_or (finite.get memory run.frame) []) range.planner.request
+IsLongest memory range run = EndsWith range run (words_in memory run.frame) range.planner.request
 
 -- a run that is right for each space, and within the range; nothing has to be forgotten after it, or its pages
 pub record IsRunNext (memory : Memory) (range : RangePlanner) (run : Run) : Type 0 where
+  pub of_table : IsRunOf memory range run
   pub some : 1 ≤ run.count
   pub within : run.count * bytes_of run.size ≤ range.bytes
   pub longest : IsLongest memory range run
@@ -231,9 +330,12 @@ pub record IsRunNext (memory : Memory) (range : RangePlanner) (run : Run) : Type
   pub right : (space : Space) → IsPremise range.planner.target.depth memory range.planner.target.root range.base space
       → IsRunRight range.planner.target range.planner.request memory space run
 
--- a harvest: it has a page, and is within the range. Each store finds the entry of a page, and takes the two flags from it and nothing else; and
+-- a harvest, where a page is asked of: it has a page, its words are entries of pages, and it is within the range. Each store finds the entry of a page, and takes the two flags from it and nothing else; and
 -- what is kept of its pages is dropped, so that a processor sets the flags again
 pub record IsHarvestNext (memory : Memory) (range : RangePlanner) (run : Run) : Type 0 where
+  pub kind : IsAsk range.planner.request
+  pub of_table : IsRunOf memory range run
+  pub pages : (number : ℕ) → number < run.count → IsPageWord range.planner.level (slice_index (words_in memory run.frame) (run.index + number))
   pub some : 1 ≤ run.count
   pub within : run.count * bytes_of run.size ≤ range.bytes
   pub longest : IsLongest memory range run
@@ -253,5 +355,10 @@ IsRangeNext memory range offered (Planned plan) = (space : Space)
     → IsPremise range.planner.target.depth memory range.planner.target.root (address_of range.planner.request) space
     → IsRight range.planner.target range.planner.request memory space offered plan
 IsRangeNext memory range offered (Absent bytes) = IsAbsentFor memory range bytes
-IsRangeNext memory range offered (Beyond size) = (space : Space)
-    → IsPremise range.planner.target.depth memory range.planner.target.root range.base space → EndsBeyond space range.base range.bytes size
+IsRangeNext memory range offered (Beyond size) = (IsMap range.planner.request → ⊥) × ((space : Space)
+    → IsPremise range.planner.target.depth memory range.planner.target.root range.base space → EndsBeyond space range.base range.bytes size)
+
+-- the same, once these words of the frame that was asked for were shown
+abbrev pub IsSeenNext : RangePlanner → List ℕ → RangePlanner → RangeStep → Type 0
+IsSeenNext before words after step = (memory : Memory) → IsShown memory before.planner
+    → finite.get memory before.planner.number ≡ Some words → IsRangeNext memory after [] step

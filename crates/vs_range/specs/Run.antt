@@ -26,7 +26,7 @@ use Rattle.vs_range.specs.declared.run.Change.TheVariants.{Write, Clear, Allow, 
 use Rattle.vs_range.specs.declared.run.Forget.{Forget}
 use Rattle.vs_range.specs.declared.run.Forget.TheVariants.{Nothing, Pages}
 use Rattle.vs_range.specs.declared.run.Run.{Run}
-use Rattle.vs_range.specs.Several.{Call, AreRight, ended_all, unlinked_by, HaveAll, flushed_by}
+use Rattle.vs_range.specs.Several.{Call, AreRight, ended_all, unlinked_by, HaveAll, flushed_while}
 
 -- ---- the stores of a run
 
@@ -102,11 +102,12 @@ flushes_in (Pages base size count) = pages_flushed base size 0 count
 
 -- ---- all of it
 
--- after the stores and the flushes each processor that was up to date before them is so again, whatever flags were set meanwhile
+-- after the stores and the flushes each processor that was up to date before them is so again, whatever it reads between two of them, and whatever
+-- flags are set meanwhile
 abbrev pub SufficesAfter : Depth → ℕ → Memory → List Store → List Flush → Type 0
 SufficesAfter depth root memory stores flushes = (earlier lived : List Moment) (now : Memory) → IsUpToDate depth root memory earlier
-    → AreButFlags lived (while_stored memory stores earlier) → AreSameButFlags (stored_all memory stores) now
-    → IsUpToDate depth root now (flushed_by flushes lived)
+    → AreButFlags lived (flushed_while (stored_all memory stores) flushes (while_stored memory stores earlier))
+    → AreSameButFlags (stored_all memory stores) now → IsUpToDate depth root now lived
 
 -- a run for a request, in a memory that translates as the space
 pub record IsRunRight (target : Target) (request : Request) (memory : Memory) (space : Space) (run : Run) : Type 0 where

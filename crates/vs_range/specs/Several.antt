@@ -1,5 +1,5 @@
 -- Plans one after another, before one flush.
-use Rattle.std.specs.Prelude.{◌≡◌, ℕ, ◌⊎◌, List, [], ◌∷◌, ◌++◌, Contains, Option}
+use Rattle.std.specs.Prelude.{◌≡◌, ℕ, ◌⊎◌, Bool, true, false, List, [], ◌∷◌, ◌++◌, Contains, Option, if◌then◌else◌}
 use Rattle.std.specs.FinMap as finite
 use Rattle.vs_types.specs.Space.{Space}
 use Rattle.vs_types.specs.declared.depth.Depth.{Depth}
@@ -8,13 +8,14 @@ use Rattle.vs_walk.specs.Walk.{walk}
 use Rattle.vs_walk.specs.declared.walk.Walk.{Walk}
 use Rattle.vs_space.specs.Flags.{AreSameButFlags}
 use Rattle.vs_plan.specs.declared.plan.Flush.{Flush}
+use Rattle.vs_plan.specs.declared.plan.Flush.TheVariants.{Nothing, Page, PageAndTables, Range}
 use Rattle.vs_plan.specs.declared.plan.Plan.{Plan}
 use Rattle.vs_plan.specs.declared.request.Request.{Request}
 use Rattle.vs_plan.specs.declared.target.Target.{Target}
 use Rattle.vs_plan.specs.Flushed.{while_stored}
 use Rattle.vs_plan.specs.Other.{HasSameTables}
 use Rattle.vs_plan.specs.Premise.{IsPremise}
-use Rattle.vs_plan.specs.Processor.{Kept, IsDropped, Moment, Flushes}
+use Rattle.vs_plan.specs.Processor.{Kept, IsDropped, Moment, Is, Flushes}
 use Rattle.vs_plan.specs.Request.{address_of}
 use Rattle.vs_plan.specs.Answered.{space_after}
 use Rattle.vs_plan.specs.Right.{IsRight, written_frames, begun, ended}
@@ -84,6 +85,44 @@ IsDroppedByOne (flush ∷ flushes) kept = IsDropped flush kept ⊎ IsDroppedByOn
 abbrev pub HaveAll : List Flush → List Call → Type 0
 HaveAll flushes [] = Unit {0}
 HaveAll flushes (call ∷ calls) = ((kept : Kept) → IsDropped call.plan.flush kept → IsDroppedByOne flushes kept) × HaveAll flushes calls
+
+-- ---- reads between the flushes
+
+-- and then these flushes, while the memory is this one, which is read between them and after the last
+abbrev pub flushed_while : Memory → List Flush → List Moment → List Moment
+flushed_while memory [] moments = moments
+flushed_while memory (flush ∷ flushes) moments = flushed_while memory flushes (Is memory ∷ Flushes flush ∷ moments)
+
+-- a flush drops all that is kept of tables
+abbrev pub drops_tables : Flush → Bool
+drops_tables Nothing = false
+drops_tables (Page base size) = false
+drops_tables (PageAndTables base size) = true
+drops_tables (Range base size) = true
+
+-- the flushes from the first one on that drops what is kept of tables; none, if none does
+abbrev pub from_tables : List Flush → List Flush
+from_tables [] = []
+from_tables (flush ∷ flushes) = if drops_tables flush then flush ∷ flushes else from_tables flushes
+
+-- the flushes that count for a plan with this flush, and for those after it. If it drops what is kept of tables, one may have been unlinked: until
+-- that is dropped a processor may read the pages of that table again
+abbrev pub that_count : Flush → List Flush → List Flush
+that_count flush flushes = if drops_tables flush then from_tables flushes else flushes
+
+-- what the flush of a plan drops, one of those that count for it drops
+abbrev pub HaveAllInOrder : List Flush → List Call → Type 0
+HaveAllInOrder flushes [] = Unit {0}
+HaveAllInOrder flushes (call ∷ calls) =
+    ((kept : Kept) → IsDropped call.plan.flush kept → IsDroppedByOne (that_count call.plan.flush flushes) kept)
+    × HaveAllInOrder (that_count call.plan.flush flushes) calls
+
+-- the plans' own flushes, one after another
+abbrev pub flushes_of : List Call → List Flush
+flushes_of [] = []
+flushes_of (call ∷ calls) = call.plan.flush ∷ flushes_of calls
+
+-- ---- accesses
 
 -- an access finds what a walk finds before these plans, or after one of them
 abbrev pub FindsOneOf : Depth → ℕ → Memory → List Call → ℕ → Walk → Type 0

@@ -13,5 +13,5 @@ mod word;
 
 pub use direct::plan_in;
 pub use planner::{RangePlanner, RangeStep};
-pub use room::are_pages;
+pub use room::{are_pages, ends_late};
 pub use run::{Change, Forget, Run};

@@ -1,17 +1,18 @@
 //! The planner of a range: the way of its first page, and then a run of pages in the table in which that ends.
-ghost use Rattle.std.specs.Prelude.{◌≡◌, ◌≢◌, ◌+◌, ◌<◌, ◌≤◌, ℕ, [], Some, IfSome, List, MatchResult, ◌∷◌, cond, slice_index, true};
-ghost use Rattle.std.specs.FinMap as finite;
+ghost use Rattle.std.specs.Prelude.{◌≡◌, ◌≢◌, ◌+◌, ◌-◌, ◌<◌, ◌≤◌, ◌++◌, ◌∷◌, ℕ, [], IfSome, List, MatchResult, Some, cond, slice_index, true};
 ghost use Rattle.vs_types.specs.declared.frame.TheConstants.{FRAME_WORDS};
 ghost use Rattle.vs_types.specs.Depth.{index_at};
 ghost use Rattle.vs_walk.specs.Memory.{Memory};
-ghost use Rattle.vs_plan.specs.Planner.{AwaitsFrame, HasGiven, IsSpareFor, sees_left};
-ghost use Rattle.vs_plan.specs.Request.{IsRequest, request_fault, address_of};
+ghost use Rattle.vs_plan.specs.Planner.{AwaitsFrame, HasGiven, IsSpareFor, frames_given, gives_left, sees_left};
+ghost use Rattle.vs_plan.specs.Request.{address_of};
 ghost use Rattle.vs_plan.specs.Shown.{IsShown};
 ghost use Rattle.vs_plan.specs.declared.request.Request.{Request};
 ghost use Rattle.vs_plan.specs.declared.planner.Phase.{Phase};
-ghost use Rattle.vs_range.specs.Planner.{IsRanged, AwaitsRange, AwaitsNext, are_pages, as_range, map_fault, HasGivenFor, HasRoom, IsRangeNext, range_sees, range_sees_left};
+ghost use Rattle.vs_range.specs.Planner.{AwaitsNext, AwaitsRange, HasGivenFor, HasRoom, IsNewRange, IsRanged, IsRangeNext};
+ghost use Rattle.vs_range.specs.Planner.{IsSameRange, IsSeenNext, TakesPage, are_pages, as_range, map_fault, range_fault, range_gives_left};
+ghost use Rattle.vs_range.specs.Planner.{range_sees, range_sees_left};
 
-use crate::room::are_pages;
+use crate::room::{are_pages, ends_late};
 use crate::run::Run;
 use vs_plan::{BadRequest, FrameWords, Phase, Plan, Planner, Request, Step, Target};
 use vs_types::{Page, Rights, Size, index_at};
@@ -56,84 +57,52 @@ impl RangePlanner {
     ///
     /// # Errors
     ///
-    /// `BadRequest::Unaligned` where the bytes are 0, or no multiple of the page's size; else the first that holds for the first page.
+    /// `BadRequest::Unaligned` where the bytes are 0, or no multiple of the page's size; `BadRequest::NotCanonical` where they go beyond the last
+    /// address; else the first that holds for the first page.
     pub fn map_range(
         target: Target,
         page: Page,
         bits: u64,
         bytes: u64,
     ) -> Result<RangePlanner, BadRequest>
-        ensures made { MatchResult result
-            (λ r. IsRequest target (Request.Map page bits) × (r.planner.target ≡ target)
-            × (r.planner.request ≡ Request.Map page bits) × (r.bytes ≡ bytes))
+        ensures made { MatchResult result (IsNewRange target (Request.Map page bits) bytes)
             (λ e. map_fault target page bits bytes ≡ Some e) }
         ensures whole { MatchResult result
             (λ r. are_pages page.size bytes ≡ true) (λ e. Unit {0}) }
-        ensures awaits { MatchResult result (λ r. AwaitsRange r) (λ e. Unit {0}) }
-        ensures shown { MatchResult result
-            (λ r. (memory : Memory) → IsShown memory r.planner) (λ e. Unit {0}) }
     {
         if !are_pages(page.size, bytes) {
             return Err(BadRequest::Unaligned);
         }
-        let planner = Planner::new(target, Request::Map(page, bits))?;
-        Ok(RangePlanner {
-            planner,
-            base: page.base,
-            bytes,
-            alone: false,
-        })
+        RangePlanner::begin(target, Request::Map(page, bits), page.base, bytes)
     }
 
     /// Removes the pages of so many bytes from this base on, of whatever sizes, and splits none.
     ///
     /// # Errors
     ///
-    /// `BadRequest`, the first that holds for the base.
+    /// `BadRequest::NotCanonical` where the bytes go beyond the last address; else the first that holds for the base.
     pub fn unmap_range(target: Target, base: u64, bytes: u64) -> Result<RangePlanner, BadRequest>
-        ensures made { MatchResult result
-            (λ r. IsRequest target (Request.Unmap base) × (r.planner.target ≡ target)
-            × (r.planner.request ≡ Request.Unmap base) × (r.bytes ≡ bytes))
-            (λ e. request_fault target (Request.Unmap base) ≡ Some e) }
-        ensures awaits { MatchResult result (λ r. AwaitsRange r) (λ e. Unit {0}) }
-        ensures shown { MatchResult result
-            (λ r. (memory : Memory) → IsShown memory r.planner) (λ e. Unit {0}) }
+        ensures made { MatchResult result (IsNewRange target (Request.Unmap base) bytes)
+            (λ e. range_fault target (Request.Unmap base) bytes ≡ Some e) }
     {
-        let planner = Planner::new(target, Request::Unmap(base))?;
-        Ok(RangePlanner {
-            planner,
-            base,
-            bytes,
-            alone: false,
-        })
+        RangePlanner::begin(target, Request::Unmap(base), base, bytes)
     }
 
     /// Gives the pages of so many bytes from this base on, of whatever sizes, these rights, and splits none.
     ///
     /// # Errors
     ///
-    /// `BadRequest`, the first that holds for the base.
+    /// `BadRequest::NotCanonical` where the bytes go beyond the last address; else the first that holds for the base.
     pub fn protect_range(
         target: Target,
         base: u64,
         bytes: u64,
         rights: Rights,
     ) -> Result<RangePlanner, BadRequest>
-        ensures made { MatchResult result
-            (λ r. IsRequest target (Request.Protect base rights) × (r.planner.target ≡ target)
-            × (r.planner.request ≡ Request.Protect base rights) × (r.bytes ≡ bytes))
-            (λ e. request_fault target (Request.Protect base rights) ≡ Some e) }
-        ensures awaits { MatchResult result (λ r. AwaitsRange r) (λ e. Unit {0}) }
-        ensures shown { MatchResult result
-            (λ r. (memory : Memory) → IsShown memory r.planner) (λ e. Unit {0}) }
+        ensures made { MatchResult result (IsNewRange target (Request.Protect base rights) bytes)
+            (λ e. range_fault target (Request.Protect base rights) bytes ≡ Some e) }
     {
-        let planner = Planner::new(target, Request::Protect(base, rights))?;
-        Ok(RangePlanner {
-            planner,
-            base,
-            bytes,
-            alone: false,
-        })
+        RangePlanner::begin(target, Request::Protect(base, rights), base, bytes)
     }
 
     /// Takes the accessed and the dirty flag from the pages of so many bytes from this base on, of whatever sizes. A page that begins before the
@@ -141,17 +110,30 @@ impl RangePlanner {
     ///
     /// # Errors
     ///
-    /// `BadRequest`, the first that holds for the base.
+    /// `BadRequest::NotCanonical` where the bytes go beyond the last address; else the first that holds for the base.
     pub fn harvest_range(target: Target, base: u64, bytes: u64) -> Result<RangePlanner, BadRequest>
-        ensures made { MatchResult result
-            (λ r. IsRequest target (Request.Ask base) × (r.planner.target ≡ target)
-            × (r.planner.request ≡ Request.Ask base) × (r.bytes ≡ bytes))
-            (λ e. request_fault target (Request.Ask base) ≡ Some e) }
-        ensures awaits { MatchResult result (λ r. AwaitsRange r) (λ e. Unit {0}) }
-        ensures shown { MatchResult result
-            (λ r. (memory : Memory) → IsShown memory r.planner) (λ e. Unit {0}) }
+        ensures made { MatchResult result (IsNewRange target (Request.Ask base) bytes)
+            (λ e. range_fault target (Request.Ask base) bytes ≡ Some e) }
     {
-        let planner = Planner::new(target, Request::Ask(base))?;
+        RangePlanner::begin(target, Request::Ask(base), base, bytes)
+    }
+
+    /// The planner of so many bytes from the address of a request on.
+    fn begin(
+        target: Target,
+        request: Request,
+        base: u64,
+        bytes: u64,
+    ) -> Result<RangePlanner, BadRequest>
+        requires base { address_of request ≡ base }
+        requires kind { IsRanged request }
+        ensures { MatchResult result (IsNewRange target request bytes)
+            (λ e. range_fault target request bytes ≡ Some e) }
+    {
+        if ends_late(base, bytes) {
+            return Err(BadRequest::NotCanonical);
+        }
+        let planner = Planner::new(target, request)?;
         Ok(RangePlanner {
             planner,
             base,
@@ -165,16 +147,13 @@ impl RangePlanner {
     pub fn see<W: FrameWords>(&mut self, words: &mut W) -> RangeStep
         requires awaits { AwaitsRange self.old }
         requires unread { (i : ℕ) → i < FRAME_WORDS → W.is_unread words.old i }
-        ensures same { (self.new.planner.target ≡ self.old.planner.target)
-            × (self.new.planner.request ≡ self.old.planner.request)
-            × (self.new.base ≡ self.old.base) × (self.new.bytes ≡ self.old.bytes) }
+        ensures same { IsSameRange self.old self.new }
         ensures awaits { AwaitsNext self.new result }
         ensures fewer { range_sees_left self.new result < range_sees self.old }
         ensures given { HasGivenFor self.new [] result }
         ensures room { HasRoom result }
-        ensures next { (memory : Memory) → IsShown memory self.old.planner
-            → finite.get memory self.old.planner.number ≡ Some (W.words words.old)
-            → IsRangeNext memory self.new [] result }
+        ensures next { IsSeenNext self.old (W.words words.old) self.new result }
+        ensures taken { TakesPage self.old (W.words words.old) result }
     {
         if self.planner.phase != Phase::Descent {
             let step = self.planner.see(words);
@@ -185,6 +164,7 @@ impl RangePlanner {
     }
 
     /// Takes the words of the frame that was asked for on the way down, by the word of its entry, which was read already. As `see` does.
+    #[inline(never)]
     pub fn follow<W: FrameWords>(&mut self, word: u64, words: &mut W) -> RangeStep
         requires awaits { AwaitsRange self.old }
         requires phase { self.old.planner.phase ≡ Phase.Descent }
@@ -192,20 +172,14 @@ impl RangePlanner {
             (index_at self.old.planner.level self.old.base) }
         requires unread { (i : ℕ) → i < FRAME_WORDS
             → i ≢ index_at self.old.planner.level self.old.base → W.is_unread words.old i }
-        ensures same { (self.new.planner.target ≡ self.old.planner.target)
-            × (self.new.planner.request ≡ self.old.planner.request)
-            × (self.new.base ≡ self.old.base) × (self.new.bytes ≡ self.old.bytes) }
+        ensures same { IsSameRange self.old self.new }
         ensures awaits { AwaitsNext self.new result }
         ensures fewer { range_sees_left self.new result < range_sees self.old }
         ensures given { HasGivenFor self.new [] result }
         ensures room { HasRoom result }
-        ensures next { (memory : Memory) → IsShown memory self.old.planner
-            → finite.get memory self.old.planner.number ≡ Some (W.words words.old)
-            → IsRangeNext memory self.new [] result }
+        ensures next { IsSeenNext self.old (W.words words.old) self.new result }
+        ensures taken { TakesPage self.old (W.words words.old) result }
     {
-        if self.alone {
-            return self.follow_alone(word, words);
-        }
         match self.planner.request {
             Request::Map(page, bits) => self.see_map(page, bits, word, words),
             Request::Protect(_, _) | Request::Unmap(_) | Request::Ask(_) if word % 2 == 0 => {
@@ -218,15 +192,18 @@ impl RangePlanner {
         }
     }
 
-    /// Takes a frame whose words are all 0, or none, as `Planner::give` does.
+    /// Takes a frame whose words are all 0, or none, as `Planner::give` does. It asks for no words then.
     pub fn give(&mut self, frame: Option<u64>) -> RangeStep
         requires awaits { AwaitsFrame self.old.planner }
         requires base { address_of self.old.planner.request ≡ self.old.base }
         requires kind { IsRanged self.old.planner.request }
-        ensures same { (self.new.planner.target ≡ self.old.planner.target)
-            × (self.new.planner.request ≡ self.old.planner.request)
-            × (self.new.base ≡ self.old.base) × (self.new.bytes ≡ self.old.bytes) }
+        ensures same { IsSameRange self.old self.new }
         ensures awaits { AwaitsNext self.new result }
+        ensures fewer { range_gives_left self.new result
+            < self.old.planner.level - self.old.planner.height }
+        ensures given { IfSome frame (λ number.
+            HasGivenFor self.new (frames_given self.old.planner ++ number ∷ []) result) }
+        ensures room { HasRoom result }
         ensures next { (memory : Memory) → IsShown memory self.old.planner
             → IfSome frame (λ number. IsSpareFor memory self.old.planner number)
             → IsRangeNext memory self.new (frame ∷ []) result }
@@ -244,16 +221,12 @@ impl RangePlanner {
             (index_at self.old.planner.level self.old.base) }
         requires unread { (i : ℕ) → i < FRAME_WORDS
             → i ≢ index_at self.old.planner.level self.old.base → W.is_unread words.old i }
-        ensures same { (self.new.planner.target ≡ self.old.planner.target)
-            × (self.new.planner.request ≡ self.old.planner.request)
-            × (self.new.base ≡ self.old.base) × (self.new.bytes ≡ self.old.bytes) }
+        ensures same { IsSameRange self.old self.new }
         ensures awaits { AwaitsNext self.new result }
         ensures fewer { range_sees_left self.new result < range_sees self.old }
         ensures given { HasGivenFor self.new [] result }
         ensures room { HasRoom result }
-        ensures next { (memory : Memory) → IsShown memory self.old.planner
-            → finite.get memory self.old.planner.number ≡ Some (W.words words.old)
-            → IsRangeNext memory self.new [] result }
+        ensures next { IsSeenNext self.old (W.words words.old) self.new result }
     {
         let step = self.planner.follow(word, words);
         self.step_of(step)
@@ -264,6 +237,7 @@ impl RangePlanner {
         ensures is { result ≡ as_range step }
         ensures few { range_sees_left self.now result ≤ sees_left self.now.planner step
             + cond self.now.alone 0 1 }
+        ensures gives { range_gives_left self.now result ≡ gives_left self.now.planner step }
         ensures given { (frames : List ℕ) → HasGiven self.now.planner frames step
             → HasGivenFor self.now frames result }
         ensures room { HasRoom result }

@@ -1,5 +1,5 @@
 //! How many pages there is room for.
-ghost use Rattle.std.specs.Prelude.{◌≡◌, ◌+◌, ◌*◌, ◌<◌, ◌≤◌, ◌⊎◌, ◌^◌, ℕ, min};
+ghost use Rattle.std.specs.Prelude.{◌≡◌, ◌+◌, ◌*◌, ◌<◌, ◌≤◌, ◌⊎◌, ◌^◌, ℕ, min, nat_lt};
 ghost use Rattle.vs_types.specs.Depth.{entry_bytes};
 ghost use Rattle.vs_types.specs.Page.{bytes_of};
 ghost use Rattle.vs_range.specs.Planner.{are_pages};
@@ -11,6 +11,13 @@ pub fn are_pages(size: Size, bytes: u64) -> bool
     ensures { result ≡ are_pages size bytes }
 {
     bytes != 0 && bytes % size.bytes() == 0
+}
+
+/// Whether so many bytes from a base on go beyond the last address.
+pub fn ends_late(base: u64, bytes: u64) -> bool
+    ensures { result ≡ nat_lt (2 ^ 64) (base + bytes) }
+{
+    base > 0 && u64::MAX - (base - 1) < bytes
 }
 
 /// How many pages of this size so many bytes have room for.

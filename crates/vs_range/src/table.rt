@@ -1,14 +1,13 @@
 //! What a table says in which the way of a range's first page ends: a run of pages, or how far none lies.
-ghost use Rattle.std.specs.Prelude.{◌≡◌, ◌≢◌, ◌+◌, ◌*◌, ◌<◌, ◌≤◌, ◌%◌, ◌^◌, ◌⊎◌, ℕ, [], Some, IfSome, IsFalse, min, slice_index};
-ghost use Rattle.std.specs.FinMap as finite;
+ghost use Rattle.std.specs.Prelude.{◌≡◌, ◌≢◌, ◌+◌, ◌*◌, ◌<◌, ◌≤◌, ◌%◌, ◌^◌, ◌⊎◌, ℕ, [], MatchOption, min, slice_index};
 ghost use Rattle.vs_types.specs.declared.frame.TheConstants.{FRAME_WORDS};
 ghost use Rattle.vs_types.specs.Depth.{index_at};
 ghost use Rattle.vs_types.specs.Page.{bytes_of};
-ghost use Rattle.vs_walk.specs.Memory.{Memory};
-ghost use Rattle.vs_plan.specs.Shown.{IsShown};
+ghost use Rattle.vs_types.specs.declared.page.Size.{Size};
 ghost use Rattle.vs_plan.specs.declared.request.Request.{Request};
 ghost use Rattle.vs_plan.specs.declared.planner.Phase.{Phase};
-ghost use Rattle.vs_range.specs.Planner.{AwaitsRange, AwaitsNext, HasGivenFor, HasRoom, IsRangeNext, IsMapRoom, IsPageAt, range_sees, range_sees_left};
+ghost use Rattle.vs_range.specs.Planner.{AwaitsNext, AwaitsRange, HasGivenFor, HasRoom, IsMap, IsMapRoom, IsPageAt, IsSameRange};
+ghost use Rattle.vs_range.specs.Planner.{IsSeenNext, TakesPage, range_sees, range_sees_left};
 
 use crate::made::{run_of_harvest, run_of_map, run_of_protect, run_of_unmap};
 use crate::planner::{RangePlanner, RangeStep};
@@ -20,6 +19,7 @@ use vs_types::{FRAME_WORDS, Page, Rights, Size, index_at};
 
 impl RangePlanner {
     /// A run of absent entries from this word on, or the next step of the first page's planner.
+    #[inline(never)]
     pub(crate) fn see_map<W: FrameWords>(
         &mut self,
         page: Page,
@@ -34,16 +34,13 @@ impl RangePlanner {
             (index_at self.old.planner.level self.old.base) }
         requires unread { (i : ℕ) → i < FRAME_WORDS
             → i ≢ index_at self.old.planner.level self.old.base → W.is_unread words.old i }
-        ensures same { (self.new.planner.target ≡ self.old.planner.target)
-            × (self.new.planner.request ≡ self.old.planner.request)
-            × (self.new.base ≡ self.old.base) × (self.new.bytes ≡ self.old.bytes) }
+        ensures same { IsSameRange self.old self.new }
         ensures awaits { AwaitsNext self.new result }
         ensures fewer { range_sees_left self.new result < range_sees self.old }
         ensures given { HasGivenFor self.new [] result }
         ensures room { HasRoom result }
-        ensures next { (memory : Memory) → IsShown memory self.old.planner
-            → finite.get memory self.old.planner.number ≡ Some (W.words words.old)
-            → IsRangeNext memory self.new [] result }
+        ensures next { IsSeenNext self.old (W.words words.old) self.new result }
+        ensures taken { TakesPage self.old (W.words words.old) result }
     {
         let most = self.most_mapped(page, word);
         if most == 0 {
@@ -77,9 +74,11 @@ impl RangePlanner {
     }
 
     /// How far no page lies, where the entry for the base is absent.
+    #[inline(never)]
     pub(crate) fn see_absent<W: FrameWords>(&self, words: &mut W) -> RangeStep
         requires awaits { AwaitsRange self.now }
         requires phase { self.now.planner.phase ≡ Phase.Descent }
+        requires kind { IsMap self.now.planner.request → ⊥ }
         requires absent { slice_index (W.words words.old)
             (index_at self.now.planner.level self.now.base) % 2 ≡ 0 }
         requires unread { (i : ℕ) → i < FRAME_WORDS
@@ -88,9 +87,8 @@ impl RangePlanner {
         ensures fewer { range_sees_left self.now result ≡ 0 }
         ensures given { HasGivenFor self.now [] result }
         ensures room { HasRoom result }
-        ensures next { (memory : Memory) → IsShown memory self.now.planner
-            → finite.get memory self.now.planner.number ≡ Some (W.words words.old)
-            → IsRangeNext memory self.now [] result }
+        ensures next { IsSeenNext self.now (W.words words.old) self.now result }
+        ensures taken { TakesPage self.now (W.words words.old) result }
     {
         let level = self.planner.level;
         let index = index_at(level, self.base);
@@ -100,6 +98,7 @@ impl RangePlanner {
     }
 
     /// A run of pages that get other rights, from this word on, or the next step of the first page's planner.
+    #[inline(never)]
     pub(crate) fn see_protect<W: FrameWords>(
         &mut self,
         rights: Rights,
@@ -113,16 +112,13 @@ impl RangePlanner {
             (index_at self.old.planner.level self.old.base) }
         requires unread { (i : ℕ) → i < FRAME_WORDS
             → i ≢ index_at self.old.planner.level self.old.base → W.is_unread words.old i }
-        ensures same { (self.new.planner.target ≡ self.old.planner.target)
-            × (self.new.planner.request ≡ self.old.planner.request)
-            × (self.new.base ≡ self.old.base) × (self.new.bytes ≡ self.old.bytes) }
+        ensures same { IsSameRange self.old self.new }
         ensures awaits { AwaitsNext self.new result }
         ensures fewer { range_sees_left self.new result < range_sees self.old }
         ensures given { HasGivenFor self.new [] result }
         ensures room { HasRoom result }
-        ensures next { (memory : Memory) → IsShown memory self.old.planner
-            → finite.get memory self.old.planner.number ≡ Some (W.words words.old)
-            → IsRangeNext memory self.new [] result }
+        ensures next { IsSeenNext self.old (W.words words.old) self.new result }
+        ensures taken { TakesPage self.old (W.words words.old) result }
     {
         let Some(size) = self.page_begins(word) else {
             return self.follow_alone(word, words);
@@ -147,6 +143,7 @@ impl RangePlanner {
     }
 
     /// A run of pages whose flags are taken away, from this word on, or the next step of the first page's planner.
+    #[inline(never)]
     pub(crate) fn see_harvest<W: FrameWords>(&mut self, word: u64, words: &mut W) -> RangeStep
         requires awaits { AwaitsRange self.old }
         requires phase { self.old.planner.phase ≡ Phase.Descent }
@@ -155,16 +152,13 @@ impl RangePlanner {
             (index_at self.old.planner.level self.old.base) }
         requires unread { (i : ℕ) → i < FRAME_WORDS
             → i ≢ index_at self.old.planner.level self.old.base → W.is_unread words.old i }
-        ensures same { (self.new.planner.target ≡ self.old.planner.target)
-            × (self.new.planner.request ≡ self.old.planner.request)
-            × (self.new.base ≡ self.old.base) × (self.new.bytes ≡ self.old.bytes) }
+        ensures same { IsSameRange self.old self.new }
         ensures awaits { AwaitsNext self.new result }
         ensures fewer { range_sees_left self.new result < range_sees self.old }
         ensures given { HasGivenFor self.new [] result }
         ensures room { HasRoom result }
-        ensures next { (memory : Memory) → IsShown memory self.old.planner
-            → finite.get memory self.old.planner.number ≡ Some (W.words words.old)
-            → IsRangeNext memory self.new [] result }
+        ensures next { IsSeenNext self.old (W.words words.old) self.new result }
+        ensures taken { TakesPage self.old (W.words words.old) result }
     {
         let Some(size) = self.page_begins(word) else {
             return self.follow_alone(word, words);
@@ -186,31 +180,31 @@ impl RangePlanner {
 
     /// A run of pages that are removed, from this word on, or the next step of the first page's planner. Where the table would be left empty,
     /// the last page is left to the next planner, or the first one is planned alone.
+    #[inline(never)]
     pub(crate) fn see_unmap<W: FrameWords>(&mut self, word: u64, words: &mut W) -> RangeStep
         requires awaits { AwaitsRange self.old }
-        requires alone { IsFalse self.old.alone }
         requires phase { self.old.planner.phase ≡ Phase.Descent }
         requires request { self.old.planner.request ≡ Request.Unmap self.old.base }
         requires read { word ≡ slice_index (W.words words.old)
             (index_at self.old.planner.level self.old.base) }
         requires unread { (i : ℕ) → i < FRAME_WORDS
             → i ≢ index_at self.old.planner.level self.old.base → W.is_unread words.old i }
-        ensures same { (self.new.planner.target ≡ self.old.planner.target)
-            × (self.new.planner.request ≡ self.old.planner.request)
-            × (self.new.base ≡ self.old.base) × (self.new.bytes ≡ self.old.bytes) }
+        ensures same { IsSameRange self.old self.new }
         ensures awaits { AwaitsNext self.new result }
         ensures fewer { range_sees_left self.new result < range_sees self.old }
         ensures given { HasGivenFor self.new [] result }
         ensures room { HasRoom result }
-        ensures next { (memory : Memory) → IsShown memory self.old.planner
-            → finite.get memory self.old.planner.number ≡ Some (W.words words.old)
-            → IsRangeNext memory self.new [] result }
+        ensures next { IsSeenNext self.old (W.words words.old) self.new result }
+        ensures taken { TakesPage self.old (W.words words.old) result }
     {
         let Some(size) = self.page_begins(word) else {
             return self.follow_alone(word, words);
         };
         if self.bytes < size.bytes() {
             return RangeStep::Beyond(size);
+        }
+        if self.alone {
+            return self.follow_alone(word, words);
         }
         let level = self.planner.level;
         let index = index_at(level, self.base);
@@ -226,14 +220,16 @@ impl RangePlanner {
     /// The size of the page that begins at the base, where this is the word of its entry.
     fn page_begins(&self, word: u64) -> Option<Size>
         requires { AwaitsRange self.now }
-        ensures { IfSome result (IsPageAt self.now word) }
+        ensures { MatchOption result ((size : Size) → IsPageAt self.now word size → ⊥)
+            (IsPageAt self.now word) }
     {
         let level = self.planner.level;
         if !is_page(level, word) {
             return None;
         }
         let size = Size::at_level(level);
-        if self.base % size.bytes() != 0 {
+        let offset = self.base % size.bytes();
+        if offset != 0 {
             return None;
         }
         Some(size)

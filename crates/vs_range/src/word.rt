@@ -1,5 +1,5 @@
 //! Entries as numbers.
-ghost use Rattle.std.specs.Prelude.{◌≡◌, ◌<◌, ◌≤◌, ◌%◌, ◌^◌, IsFalse, IsTrue};
+ghost use Rattle.std.specs.Prelude.{◌≡◌, ◌≢◌, ◌<◌, ◌≤◌, ◌%◌, ◌^◌, IsFalse, IsTrue};
 ghost use Rattle.vs_types.specs.Page.{bytes_of, intersection};
 ghost use Rattle.vs_plan.specs.Bits.{AreBits, page_word, placed};
 ghost use Rattle.vs_range.specs.Planner.{IsPageWord};
@@ -9,6 +9,7 @@ use vs_types::{Entry, Meaning, Page, Rights, Size};
 /// Whether entries that allow these rights together allow all that is wanted.
 pub(crate) fn permits(above: Rights, wanted: Rights) -> bool
     ensures all { IsTrue result → intersection above wanted ≡ wanted }
+    ensures less { IsFalse result → intersection above wanted ≢ wanted }
 {
     above.intersection(wanted) == wanted
 }

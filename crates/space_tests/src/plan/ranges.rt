@@ -198,12 +198,18 @@ fn refused_by_the_range(rt: HostRuntime) {
     let hole = planner(&rt, Asked::Unmap, 0x201000, 0x200000);
     let end = ended(&rt, &mut memory, hole);
     assert!(rt; matches!(end, End::Absent(0x1FF000)));
-    let part = planner(&rt, Asked::Unmap, 0x400000, 0x1000);
-    let end = ended(&rt, &mut memory, part);
-    assert!(rt; matches!(end, End::Beyond(Size::M2)));
+    for asked in [Asked::Unmap, Asked::Protect(WRITE), Asked::Harvest] {
+        let part = planner(&rt, asked, 0x400000, 0x1000);
+        let end = ended(&rt, &mut memory, part);
+        assert!(rt; matches!(end, End::Beyond(Size::M2)));
+    }
     let inside = planner(&rt, Asked::Protect(WRITE), 0x401000, 0x1000);
     let end = ended(&rt, &mut memory, inside);
     assert!(rt; reply(&end) == Some(Reply::Answer(Answer::Inside(0x400000))));
+    let behind = planner(&rt, Asked::Harvest, 0x401000, 0x200000);
+    let end = ended(&rt, &mut memory, behind);
+    let mapped = Answer::Mapped(0x401000, Size::M2, Rights::ALL);
+    assert!(rt; reply(&end) == Some(Reply::Answer(mapped)));
     let over = planner(&rt, Asked::Map(WRITE), 0x400000, 0x3000);
     let end = ended(&rt, &mut memory, over);
     assert!(rt; reply(&end) == Some(Reply::Answer(Answer::Overlap(0x400000))));
@@ -225,6 +231,21 @@ fn no_whole_pages(rt: HostRuntime) {
     let beside = page(0x400000, Size::M2, 0x401000, WRITE);
     let made = RangePlanner::map_range(TARGET, beside, 0, 0x400000);
     assert!(rt; matches!(made, Err(BadRequest::PhysUnaligned)));
+}
+
+// A range ends at the last address at the latest.
+#[test]
+fn last_address(rt: HostRuntime) {
+    let base = 0xFFFF_FFFF_FFFF_F000;
+    let last = RangePlanner::unmap_range(TARGET, base, 0x1000);
+    assert!(rt; last.is_ok());
+    for bytes in [0x1001, 0x2000, u64::MAX] {
+        let made = RangePlanner::unmap_range(TARGET, base, bytes);
+        assert!(rt; matches!(made, Err(BadRequest::NotCanonical)));
+    }
+    let from = page(base, Size::K4, 0, WRITE);
+    let made = RangePlanner::map_range(TARGET, from, 0, 0x2000);
+    assert!(rt; matches!(made, Err(BadRequest::NotCanonical)));
 }
 
 // What is forgotten of a run, and what is not.

@@ -24,6 +24,8 @@ returns c =
         of_target = ap target_in start.call;
         of_request = ap request_in start.call;
         of_bytes = refl;
+        ends = c.requires.ends;
+        together = refl;
         shown = start.begun.shown;
       };
     }

@@ -1,10 +1,13 @@
 use Rattle.std.proofs.Common.{sym, ap, subst, ◌∙◌, arith}
+use Rattle.vs_plan.specs.declared.planner.Phase.TheVariants.{Ended}
+use Rattle.vs_range.specs.declared.planner.RangePlanner.{RangePlanner}
 use Rattle.vs_range.specs.declared.planner.RangeStep.{RangeStep}
 use Rattle.vs_range.specs.Planner.{IsRangeNext}
-use Rattle.nrvs_plan_c.specs.Kept.{request_in, target_in}
+use Rattle.nrvs_plan_c.specs.declared.range.Run.{Run}
+use Rattle.nrvs_plan_c.specs.Kept.{planner_in, request_in, target_in}
 use Rattle.nrvs_plan_c.specs.Range.{range_in}
 use Rattle.nrvs_plan_c.proofs.Keeping.{ended_target, right_as}
-use Rattle.nrvs_plan_c.proofs.RangesMoved.{run_as, harvest_as}
+use Rattle.nrvs_plan_c.proofs.RangesMoved.{run_as, harvest_as, absent_as, beyond_as}
 use Rattle.nrvs_plan_c.proofs.run_told.go_on_range.Goals as goal
 
 pub returns-in-Planned-clause-next : goal.returns-in-Planned-clause-next
@@ -62,3 +65,39 @@ returns-in-Harvests-clause-next c = λ memory offered next.
       absent = λ e. absurd (omega (arith, e));
       beyond = λ e. absurd (omega (arith, e));
     }
+
+-- the range that is kept, where nothing of it has changed
+abbrev kept_range : RangePlanner → Run → RangePlanner
+kept_range range run = record range {
+  planner = record range.planner { target = target_in run.plan.call; request = request_in run.plan.call };
+  base = run.base;
+  bytes = run.bytes;
+}
+
+pub returns-in-Absent-clause-next : goal.returns-in-Absent-clause-next
+returns-in-Absent-clause-next c = λ memory offered next. record {
+  sees = λ e. absurd (omega (arith, e));
+  gives = λ e. absurd (omega (arith, e));
+  planned = λ e. absurd (omega (arith, e));
+  runs = λ e. absurd (omega (arith, e));
+  harvests = λ e. absurd (omega (arith, e));
+  absent = λ e. absent_as memory c.args.range.now (record (range_in c.args.run.now) {
+    planner = record (planner_in c.args.run.now.plan) { target = target_in c.args.run.now.plan.call; phase = Ended };
+  }) c.requires.target c.requires.request c.requires.base c.requires.bytes c.in-Absent.bytes
+      (subst (λ (s : RangeStep). IsRangeNext memory c.args.range.now offered s) c.in-Absent.is next);
+  beyond = λ e. absurd (omega (arith, e));
+}
+
+pub returns-in-Beyond-clause-next : goal.returns-in-Beyond-clause-next
+returns-in-Beyond-clause-next c = λ memory offered next. record {
+  sees = λ e. absurd (omega (arith, e));
+  gives = λ e. absurd (omega (arith, e));
+  planned = λ e. absurd (omega (arith, e));
+  runs = λ e. absurd (omega (arith, e));
+  harvests = λ e. absurd (omega (arith, e));
+  absent = λ e. absurd (omega (arith, e));
+  beyond = λ e.
+      let is = beyond_as memory c.args.range.now (kept_range c.args.range.now c.args.run.now) c.requires.target c.requires.request c.requires.base
+      c.requires.bytes c.in-Beyond.size (subst (λ (s : RangeStep). IsRangeNext memory c.args.range.now offered s) c.in-Beyond.is next) in
+      (c.in-Beyond.size, c.from-run-in-Beyond.ensures ∙ c.code.ensures.is, is);
+}

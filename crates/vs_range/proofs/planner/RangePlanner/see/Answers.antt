@@ -1,6 +1,6 @@
-use Rattle.std.proofs.Common.{[], sym, subst}
+use Rattle.std.proofs.Common.{ℕ, List, [], sym, subst}
 use Rattle.vs_range.specs.declared.planner.RangePlanner.{RangePlanner}
-use Rattle.vs_range.specs.Planner.{IsRangeNext}
+use Rattle.vs_range.specs.Planner.{IsRangeNext, TakesPage}
 use Rattle.vs_range.proofs.Seeing.{range_next}
 use Rattle.vs_range.proofs.planner.RangePlanner.see.Goals as goal
 
@@ -13,3 +13,7 @@ returns-then-ne-clause-next g c = λ memory shown got.
       alone = c.args.self.now.alone;
     } in
     subst (IsRangeNext memory range []) (sym c.step_of.ensures.is) (range_next memory range [] c.see-step.result (c.see-step.ensures.next memory shown got))
+
+pub returns-clause-taken : goal.returns-clause-taken
+returns-clause-taken g c =
+    subst (λ (ws : List ℕ). TakesPage c.args.self.now ws c.follow.result) c.read-word.ensures.same c.follow.ensures.taken

@@ -2,6 +2,7 @@ use Rattle.std.proofs.Common.{◌≡◌, ◌+◌, ◌*◌, ◌^◌, ◌<◌, ◌
 use Rattle.vs_types.specs.Page.{bytes_of}
 use Rattle.vs_range.specs.Planner.{IsRunNext}
 use Rattle.vs_range.proofs.Seeing.{map_next, map_ends}
+use Rattle.vs_range.proofs.Taking.{map_takes}
 use Rattle.vs_range.proofs.planner.RangePlanner.see_map.Goals as goal
 
 pub returns-clause-next : goal.returns-clause-next
@@ -17,3 +18,9 @@ returns-clause-next g c = λ memory shown got.
     ⊎ ((c.args.self.now.bytes < (c.most_mapped-most.result + 1) * bytes_of c.args.page.size)
     ⊎ (2 ^ min c.args.self.now.planner.target.phys_bits 51 < c.args.page.phys + (c.most_mapped-most.result + 1) * bytes_of c.args.page.size)))
     (sym c.index_at-index.ensures.is) (c.most_mapped-most.ensures.most (omega (arith, c.if-most-eq0.false))))))
+
+pub returns-then-most-eq0-clause-taken : goal.returns-then-most-eq0-clause-taken
+returns-then-most-eq0-clause-taken g c = map_takes c.args.self.now (g.W.FrameWords.words c.args.words.now) c.args.page c.args.bits _ c.requires.request
+
+pub returns-clause-taken : goal.returns-clause-taken
+returns-clause-taken g c = map_takes c.args.self.now (g.W.FrameWords.words c.args.words.now) c.args.page c.args.bits _ c.requires.request

@@ -1,19 +1,24 @@
-use Rattle.std.proofs.Common.{◌≡◌, ℕ, ◌+◌, ◌<◌, ◌≤◌, ◌⊎◌, List, sym, subst, arith}
+use Rattle.std.proofs.Common.{◌≡◌, true, false, ◌∙◌, ℕ, ◌+◌, ◌<◌, ◌≤◌, ◌⊎◌, List, sym, subst, arith}
 use Rattle.std.specs.Prelude.{slice_index}
 use Rattle.vs_types.specs.Page.{bytes_of}
 use Rattle.std.proofs.lemmas.Bool.{lt-ltb}
-use Rattle.vs_range.specs.Planner.{IsRunNext, IsPageAt, IsPageWord, HasOther}
+use Rattle.vs_range.specs.Planner.{IsMap, IsRunNext, IsPageAt, IsPageWord, HasOther}
 use Rattle.vs_range.proofs.Seeing.{alone_fewer, ends_beyond, unmap_ends, unmap_next, stays_above, beyond_bytes, last_word}
+use Rattle.vs_range.specs.Planner.{IsInRun}
+use Rattle.vs_plan.specs.declared.request.Request.{Request}
+use Rattle.vs_range.proofs.Taking.{none_takes, beyond_takes, refused_takes, run_takes, lone_page}
 use Rattle.vs_range.proofs.planner.RangePlanner.see_unmap.Goals as goal
 
 pub returns-then-self-bytes-clause-next : goal.returns-then-self-bytes-clause-next
-returns-then-self-bytes-clause-next g c = λ memory shown got.
-    ends_beyond memory c.args.self.now c.requires.awaits c.requires.phase shown (g.W.FrameWords.words c.args.words.now) got c.in-Some.size
-    (subst (λ w. IsPageAt c.args.self.now w c.in-Some.size) c.requires.read c.in-Some.ensures)
-    (beyond_bytes c.in-Some.size c.bytes.result c.args.self.now.bytes c.bytes.ensures (omega (arith, c.if-self-bytes.true)))
+returns-then-self-bytes-clause-next g c = λ memory shown got. (
+  λ map. subst IsMap c.requires.request map,
+  ends_beyond memory c.args.self.now c.requires.awaits c.requires.phase shown (g.W.FrameWords.words c.args.words.now) got c.in-Some.size
+      (subst (λ w. IsPageAt c.args.self.now w c.in-Some.size) c.requires.read c.in-Some.ensures)
+      (beyond_bytes c.in-Some.size c.bytes.result c.args.self.now.bytes c.bytes.ensures (omega (arith, c.if-self-bytes.true))),
+)
 
 pub returns-then-count-eq0-clause-fewer : goal.returns-then-count-eq0-clause-fewer
-returns-then-count-eq0-clause-fewer g c = alone_fewer c.args.self.now.planner.level c.args.self.now.alone c.requires.alone
+returns-then-count-eq0-clause-fewer g c = alone_fewer c.args.self.now.planner.level c.args.self.now.alone c.if-self.false
 
 pub removed-count-requires-clause-last : goal.removed-count-requires-clause-last
 removed-count-requires-clause-last g c =
@@ -42,3 +47,28 @@ returns-clause-next g c = λ memory shown got.
     (subst (λ (ws : List ℕ). c.removed-count.result < c.count_pages-pages.result.count → (i : ℕ) → i < 512
     → (i < c.index_at-index.result) ⊎ (c.index_at-index.result + c.count_pages-pages.result.count ≤ i) → slice_index ws i ≡ 0)
     c.count_pages-pages.ensures.same c.removed-count.ensures.alone)))
+
+pub returns-in_default-clause-taken : goal.returns-in_default-clause-taken
+returns-in_default-clause-taken g c = none_takes c.args.self.now (g.W.FrameWords.words c.args.words.now) c.args.word _ c.requires.read c.in_default.ensures
+
+pub returns-then-self-bytes-clause-taken : goal.returns-then-self-bytes-clause-taken
+returns-then-self-bytes-clause-taken g c = beyond_takes c.args.self.now (g.W.FrameWords.words c.args.words.now) c.args.word c.in-Some.size c.in-Some.ensures
+    (beyond_bytes c.in-Some.size c.bytes.result c.args.self.now.bytes c.bytes.ensures (omega (arith, c.if-self-bytes.true)))
+
+pub returns-then-self-clause-taken : goal.returns-then-self-clause-taken
+returns-then-self-clause-taken g c = refused_takes c.args.self.now (g.W.FrameWords.words c.args.words.now) c.args.word c.in-Some.size _ c.in-Some.ensures
+    (omega (arith, c.if-self-bytes.false, c.bytes.ensures))
+    (λ run. let both : true ≡ false = sym c.if-self.true
+    ∙ (subst (λ (q : Request). IsInRun c.args.self.now (g.W.FrameWords.words c.args.words.now) q) c.requires.request run).0 in cc)
+
+pub returns-then-count-eq0-clause-taken : goal.returns-then-count-eq0-clause-taken
+returns-then-count-eq0-clause-taken g c = refused_takes c.args.self.now (g.W.FrameWords.words c.args.words.now) c.args.word c.in-Some.size _ c.in-Some.ensures
+    (omega (arith, c.if-self-bytes.false, c.bytes.ensures))
+    (λ run. lone_page (g.W.FrameWords.words c.args.words.now) (g.W.FrameWords.words c.count_pages-pages.new.words) c.index_at-index.result _ c.removed-count.result
+    c.count_pages-pages.result.count c.count_pages-pages.ensures.same c.index_at-index.ensures.is (omega (arith, c.if-count-eq0.true))
+    c.removed-count.ensures.least c.count_pages-pages.ensures.some c.removed-count.ensures.alone
+    (subst (λ (q : Request). IsInRun c.args.self.now (g.W.FrameWords.words c.args.words.now) q) c.requires.request run).1)
+
+pub returns-clause-taken : goal.returns-clause-taken
+returns-clause-taken g c = run_takes c.args.self.now (g.W.FrameWords.words c.args.words.now) c.args.word c.in-Some.size _ c.in-Some.ensures
+    (omega (arith, c.if-self-bytes.false, c.bytes.ensures)) tt

@@ -1,4 +1,6 @@
-//! A page table and a plain space beside each other: `Both`.
+//! A page table and a plain space side by side: after the same calls both are of one space, and they give the same answers. `Both` depends
+//! on nothing but the contracts of the two.
+
 ghost use Rattle.std.specs.Prelude.{◌≡◌, IfOk, OnErr};
 ghost use Rattle.std.specs.FinMap as finite;
 ghost use Rattle.vs_types.specs.Depth.{IsCanonical};
@@ -9,7 +11,7 @@ ghost use Rattle.vs_types.specs.Step.{step, look, allow};
 ghost use Rattle.vs_space.specs.Walk.{walk, as_walk};
 ghost use Rattle.vs_space.specs.Table as tables;
 ghost use Rattle.vs_plain.specs.Plain.{BoundedSpace, IsPlainStep};
-ghost use Rattle.vs_alike.specs.Alike.{AreAlike};
+ghost use Rattle.space_tests.specs.Alike.{AreAlike};
 
 use std::alloc::Global;
 use std::marker::Model;
@@ -37,7 +39,7 @@ impl<S: FrameStore> Model for Both<S> {
     ghost use Rattle.std.specs.FinMap as finite;
     ghost use Rattle.std.specs.Ordering.{nat_cmp};
     ghost use Rattle.vs_plain.specs.contracts.plain.PlainSpace as plain_contract;
-    ghost use Rattle.vs_alike.specs.Alike.{Pair, AreAlike};
+    ghost use Rattle.space_tests.specs.Alike.{Pair, AreAlike};
 
     ghost Value = { Pair };
 

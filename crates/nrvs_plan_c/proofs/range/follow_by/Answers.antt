@@ -1,0 +1,21 @@
+use Rattle.std.proofs.Common.{[], ◌<◌, sym, ap, subst, ◌∙◌}
+use Rattle.std.specs.FinMap as finite
+use Rattle.vs_plan.specs.Shown.{IsShown}
+use Rattle.vs_range.specs.declared.planner.RangePlanner.{RangePlanner}
+use Rattle.vs_range.specs.Planner.{range_sees, range_sees_left}
+use Rattle.nrvs_plan_c.specs.Range.{range_sees_in}
+use Rattle.nrvs_plan_c.proofs.range.follow_by.Goals as goal
+
+pub returns-clause-given : goal.returns-clause-given
+returns-clause-given g c = λ is. c.go_on_range.ensures.given [] is c.follow-step.ensures.given
+
+pub returns-clause-fewer : goal.returns-clause-fewer
+returns-clause-fewer g c = λ is. subst (λ n. n < range_sees_in c.args.run.now) (sym (c.go_on_range.ensures.fewer is))
+    (subst (λ (r : RangePlanner). range_sees_left c.follow-step.new.self c.follow-step.result < range_sees r) c.requires.range
+    c.follow-step.ensures.fewer)
+
+pub returns-clause-next : goal.returns-clause-next
+returns-clause-next g c = λ memory shown there.
+    c.go_on_range.ensures.next memory []
+    (c.follow-step.ensures.next memory (subst (λ (r : RangePlanner). IsShown memory r.planner) (sym c.requires.range) shown)
+    (ap (λ (r : RangePlanner). finite.get memory r.planner.number) c.requires.range ∙ there))

@@ -1,0 +1,93 @@
+-- What is done with the page that begins at the base of a range.
+use Rattle.std.proofs.Common.{◌≡◌, ◌≢◌, ℕ, ◌+◌, ◌%◌, ◌<◌, ◌≤◌, ◌⊎◌, List, Bool, true, false, inl, inr, ⊎_elim, refl, sym, ap, subst, ◌∙◌, arith}
+use Rattle.std.specs.Prelude.{slice_index}
+use Rattle.vs_types.specs.Depth.{index_at}
+use Rattle.vs_types.specs.Entry.{meaning, size_at}
+use Rattle.vs_types.specs.Page.{bytes_of}
+use Rattle.vs_types.specs.declared.page.Page.{Page}
+use Rattle.vs_types.specs.declared.page.Size.{Size}
+use Rattle.vs_types.specs.declared.entry.Meaning.TheVariants as entry
+use Rattle.vs_space.proofs.Written.{size_same}
+use Rattle.vs_plan.specs.declared.request.Request.{Request}
+use Rattle.vs_plan.specs.declared.request.Request.TheVariants.{Map}
+use Rattle.vs_plan.proofs.Stored.{even_absent}
+use Rattle.vs_range.specs.declared.planner.RangePlanner.{RangePlanner}
+use Rattle.vs_range.specs.declared.planner.RangeStep.{RangeStep}
+use Rattle.vs_range.specs.declared.planner.RangeStep.TheVariants.{Beyond}
+use Rattle.vs_range.specs.Planner.{IsMap, IsPageAt, HasOther, IsInRun, IsRunStep, TakesPage}
+
+-- a level has pages of one size
+pub same_size : (range : RangePlanner) (word other : ℕ) (size wanted : Size) → IsPageAt range word size → IsPageAt range other wanted → size ≡ wanted
+same_size range word other size wanted at there =
+    sym (size_same size) ∙ ap size_at (sym at.level ∙ there.level) ∙ size_same wanted
+
+pub aligned_at : (range : RangePlanner) (word : ℕ) (size : Size) → IsPageAt range word size
+    → range.base % bytes_of (size_at range.planner.level) ≡ 0
+aligned_at range word size at =
+    ap (λ (s : Size). range.base % bytes_of s) (ap size_at at.level ∙ size_same size) ∙ at.aligned
+
+module _ (range : RangePlanner) (words : List ℕ) where
+  pub map_takes : (page : Page) (bits : ℕ) (step : RangeStep) → range.planner.request ≡ Map page bits → TakesPage range words step
+  map_takes page bits step request = record {
+    beyond = λ size seen no_map less. absurd (no_map (subst IsMap (sym request) tt));
+    within = λ size seen fits run. absurd (subst (λ (q : Request). IsInRun range words q) request run);
+  }
+
+  pub absent_takes : (step : RangeStep) → slice_index words (index_at range.planner.level range.base) % 2 ≡ 0 → TakesPage range words step
+  absent_takes step even = record {
+    beyond = λ size seen no_map less. absurd (none size seen.1);
+    within = λ size seen fits run. absurd (none size seen.1);
+  } where
+    none : (size : Size) → IsPageAt range (slice_index words (index_at range.planner.level range.base)) size → ⊥
+    none size at =
+        let both : entry.Leaf at.page.phys at.page.own ≡ entry.Absent =
+        sym at.page.says ∙ even_absent range.planner.level (slice_index words (index_at range.planner.level range.base)) even in
+        cc
+
+  pub none_takes : (word : ℕ) (step : RangeStep) → word ≡ slice_index words (index_at range.planner.level range.base)
+      → ((size : Size) → IsPageAt range word size → ⊥) → TakesPage range words step
+  none_takes word step read none = record {
+    beyond = λ size seen no_map less. absurd (none size (subst (λ w. IsPageAt range w size) (sym read) seen.1));
+    within = λ size seen fits run. absurd (none size (subst (λ w. IsPageAt range w size) (sym read) seen.1));
+  }
+
+  pub beyond_takes : (word : ℕ) (size : Size) → IsPageAt range word size → range.bytes < bytes_of size → TakesPage range words (Beyond size)
+  beyond_takes word size at few = record {
+    beyond = λ other seen no_map less. ap Beyond (same_size range word _ size other at seen.1);
+    within = λ other seen fits run. absurd (too_few other (same_size range word _ size other at seen.1) fits);
+  } where
+    too_few : (other : Size) → size ≡ other → bytes_of other ≤ range.bytes → ⊥
+    too_few other same fits =
+        let fits_it : bytes_of size ≤ range.bytes = subst (λ (s : Size). bytes_of s ≤ range.bytes) (sym same) fits in
+        omega arith
+
+  pub refused_takes : (word : ℕ) (size : Size) (step : RangeStep) → IsPageAt range word size → bytes_of size ≤ range.bytes
+      → (IsInRun range words range.planner.request → ⊥) → TakesPage range words step
+  refused_takes word size step at fits no_run = record {
+    beyond = λ other seen no_map less. absurd (enough other (same_size range word _ size other at seen.1) less);
+    within = λ other seen fits run. absurd (no_run run);
+  } where
+    enough : (other : Size) → size ≡ other → range.bytes < bytes_of other → ⊥
+    enough other same less =
+        let less_it : range.bytes < bytes_of size = subst (λ (s : Size). range.bytes < bytes_of s) (sym same) less in
+        omega arith
+
+  pub run_takes : (word : ℕ) (size : Size) (step : RangeStep) → IsPageAt range word size → bytes_of size ≤ range.bytes → IsRunStep step
+      → TakesPage range words step
+  run_takes word size step at fits is_run = record {
+    beyond = λ other seen no_map less. absurd (enough other (same_size range word _ size other at seen.1) less);
+    within = λ other seen fits run. is_run;
+  } where
+    enough : (other : Size) → size ≡ other → range.bytes < bytes_of other → ⊥
+    enough other same less =
+        let less_it : range.bytes < bytes_of size = subst (λ (s : Size). range.bytes < bytes_of s) (sym same) less in
+        omega arith
+
+-- one page that is the only word of its table
+pub lone_page : (words now : List ℕ) (index at count pages : ℕ) → now ≡ words → index ≡ at → count ≡ 0 → pages ≤ count + 1 → 1 ≤ pages
+    → (count < pages → (i : ℕ) → i < 512 → (i < index) ⊎ (index + pages ≤ i) → slice_index now i ≡ 0) → HasOther words at 1 → ⊥
+lone_page words now index at count pages same here none few some alone has =
+    has.some (ap (λ (ws : List ℕ). slice_index ws has.other) (sym same) ∙ alone (omega arith) has.other has.low (⊎_elim
+    (λ (below : has.other < at). let low : has.other < index = omega arith in inl low)
+    (λ (above : at + 1 ≤ has.other). let past : index + pages ≤ has.other = omega arith in inr past)
+    has.apart))
