@@ -4,10 +4,11 @@ ghost use Rattle.std.specs.Prelude.{◌≡◌, ◌≤◌, [], ◌∷◌, IfOk};
 ghost use Rattle.vs_types.specs.Query.{IsQuery};
 ghost use Rattle.vs_types.specs.declared.limits.TheConstants.{LOG_PLACES};
 ghost use Rattle.nr_trace.specs.Parts.{HasFrames};
-ghost use Rattle.nr_trace.specs.declared.version.Version.TheVariants.{V1};
+ghost use Rattle.nr_trace.specs.declared.version.Version.TheVariants.{V1, Segment};
 ghost use Rattle.nr_record.specs.Pen.{AreAllPens, new_pen};
 
-use nr_record::{Clock, Pen, finish, pens};
+use nr_audit::judge_segment;
+use nr_record::{Clock, Pen, finish, finish_segment, pens};
 use nr_trace::{Event, Trace, TraceLayout, Version};
 use std::alloc::Global;
 use std::process::Abort;
@@ -100,6 +101,29 @@ pub fn finish_two(
     finish(alloc, clock, pens, config, log, dumps)
 }
 
+/// A dump that is not there.
+fn no_dump(alloc: Global) -> Dump
+    ensures { HasFrames Segment result }
+{
+    Dump::new(alloc, 0, 0)
+}
+
+/// The segment of two pens, with no log words and no dumps.
+fn segment_of_two(
+    alloc: Global,
+    clock: Clock,
+    first: Pen,
+    second: Pen,
+    config: Config,
+) -> Result<Trace, Memory>
+    requires config { (config ≡ clock.layout) × (config.replicas ≡ 2) }
+    requires pens { AreAllPens clock (first ∷ second ∷ []) }
+{
+    let pens = vec![in alloc; first, second]?;
+    let dumps = vec![in alloc; no_dump(alloc), no_dump(alloc)]?;
+    finish_segment(alloc, clock, pens, config, Vec::new(alloc), dumps)
+}
+
 fn call(thread: u8, request: Request) -> Event {
     Event::Call {
         replica: thread,
@@ -186,5 +210,24 @@ fn least_version_of_a_run(rt: HostRuntime) -> Result<(), Fail> {
         version_of(&rt, alloc, Depth::Five, resolve, none)?,
         Version::V2
     );
+    Ok(())
+}
+
+#[test]
+fn segment_of_two_pens(rt: HostRuntime) -> Result<(), Fail> {
+    let alloc = rt.alloc();
+    let config = two_replicas(&rt);
+    let resolve = resolve(&rt);
+    let (clock, mut first, mut second) = two_pens(alloc, config)?;
+    assert_eq!(rt; first.call(&clock, resolve), 0);
+    assert_eq!(rt; second.call(&clock, resolve), 1);
+    assert_eq!(rt; second.reply(&clock, 0, Answer::NotMapped), 2);
+    assert_eq!(rt; first.reply(&clock, 0, Answer::NotMapped), 3);
+    let segment = segment_of_two(alloc, clock, first, second, config)?;
+    assert_eq!(rt; segment.version(), Version::Segment);
+    assert!(rt; segment.start().is_none());
+    assert_eq!(rt; segment.events().len(), 4);
+    assert_eq!(rt; segment.events()[1].event(), call(1, resolve));
+    assert!(rt; judge_segment(alloc, &segment, None).is_ok());
     Ok(())
 }

@@ -1,21 +1,23 @@
 -- What an entry that was applied is answered stays so as more are applied.
-use Rattle.std.proofs.Common.{◌≡◌, ◌≢◌, ℕ, ◌+◌, ◌<◌, List, [], ◌∷◌, ◌++◌, Option, Some, None, IfNone, IfSome, length, length-append, take, get_or, refl, ap}
-use Rattle.std.proofs.Common.{sym, subst, ◌∙◌, arith, append_assoc}
+use Rattle.std.proofs.Common.{◌≡◌, ◌≢◌, ℕ, ◌+◌, ◌<◌, ◌≤◌, List, [], ◌∷◌, ◌++◌, Option, Some, None, IfNone, IfSome, MatchOption, length, length-append}
+use Rattle.std.proofs.Common.{take, drop, get_or, refl, ap, sym, subst, ◌∙◌, arith, append_assoc}
 use Rattle.std.specs.Prelude.{slice_get}
-use Rattle.std.proofs.lemmas.List.{length-map, length-take-le, take-append-le}
+use Rattle.std.proofs.lemmas.List.{length-map, length-take-le, take-append-drop, take-append-le}
 use Rattle.std.proofs.lemmas.List.Elements.{All-push}
 use Rattle.std.proofs.lemmas.Option.{slice_get_read, slice_get_within}
 use Rattle.vs_types.specs.Step.{step}
 use Rattle.vs_types.specs.declared.answer.Answer.{Answer}
 use Rattle.vs_types.specs.declared.depth.Depth.{Depth}
 use Rattle.vs_types.specs.declared.log_entry.LogEntry.{LogEntry}
-use Rattle.vs_types.proofs.Lists.{get_right}
+use Rattle.vs_types.proofs.Lists.{get_left, get_right}
 use Rattle.nr_slots.specs.Updates.{Waiting}
 use Rattle.nr_node.specs.Calls.{IsAnsweredIn, IsOwnPlace, LacksUpdate, entries_of, entry_of}
 use Rattle.nr_node.specs.Spaces.{answer_at, space_of}
+use Rattle.nr_node.specs.Node.{IsNode, NodeState, applied_of, log_of}
+use Rattle.nr_node.specs.inside.Node.{Follows}
 use Rattle.nr_node.specs.inside.Replica.{ReplicaState}
 use Rattle.nr_node.proofs.Lists.{map_one_more, take_to_one_more}
-use Rattle.nr_node.proofs.Nodes.{slice_more}
+use Rattle.nr_node.proofs.Nodes.{had_taken, slice_more}
 
 pub if_some_on : {T : Type 0} (o : Option T) (P Q : T → Type 0) → ((x : T) → P x → Q x) → IfSome o P → IfSome o Q
 if_some_on (Some x) P Q on is = on x is
@@ -119,3 +121,48 @@ both_applied start mid next first entries second was are made =
     let Next : ReplicaState → ReplicaState = λ r. record r { entries = r.entries ++ second } in
     let With : List LogEntry → ReplicaState = λ l. record start { entries = l } in
     made ∙ ap Next (was ∙ ap With (ap (λ (l : List LogEntry). start.entries ++ l) are)) ∙ ap With (append_assoc start.entries entries second)
+
+-- ---- what is kept of a place
+
+-- what is among the first entries is among all of them
+first_there : (entries : List LogEntry) (n place : ℕ) (entry : LogEntry) → place < length (take n entries) → slice_get entries place ≡ Some entry
+    → slice_get (take n entries) place ≡ Some entry
+first_there entries n place entry lt there =
+    sym (get_left (take n entries) (drop n entries) place lt) ∙ ap (λ (l : List LogEntry). slice_get l place) (take-append-drop n entries) ∙ there
+
+-- the answer of a replica is that of its node, where the replica has applied the first entries of the log
+pub answer_there : (depth : Depth) (replicas : ℕ) (node view : NodeState) (replica : ReplicaState) (place : ℕ) (entry : LogEntry) (result : Option Answer)
+    → IsNode depth replicas node → Follows depth replicas node replica → node ≡ view
+    → MatchOption result (node.base ≤ place → slice_get replica.entries place ≢ Some entry)
+    (λ answer. (slice_get replica.entries place ≡ Some entry)
+    × (answer ≡ answer_at replica.depth node.tables replica.entries place entry.op))
+    → MatchOption result (view.base ≤ place → place < applied_of replicas view → slice_get (log_of replicas view).entries place ≢ Some entry)
+    (λ answer. (slice_get (log_of replicas view).entries place ≡ Some entry)
+    × (answer ≡ answer_at depth view.tables (log_of replicas view).entries place entry.op) × (place + 1 ≤ applied_of replicas view))
+answer_there depth replicas node view replica place entry None is follows same none =
+    let Is : NodeState → Type 0 = λ v. v.base ≤ place → place < applied_of replicas v → slice_get (log_of replicas v).entries place ≢ Some entry in
+    let had = had_taken depth replicas node replica is follows in
+    let all = (log_of replicas node).entries in
+    let n = applied_of replicas node in
+    let here : length (take n all) ≡ n = length-take-le n all is.written in
+    subst Is same (λ low lt there.
+    none low (ap (λ (l : List LogEntry). slice_get l place) follows.entries ∙ first_there all n place entry (omega (arith, here, lt)) there))
+answer_there depth replicas node view replica place entry (Some answer) is follows same some =
+    let Is : NodeState → Type 0 = λ v. (slice_get (log_of replicas v).entries place ≡ Some entry)
+    × (answer ≡ answer_at depth v.tables (log_of replicas v).entries place entry.op) × (place + 1 ≤ applied_of replicas v) in
+    let all = (log_of replicas node).entries in
+    let n = applied_of replicas node in
+    let first : slice_get (take n all) place ≡ Some entry = ap (λ (l : List LogEntry). slice_get l place) (sym follows.entries) ∙ some.0 in
+    let within = slice_get_within (take n all) place entry first in
+    let here : length (take n all) ≡ n = length-take-le n all is.written in
+    let there : slice_get all place ≡ Some entry =
+    ap (λ (l : List LogEntry). slice_get l place) (sym (take-append-drop n all)) ∙ slice_more (take n all) (drop n all) place entry first in
+    let before : take place replica.entries ≡ take place all =
+    ap (take place) follows.entries
+    ∙ sym (take-append-le place (take n all) (drop n all) (omega (arith, within)))
+    ∙ ap (take place) (take-append-drop n all) in
+    let answered : answer ≡ answer_at depth node.tables all place entry.op =
+    some.1
+    ∙ ap (λ (d : Depth). answer_at d node.tables replica.entries place entry.op) follows.depth_is
+    ∙ ap (λ (l : List LogEntry). (step depth node.tables (space_of depth node.tables l) entry.op).answer) before in
+    subst Is same (there, answered, omega (arith, within, here))

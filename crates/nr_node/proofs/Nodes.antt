@@ -9,7 +9,7 @@ use Rattle.std.proofs.lemmas.Option.{slice_get_within, slice_get-map, slice_get-
 use Rattle.vs_types.specs.LogEntry.{IsLogEntry}
 use Rattle.vs_types.specs.Operation.{IsAction}
 use Rattle.vs_types.specs.declared.depth.Depth.{Depth}
-use Rattle.vs_types.specs.declared.limits.TheConstants.{CALLS, LOG_PLACES}
+use Rattle.vs_types.specs.declared.limits.TheConstants.{CALLS}
 use Rattle.vs_types.specs.declared.log_entry.LogEntry.{LogEntry}
 use Rattle.vs_types.proofs.Lists.{get_left, get_right}
 use Rattle.nr_ring.specs.Calls.{HasLooked, with_event}
@@ -59,6 +59,7 @@ pub holding_node : (depth : Depth) (replicas : ℕ) (known : Known) (replica : R
 holding_node depth replicas known replica before batch first none few fit is = record {
   owner = is.owner;
   written = is.written;
+  kept = is.kept;
   fit = fit;
   few = few;
   placed = λ place at.
@@ -69,6 +70,28 @@ holding_node depth replicas known replica before batch first none few fit is = r
 pub holding_follows : (depth : Depth) (replicas : ℕ) (known : Known) (replica : ReplicaState) (before batch : List Waiting) (first : Option ℕ)
     → Follows depth replicas (node_state known replica before first) replica → Follows depth replicas (node_state known replica batch first) replica
 holding_follows depth replicas known replica before batch first is = record { depth_is = is.depth_is; entries = is.entries }
+
+-- ---- forgetting
+
+pub forgot_node : (depth : Depth) (replicas : ℕ) (known : Known) (replica next : ReplicaState) (batch : List Waiting) (first : Option ℕ) (base : ℕ)
+    → next ≡ record replica { base = base } → base ≤ taken_by replicas known.view → IsNode depth replicas (node_state known replica batch first)
+    → IsNode depth replicas (node_state known next batch first)
+forgot_node depth replicas known replica next batch first base same low is = record {
+  owner = is.owner;
+  written = is.written;
+  kept = omega (arith, low, ap (λ (r : ReplicaState). r.base) same);
+  fit = is.fit;
+  few = is.few;
+  placed = is.placed;
+}
+
+pub forgot_follows : (depth : Depth) (replicas : ℕ) (known : Known) (replica next : ReplicaState) (batch : List Waiting) (first : Option ℕ) (base : ℕ)
+    → next ≡ record replica { base = base } → Follows depth replicas (node_state known replica batch first) replica
+    → Follows depth replicas (node_state known next batch first) next
+forgot_follows depth replicas known replica next batch first base same is = record {
+  depth_is = ap (λ (r : ReplicaState). r.depth) same ∙ is.depth_is;
+  entries = ap (λ (r : ReplicaState). r.entries) same ∙ is.entries;
+}
 
 -- ---- a look
 
@@ -81,6 +104,7 @@ looked_node depth replicas known after replica batch first p is =
     record {
       owner = looked_owner depth replicas known.view after.view p is.owner;
       written = (looked_fits depth replicas known.view after.view p).written (replica_of after.view);
+      kept = omega (arith, is.kept, same);
       fit = is.fit;
       few = is.few;
       placed = λ place at.
@@ -140,13 +164,14 @@ left_few (Some place) batch few = omega arith
 
 pub took_node : (depth : Depth) (replicas : ℕ) (known after : Known) (replica next : ReplicaState) (batch : List Waiting) (first : Option ℕ)
     (entries : List LogEntry)
-    → TookAll depth replicas known.view entries after.view → IsNode depth replicas (node_state known replica batch first)
+    → TookAll depth replicas known.view entries after.view → IsNode depth replicas (node_state known replica batch first) → next.base ≡ replica.base
     → IsNode depth replicas (node_state after next (left_of first batch) None)
-took_node depth replicas known after replica next batch first entries took is =
+took_node depth replicas known after replica next batch first entries took is same =
     let P : List ℕ → Type 0 = λ l. l ≡ Rattle.std.specs.Prelude.slice_index l 0 ∷ [] in
     record {
       owner = subst P (sym took.owns) is.owner;
       written = omega (arith, took.all);
+      kept = omega (arith, same, is.kept, took.count, took.all);
       fit = left_holds (λ waiting. IsAction depth waiting.op) first batch is.fit;
       few = left_few first batch is.few;
       placed = λ place at. absurd (cc);
@@ -191,7 +216,7 @@ caught_up depth replicas known after replica next batch first entries took all i
             below = omega (arith, ends, longer, all.all);
             stand = subst (λ l. StandFrom l place batch) (sym all.more.1) (stand_still log.entries all.more.0 place batch was.stand);
           };
-      left = ap (λ (r : ReplicaState). record { known = after; tables = r.tables; batch = left_of first batch; first = None }) same;
+      left = ap (λ (r : ReplicaState). record { known = after; tables = r.tables; base = r.base; batch = left_of first batch; first = None }) same;
     }
 
 pub next_entries : (depth : Depth) (replicas : ℕ) (known after : Known) (replica next : ReplicaState) (batch : List Waiting) (first : Option ℕ)
@@ -218,20 +243,11 @@ answers_after depth replica next batch first entries later same are is =
     ∙ ap (λ d. answers_of d replica.tables next.entries first batch) is
     ∙ ap (λ l. answers_of depth replica.tables l first batch) are
 
--- the entries fit that it took, and there is room for them
+-- the entries fit that it took
 pub took_fit : (depth : Depth) (replicas : ℕ) (a c : View) (entries : List LogEntry) (d : Depth) → TookAll depth replicas a entries c → d ≡ depth
     → All (IsLogEntry d) entries
 took_fit depth replicas a c entries d took is k e lt =
     subst (λ z. IsLogEntry z (get_or entries k e)) (sym is) (took.fit k e lt)
-
-pub took_room : (depth : Depth) (replicas : ℕ) (known after : Known) (replica : ReplicaState) (batch : List Waiting) (first : Option ℕ)
-    (entries : List LogEntry)
-    → TookAll depth replicas known.view entries after.view → IsNode depth replicas (node_state known replica batch first)
-    → Follows depth replicas (node_state known replica batch first) replica → (places : ℕ) → tail (log_after replicas after.view.seen) ≤ places
-    → places ≡ LOG_PLACES → length replica.entries + length entries ≤ LOG_PLACES
-took_room depth replicas known after replica batch first entries took is follows places ends most =
-    let had = had_taken depth replicas (node_state known replica batch first) replica is follows in
-    omega (arith, had, took.count, ends, most)
 
 -- ---- an append
 
@@ -253,6 +269,7 @@ appended_node depth replicas known after replica batch first place h some is fol
       record {
         owner = now.owner;
         written = omega (arith, low, now.written, longer);
+        kept = omega (arith, low, now.kept);
         fit = is.fit;
         few = is.few;
         placed = λ p at.
@@ -359,17 +376,11 @@ module _ (depth : Depth) (replicas : ℕ) (known after : Known) (replica : Repli
   abbrev mid : Known
   mid = middle known did.between
 
-  -- the entries before the batch fit, there is room for them, and then for the batch
+  -- the entries before the batch fit, and those of the batch
   pub put_fit : (d : Depth) → d ≡ depth → All (IsLogEntry d) entries × All (IsLogEntry d) (entries_of batch)
   put_fit d same =
       let all = took_fit depth replicas did.between after.view (entries ++ entries_of batch) d did.all same in
       (all_front (IsLogEntry d) entries (entries_of batch) all, all_back (IsLogEntry d) entries (entries_of batch) all)
-
-  pub put_room : (places : ℕ) → tail (log_after replicas after.view.seen) ≤ places → places ≡ LOG_PLACES
-      → length replica.entries + length entries + length (entries_of batch) ≤ LOG_PLACES
-  put_room places ends most =
-      let room = took_room depth replicas mid after replica batch (Some place) (entries ++ entries_of batch) did.all did.is did.follows places ends most in
-      omega (arith, room, length-append entries (entries_of batch))
 
   module _ (next : ReplicaState) (same : next ≡ record replica { entries = replica.entries ++ (entries ++ entries_of batch) }) where
     -- its entries are all that there are, and it is a node that has caught up
@@ -378,7 +389,7 @@ module _ (depth : Depth) (replicas : ℕ) (known after : Known) (replica : Repli
 
     put_node : IsNode depth replicas (node_state after next [] None) × Follows depth replicas (node_state after next [] None) next
     put_node = (
-      took_node depth replicas mid after replica next batch (Some place) (entries ++ entries_of batch) did.all did.is,
+      took_node depth replicas mid after replica next batch (Some place) (entries ++ entries_of batch) did.all did.is (ap (λ (r : ReplicaState). r.base) same),
       took_follows depth replicas mid after replica next batch [] (Some place) None (entries ++ entries_of batch) did.all did.is did.follows same,
     )
 

@@ -1,5 +1,5 @@
 -- An answer is what its codes and its number say.
-use Rattle.std.proofs.Common.{◌≡◌, ℕ, zero, suc, ◌+◌, ◌*◌, ◌/◌, ◌%◌, ◌^◌, ◌<◌, ◌≤◌, Bool, true, false, List, [], ◌∷◌, refl, ap, sym, ◌∙◌, arith}
+use Rattle.std.proofs.Common.{◌≡◌, ℕ, suc, ◌+◌, ◌*◌, ◌/◌, ◌%◌, ◌^◌, ◌<◌, ◌≤◌, Bool, true, false, refl, ap, ◌∙◌, arith}
 use Rattle.vs_types.specs.Codes.{rights_code, size_code}
 use Rattle.vs_types.specs.inside.Telling.{is_one, rights_in, size_in}
 use Rattle.vs_types.specs.declared.answer.Answer.{Answer}

@@ -60,7 +60,7 @@ pub record HasCaughtUp (depth : Depth) (replicas : ℕ) (before : NodeState) (co
   pub fresh : tail (log_of replicas before) ≤ applied_of replicas after
   pub held : (first : ℕ) → before.first ≡ Some first
       → LiesWithin (log_of replicas after) (applied_of replicas before) (applied_of replicas after) first before.batch
-  pub left : after ≡ record { known = after.known; tables = before.tables; batch = left_of before.first before.batch; first = None }
+  pub left : after ≡ record before { known = after.known; batch = left_of before.first before.batch; first = None }
 
 -- another pass's event came, and the node has only looked: what it has applied and holds is as before
 pub record HasStayed (depth : Depth) (replicas : ℕ) (before after : NodeState) : Type 0 where

@@ -7,7 +7,9 @@ mod batch;
 mod held;
 pub mod laws;
 mod node;
+mod past;
 mod replica;
+mod seen;
 mod told;
 
 pub use held::Held;

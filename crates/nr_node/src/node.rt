@@ -1,5 +1,6 @@
 //! A replica with its pass to the log, and the batch that it holds.
-ghost use Rattle.std.specs.Prelude.{◌≡◌, ◌≢◌, ◌<◌, ◌≤◌, ◌+◌, ◌-◌, ℕ, All, IfErr, IfNone, IfOk, IfSome, MatchOption, None, OnErr, OnOk};
+ghost use Rattle.std.specs.Prelude.{◌≡◌, ◌≢◌, ◌⊎◌, ◌<◌, ◌≤◌, ◌+◌, ◌-◌, ℕ, All, IfErr, IfNone, IfOk, IfSome, MatchBool, MatchOption};
+ghost use Rattle.std.specs.Prelude.{None, OnErr, OnOk};
 ghost use Rattle.std.specs.Prelude.{Some, [], ◌∷◌, length, slice_get};
 ghost use Rattle.std.specs.FinMap as finite;
 ghost use Rattle.vs_types.specs.Depth.{IsCanonical};
@@ -32,7 +33,7 @@ use std::alloc::Global;
 use std::marker::Model;
 use vs_arena::FrameStore;
 use vs_space::NoRoot;
-use vs_types::{Access, Answer, Depth, Fail, LogEntry, Memory, Mode, RING};
+use vs_types::{Access, Answer, Depth, Fail, LOG_PLACES, LogEntry, Memory, Mode, RING};
 use vs_walk::Dump;
 
 /// A replica of the address space with its pass to the log, and at most one batch of updates that are on their way.
@@ -43,7 +44,7 @@ use vs_walk::Dump;
 #[derive(Drop)]
 pub struct Node<S: FrameStore, J: LogName> {
     pass: LogPass<J>,
-    replica: Replica<S>,
+    replica: Replica<S, J>,
     batch: ArrayVec<Waiting, RING>,
     first: Option<u64>,
     asked: [PackedEntry; RING],
@@ -54,7 +55,6 @@ impl<S: FrameStore, J: LogName> Model for Node<S, J> {
     ghost use Rattle.std.specs.Prelude.{◌≡◌};
     ghost use Rattle.nr_node.specs.Node.{IsNode, NodeState};
     ghost use Rattle.nr_node.specs.inside.Node.{Follows, node_state};
-    ghost use Rattle.vs_types.specs.declared.limits.TheConstants.{LOG_PLACES};
 
     ghost Value = { NodeState };
 
@@ -63,14 +63,13 @@ impl<S: FrameStore, J: LogName> Model for Node<S, J> {
     ghost invariant = { λ n.
         IsNode J.depth J.replicas (node_state n.pass n.replica n.batch.items n.first)
         × Follows J.depth J.replicas
-        (node_state n.pass n.replica n.batch.items n.first) n.replica
-        × (J.places ≡ LOG_PLACES) };
+        (node_state n.pass n.replica n.batch.items n.first) n.replica };
 }
 
 impl<S: FrameStore + Drop, J: LogName> Node<S, J> {
     /// A node that has applied nothing and holds nothing. Its tables lie in the store, of which no frame is in use; its pass owns
-    /// a replica that has taken nothing; and the depth is that of the log, which has 65,536 places. It allocates all memory that the
-    /// node ever needs, but for its dumps.
+    /// a replica that has taken nothing; and the depth is that of the log. It allocates all memory that the node ever needs, but for
+    /// its dumps.
     ///
     /// # Errors
     ///
@@ -85,11 +84,10 @@ impl<S: FrameStore + Drop, J: LogName> Node<S, J> {
         requires owner { (replica : ℕ) × (pass.view.owns ≡ replica ∷ []) }
         requires nothing_taken { taken_by J.replicas pass.view ≡ 0 }
         requires depth { depth ≡ J.depth }
-        requires places { J.places ≡ LOG_PLACES }
         ensures made { IfOk result (λ node. node ≡ new_node pass (S.place store).size) }
         ensures no_root { IfErr result (IfRefused (λ _. (S.place store).size ≡ 0)) }
     {
-        let replica = Replica::new(alloc, store, depth)?;
+        let replica = Replica::new(alloc, store, &pass, depth)?;
         Ok(Node {
             pass,
             replica,
@@ -118,13 +116,36 @@ impl<S: FrameStore, J: LogName> Node<S, J> {
         self.replica.applied()
     }
 
-    /// A law: its pass owns one replica, it has applied no more than the log has, its batch is one, and the log has 65,536 places.
+    /// A law: its pass owns one replica, it has applied no more than the log has, and its batch is one.
     #[inline(always)]
     pub fn is_well_formed(&self)
         ensures is_node { IsNode J.depth J.replicas self.now }
-        ensures places { J.places ≡ LOG_PLACES }
     {
         let _known = &self.pass;
+    }
+
+    /// How many of the entries that it has applied it keeps no more: those before the last `forget`.
+    pub fn base(&self) -> u64
+        ensures { result ≡ self.now.base }
+    {
+        self.replica.base()
+    }
+
+    /// Whether it keeps so few entries that it may take more: 65,536 at most.
+    #[inline(always)]
+    pub fn has_room(&self) -> bool
+        ensures { MatchBool result (applied_of J.replicas self.now ≤ self.now.base + LOG_PLACES)
+            (self.now.base + LOG_PLACES < applied_of J.replicas self.now) }
+    {
+        self.replica.kept_count() <= u64::from(LOG_PLACES)
+    }
+
+    /// Keeps none of the entries any more that it has applied: `told` and `answer_to` give none of them, and there is room again.
+    pub fn forget(&mut self)
+        ensures { self.new ≡ record self.old { base = applied_of J.replicas self.old } }
+    {
+        self.pass.has_seen_a_history();
+        self.replica.forget(&self.pass);
     }
 
     /// The number of its replica.
@@ -224,6 +245,7 @@ impl<S: FrameStore, J: LogName> Node<S, J> {
         requires log { self.old.known.log ≡ log.now }
         requires some { 1 ≤ length self.old.batch }
         requires unplaced { self.old.first ≡ None }
+        requires room { applied_of J.replicas self.old ≤ self.old.base + LOG_PLACES }
         requires rule { (answered : Answered) → ∥ P.answered answered ∥₁ }
         requires none { own.old ≡ None }
         ensures log { self.new.known.log ≡ self.old.known.log }
@@ -246,7 +268,6 @@ impl<S: FrameStore, J: LogName> Node<S, J> {
         let asked = &self.asked[..self.batch.len()];
         self.entries.clear();
         log.append_and_take(&mut self.pass, asked, &mut self.entries)?;
-        self.pass.has_seen_a_history();
         self.replica.apply_all(self.entries.as_slice());
         self.replica
             .apply_batch(&self.batch, slots, thread, wanted, own);
@@ -268,6 +289,7 @@ impl<S: FrameStore, J: LogName> Node<S, J> {
     ) -> Result<u64, Moved>
         requires log { self.old.known.log ≡ log.now }
         requires empty { answers.old.items ≡ [] }
+        requires room { applied_of J.replicas self.old ≤ self.old.base + LOG_PLACES }
         ensures log { self.new.known.log ≡ self.old.known.log }
         ensures caught_up { IfOk result (λ count.
             HasCaughtUp J.depth J.replicas self.old count self.new) }
@@ -282,7 +304,6 @@ impl<S: FrameStore, J: LogName> Node<S, J> {
     {
         self.entries.clear();
         log.take(&mut self.pass, &mut self.entries)?;
-        self.pass.has_seen_a_history();
         self.replica.apply_all(self.entries.as_slice());
         self.replica.answer(self.first, &self.batch, answers);
         keep_unplaced(&mut self.batch, self.first);
@@ -311,9 +332,10 @@ impl<S: FrameStore, J: LogName> Node<S, J> {
         (self.replica.applied(), answer)
     }
 
-    /// The entry of the log at a place and what it was answered; `None` where it has not applied the place's entry.
+    /// The entry of the log at a place and what it was answered; `None` where it has not applied the place's entry, or keeps it no more.
     pub fn told(&self, place: u64) -> Option<(LogEntry, Answer)>
-        ensures { MatchOption result (applied_of J.replicas self.now ≤ place) (λ told.
+        ensures { MatchOption result
+            ((place < self.now.base) ⊎ (applied_of J.replicas self.now ≤ place)) (λ told.
             (slice_get (log_of J.replicas self.now).entries place ≡ Some told.0)
             × (told.1 ≡ answer_at J.depth self.now.tables
             (log_of J.replicas self.now).entries place told.0.op)
@@ -322,11 +344,11 @@ impl<S: FrameStore, J: LogName> Node<S, J> {
         self.replica.told(place)
     }
 
-    /// What this entry of the log was answered, where it is the one at a place and the node has applied it.
+    /// What this entry of the log was answered, where it is the one at a place, and the node has applied it and keeps it.
     #[inline(always)]
     pub fn answer_to(&self, place: u64, entry: PackedEntry) -> Option<Answer>
-        ensures { MatchOption result (place < applied_of J.replicas self.now
-            → slice_get (log_of J.replicas self.now).entries place ≢ Some entry) (λ answer.
+        ensures { MatchOption result (self.now.base ≤ place
+            → place < applied_of J.replicas self.now → slice_get (log_of J.replicas self.now).entries place ≢ Some entry) (λ answer.
             (slice_get (log_of J.replicas self.now).entries place ≡ Some entry)
             × (answer ≡ answer_at J.depth self.now.tables
             (log_of J.replicas self.now).entries place entry.op)
@@ -335,13 +357,14 @@ impl<S: FrameStore, J: LogName> Node<S, J> {
         self.replica.answer_to(place, entry)
     }
 
-    /// Its page table, and how many entries it has applied. It allocates memory.
+    /// Its page table, and how many entries it has applied since it last forgot them. It allocates memory.
     ///
     /// # Errors
     ///
     /// Out of memory.
     pub fn dump(&self) -> Result<Dump, Memory>
-        ensures applied { IfOk result (λ dump. dump.applied ≡ applied_of J.replicas self.now) }
+        ensures applied { IfOk result (λ dump.
+            self.now.base + dump.applied ≡ applied_of J.replicas self.now) }
         ensures translates { IfOk result (λ dump.
             TranslatesAs J.depth dump.frames dump.root (node_space J.depth J.replicas self.now)) }
         ensures frames { IfOk result (λ dump.

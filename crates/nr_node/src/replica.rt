@@ -1,24 +1,28 @@
 //! A page table that follows a log.
-ghost use Rattle.std.specs.Prelude.{◌≡◌, ◌≢◌, ℕ, ◌+◌, ◌<◌, ◌≤◌, All, [], ◌∷◌, ◌++◌, IfErr, IfNone, IfOk, IfSome, MatchOption, None, Some};
-ghost use Rattle.std.specs.Prelude.{length, slice_get};
+ghost use Rattle.std.specs.Prelude.{◌≡◌, ◌≢◌, ◌⊎◌, ◌^◌, ℕ, ◌+◌, ◌<◌, ◌≤◌, All, [], ◌∷◌, ◌++◌, IfErr, IfNone, IfOk, IfSome, MatchOption, None, Some};
+ghost use Rattle.std.specs.Prelude.{length, slice_get, take};
 ghost use Rattle.std.specs.FinMap as finite;
 ghost use Rattle.vs_types.specs.Depth.{IsCanonical};
 ghost use Rattle.vs_types.specs.LogEntry.{IsLogEntry};
 ghost use Rattle.vs_types.specs.Refusal.{IfRefused};
 ghost use Rattle.vs_types.specs.Space.{table_count};
 ghost use Rattle.vs_types.specs.Step.{allow, look};
-ghost use Rattle.vs_types.specs.declared.limits.TheConstants.{LOG_PLACES, TABLES};
+ghost use Rattle.vs_types.specs.declared.limits.TheConstants.{TABLES};
 ghost use Rattle.vs_types.specs.declared.log_entry.LogEntry.{LogEntry};
 ghost use Rattle.vs_walk.specs.Walk.{TranslatesAs};
+ghost use Rattle.nr_ring.specs.LogHistory.{log_after};
+ghost use Rattle.nr_ring.specs.declared.words.TheConstants.{MOST_PLACES};
 ghost use Rattle.nr_slots.specs.Updates.{Answered};
 ghost use Rattle.nr_node.specs.Calls.{IsAnsweredIn, IsOwnPlace, LacksUpdate, answered_from, answers_of, entries_of};
 ghost use Rattle.nr_node.specs.Node.{StandFrom};
 ghost use Rattle.nr_node.specs.Spaces.{answer_at, space_of};
+ghost use Rattle.nr_node.specs.inside.Replica.{IsKeptAt, most_kept};
 
 use crate::laws::{counts_tables, is_small};
+use crate::past::Past;
 use crate::told::Told;
 use arrayvec::ArrayVec;
-use nr_ring::PackedEntry;
+use nr_ring::{LogName, LogPass, PackedEntry};
 use nr_slots::{Answered, SlotRule, Slots, Waiting};
 use std::alloc::Global;
 use std::marker::Model;
@@ -27,16 +31,21 @@ use vs_space::{NoRoot, Space};
 use vs_types::{Access, Answer, Depth, Fail, LOG_PLACES, LogEntry, Memory, Mode, RING};
 use vs_walk::Dump;
 
-/// A page table that follows a log, and the entries that it has applied, each with its answer. Contracts see the entries.
+/// How many entries a replica keeps at most: those of a log of 65,536 places, and those of one turn.
+const MOST_KEPT: usize = LOG_PLACES as usize + 2 * RING;
+
+/// A page table that follows a log, and the entries that it has applied: it keeps those that came since it last forgot them, each with
+/// its answer. Contracts see all entries.
 #[derive(Drop)]
-pub(crate) struct Replica<S: FrameStore> {
+pub(crate) struct Replica<S: FrameStore, J: LogName> {
     space: Space<S>,
+    past: Past<J>,
     told: Vec<Told>,
     alloc: Global,
 }
 
-impl<S: FrameStore> Model for Replica<S> {
-    ghost use Rattle.std.specs.Prelude.{vec_capacity};
+impl<S: FrameStore, J: LogName> Model for Replica<S, J> {
+    ghost use Rattle.std.specs.Prelude.{◌++◌, vec_capacity};
     ghost use Rattle.nr_node.specs.inside.Replica.{IsReplica, ReplicaState, entries_told};
 
     ghost Value = { ReplicaState };
@@ -44,43 +53,82 @@ impl<S: FrameStore> Model for Replica<S> {
     ghost view = { λ r. record {
       depth = r.space.depth;
       tables = r.space.limit;
-      entries = entries_told r.told.items;
+      base = r.past.count;
+      entries = r.past.entries ++ entries_told r.told.items;
     } };
 
-    ghost invariant = { λ r. IsReplica r.space r.told.items (vec_capacity r.told) };
+    ghost invariant = { λ r. IsReplica r.space r.past.count r.past.entries r.told.items
+        (vec_capacity r.told) };
 }
 
-impl<S: FrameStore + Drop> Replica<S> {
+impl<S: FrameStore + Drop, J: LogName> Replica<S, J> {
     /// A replica without entries, whose tables lie in a store of which no frame is in use. It allocates all memory that the replica
     /// ever needs, but for dumps.
-    pub(crate) fn new(alloc: Global, store: S, depth: Depth) -> Result<Replica<S>, Fail<NoRoot>>
+    pub(crate) fn new(
+        alloc: Global,
+        store: S,
+        pass: &LogPass<J>,
+        depth: Depth,
+    ) -> Result<Replica<S, J>, Fail<NoRoot>>
         requires { S.frames store ≡ finite.empty }
         ensures made { IfOk result (λ r.
-            r ≡ record { depth = depth; tables = (S.place store).size; entries = [] }) }
+            r ≡ record { depth = depth; tables = (S.place store).size; base = 0; entries = [] }) }
         ensures no_root { IfErr result (IfRefused (λ _. (S.place store).size ≡ 0)) }
     {
-        let told = Vec::with_capacity(alloc, LOG_PLACES as usize)?;
+        let told = Vec::with_capacity(alloc, MOST_KEPT)?;
         is_small(&store);
         match Space::new(store, depth) {
-            Ok(space) => Ok(Replica { space, told, alloc }),
+            Ok(space) => Ok(Replica {
+                space,
+                past: Past::of(0, pass),
+                told,
+                alloc,
+            }),
             Err(no_root) => Err(Fail::Refused(no_root)),
         }
     }
 }
 
-impl<S: FrameStore> Replica<S> {
-    /// How many entries it has applied: at most 65,536.
+impl<S: FrameStore, J: LogName> Replica<S, J> {
+    /// How many entries it has applied.
     pub(crate) fn applied(&self) -> u64
         ensures counts { result ≡ length self.now.entries }
-        ensures at_most { result ≤ LOG_PLACES }
+        ensures at_most { result ≤ self.now.base + most_kept }
+    {
+        self.past.count() + self.kept_count()
+    }
+
+    /// How many of them it keeps no more.
+    pub(crate) fn base(&self) -> u64
+        ensures base { result ≡ self.now.base }
+        ensures at_most { result ≤ MOST_PLACES }
+    {
+        self.past.count()
+    }
+
+    /// How many of them it keeps.
+    pub(crate) fn kept_count(&self) -> u64
+        ensures { self.now.base + result ≡ length self.now.entries }
     {
         self.told.len() as u64
+    }
+
+    /// Keeps none of the entries any more that it has applied, which are the first of those that a pass has seen.
+    pub(crate) fn forget(&mut self, pass: &LogPass<J>)
+        requires low { length self.old.entries ≤ MOST_PLACES }
+        requires seen { self.old.entries ≡ take (length self.old.entries)
+            (log_after J.replicas pass.now.view.seen).entries }
+        ensures { self.new ≡ record self.old { base = length self.old.entries } }
+    {
+        let count = self.applied();
+        self.past = Past::of(count, pass);
+        self.told.clear();
     }
 
     /// Applies the next entry of the log: its answer.
     pub(crate) fn apply(&mut self, entry: PackedEntry) -> Answer
         requires fits { IsLogEntry self.old.depth entry }
-        requires room { length self.old.entries < LOG_PLACES }
+        requires room { length self.old.entries < self.old.base + most_kept }
         ensures applied { self.new
             ≡ record self.old { entries = self.old.entries ++ entry ∷ [] } }
         ensures answer { result ≡ answer_at self.old.depth self.old.tables self.old.entries
@@ -95,7 +143,7 @@ impl<S: FrameStore> Replica<S> {
     /// Applies entries of the log, in order.
     pub(crate) fn apply_all(&mut self, entries: &[PackedEntry])
         requires fit { All (IsLogEntry self.old.depth) entries.now }
-        requires room { length self.old.entries + length entries.now ≤ LOG_PLACES }
+        requires room { length self.old.entries + length entries.now ≤ self.old.base + most_kept }
         ensures { self.new ≡ record self.old { entries = self.old.entries ++ entries.now } }
     {
         for entry in entries {
@@ -115,7 +163,8 @@ impl<S: FrameStore> Replica<S> {
         own: &mut Option<(u64, Answer)>,
     )
         requires fit { All (IsLogEntry self.old.depth) (entries_of batch.now.items) }
-        requires room { length self.old.entries + length batch.now.items ≤ LOG_PLACES }
+        requires room { length self.old.entries + length batch.now.items
+            ≤ self.old.base + most_kept }
         requires rule { (answered : Answered) → ∥ P.answered answered ∥₁ }
         requires none { own.old ≡ None }
         ensures applied { self.new
@@ -147,7 +196,7 @@ impl<S: FrameStore> Replica<S> {
     )
         requires empty { answers.old.items ≡ [] }
         requires stand { (place : ℕ) → first ≡ Some place
-            → StandFrom self.now.entries place batch.now.items }
+            → (self.now.base ≤ place) × StandFrom self.now.entries place batch.now.items }
         ensures { answers.new.items
             ≡ answers_of self.now.depth self.now.tables self.now.entries first batch.now.items }
     {
@@ -164,6 +213,7 @@ impl<S: FrameStore> Replica<S> {
         answers: &mut ArrayVec<Answered, RING>,
     )
         requires empty { answers.old.items ≡ [] }
+        requires above { self.now.base ≤ first }
         requires stand { StandFrom self.now.entries first batch.now.items }
         ensures { answers.new.items
             ≡ answered_from self.now.depth self.now.tables self.now.entries first batch.now.items }
@@ -195,39 +245,57 @@ impl<S: FrameStore> Replica<S> {
         self.space.access(address, mode, access)
     }
 
-    /// The entry at a place with its answer; `None` where the place is not below the number of entries.
+    /// What is kept of the entry at a place; `None` where it is kept no more, or the place is not below the number of entries.
+    #[inline(always)]
+    fn kept(&self, place: u64) -> Option<&Told>
+        ensures kept { MatchOption result
+            ((place < self.now.base) ⊎ (length self.now.entries ≤ place)) (λ told.
+            IsKeptAt self.now place told.now) }
+        ensures within { IfSome result (λ _. place < 2 ^ 63) }
+    {
+        let base = self.past.count();
+        if place < base {
+            return None;
+        }
+        let told = self.told.get((place - base) as usize)?;
+        Some(told)
+    }
+
+    /// The entry at a place with its answer; `None` where it is kept no more, or the place is not below the number of entries.
     pub(crate) fn told(&self, place: u64) -> Option<(LogEntry, Answer)>
-        ensures told { MatchOption result (length self.now.entries ≤ place)
+        ensures { MatchOption result
+            ((place < self.now.base) ⊎ (length self.now.entries ≤ place))
             (λ told. (slice_get self.now.entries place ≡ Some told.0)
             × (told.1
             ≡ answer_at self.now.depth self.now.tables self.now.entries place told.0.op)) }
-        ensures within { IfSome result (λ _. place < LOG_PLACES) }
     {
-        let told = self.told.get(place as usize)?;
+        let told = self.kept(place)?;
         Some((told.entry().entry(), told.answer()))
     }
 
-    /// What the entry at a place was answered; `None` where the place is not below the number of entries.
+    /// What the entry at a place was answered; `None` where it is kept no more, or the place is not below the number of entries.
     #[inline(always)]
     fn answered(&self, place: u64) -> Option<Answer>
-        ensures so { MatchOption result (length self.now.entries ≤ place) (λ answer.
+        ensures so { MatchOption result
+            ((place < self.now.base) ⊎ (length self.now.entries ≤ place)) (λ answer.
             (entry : LogEntry) → slice_get self.now.entries place ≡ Some entry
             → answer ≡ answer_at self.now.depth self.now.tables self.now.entries place entry.op) }
-        ensures within { IfSome result (λ _. place < LOG_PLACES) }
+        ensures within { IfSome result (λ _. place < 2 ^ 63) }
     {
-        let told = self.told.get(place as usize)?;
+        let told = self.kept(place)?;
         Some(told.answer())
     }
 
-    /// What this entry was answered, where it is the one at a place.
+    /// What this entry was answered, where it is the one at a place and is kept.
     #[inline(always)]
     pub(crate) fn answer_to(&self, place: u64, entry: PackedEntry) -> Option<Answer>
-        ensures { MatchOption result (slice_get self.now.entries place ≢ Some entry)
+        ensures { MatchOption result
+            (self.now.base ≤ place → slice_get self.now.entries place ≢ Some entry)
             (λ answer. (slice_get self.now.entries place ≡ Some entry)
             × (answer
             ≡ answer_at self.now.depth self.now.tables self.now.entries place entry.op)) }
     {
-        let told = self.told.get(place as usize)?;
+        let told = self.kept(place)?;
         if told.entry().is(entry) {
             Some(told.answer())
         } else {
@@ -235,9 +303,10 @@ impl<S: FrameStore> Replica<S> {
         }
     }
 
-    /// Its page table as it is. It allocates memory.
+    /// Its page table as it is, with how many entries it keeps. It allocates memory.
     pub(crate) fn dump(&self) -> Result<Dump, Memory>
-        ensures applied { IfOk result (λ dump. dump.applied ≡ length self.now.entries) }
+        ensures applied { IfOk result (λ dump.
+            self.now.base + dump.applied ≡ length self.now.entries) }
         ensures translates { IfOk result (λ dump. TranslatesAs self.now.depth dump.frames dump.root
             (space_of self.now.depth self.now.tables self.now.entries)) }
         ensures frames { IfOk result (λ dump. finite.len dump.frames
@@ -248,7 +317,7 @@ impl<S: FrameStore> Replica<S> {
         counts_tables(&self.space);
         let root = self.space.root();
         let depth = self.space.depth();
-        match Dump::gather(self.alloc, &self.space, root, depth, self.applied() as u32) {
+        match Dump::gather(self.alloc, &self.space, root, depth, self.told.len() as u32) {
             Ok(dump) => Ok(dump),
             Err(Fail::Memory) => Err(Memory),
             Err(Fail::Refused(_)) => unreachable!(),

@@ -18,7 +18,7 @@ use Rattle.nr_trace.specs.Recording.{IsEvent}
 use Rattle.nr_trace.specs.declared.event.Event.{Event}
 use Rattle.nr_trace.specs.declared.event.Event.TheVariants.{Call, Reply, Touch}
 use Rattle.nr_trace.specs.declared.version.Version.TheVariants.{V2}
-use Rattle.nr_record.specs.Events.{HasNotes, caller, events_of, is_of, thread_of}
+use Rattle.nr_record.specs.Events.{AreEventsOf, HasNotes, caller, events_of, is_of, thread_of}
 use Rattle.nr_record.specs.Pen.{AreAllPens, ClockId, PenState, call_by, stamped, stamps_of}
 use Rattle.nr_record.specs.Stamps.{AreBelow, Rise, once_below, times}
 use Rattle.nr_record.specs.inside.Held.{IsOwn, IsTrueOf}
@@ -293,3 +293,15 @@ pub notes_below : (n : ℕ) (pens : List PenState) (notes : List Stamped) → no
 notes_below n pens notes same below =
     let below' : AreBelow n (stamps (all_notes pens)) = subst (λ (xs : List ℕ). AreBelow n xs) (sym (stamps_flat pens)) below in
     subst (λ (xs : List Stamped). All (λ (item : Stamped). item.stamp < n) xs) (sym same) (stamps_below (all_notes pens) n below')
+
+-- what is put in the order of the stamps are the events of the pens
+pub run_is_theirs : (n : ℕ) (filler : Event) (clock : ClockId) (pens : List PenState) (events : List Event) → AreBelow n (flat_map stamps_of pens)
+    → AreAllPens clock pens → All IsTrueOf pens → events ≡ run_of n filler pens → AreEventsOf events pens
+run_is_theirs n filler clock pens events below all each is =
+    let made : AreEventsOf (run_of n filler pens) pens = record {
+      stamps = subst (λ (m : ℕ). AreBelow m (flat_map stamps_of pens)) (sym (length_run n filler pens)) below;
+      rising = λ k d lt. (each k d lt).rising;
+      noted = run_has_notes n filler pens below;
+      own = run_by_thread n filler clock pens below all each;
+    } in
+    subst (λ (es : List Event). AreEventsOf es pens) (sym is) made

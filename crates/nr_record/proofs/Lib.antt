@@ -4,3 +4,4 @@ pub mod Notes
 pub mod Placing
 pub mod Gathering
 pub mod Finished
+pub mod Segments

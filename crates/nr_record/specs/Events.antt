@@ -1,9 +1,10 @@
 -- What the events of a finished run are.
-use Rattle.std.specs.Prelude.{◌≡◌, ℕ, ◌==◌, List, All, Bool, false, Option, None, Some, filter, option_and_then, slice_get}
+use Rattle.std.specs.Prelude.{◌≡◌, ℕ, ◌==◌, List, All, Bool, false, Option, None, Some, filter, flat_map, length, map, option_and_then, slice_get}
 use Rattle.std.specs.Option.{option_map_or}
 use Rattle.nr_trace.specs.declared.event.Event.{Event}
 use Rattle.nr_trace.specs.declared.event.Event.TheVariants.{Call, Reply, Touch}
-use Rattle.nr_record.specs.Pen.{PenState}
+use Rattle.nr_record.specs.Pen.{PenState, stamps_of}
+use Rattle.nr_record.specs.Stamps.{AreBelow, Rise}
 
 -- the event of each stamp is what the pen was given with it
 abbrev pub HasNotes : List Event → PenState → Type 0
@@ -27,3 +28,11 @@ is_of thread events event = option_map_or (λ other. other == thread) (thread_of
 -- the events of a thread, in order
 abbrev pub events_of : ℕ → List Event → List Event
 events_of thread events = filter (is_of thread events) events
+
+-- the events are what these pens were given, and nothing else: the stamps of all pens are the indices of the events, each once; those of each
+-- pen rise, and the event of each is what the pen was given with it; and the events of each thread are what its pen was given, in that order
+pub record AreEventsOf (events : List Event) (pens : List PenState) : Type 0 where
+  pub stamps : AreBelow (length events) (flat_map stamps_of pens)
+  pub rising : All (λ pen. Rise (stamps_of pen)) pens
+  pub noted : All (HasNotes events) pens
+  pub own : All (λ pen. events_of pen.thread events ≡ map (λ item. item.event) pen.made) pens

@@ -14,6 +14,6 @@ mod stamped;
 mod view;
 
 pub use clock::{Clock, pens};
-pub use ending::finish;
+pub use ending::{finish, finish_segment};
 pub use pen::Pen;
 pub use stamped::Stamped;

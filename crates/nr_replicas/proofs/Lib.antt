@@ -3,6 +3,7 @@ pub mod Hearing
 pub mod Rests
 pub mod NewPasses
 pub mod Settled
+pub mod Cuts
 pub mod Fits
 pub mod Numbers
 pub mod Places

@@ -14,10 +14,11 @@ use Rattle.nr_node.specs.Spaces.{answer_at, space_at}
 use Rattle.nr_replicas.specs.declared.update_fault.UpdateFault.{UpdateFault}
 use Rattle.nr_replicas.specs.declared.update_fault.UpdateFault.TheVariants.{Occupied, Ended, Stopped}
 
--- what contracts see of new replicas: which log is theirs, and how they are laid out
+-- what contracts see of replicas without a name: which log is theirs, how they are laid out, and the place at which the last cut ended
 pub record OpenState : Type 0 where
   pub log : TableId
   pub layout : Layout
+  pub base : ℕ
 
 -- a pass has seen more of its log, or as much: it made no event, owns what it owned, which nobody has advanced, and has its rights
 pub record HasHeard (depth : Depth) (replicas : ℕ) (before after : View) : Type 0 where

@@ -4,6 +4,7 @@
 //! Places and tails count entries of the log from 0. Addresses are in bytes.
 #![tactic(auto)]
 
+mod cutting;
 mod fitting;
 mod gate;
 mod local;
@@ -16,6 +17,7 @@ mod settling;
 mod shared;
 mod update_fault;
 
+pub use cutting::{Cut, Open};
 pub use gate::{Gate, Point, Signal};
 pub use name::ReplicasName;
 pub use opened::OpenReplicas;

@@ -31,8 +31,9 @@ pub(crate) struct Wanted {
     pub(crate) from: u64,
 }
 
-/// The node of a replica, which is of the log that the name says and may have as many tables, and the slots of its threads. Beside
-/// them there is room for what a call answers, so that no call has to fill an array of its own.
+/// The node of a replica, and the slots of its threads. The node is of the log that the name says, may have as many tables and keeps the
+/// entries since the last cut; the log has 65,536 places at least. Beside them there is room for what a call answers, so that no call
+/// has to fill an array of its own.
 #[derive(Drop)]
 pub(crate) struct Local<J: LogName, K: ReplicasName> {
     node: Node<RawArena, J>,
@@ -42,20 +43,24 @@ pub(crate) struct Local<J: LogName, K: ReplicasName> {
 }
 
 impl<J: LogName, K: ReplicasName> Model for Local<J, K> {
-    ghost use Rattle.std.specs.Prelude.{◌≡◌};
+    ghost use Rattle.std.specs.Prelude.{◌≡◌, ◌≤◌};
     ghost use Rattle.nr_node.specs.Node.{NodeState};
+    ghost use Rattle.vs_types.specs.declared.limits.TheConstants.{LOG_PLACES};
 
     ghost Value = { NodeState };
 
     ghost view = { λ l. l.node };
 
-    ghost invariant = { λ l. (l.node.known.log ≡ K.log) × (l.node.tables ≡ K.tables) };
+    ghost invariant = { λ l. (l.node.known.log ≡ K.log) × (l.node.tables ≡ K.tables)
+        × (l.node.base ≡ K.base) × (LOG_PLACES ≤ J.places) };
 }
 
 impl<J: LogName, K: ReplicasName> Local<J, K> {
     pub(crate) fn new(node: Node<RawArena, J>, slots: Arc<Slots<Fitting<J>>>) -> Local<J, K>
         requires log { node.known.log ≡ K.log }
         requires tables { node.tables ≡ K.tables }
+        requires base { node.base ≡ K.base }
+        requires places { LOG_PLACES ≤ J.places }
         ensures { result ≡ node }
     {
         Local {
@@ -70,6 +75,7 @@ impl<J: LogName, K: ReplicasName> Local<J, K> {
         ensures node { result ≡ self }
         ensures log { result.known.log ≡ K.log }
         ensures tables { result.tables ≡ K.tables }
+        ensures base { result.base ≡ K.base }
     {
         self.node
     }
@@ -129,6 +135,9 @@ impl<J: LogName, K: ReplicasName> Local<J, K> {
             → LOG_PLACES - RING < tail (log_of J.replicas self.new)) }
     {
         self.node.is_well_formed();
+        if !self.node.has_room() {
+            return Err(AppendFault::LogEnded);
+        }
         let slots = &self.slots;
         match self.node.held() {
             Held::Unplaced(_) => {
@@ -158,6 +167,9 @@ impl<J: LogName, K: ReplicasName> Local<J, K> {
         requires log { log.now ≡ K.log }
     {
         self.answers.clear();
+        if !self.node.has_room() {
+            return;
+        }
         if self.node.catch_up(log, &mut self.answers).is_err() {
             return;
         }

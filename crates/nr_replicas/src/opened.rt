@@ -3,6 +3,7 @@ ghost use Rattle.std.specs.Arc.{arc_value};
 ghost use Rattle.std.specs.Prelude.{◌≡◌, ◌+◌, ◌<◌, ◌≤◌, All, IfOk, [], length, map, replicate};
 ghost use Rattle.vs_types.specs.declared.limits.TheConstants.{LOG_PLACES, REPLICAS};
 ghost use Rattle.nr_ring.specs.Pass.{new_pass};
+ghost use Rattle.nr_ring.specs.declared.words.TheConstants.{MOST_PLACES};
 ghost use Rattle.nr_replicas.specs.inside.Replicas.{IsNewPass, IsNodeOf, slots_each};
 
 use crate::local::Local;
@@ -17,31 +18,35 @@ use std::alloc::Global;
 use std::marker::Model;
 use std::sync::{Arc, Mutex};
 use vs_arena::RawArena;
-use vs_types::{Config, Fail, Memory, TABLES};
+use vs_types::{Config, Fail, LOG_PLACES, Memory, TABLES};
 
 /// The frame number of the first table that a replica may have: the frames of tables begin at physical 2^51, and each replica has
 /// 4,096 of them.
 const FIRST_FRAME: u64 = 1 << 39;
 
-/// New replicas and their log, which has no name yet. Contracts see which log it is, and the configuration.
+/// Replicas and their log, which has no name yet, or none any more after a cut. Contracts see which log it is, the configuration, and the
+/// place at which the last cut ended.
 #[derive(Drop)]
 pub struct OpenReplicas<J: LogName> {
-    log: RingLog<J>,
-    config: Config,
-    nodes: Vec<Node<RawArena, J>>,
-    alloc: Global,
+    pub(crate) log: RingLog<J>,
+    pub(crate) config: Config,
+    pub(crate) nodes: Vec<Node<RawArena, J>>,
+    pub(crate) base: u64,
+    pub(crate) alloc: Global,
 }
 
 impl<J: LogName> Model for OpenReplicas<J> {
     ghost use Rattle.std.specs.Prelude.{◌≡◌, ◌≤◌};
+    ghost use Rattle.vs_types.specs.declared.limits.TheConstants.{LOG_PLACES};
     ghost use Rattle.nr_replicas.specs.Replicas.{OpenState};
     ghost use Rattle.nr_replicas.specs.inside.Replicas.{AreNodes};
 
     ghost Value = { OpenState };
 
-    ghost view = { λ o. record { log = o.log; layout = o.config } };
+    ghost view = { λ o. record { log = o.log; layout = o.config; base = o.base } };
 
-    ghost invariant = { λ o. AreNodes J.depth J.replicas o.log o.config o.nodes.items };
+    ghost invariant = { λ o. AreNodes J.depth J.replicas o.log o.config o.base o.nodes.items
+        × (LOG_PLACES ≤ J.places) };
 }
 
 impl<J: LogName> OpenReplicas<J> {
@@ -57,15 +62,41 @@ impl<J: LogName> OpenReplicas<J> {
         requires passes { J.passes ≡ config.replicas + config.threads }
         requires places { J.places ≡ LOG_PLACES }
         ensures layout { IfOk result (λ made. made.0.layout ≡ config) }
+        ensures base { IfOk result (λ made. made.0.base ≡ 0) }
+        ensures passes { IfOk result (λ made.
+            made.1.items ≡ replicate config.threads (new_pass made.0.log [])) }
+    {
+        OpenReplicas::with_places(alloc, config, u64::from(LOG_PLACES))
+    }
+
+    /// The replicas of a configuration with a new log of so many places, from 65,536 to 15 times 2^30, and a pass for each thread; else
+    /// as `new`. Its memory is the same whatever the number of places: each replica keeps 65,568 entries at most, those since the
+    /// last cut.
+    ///
+    /// # Errors
+    ///
+    /// Out of memory.
+    pub fn with_places(
+        alloc: Global,
+        config: Config,
+        places: u64,
+    ) -> Result<(OpenReplicas<J>, Vec<LogPass<J>>), Memory>
+        requires depth { config.depth ≡ J.depth }
+        requires replicas { config.replicas ≡ J.replicas }
+        requires passes { J.passes ≡ config.replicas + config.threads }
+        requires places { (places ≡ J.places) × (LOG_PLACES ≤ places) × (places ≤ MOST_PLACES) }
+        ensures layout { IfOk result (λ made. made.0.layout ≡ config) }
+        ensures base { IfOk result (λ made. made.0.base ≡ 0) }
         ensures passes { IfOk result (λ made.
             made.1.items ≡ replicate config.threads (new_pass made.0.log [])) }
     {
         let replicas = config.replicas();
-        let (log, mut passes) = RingLog::new(
+        let (log, mut passes) = RingLog::with_places(
             alloc,
             config.depth(),
             replicas,
             config.threads() as u8,
+            places,
         )?;
         let others = passes.split_off(usize::from(replicas))?;
         let nodes = new_nodes(alloc, config, &log, passes)?;
@@ -73,9 +104,17 @@ impl<J: LogName> OpenReplicas<J> {
             log,
             config,
             nodes,
+            base: 0,
             alloc,
         };
         Ok((opened, others))
+    }
+
+    /// The place at which the last cut ended: how many entries the log had then. 0 if there was none.
+    pub fn base(&self) -> u64
+        ensures { result ≡ self.now.base }
+    {
+        self.base
     }
 
     /// The replicas, when their log has its name. It allocates the memory of the slots.
@@ -86,12 +125,14 @@ impl<J: LogName> OpenReplicas<J> {
     pub fn named<K: ReplicasName>(self) -> Result<Replicas<J, K>, Memory>
         requires log { self.log ≡ K.log }
         requires tables { self.layout.tables ≡ K.tables }
+        requires base { self.base ≡ K.base }
         ensures { IfOk result (λ replicas. replicas ≡ self.layout) }
     {
         let OpenReplicas {
             log,
             config,
             nodes,
+            base: _,
             alloc,
         } = self;
         let shared = share(alloc, config, nodes)?;
@@ -114,9 +155,10 @@ fn new_node<J: LogName>(
     requires depth { config.depth ≡ J.depth }
     requires few { replica < REPLICAS }
     requires pass { IsNewPass pass.log pass }
-    requires places { J.places ≡ LOG_PLACES }
     ensures log { IfOk result (λ node. node.known.log ≡ pass.log) }
     ensures tables { IfOk result (λ node. node.tables ≡ config.tables) }
+    ensures base { IfOk result (λ node. node.base ≡ 0) }
+    ensures idle { IfOk result (λ node. node.batch ≡ []) }
 {
     let tables = usize::from(config.tables());
     let store = RawArena::new(alloc, FIRST_FRAME + u64::from(TABLES) * replica, tables)?;
@@ -136,10 +178,10 @@ fn new_nodes<J: LogName>(
 ) -> Result<Vec<Node<RawArena, J>>, Memory>
     requires depth { config.depth ≡ J.depth }
     requires few { length passes.items ≤ 4 }
-    requires places { J.places ≡ LOG_PLACES }
     requires passes { All (IsNewPass log.now) passes.items }
     ensures count { IfOk result (λ nodes. length nodes.items ≡ length passes.items) }
-    ensures each { IfOk result (λ nodes. All (IsNodeOf log.now config.tables) nodes.items) }
+    ensures each { IfOk result (λ nodes. All (IsNodeOf log.now config.tables 0) nodes.items) }
+    ensures idle { IfOk result (λ nodes. All (λ node. node.batch ≡ []) nodes.items) }
 {
     let mut nodes = Vec::new(alloc);
     for pass in passes {
@@ -164,7 +206,8 @@ fn share<J: LogName, K: ReplicasName>(
     config: Config,
     nodes: Vec<Node<RawArena, J>>,
 ) -> Result<Vec<Shared<J, K>>, Memory>
-    requires { All (IsNodeOf K.log K.tables) nodes.items }
+    requires nodes { All (IsNodeOf K.log K.tables K.base) nodes.items }
+    requires places { LOG_PLACES ≤ J.places }
     ensures count { IfOk result (λ shared. length shared.items ≡ length nodes.items) }
     ensures slots { IfOk result (λ shared.
         All (λ n. n ≡ slots_each config) (map (λ s. arc_value s.slots) shared.items)) }

@@ -41,8 +41,9 @@ pub struct Replicas<J: LogName, K: ReplicasName> {
 
 impl<J: LogName, K: ReplicasName> Model for Replicas<J, K> {
     ghost use Rattle.std.specs.Arc.{arc_value};
-    ghost use Rattle.std.specs.Prelude.{◌≡◌, map};
+    ghost use Rattle.std.specs.Prelude.{◌≡◌, ◌≤◌, map};
     ghost use Rattle.vs_types.specs.Config.{Layout};
+    ghost use Rattle.vs_types.specs.declared.limits.TheConstants.{LOG_PLACES};
     ghost use Rattle.nr_replicas.specs.inside.Replicas.{AreShared};
 
     ghost Value = { Layout };
@@ -50,7 +51,8 @@ impl<J: LogName, K: ReplicasName> Model for Replicas<J, K> {
     ghost view = { λ r. r.config };
 
     ghost invariant = { λ r. (r.log ≡ K.log)
-        × AreShared J.depth J.replicas K.tables r.config (map (λ s. arc_value s.slots) r.shared.items) };
+        × AreShared J.depth J.replicas K.tables r.config (map (λ s. arc_value s.slots) r.shared.items)
+        × (LOG_PLACES ≤ J.places) };
 }
 
 /// What an update does next.

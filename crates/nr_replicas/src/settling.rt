@@ -1,5 +1,5 @@
 //! What is left of the replicas when all is done: the calls of the log, and a dump of each replica.
-ghost use Rattle.std.specs.Prelude.{◌≡◌, ◌<◌, ◌≤◌, ◌++◌, ◌∷◌, [], ℕ, All, IfOk, OnOk, Some, drop, length, map, slice_get, take};
+ghost use Rattle.std.specs.Prelude.{◌≡◌, ◌+◌, ◌<◌, ◌≤◌, ◌++◌, ◌∷◌, [], ℕ, All, IfOk, OnOk, Some, drop, length, map, slice_get, take};
 ghost use Rattle.nr_ring.specs.LogHistory.{log_after};
 ghost use Rattle.nr_ring.specs.Pass.{AreApart};
 ghost use Rattle.nr_ring.specs.View.{StartsWith};
@@ -21,9 +21,9 @@ use vs_types::Memory;
 use vs_walk::Dump;
 
 impl<J: LogName, K: ReplicasName> Replicas<J, K> {
-    /// What is left when all is done: the call numbers of the entries of a log, by place, and a dump of each replica, by number,
-    /// after just the entries that it has applied. That log begins with all that each of these passes has seen; they are left as
-    /// they were.
+    /// What is left when all is done: the call numbers of the entries of a log since the last cut, by place, and a dump of each replica, by
+    /// number, after just the entries that it has applied, of which it counts those since then. That log begins with all that each of
+    /// these passes has seen; they are left as they were.
     ///
     /// It allocates memory for the nodes, passes, calls and dumps.
     ///
@@ -34,7 +34,8 @@ impl<J: LogName, K: ReplicasName> Replicas<J, K> {
         requires { All (λ pass. pass.log ≡ K.log) passes.old }
         ensures passes { passes.new ≡ passes.old }
         ensures settled { IfOk result (λ settled.
-            IsSettled J.depth J.replicas J.places K.tables passes.old settled.0.items settled.1.items) }
+            IsSettled J.depth J.replicas J.places K.tables K.base
+            passes.old settled.0.items settled.1.items) }
     {
         let Replicas {
             log,
@@ -57,12 +58,12 @@ impl<J: LogName, K: ReplicasName> Replicas<J, K> {
 
 /// The nodes of the replicas, by rising number. Which one lies under which lock no proof knows, since a lock's type knows no number:
 /// so each is asked for its own.
-fn nodes_of<J: LogName, K: ReplicasName>(
+pub(crate) fn nodes_of<J: LogName, K: ReplicasName>(
     alloc: Global,
     shared: Vec<Shared<J, K>>,
 ) -> Result<Vec<Node<RawArena, J>>, Memory>
     ensures count { IfOk result (λ nodes. length nodes.items ≡ length shared.items) }
-    ensures each { IfOk result (λ nodes. All (IsNodeOf K.log K.tables) nodes.items) }
+    ensures each { IfOk result (λ nodes. All (IsNodeOf K.log K.tables K.base) nodes.items) }
     ensures rising { IfOk result (λ nodes. OwnRising 0 (map (λ node. node.known) nodes.items)) }
 {
     let mut nodes = Vec::new(alloc);
@@ -90,15 +91,19 @@ fn place_among<J: LogName>(nodes: &[Node<RawArena, J>], number: u8) -> usize
     nodes.len()
 }
 
-/// The call numbers of the entries that a node has applied.
-fn calls_of<J: LogName>(alloc: Global, node: &Node<RawArena, J>) -> Result<Vec<u32>, Memory>
+/// The call numbers of the entries that a node has applied and keeps.
+pub(crate) fn calls_of<J: LogName>(
+    alloc: Global,
+    node: &Node<RawArena, J>,
+) -> Result<Vec<u32>, Memory>
     ensures calls { IfOk result (λ calls.
-        calls.items ≡ map (λ entry. entry.call)
-        (take (applied_of J.replicas node.now) (log_of J.replicas node.now).entries)) }
+        calls.items ≡ map (λ entry. entry.call) (drop node.now.base
+        (take (applied_of J.replicas node.now) (log_of J.replicas node.now).entries))) }
     ensures is_node { IsNode J.depth J.replicas node.now }
 {
+    node.is_well_formed();
     let mut calls = Vec::new(alloc);
-    for place in 0..node.applied() {
+    for place in node.base()..node.applied() {
         match node.told(place) {
             Some((entry, _)) => calls.push(entry.call)?,
             None => unreachable!(),
@@ -112,13 +117,13 @@ fn passes_of<J: LogName, K: ReplicasName>(
     alloc: Global,
     nodes: Vec<Node<RawArena, J>>,
 ) -> Result<(Vec<LogPass<J>>, Vec<Dump>), Memory>
-    requires { All (IsNodeOf K.log K.tables) nodes.items }
+    requires { All (IsNodeOf K.log K.tables K.base) nodes.items }
     ensures passes { IfOk result (λ all. all.0.items ≡ map (λ node. node.known) nodes.items) }
     ensures count { IfOk result (λ all. length all.1.items ≡ length nodes.items) }
     ensures below { IfOk result (λ all.
         All (λ pass. All (λ replica. replica < J.replicas) pass.view.owns) all.0.items) }
     ensures dumps { IfOk result (λ all.
-        AreDumpsOf J.depth J.replicas K.tables all.0.items all.1.items) }
+        AreDumpsOf J.depth J.replicas K.tables K.base all.0.items all.1.items) }
 {
     let mut passes = Vec::new(alloc);
     let mut dumps = Vec::new(alloc);
@@ -133,16 +138,22 @@ fn passes_of<J: LogName, K: ReplicasName>(
 }
 
 /// A node's dump.
-fn dump_of<J: LogName>(node: &Node<RawArena, J>) -> Result<Dump, Memory>
-    ensures applied { IfOk result (λ dump. dump.applied ≡ applied_of J.replicas node.now) }
-    ensures dump { IfOk result (IsDumpOf J.depth node.now.tables (log_of J.replicas node.now)) }
+pub(crate) fn dump_of<J: LogName>(node: &Node<RawArena, J>) -> Result<Dump, Memory>
+    ensures applied { IfOk result (λ dump.
+        node.now.base + dump.applied ≡ applied_of J.replicas node.now) }
+    ensures dump { IfOk result
+        (IsDumpOf J.depth node.now.tables node.now.base (log_of J.replicas node.now)) }
 {
     node.is_well_formed();
     node.dump()
 }
 
 /// Hands a pass what all these have seen.
-fn hear_all<J: LogName>(log: &RingLog<J>, first: &mut LogPass<J>, passes: &mut [LogPass<J>])
+pub(crate) fn hear_all<J: LogName>(
+    log: &RingLog<J>,
+    first: &mut LogPass<J>,
+    passes: &mut [LogPass<J>],
+)
     requires log { (first.old.log ≡ log.now) × All (λ pass. pass.log ≡ log.now) passes.old }
     ensures log { first.new.log ≡ first.old.log }
     ensures passes { passes.new ≡ passes.old }

@@ -21,14 +21,14 @@ use Rattle.nr_trace.specs.Calls.{Invocation, Response, read_address, call_of, ma
 use Rattle.nr_trace.specs.Recording.{Recording}
 use Rattle.nr_trace.specs.declared.event.Event.{Event}
 use Rattle.nr_trace.specs.declared.event.Event.TheVariants.{Call, Touch}
-use Rattle.nr_record.specs.Events.{HasNotes, caller, events_of}
+use Rattle.nr_record.specs.Events.{AreEventsOf, HasNotes, caller, events_of}
 use Rattle.nr_record.specs.Pen.{ClockId, PenState, call_by, stamps_of}
 use Rattle.nr_record.specs.Stamps.{Rise}
 use Rattle.nr_record.specs.declared.stamped.Stamped.{Stamped}
 use Rattle.nr_record.proofs.Finished.{pen_of_stamp, once_in}
 use Rattle.nr_serve.specs.inside.Calls.{AreServed, IsServed, IsTrueOf, MadeCall, WorkerState}
 use Rattle.nr_serve.specs.Run.{AreCallsOf, HasAllOrStopped, HasSeenAnswers, StopsLast, asked_by, calls_of, said_of}
-use Rattle.nr_serve.specs.inside.Ending.{AreRecorded, pens_of}
+use Rattle.nr_serve.specs.inside.Ending.{pens_of}
 use Rattle.nr_serve.specs.declared.said.Said.{Said}
 use Rattle.nr_serve.specs.declared.said.Said.TheVariants.{Answer, Stopped}
 use Rattle.nr_serve.proofs.Notes.{AreNoted, answers_are, made_calls, note_is_call, numbers, response, rise_numbers, spoken, stamps}
@@ -39,7 +39,7 @@ all_at P xs k x all at = subst P (get_or_from_slice_get xs k x x at) (all k x (s
 
 -- a thread's calls are in the events as its notes say
 noted_of : (clock : ClockId) (log : TableId) (thread : ℕ) (script : List Query) (worker : WorkerState) (workers : List WorkerState) (events : List Event)
-    → AreRecorded events (pens_of workers) → slice_get workers thread ≡ Some worker → (served : IsServed clock log thread script worker)
+    → AreEventsOf events (pens_of workers) → slice_get workers thread ≡ Some worker → (served : IsServed clock log thread script worker)
     → AreNoted events clock.layout thread served.calls
 noted_of clock log thread script worker workers events are at served =
     let pens = pens_of workers in
@@ -95,7 +95,7 @@ all_within events layout thread calls are =
 
 -- an event that is a call of the thread is one of the calls that its notes say
 only_own : (clock : ClockId) (log : TableId) (scripts : List (List Query)) (workers : List WorkerState) (events : List Event)
-    → AreServed clock log scripts workers → AreRecorded events (pens_of workers) → (thread : ℕ) (script : List Query) (worker : WorkerState)
+    → AreServed clock log scripts workers → AreEventsOf events (pens_of workers) → (thread : ℕ) (script : List Query) (worker : WorkerState)
     → slice_get workers thread ≡ Some worker → (served : IsServed clock log thread script worker)
     → (i : ℕ) → makes thread events i ≡ true → Contains (numbers served.calls) i
 only_own clock log scripts workers events all are thread script worker at served i holds =
@@ -128,7 +128,7 @@ only_own clock log scripts workers events all are thread script worker at served
     (note_is_call clock.layout thread served.calls item thread mine event).is_call
 
 calls_are : (clock : ClockId) (log : TableId) (scripts : List (List Query)) (workers : List WorkerState) (trace : Recording)
-    → AreServed clock log scripts workers → AreRecorded trace.events (pens_of workers) → (thread : ℕ) (script : List Query) (worker : WorkerState)
+    → AreServed clock log scripts workers → AreEventsOf trace.events (pens_of workers) → (thread : ℕ) (script : List Query) (worker : WorkerState)
     → slice_get workers thread ≡ Some worker → (served : IsServed clock log thread script worker)
     → calls_of trace thread ≡ numbers served.calls
 calls_are clock log scripts workers trace all are thread script worker at served =
@@ -151,7 +151,7 @@ said_back number Stopped = refl
 
 -- the calls of each thread are those that it made, and its answers theirs
 pub are_calls : (clock : ClockId) (log : TableId) (scripts : List (List Query)) (workers : List WorkerState) (trace : Recording)
-    → AreServed clock log scripts workers → AreRecorded trace.events (pens_of workers) → trace.layout ≡ clock.layout
+    → AreServed clock log scripts workers → AreEventsOf trace.events (pens_of workers) → trace.layout ≡ clock.layout
     → (thread : ℕ) (script : List Query) (said : List Said) → slice_get scripts thread ≡ Some script
     → slice_get (map (λ w. w.said) workers) thread ≡ Some said → AreCallsOf trace thread script said
 are_calls clock log scripts workers trace all are layout thread script said at_script at_said =
@@ -222,7 +222,7 @@ record IsKnownCall (trace : Recording) (layout : Layout) (log : Log) (thread cal
   is_true : IsTrueOf layout log call request said
 
 known_call : (clock : ClockId) (log : TableId) (scripts : List (List Query)) (workers : List WorkerState) (trace : Recording)
-    → AreServed clock log scripts workers → AreRecorded trace.events (pens_of workers) → (thread : ℕ) (worker : WorkerState)
+    → AreServed clock log scripts workers → AreEventsOf trace.events (pens_of workers) → (thread : ℕ) (worker : WorkerState)
     → slice_get workers thread ≡ Some worker → (call : ℕ) (made : Invocation) → call_of trace call ≡ Some made → made.thread ≡ thread
     → IsKnownCall trace clock.layout (log_after clock.layout.replicas worker.pass.view.seen) thread call
 known_call clock log scripts workers trace all are thread worker at call made is_made who =
@@ -250,7 +250,7 @@ known_call clock log scripts workers trace all are thread worker at call made is
 
 -- each thread's pass has seen all on which its answers depend
 pub have_seen : (clock : ClockId) (log : TableId) (scripts : List (List Query)) (workers : List WorkerState) (trace : Recording)
-    → AreServed clock log scripts workers → AreRecorded trace.events (pens_of workers) → trace.layout ≡ clock.layout
+    → AreServed clock log scripts workers → AreEventsOf trace.events (pens_of workers) → trace.layout ≡ clock.layout
     → (thread : ℕ) (pass : Known) → slice_get (map (λ w. w.pass) workers) thread ≡ Some pass → HasSeenAnswers trace thread pass
 have_seen clock log scripts workers trace all are layout thread pass at_pass =
     let there = slice_get-unmap (λ (w : WorkerState). w.pass) workers thread pass at_pass in

@@ -1,9 +1,10 @@
 -- What a run has to show, once its bytes are audited.
-use Rattle.std.proofs.Common.{◌≡◌, ℕ, List, Vec, length, ap, sym, subst, ◌∙◌, arith}
+use Rattle.std.proofs.Common.{◌≡◌, ℕ, List, Vec, length, map, ap, sym, subst, ◌∙◌, arith}
 use Rattle.std.specs.Vec.{with_items}
 use Rattle.std.proofs.lemmas.List.{length-map, with_items_is}
-use Rattle.std.specs.Prelude.{IfOk, Result, Ok}
+use Rattle.std.specs.Prelude.{IfOk, Result, Ok, drop}
 use Rattle.vs_types.specs.Config.{Layout}
+use Rattle.vs_types.specs.declared.log_entry.LogEntry.{LogEntry}
 use Rattle.vs_types.specs.declared.request.Query.{Query}
 use Rattle.nr_ring.specs.Pass.{Known, TableId}
 use Rattle.nr_trace.specs.Faults.{IsFirstOf}
@@ -15,13 +16,14 @@ use Rattle.nr_trace.proofs.LawsOfSpelling.{one_trace}
 use Rattle.nr_audit.specs.Headline.{AreRightWith, IsSpelledWith}
 use Rattle.nr_audit.specs.Verdict.{IsVerdictOf}
 use Rattle.nr_audit.specs.declared.verdict.Verdict.TheVariants.{Yes}
+use Rattle.nr_record.specs.Events.{AreEventsOf}
 use Rattle.nr_record.specs.Pen.{ClockId, PenState}
 use Rattle.nr_serve.specs.Run.{AreAllCallsOf, HaveSeenAnswers, IfRunRefused, IfVerified, IsLogOf, IsRefusedRun, IsTraceOf, IsVerifiedRun}
 use Rattle.nr_serve.specs.declared.outcome.Outcome.{Outcome}
 use Rattle.nr_serve.specs.declared.outcome.Outcome.TheVariants.{Refused, Verified}
 use Rattle.nr_serve.specs.declared.said.Said.{Said}
 use Rattle.nr_serve.specs.inside.Calls.{AreServed, WorkerState}
-use Rattle.nr_serve.specs.inside.Ending.{AreRecorded, IsWrittenOf, answers_of, passes_of, pens_of}
+use Rattle.nr_serve.specs.inside.Ending.{IsWrittenOf, answers_of, passes_of, pens_of}
 use Rattle.nr_serve.proofs.Made.{are_calls, have_seen}
 
 -- bytes that spell a trace spell it alone
@@ -35,7 +37,7 @@ pub trace_of_run : (clock : ClockId) (log : TableId) (layout : Layout) (scripts 
     → IsTraceOf layout scripts (answers_of workers) (passes_of workers) bytes
 trace_of_run clock log layout scripts workers pens passes bytes of_clock one_each served pens_are passes_are written =
     let trace = written.trace in
-    let recorded = subst (λ (ps : List PenState). AreRecorded trace.events ps) pens_are written.recorded in
+    let recorded = subst (λ (ps : List PenState). AreEventsOf trace.events ps) pens_are written.recorded in
     let same = written.layout_is ∙ of_clock in
     let calls = are_calls clock log scripts workers trace served recorded same in
     let seen = have_seen clock log scripts workers trace served recorded same in
@@ -84,3 +86,8 @@ refused_with _ layout scripts answers bytes passes same_bytes first is = tt
 pub back_is : {X Z : Type 0} (v : Vec X Z) (ws : List X) → ws ≡ v.items → (with_items v ws).items ≡ v.items
 back_is {X} v ws same =
     let long : length ws ≡ v.len = omega (arith, ap (λ (xs : List X). length xs) same, v.ok.0) in with_items_is v ws long ∙ same
+
+-- the calls of a log from its first place on are all
+pub from_the_first : (base : ℕ) (entries : List LogEntry) (calls : List ℕ) → calls ≡ map (λ entry. entry.call) (drop base entries) → base ≡ 0
+    → calls ≡ map (λ entry. entry.call) entries
+from_the_first base entries calls are none = are ∙ ap (λ (b : ℕ). map (λ (entry : LogEntry). entry.call) (drop b entries)) none

@@ -63,7 +63,7 @@ fn written<J: LogName, K: ReplicasName>(
 ) -> Result<Vec<u8>, Memory>
     requires config { config ≡ clock.layout }
     requires names { (config.depth ≡ J.depth) × (config.replicas ≡ J.replicas) }
-    requires places { J.places ≡ LOG_PLACES }
+    requires places { (J.places ≡ LOG_PLACES) × (K.base ≡ 0) }
     requires pens { AreAllPens clock pens.items }
     requires passes { All (λ pass. pass.log ≡ K.log) passes.old }
     ensures passes { passes.new ≡ passes.old }
@@ -121,7 +121,7 @@ pub(crate) fn ending<J: LogName, K: ReplicasName>(
 ) -> Result<Outcome<J>, Memory>
     requires config { config ≡ clock.layout }
     requires names { (config.depth ≡ J.depth) × (config.replicas ≡ J.replicas) }
-    requires places { J.places ≡ LOG_PLACES }
+    requires places { (J.places ≡ LOG_PLACES) × (K.base ≡ 0) }
     requires pens { AreAllPens clock (pens_of workers.items) }
     requires passes { All (λ pass. pass.log ≡ K.log) (passes_of workers.items) }
     ensures verified { (scripts : List (List Query)) → length scripts ≡ config.threads

@@ -53,6 +53,7 @@ fn begin<J: LogName>(
     requires scripts { AreScripts config (map (λ script. script.items) scripts.now) }
     ensures layout { IfOk result
         (λ made. (made.opened.layout ≡ config) × (made.clock.layout ≡ config)) }
+    ensures base { IfOk result (λ made. made.opened.base ≡ 0) }
     ensures passes { IfOk result
         (λ made. (length made.passes.items ≡ config.threads)
         × All (λ pass. pass.log ≡ made.opened.log) made.passes.items) }
@@ -93,6 +94,7 @@ fn go_on<
     requires places { J.places ≡ LOG_PLACES }
     requires tables { config.tables ≡ K.tables }
     requires log { beginning.opened.log ≡ K.log }
+    requires base { (beginning.opened.base ≡ 0) × (K.base ≡ 0) }
     requires scripts { AreScripts config (map (λ script. script.items) scripts.items) }
     requires layout { (beginning.opened.layout ≡ config) × (beginning.clock.layout ≡ config) }
     requires passes { (length beginning.passes.items ≡ config.threads)

@@ -47,6 +47,14 @@ impl<P: SlotRule> Cells<P> {
         self.table.word_count()
     }
 
+    /// Whether a slot is empty, as a load finds its word.
+    pub(crate) fn is_empty(&self, place: usize) -> bool
+        requires { place < self.now.table.shared.table_id.words }
+    {
+        let (found, _) = self.table.shared.load_new_seat::<Enter>(place);
+        found == EMPTY
+    }
+
     /// Puts an update into its thread's slot, where it is empty.
     #[tactic(auto, using(crate::proofs::Goes::posts_on))]
     pub(crate) fn post(&self, waiting: Waiting) -> Result<(), Occupied>

@@ -41,6 +41,17 @@ impl<P: SlotRule> Slots<P> {
         Ok(Slots { cells })
     }
 
+    /// Whether all slots are empty, so that no update waits, is on its way or has an answer that its thread has not taken: as a load
+    /// of each word in turn finds them. It waits for nobody.
+    pub fn are_empty(&self) -> bool {
+        for thread in 0..self.cells.count() {
+            if !self.cells.is_empty(thread) {
+                return false;
+            }
+        }
+        true
+    }
+
     /// Puts an update into the thread's slot. It waits for nobody.
     ///
     /// # Errors

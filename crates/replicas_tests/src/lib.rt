@@ -9,6 +9,8 @@ mod caller;
 #[cfg(test)]
 mod cases;
 #[cfg(test)]
+mod cuts;
+#[cfg(test)]
 mod draws;
 #[cfg(test)]
 mod dumps;

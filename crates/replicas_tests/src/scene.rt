@@ -92,7 +92,7 @@ fn run_named<
     passes: Vec<LogPass<J>>,
     test: Test,
 ) -> Settled
-    requires name { (new.log ≡ K.log) × (new.layout.tables ≡ K.tables) }
+    requires name { (new.log ≡ K.log) × (new.layout.tables ≡ K.tables) × (new.base ≡ K.base) }
     requires config { (new.layout ≡ config) × (config.depth ≡ J.depth) }
     requires passes { All (λ pass. pass.log ≡ K.log) passes.items }
 {
@@ -132,7 +132,7 @@ fn make_calls<
 }
 
 /// A caller for each thread.
-fn callers_of<'a, J: LogName, K: ReplicasName>(
+pub fn callers_of<'a, J: LogName, K: ReplicasName>(
     rt: &impl Abort,
     alloc: Global,
     replicas: &'a Replicas<J, K>,
@@ -153,7 +153,7 @@ fn callers_of<'a, J: LogName, K: ReplicasName>(
 }
 
 /// The passes of the callers.
-fn passes_of<J: LogName, K: ReplicasName>(
+pub fn passes_of<J: LogName, K: ReplicasName>(
     rt: &impl Abort,
     alloc: Global,
     callers: Vec<Caller<'_, J, K>>,

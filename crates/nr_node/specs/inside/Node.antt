@@ -7,7 +7,7 @@ use Rattle.nr_node.specs.Node.{NodeState, applied_of, log_of}
 use Rattle.nr_node.specs.inside.Replica.{ReplicaState}
 
 abbrev pub node_state : Known → ReplicaState → List Waiting → Option ℕ → NodeState
-node_state known replica batch first = record { known = known; tables = replica.tables; batch = batch; first = first }
+node_state known replica batch first = record { known = known; tables = replica.tables; base = replica.base; batch = batch; first = first }
 
 -- the replica has applied just the entries that the node has taken
 pub record Follows (depth : Depth) (replicas : ℕ) (node : NodeState) (replica : ReplicaState) : Type 0 where

@@ -39,15 +39,17 @@ pub record AreShared (depth : Depth) (replicas tables : ℕ) (layout : Layout) (
 abbrev pub IsNewPass : TableId → Known → Type 0
 IsNewPass log pass = (replica : ℕ) × (pass ≡ new_pass log (replica ∷ []))
 
--- a node is of this log and may have so many tables
-pub record IsNodeOf (log : TableId) (tables : ℕ) (node : NodeState) : Type 0 where
+-- a node is of this log, may have so many tables and keeps the entries from this place on
+pub record IsNodeOf (log : TableId) (tables base : ℕ) (node : NodeState) : Type 0 where
   pub log_is : node.known.log ≡ log
   pub tables_are : node.tables ≡ tables
+  pub base_is : node.base ≡ base
 
--- the nodes of new replicas: one for each, of this log
-pub record AreNodes (depth : Depth) (replicas : ℕ) (log : TableId) (layout : Layout) (nodes : List NodeState) : Type 0 where
+-- the nodes of replicas without a name: one for each, of this log, which keeps the entries from this place on and holds no update
+pub record AreNodes (depth : Depth) (replicas : ℕ) (log : TableId) (layout : Layout) (base : ℕ) (nodes : List NodeState) : Type 0 where
   pub depth_is : layout.depth ≡ depth
   pub replicas_are : layout.replicas ≡ replicas
   pub some : 1 ≤ layout.replicas
   pub count : length nodes ≡ layout.replicas
-  pub each : All (IsNodeOf log layout.tables) nodes
+  pub each : All (IsNodeOf log layout.tables base) nodes
+  pub idle : All (λ node. node.batch ≡ []) nodes

@@ -1,13 +1,11 @@
 -- What holds at the end of a run.
-use Rattle.std.specs.Prelude.{◌≡◌, ℕ, List, All, flat_map, length, map}
+use Rattle.std.specs.Prelude.{◌≡◌, ℕ, List, map}
 use Rattle.vs_types.specs.Config.{Layout}
 use Rattle.nr_trace.specs.Recording.{Recording}
 use Rattle.nr_trace.specs.Spelling.{Spells}
-use Rattle.nr_trace.specs.declared.event.Event.{Event}
 use Rattle.nr_ring.specs.Pass.{Known}
-use Rattle.nr_record.specs.Events.{HasNotes, events_of}
-use Rattle.nr_record.specs.Pen.{PenState, stamps_of}
-use Rattle.nr_record.specs.Stamps.{AreBelow, Rise}
+use Rattle.nr_record.specs.Events.{AreEventsOf}
+use Rattle.nr_record.specs.Pen.{PenState}
 use Rattle.nr_serve.specs.inside.Calls.{WorkerState}
 use Rattle.nr_serve.specs.Run.{IsLogOf}
 use Rattle.nr_serve.specs.declared.said.Said.{Said}
@@ -21,17 +19,10 @@ passes_of workers = map (λ worker. worker.pass) workers
 abbrev pub answers_of : List WorkerState → List (List Said)
 answers_of workers = map (λ worker. worker.said) workers
 
--- the events of a trace are what these pens were given, each at its stamp
-pub record AreRecorded (events : List Event) (pens : List PenState) : Type 0 where
-  pub stamps : AreBelow (length events) (flat_map stamps_of pens)
-  pub rising : All (λ pen. Rise (stamps_of pen)) pens
-  pub noted : All (HasNotes events) pens
-  pub own : All (λ pen. events_of pen.thread events ≡ map (λ item. item.event) pen.made) pens
-
 -- the bytes spell a trace of this layout, with what these pens were given, and a log that begins with all that these passes have seen
 pub record IsWrittenOf (layout : Layout) (pens : List PenState) (passes : List Known) (bytes : List ℕ) : Type 0 where
   pub trace : Recording
   pub spelled : Spells bytes trace
   pub layout_is : trace.layout ≡ layout
-  pub recorded : AreRecorded trace.events pens
+  pub recorded : AreEventsOf trace.events pens
   pub log : IsLogOf layout trace.log passes

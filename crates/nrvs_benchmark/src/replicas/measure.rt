@@ -80,7 +80,8 @@ fn measure_named<
     passes: Vec<LogPass<J>>,
     work: Work,
 ) -> Result<Measured, ProgFault>
-    requires name { (opened.log ≡ K.log) × (opened.layout.tables ≡ K.tables) }
+    requires name { (opened.log ≡ K.log) × (opened.layout.tables ≡ K.tables)
+        × (opened.base ≡ K.base) }
     requires config { (opened.layout ≡ config) × (J.depth ≡ Four) }
     requires passes { All (λ pass. pass.log ≡ K.log) passes.items }
 {

@@ -66,9 +66,11 @@ pub enum Does {
     CatchesUp(u64, &'static [Given]),
     /// It puts the batch that it holds and catches up at once: the first update is the one that is wanted.
     PutsAndCatchesUp([Given; 2]),
+    /// It forgets what it has applied: so many entries.
+    Forgets(u64),
     /// The entry at a place is a call's, of this update, which was answered so.
     Told(u64, u32, Update, Answer),
-    /// It has not applied the entry of this place.
+    /// It has not applied the entry of this place, or has forgotten it.
     NotTold(u64),
     /// The translation of an address, after so many entries.
     Reads(u64, u64, Answer),
@@ -153,6 +155,10 @@ impl<'a, S: FrameStore, J: LogName> Bench<'a, S, J> {
                 self.collect(rt, answers);
                 self.puts_and_catches_up(rt, answers)
             }
+            Does::Forgets(count) => {
+                self.node.forget();
+                self.node.base() == count && self.node.applied() == count && self.node.has_room()
+            }
             Does::Told(place, call, update, answer) => {
                 let entry = update.entry(rt, self.depth, call);
                 self.node.told(place) == Some((entry, answer))
@@ -200,6 +206,7 @@ impl<'a, S: FrameStore, J: LogName> Bench<'a, S, J> {
     /// Whether it catches up by so many entries, and gives these answers.
     fn catches_up(&mut self, rt: &impl Abort, count: u64, wanted: &[Given]) -> bool {
         let mut answers = ArrayVec::new();
+        assert!(rt; self.node.has_room());
         if self.node.catch_up(self.log, &mut answers) != Ok(count)
             || answers.len() != wanted.len()
         {
@@ -231,6 +238,7 @@ impl<'a, S: FrameStore, J: LogName> Bench<'a, S, J> {
         let Given(thread, call, update, _, _) = first;
         let entry = self.waiting(rt, (thread, call, update)).entry();
         let mut own = None;
+        assert!(rt; self.node.has_room());
         let put = match self.node.held() {
             Held::Unplaced(_) => {
                 let (log, slots) = (self.log, &self.slots);
@@ -257,7 +265,8 @@ impl<'a, S: FrameStore, J: LogName> Bench<'a, S, J> {
         }
     }
 
-    /// The node has applied so many entries, and its dump has so many tables and is that of a plain space with the page.
+    /// The node has applied so many entries since it forgot any, and its dump has so many tables and is that of a plain space with the
+    /// page.
     pub fn assert_dump(&self, rt: &impl Abort, alloc: Global, applied: u32, tables: usize) {
         let dump = self.node.dump().expect(rt, "memory");
         assert!(rt; dump.applied() == applied && dump.count() == tables);

@@ -57,6 +57,36 @@ static ALONE: [Does; 22] = [
     Does::Told(3, 3, Update::Map, Answer::Done),
 ];
 
+/// The node forgets what it has applied: no answer of before is given any more, reads go on, and what it applies then is kept.
+static FORGETS: [Does; 14] = [
+    Does::Forgets(4),
+    Does::NotTold(0),
+    Does::NotTold(3),
+    Does::NotTold(4),
+    Does::Reads(0x400123, 4, Answer::Mapped(0x1123, Size::K4, Rights::ALL)),
+    Does::Holds([(5, 2, Update::Unmap), (3, 3, Update::Map)]),
+    Does::Puts(4),
+    Does::CatchesUp(
+        2,
+        &[
+            Given(
+                5,
+                2,
+                Update::Unmap,
+                4,
+                Answer::Removed(0x1000, Size::K4, Rights::ALL),
+            ),
+            Given(3, 3, Update::Map, 5, Answer::Done),
+        ],
+    ),
+    Does::NotTold(3),
+    Does::Told(5, 3, Update::Map, Answer::Done),
+    Does::HasApplied(6),
+    Does::Forgets(6),
+    Does::NotTold(5),
+    Does::CatchesUp(0, &[]),
+];
+
 /// Other passes have appended 16 entries: the node holds its batch, for which there is no room, also once it has taken them.
 static HAS_NO_ROOM: [Does; 6] = [
     Does::Holds([(0, 7, Update::Map), (1, 8, Update::Unmap)]),
@@ -125,6 +155,8 @@ fn node_on_log<S: FrameStore + Drop, J: LogName, R: Abort>(
     let mut bench = Bench::new(&log, node, slots, depth);
     bench.take_all(rt, &ALONE);
     bench.assert_dump(rt, alloc, 4, tables);
+    bench.take_all(rt, &FORGETS);
+    bench.assert_dump(rt, alloc, 0, tables);
     true
 }
 

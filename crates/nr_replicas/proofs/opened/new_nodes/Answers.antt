@@ -10,7 +10,8 @@ loop-pass-init g c =
     let rest = c.into_iter-pass-iterator.ensures.into_iter_gives.0 in (
       subst (λ (l : List Known). All (IsNewPass c.args.log.now) l) (sym rest) c.requires.passes,
       omega (arith, ap (λ (l : List Known). length l) rest, ap (λ (l : List NodeState). length l) c.new-nodes.ensures.items),
-      holds_of_none (IsNodeOf c.args.log.now c.args.config.tables) c.new-nodes.result.items c.new-nodes.ensures.items,
+      holds_of_none (IsNodeOf c.args.log.now c.args.config.tables 0) c.new-nodes.result.items c.new-nodes.ensures.items,
+      holds_of_none (λ (n : NodeState). n.batch ≡ []) c.new-nodes.result.items c.new-nodes.ensures.items,
     )
 
 pub new_node-requires-clause-pass : goal.new_node-requires-clause-pass
@@ -26,6 +27,8 @@ loop-pass-preserved g c =
       of.1,
       one_over c.loop-pass.nodes.items c.push.new.self.items c.in_ok-node.node _ _ c.in-Some.pass _ c.in_ok-push.ensures.items c.in-Some.ensures.steps.0
           c.loop-pass.invariant.1,
-      holds_of_more (IsNodeOf c.args.log.now c.args.config.tables) c.loop-pass.nodes.items c.push.new.self.items c.in_ok-node.node
-          c.in_ok-push.ensures.items c.loop-pass.invariant.2 (record { log_is = log; tables_are = c.in_ok-node.ensures.tables }),
+      holds_of_more (IsNodeOf c.args.log.now c.args.config.tables 0) c.loop-pass.nodes.items c.push.new.self.items c.in_ok-node.node
+          c.in_ok-push.ensures.items c.loop-pass.invariant.2 (record { log_is = log; tables_are = c.in_ok-node.ensures.tables; base_is = c.in_ok-node.ensures.base }),
+      holds_of_more (λ (n : NodeState). n.batch ≡ []) c.loop-pass.nodes.items c.push.new.self.items c.in_ok-node.node c.in_ok-push.ensures.items
+          c.loop-pass.invariant.3 c.in_ok-node.ensures.idle,
     )

@@ -7,7 +7,7 @@ use Rattle.nr_replicas.proofs.opened.share.Goals as goal
 
 pub loop-node-preserved : goal.loop-node-preserved
 loop-node-preserved g c =
-    let Of = IsNodeOf g.K.ReplicasName.log g.K.ReplicasName.tables in
+    let Of = IsNodeOf g.K.ReplicasName.log g.K.ReplicasName.tables g.K.ReplicasName.base in
     let of = first_and_rest Of _ _ c.in-Some.node c.in-Some.ensures.steps.0 c.loop-node.invariant.0 in
     let more = c.in_ok-push.ensures.items in (
       of.1,

@@ -14,11 +14,11 @@ loop-replica-preserved g c =
     let old = c.loop-replica.nodes.items in
     let node = c.into_node-node.result in
     let place = c.place_among-place.result in
-    let P : NodeState → Type 0 = IsNodeOf g.K.ReplicasName.log g.K.ReplicasName.tables in
+    let P : NodeState → Type 0 = IsNodeOf g.K.ReplicasName.log g.K.ReplicasName.tables g.K.ReplicasName.base in
     let Q : List NodeState → Type 0 = λ l. OwnRising 0 (map (λ (n : NodeState). n.known) l) in
     let items : c.insert.new.self.items ≡ insert old place node = c.in_ok-insert.ensures.items in
     let steps : c.loop-replica.replica-iterator.rest.items ≡ c.in-Some.replica ∷ c.next.new.self.rest.items = c.in-Some.ensures.steps.0 in
-    let is_node : P node = record { log_is = c.into_node-node.ensures.log; tables_are = c.into_node-node.ensures.tables } in
+    let is_node : P node = record { log_is = c.into_node-node.ensures.log; tables_are = c.into_node-node.ensures.tables; base_is = c.into_node-node.ensures.base } in
     let number : replica_of node.known.view ≡ c.number.result = ap (λ (l : List ℕ). slice_index l 0) c.number.ensures in
     let own = c.number.ensures ∙ ap (λ (k : ℕ). k ∷ []) (sym number) in
     let value : c.deref.result.now ≡ old = c.deref.ensures.value in

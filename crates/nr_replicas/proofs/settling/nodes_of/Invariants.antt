@@ -5,6 +5,6 @@ use Rattle.nr_replicas.proofs.settling.nodes_of.Given as goal
 
 abbrev pub invariant-loop-replica : goal.invariant-loop-replica
 invariant-loop-replica g l =
-    All (IsNodeOf g.K.ReplicasName.log g.K.ReplicasName.tables) l.nodes.items
+    All (IsNodeOf g.K.ReplicasName.log g.K.ReplicasName.tables g.K.ReplicasName.base) l.nodes.items
     × (length l.nodes.items + length l.replica-iterator.rest.items ≡ length l.fn.shared.items)
     × OwnRising 0 (map (λ node. node.known) l.nodes.items)

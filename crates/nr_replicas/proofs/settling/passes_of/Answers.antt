@@ -21,16 +21,17 @@ loop-node-preserved g c =
     let passes = c.loop-node.passes.items in
     let dumps = c.loop-node.dumps.items in
     let rest = c.next.new.self.rest.items in
-    let P : NodeState → Type 0 = IsNodeOf g.K.ReplicasName.log tables in
+    let P : NodeState → Type 0 = IsNodeOf g.K.ReplicasName.log tables g.K.ReplicasName.base in
     let Known_of : List NodeState → List Known = λ l. map (λ (n : NodeState). n.known) l in
     let steps : c.loop-node.node-iterator.rest.items ≡ node ∷ rest = c.in-Some.ensures.steps.0 in
     let each = first_and_rest P _ rest node steps is.0 in
     let one : c.push-in-loop-node.new.self.items ≡ passes ++ node.known ∷ [] =
     c.in_ok-push-2.ensures.items ∙ ap (λ (k : Known). passes ++ k ∷ []) c.into_pass-pass.ensures.pass in
     let Below : Known → Type 0 = λ pass. All (λ replica. replica < replicas) pass.view.owns in
-    let Dumps : List Known → List Image → Type 0 = λ p d. AreDumpsOf depth replicas tables p d in
-    let applied : HasAppliedOwn replicas node.known dump = c.in_ok-dump.ensures.applied in
-    let now = one_dump_more depth replicas tables passes dumps node dump is.3 each.0.tables_are c.in_ok-dump.ensures.dump applied in (
+    let Dumps : List Known → List Image → Type 0 = λ p d. AreDumpsOf depth replicas tables g.K.ReplicasName.base p d in
+    let applied : HasAppliedOwn replicas node.base node.known dump = c.in_ok-dump.ensures.applied in
+    let now = one_dump_more depth replicas tables g.K.ReplicasName.base passes dumps g.K.ReplicasName.log node dump is.3 each.0
+    c.in_ok-dump.ensures.dump applied in (
       each.1,
       ap (λ (l : List Known). l ++ Known_of rest) one
           ∙ append_assoc passes (node.known ∷ []) (Known_of rest)

@@ -1,5 +1,5 @@
-use Rattle.std.proofs.Common.{◌≡◌, List, [], ◌∷◌, length, ap, ◌∙◌, arith}
-use Rattle.std.proofs.Math.ListN.{length-append}
+use Rattle.std.proofs.Common.{◌≡◌, List, [], ◌∷◌, length, map, ap, ◌∙◌, arith}
+use Rattle.std.proofs.Math.ListN.{length-append, length-map}
 use Rattle.nr_replicas.proofs.Rests.{first_and_rest}
 use Rattle.nr_serve.specs.inside.Working.{IsReadyJob, JobState}
 use Rattle.nr_serve.proofs.Jobs.{one_started}
@@ -25,4 +25,15 @@ loop-job-preserved g c =
         ap (λ (l : List _). length l) items,
         length-append old (c.in-Ok.handle ∷ []),
       ),
+    )
+
+pub returns-in_default-clause-few : goal.returns-in_default-clause-few
+returns-in_default-clause-few g c =
+    let was = c.loop-job.invariant in
+    let split = ap (λ (l : List JobState). length l) was.0 in
+    omega (
+      arith,
+      split,
+      length-append (map (λ handle. handle.promise.job.value) c.loop-job.handles.items) c.loop-job.job-iterator.rest.items,
+      length-map c.loop-job.handles.items (λ handle. handle.promise.job.value),
     )

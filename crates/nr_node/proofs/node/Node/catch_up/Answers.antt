@@ -1,17 +1,18 @@
-use Rattle.std.proofs.Common.{◌≡◌, ◌++◌, ℕ, List, All, None, length, refl, ap, sym, subst, ◌∙◌, arith}
+use Rattle.std.proofs.Common.{◌≡◌, ◌+◌, ◌≤◌, ◌++◌, ℕ, List, All, None, length, refl, ap, sym, subst, ◌∙◌, arith}
 use Rattle.std.proofs.lemmas.Result.{err_from_is_err_and}
 use Rattle.vs_types.specs.LogEntry.{IsLogEntry}
+use Rattle.vs_types.specs.declared.limits.TheConstants.{LOG_PLACES}
 use Rattle.vs_types.specs.declared.log_entry.LogEntry.{LogEntry}
 use Rattle.nr_ring.specs.Calls.{HasMoved}
 use Rattle.nr_ring.specs.LogHistory.{log_after}
 use Rattle.nr_slots.specs.Updates.{Waiting}
 use Rattle.nr_node.specs.Calls.{HasCaughtUp, HasStayed, answers_of}
-use Rattle.nr_node.specs.Node.{NodeState, IsNode, replica_of}
+use Rattle.nr_node.specs.Node.{IsNode, NodeState, applied_of, replica_of}
 use Rattle.nr_node.specs.inside.Node.{node_state}
 use Rattle.nr_node.specs.inside.Replica.{ReplicaState}
 use Rattle.nr_node.proofs.Looks.{looked_owner, looked_taken, took_all}
 use Rattle.nr_node.proofs.Nodes.{answers_after, caught_up, looked_node, looked_follows, next_entries, stands_after, took_fit, took_follows, took_node}
-use Rattle.nr_node.proofs.Nodes.{took_room}
+use Rattle.nr_node.proofs.Nodes.{had_taken}
 use Rattle.nr_node.proofs.node.Node.catch_up.Goals as goal
 
 pub invariant_of-self : goal.invariant_of-self
@@ -21,7 +22,6 @@ invariant_of-self g c =
     let looked = c.in_err-take.ensures.moved.0 in (
       looked_node _ _ self.pass c.take.new.pass self.replica self.batch.items self.first looked is.0,
       looked_follows _ _ self.pass c.take.new.pass self.replica self.batch.items self.first looked is.0 is.1,
-      is.2,
     )
 
 pub returns-in_err-take-clause-stayed : goal.returns-in_err-take-clause-stayed
@@ -63,9 +63,10 @@ pub apply_all-requires-clause-room : goal.apply_all-requires-clause-room
 apply_all-requires-clause-room g c =
     let self = c.self.inside in
     let is = c.self.invariant in
-    let room = took_room _ _ self.pass c.take.new.pass self.replica self.batch.items self.first c.take.new.entries.items
-    (took_all _ _ self.pass.view c.take.new.pass.view c.take.new.entries.items c.in_ok-take.ensures.taken is.0.owner) is.0 is.1 g.J.LogName.places c.has_seen_a_history.ensures.ends is.2 in
-    omega (arith, room, ap (λ (l : List LogEntry). length l) c.as_slice.ensures.value)
+    let Room : NodeState → Type 0 = λ n. applied_of g.J.LogName.replicas n ≤ n.base + LOG_PLACES in
+    let room = subst Room (sym c.self.view_is) c.requires.room in
+    let had = had_taken _ _ (node_state self.pass self.replica self.batch.items self.first) self.replica is.0 is.1 in
+    omega (arith, room, had, c.as_slice.ensures.fits)
 
 pub answer-requires-clause-stand : goal.answer-requires-clause-stand
 answer-requires-clause-stand g c =
@@ -76,8 +77,12 @@ answer-requires-clause-stand g c =
     let With : List LogEntry → ReplicaState = λ l. record self.replica { entries = self.replica.entries ++ l } in
     let applied = c.apply_all.ensures ∙ ap With c.as_slice.ensures.value in
     let all = took_all _ _ self.pass.view c.take.new.pass.view entries c.in_ok-take.ensures.taken is.0.owner in
-    stands_after _ _ self.pass c.take.new.pass self.replica next self.batch.items self.first entries all is.0
-    (next_entries _ _ self.pass c.take.new.pass self.replica next self.batch.items self.first entries all is.0 is.1 applied)
+    let base = ap (λ (r : ReplicaState). r.base) applied in
+    λ place at. (
+      omega (arith, base, is.0.kept, (is.0.placed place at).above),
+      stands_after _ _ self.pass c.take.new.pass self.replica next self.batch.items self.first entries all is.0
+          (next_entries _ _ self.pass c.take.new.pass self.replica next self.batch.items self.first entries all is.0 is.1 applied) place at,
+    )
 
 pub invariant_of-self-2 : goal.invariant_of-self-2
 invariant_of-self-2 g c =
@@ -89,10 +94,10 @@ invariant_of-self-2 g c =
     let applied = c.apply_all.ensures ∙ ap With c.as_slice.ensures.value in
     let all = took_all _ _ self.pass.view c.take.new.pass.view entries c.in_ok-take.ensures.taken is.0.owner in
     let Is : List Waiting → Type 0 = λ l. IsNode g.J.LogName.depth g.J.LogName.replicas (node_state c.take.new.pass next l None) in (
-      subst Is (sym c.keep_unplaced.ensures) (took_node _ _ self.pass c.take.new.pass self.replica next self.batch.items self.first entries all is.0),
+      subst Is (sym c.keep_unplaced.ensures) (took_node _ _ self.pass c.take.new.pass self.replica next self.batch.items self.first entries all is.0
+          (ap (λ (r : ReplicaState). r.base) applied)),
       took_follows _ _ self.pass c.take.new.pass self.replica next self.batch.items c.keep_unplaced.new.batch.items self.first None entries
           all is.0 is.1 applied,
-      is.2,
     )
 
 pub returns-clause-caught_up : goal.returns-clause-caught_up

@@ -1,20 +1,20 @@
-use Rattle.std.proofs.Common.{◌≡◌, ◌-◌, ◌<◌, ℕ, List, All, IfNone, IfSome, length, take, ap, sym, subst, ◌∙◌, refl, arith}
+use Rattle.std.proofs.Common.{◌≡◌, ◌+◌, ◌-◌, ◌<◌, ◌≤◌, ℕ, List, All, IfNone, IfSome, length, take, ap, sym, subst, ◌∙◌, refl, arith}
 use Rattle.std.proofs.Math.ListN.{length-append}
 use Rattle.std.proofs.lemmas.List.{length-map}
 use Rattle.std.proofs.lemmas.Result.{err_from_is_err_and}
 use Rattle.vs_types.specs.LogEntry.{IsLogEntry}
 use Rattle.vs_types.specs.declared.depth.Depth.{Depth}
-use Rattle.vs_types.specs.declared.limits.TheConstants.{CALLS}
+use Rattle.vs_types.specs.declared.limits.TheConstants.{CALLS, LOG_PLACES}
 use Rattle.vs_types.specs.declared.log_entry.LogEntry.{LogEntry}
 use Rattle.nr_ring.specs.LogHistory.{log_after}
 use Rattle.nr_slots.specs.Updates.{Waiting}
 use Rattle.nr_node.specs.Calls.{HasStayed, IsAnsweredIn, IsOwnPlace, LacksUpdate, entries_of, entry_of}
-use Rattle.nr_node.specs.Node.{NodeState}
+use Rattle.nr_node.specs.Node.{NodeState, applied_of}
 use Rattle.nr_node.specs.inside.Node.{node_state}
 use Rattle.nr_node.specs.inside.Replica.{ReplicaState}
 use Rattle.nr_node.proofs.Answering.{both_applied}
 use Rattle.nr_node.proofs.Looks.{looked_taken}
-use Rattle.nr_node.proofs.Nodes.{batch_fits, looked_follows, looked_node, put_and_took, put_entries, put_fit, put_left, put_room}
+use Rattle.nr_node.proofs.Nodes.{batch_fits, had_taken, looked_follows, looked_node, put_and_took, put_entries, put_fit, put_left}
 use Rattle.nr_node.proofs.node.Node.put_and_catch_up.Goals as goal
 
 pub append_and_take-requires-clause-entries : goal.append_and_take-requires-clause-entries
@@ -33,7 +33,6 @@ invariant_of-self g c =
     let looked = c.in_err-append_and_take.ensures.refused.0 in (
       looked_node _ _ self.pass c.append_and_take.new.pass self.replica self.batch.items self.first looked is.0,
       looked_follows _ _ self.pass c.append_and_take.new.pass self.replica self.batch.items self.first looked is.0 is.1,
-      is.2,
     )
 
 pub returns-in_err-append_and_take-clause-stayed : goal.returns-in_err-append_and_take-clause-stayed
@@ -54,56 +53,59 @@ apply_all-requires-clause-fit g c =
     let self = c.self.inside in
     let is = c.self.invariant in
     let did = put_and_took _ _ self.pass c.append_and_take.new.pass self.replica self.batch.items self.first _ c.ask_for.new.asked _ _ _ c.self.view_is
-    c.requires.some c.len.ensures.value c.ask_for.ensures.entries c.in_ok-append_and_take.ensures.done (c.self.invariant.0, c.self.invariant.1) in
+    c.requires.some c.len.ensures.value c.ask_for.ensures.entries c.in_ok-append_and_take.ensures.done c.self.invariant in
     let Fit : List LogEntry → Type 0 = λ l. All (IsLogEntry self.replica.depth) l in
     subst Fit (sym c.as_slice.ensures.value) (put_fit _ _ _ _ _ _ _ _ did self.replica.depth is.1.depth_is).0
 
 pub apply_all-requires-clause-room : goal.apply_all-requires-clause-room
 apply_all-requires-clause-room g c =
     let self = c.self.inside in
-    let did = put_and_took _ _ self.pass c.append_and_take.new.pass self.replica self.batch.items self.first _ c.ask_for.new.asked _ _ _ c.self.view_is
-    c.requires.some c.len.ensures.value c.ask_for.ensures.entries c.in_ok-append_and_take.ensures.done (c.self.invariant.0, c.self.invariant.1) in
-    let room = put_room _ _ _ _ _ _ _ _ did g.J.LogName.places c.has_seen_a_history.ensures.ends c.self.invariant.2 in
-    omega (arith, room, ap (λ (l : List LogEntry). length l) c.as_slice.ensures.value)
+    let is = c.self.invariant in
+    let Room : NodeState → Type 0 = λ n. applied_of g.J.LogName.replicas n ≤ n.base + LOG_PLACES in
+    let room = subst Room (sym c.self.view_is) c.requires.room in
+    let had = had_taken _ _ (node_state self.pass self.replica self.batch.items self.first) self.replica is.0 is.1 in
+    omega (arith, room, had, c.as_slice.ensures.fits)
 
 pub apply_batch-requires-clause-fit : goal.apply_batch-requires-clause-fit
 apply_batch-requires-clause-fit g c =
     let self = c.self.inside in
     let is = c.self.invariant in
     let did = put_and_took _ _ self.pass c.append_and_take.new.pass self.replica self.batch.items self.first _ c.ask_for.new.asked _ _ _ c.self.view_is
-    c.requires.some c.len.ensures.value c.ask_for.ensures.entries c.in_ok-append_and_take.ensures.done (c.self.invariant.0, c.self.invariant.1) in
+    c.requires.some c.len.ensures.value c.ask_for.ensures.entries c.in_ok-append_and_take.ensures.done c.self.invariant in
     (put_fit _ _ _ _ _ _ _ _ did c.apply_all.new.self.depth (ap (λ (r : ReplicaState). r.depth) c.apply_all.ensures ∙ is.1.depth_is)).1
 
 pub apply_batch-requires-clause-room : goal.apply_batch-requires-clause-room
 apply_batch-requires-clause-room g c =
     let self = c.self.inside in
-    let did = put_and_took _ _ self.pass c.append_and_take.new.pass self.replica self.batch.items self.first _ c.ask_for.new.asked _ _ _ c.self.view_is
-    c.requires.some c.len.ensures.value c.ask_for.ensures.entries c.in_ok-append_and_take.ensures.done (c.self.invariant.0, c.self.invariant.1) in
-    let room = put_room _ _ _ _ _ _ _ _ did g.J.LogName.places c.has_seen_a_history.ensures.ends c.self.invariant.2 in
+    let is = c.self.invariant in
+    let Room : NodeState → Type 0 = λ n. applied_of g.J.LogName.replicas n ≤ n.base + LOG_PLACES in
+    let room = subst Room (sym c.self.view_is) c.requires.room in
+    let had = had_taken _ _ (node_state self.pass self.replica self.batch.items self.first) self.replica is.0 is.1 in
     omega (
       arith,
       room,
+      had,
+      is.0.few,
+      c.as_slice.ensures.fits,
       ap (λ (r : ReplicaState). length r.entries) c.apply_all.ensures,
+      ap (λ (r : ReplicaState). r.base) c.apply_all.ensures,
       length-append self.replica.entries c.as_slice.result.now,
-      ap (λ (l : List LogEntry). length l) c.as_slice.ensures.value,
-      length-map self.batch.items entry_of,
     )
 
 pub invariant_of-self-2 : goal.invariant_of-self-2
 invariant_of-self-2 g c =
     let self = c.self.inside in
     let did = put_and_took _ _ self.pass c.append_and_take.new.pass self.replica self.batch.items self.first _ c.ask_for.new.asked _ _ _ c.self.view_is
-    c.requires.some c.len.ensures.value c.ask_for.ensures.entries c.in_ok-append_and_take.ensures.done (c.self.invariant.0, c.self.invariant.1) in
+    c.requires.some c.len.ensures.value c.ask_for.ensures.entries c.in_ok-append_and_take.ensures.done c.self.invariant in
     let both = both_applied self.replica c.apply_all.new.self c.apply_batch.new.self _ _ _ c.apply_all.ensures c.as_slice.ensures.value
     c.apply_batch.ensures.applied in
-    let left = put_left _ _ _ _ _ _ _ _ did _ both _ _ self.first c.self.view_is c.requires.unplaced c.clear-2.ensures in
-    (left.1.0, left.1.1, c.self.invariant.2)
+    (put_left _ _ _ _ _ _ _ _ did _ both _ _ self.first c.self.view_is c.requires.unplaced c.clear-2.ensures).1
 
 pub returns-clause-caught_up : goal.returns-clause-caught_up
 returns-clause-caught_up g c =
     let self = c.self.inside in
     let did = put_and_took _ _ self.pass c.append_and_take.new.pass self.replica self.batch.items self.first _ c.ask_for.new.asked _ _ _ c.self.view_is
-    c.requires.some c.len.ensures.value c.ask_for.ensures.entries c.in_ok-append_and_take.ensures.done (c.self.invariant.0, c.self.invariant.1) in
+    c.requires.some c.len.ensures.value c.ask_for.ensures.entries c.in_ok-append_and_take.ensures.done c.self.invariant in
     let both = both_applied self.replica c.apply_all.new.self c.apply_batch.new.self _ _ _ c.apply_all.ensures c.as_slice.ensures.value
     c.apply_batch.ensures.applied in
     (put_left _ _ _ _ _ _ _ _ did _ both _ _ self.first c.self.view_is c.requires.unplaced c.clear-2.ensures).0
@@ -118,7 +120,7 @@ returns-clause-own g c =
     let next = c.apply_batch.new.self in
     let later = log_after g.J.LogName.replicas after.view.seen in
     let did = put_and_took _ _ self.pass c.append_and_take.new.pass self.replica self.batch.items self.first _ c.ask_for.new.asked _ _ _ c.self.view_is
-    c.requires.some c.len.ensures.value c.ask_for.ensures.entries c.in_ok-append_and_take.ensures.done (c.self.invariant.0, c.self.invariant.1) in
+    c.requires.some c.len.ensures.value c.ask_for.ensures.entries c.in_ok-append_and_take.ensures.done c.self.invariant in
     let both = both_applied self.replica mid next _ _ _ c.apply_all.ensures c.as_slice.ensures.value c.apply_batch.ensures.applied in
     let Own : Depth → ℕ → List LogEntry → Type 0 = λ d t l.
     IfSome c.apply_batch.new.own (λ update. IsAnsweredIn d t l c.args.wanted update.0 update.1) in
@@ -143,7 +145,7 @@ returns-clause-placed g c =
     let later = log_after g.J.LogName.replicas after.view.seen in
     let batch = self.batch.items in
     let did = put_and_took _ _ self.pass c.append_and_take.new.pass self.replica self.batch.items self.first _ c.ask_for.new.asked _ _ _ c.self.view_is
-    c.requires.some c.len.ensures.value c.ask_for.ensures.entries c.in_ok-append_and_take.ensures.done (c.self.invariant.0, c.self.invariant.1) in
+    c.requires.some c.len.ensures.value c.ask_for.ensures.entries c.in_ok-append_and_take.ensures.done c.self.invariant in
     let both = both_applied self.replica mid next _ _ _ c.apply_all.ensures c.as_slice.ensures.value c.apply_batch.ensures.applied in
     let first : length mid.entries ≡ length later.entries - length batch = omega (
       arith,

@@ -27,7 +27,6 @@ invariant_of-self g c =
     let looked = c.in_err-first.ensures.refused.0 in (
       looked_node _ _ self.pass c.append.new.pass self.replica self.batch.items self.first looked is.0,
       looked_follows _ _ self.pass c.append.new.pass self.replica self.batch.items self.first looked is.0 is.1,
-      is.2,
     )
 
 pub returns-in_err-first-clause-looked : goal.returns-in_err-first-clause-looked
@@ -50,7 +49,6 @@ invariant_of-self-2 g c =
     let Appends : List LogEntry → Type 0 = λ l.
     HasAppended g.J.LogName.depth g.J.LogName.replicas self.pass.view l c.in_ok-first.first c.append.new.pass.view in
     let Some : NodeState → Type 0 = λ n. 1 ≤ length n.batch in
-    let made = appended_node _ _ self.pass c.append.new.pass self.replica self.batch.items self.first c.in_ok-first.first
+    appended_node _ _ self.pass c.append.new.pass self.replica self.batch.items self.first c.in_ok-first.first
     (subst Appends (c.as_slice.ensures.value ∙ c.entries_of-entries.ensures.entries) c.in_ok-first.ensures.appended)
-    (subst Some (sym c.self.view_is) c.requires.some) is.0 is.1 in
-    (made.0, made.1, is.2)
+    (subst Some (sym c.self.view_is) c.requires.some) is.0 is.1

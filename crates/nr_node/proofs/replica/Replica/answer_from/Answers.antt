@@ -1,4 +1,4 @@
-use Rattle.std.proofs.Common.{◌≡◌, ◌<◌, ◌+◌, ◌++◌, ◌∷◌, [], List, Some, length, drop, get_or, ap, sym, subst, ◌∙◌, arith, append_assoc, length-append}
+use Rattle.std.proofs.Common.{◌≡◌, ⊎_elim, ◌<◌, ◌+◌, ◌++◌, ◌∷◌, [], List, Some, length, drop, get_or, ap, sym, subst, ◌∙◌, arith, append_assoc, length-append}
 use Rattle.std.specs.Prelude.{slice_get}
 use Rattle.std.proofs.lemmas.Option.{slice_get-get_or, slice_get_within}
 use Rattle.nr_slots.specs.Updates.{Answered, Waiting}
@@ -16,7 +16,7 @@ unreachable-requires g c =
     let within : i < length batch = omega (arith, c.loop-waiting-test.true, ap (λ (l : List Waiting). length l) same) in
     let stands = c.requires.stand i (get_or batch i c.waiting-item.result) (slice_get-get_or batch i c.waiting-item.result within) in
     let below = slice_get_within c.args.self.now.entries (c.args.first + i) _ stands in
-    omega (arith, is.0, below, c.in_default.ensures)
+    ⊎_elim (λ low. omega (arith, is.0, low, c.requires.above)) (λ behind. omega (arith, is.0, below, behind)) c.in_default.ensures.so
 
 pub loop-waiting-preserved : goal.loop-waiting-preserved
 loop-waiting-preserved g c =

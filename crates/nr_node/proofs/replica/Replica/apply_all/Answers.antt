@@ -21,5 +21,12 @@ apply-answer-requires-clause-room g c =
     let i = c.loop-entry.entry-index in
     let before = c.args.self.now.entries in
     let count : length c.loop-entry.self.entries ≡ length (before ++ take i entries) = ap (λ (r : ReplicaState). length r.entries) c.loop-entry.invariant in
-    omega
-    (arith, c.loop-entry-test.true, count, length-append before (take i entries), length-take-le i entries (omega arith), c.requires.room)
+    omega (
+      arith,
+      c.loop-entry-test.true,
+      count,
+      length-append before (take i entries),
+      length-take-le i entries (omega arith),
+      ap (λ (r : ReplicaState). r.base) c.loop-entry.invariant,
+      c.requires.room,
+    )

@@ -1,4 +1,4 @@
-use Rattle.std.proofs.Common.{◌≡◌, ℕ, Contains, get_or, ap, sym, subst, ◌∙◌, arith}
+use Rattle.std.proofs.Common.{◌≡◌, ◌++◌, ℕ, Contains, get_or, ap, sym, subst, ◌∙◌, arith}
 use Rattle.std.specs.FinMap as finite
 use Rattle.vs_types.specs.Space.{table_count}
 use Rattle.vs_walk.specs.Memory.{Memory}
@@ -34,7 +34,7 @@ returns-in-Ok-clause-translates g c =
     let frames = same_frames space.memory dump.frames space.depth c.depth-depth.result space.root c.root-root.result c.depth-depth.ensures all.reads
     all.in_use all.each gathered.held gathered.only in
     let root : dump.root ≡ space.root = gathered.root ∙ all.reads in
-    let of = space_of space.depth space.limit (entries_told c.self.inside.told.items) in
+    let of = space_of space.depth space.limit (c.self.inside.past.entries ++ entries_told c.self.inside.told.items) in
     let ByRoot : ℕ → Type 0 = λ r. TranslatesAs space.depth space.memory r of in
     let ByFrames : Memory → Type 0 = λ m. TranslatesAs space.depth m dump.root of in
     let ByState : ReplicaState → Type 0 = λ r. TranslatesAs r.depth dump.frames dump.root (space_of r.depth r.tables r.entries) in
@@ -58,7 +58,7 @@ returns-in-Ok-clause-frames g c =
     let gathered = c.in-Ok.ensures in
     let frames = same_frames space.memory dump.frames space.depth c.depth-depth.result space.root c.root-root.result c.depth-depth.ensures all.reads
     all.in_use all.each gathered.held gathered.only in
-    let of = space_of space.depth space.limit (entries_told c.self.inside.told.items) in
+    let of = space_of space.depth space.limit (c.self.inside.past.entries ++ entries_told c.self.inside.told.items) in
     let ByState : ReplicaState → Type 0 = λ r. finite.len dump.frames ≡ table_count r.depth (space_of r.depth r.tables r.entries) in
     subst ByState c.self.view_is
     (ap (λ (m : Memory). finite.len m) frames ∙ c.counts_tables.ensures.counts of c.self.invariant.table_of)

@@ -1,13 +1,11 @@
-use Rattle.std.proofs.Common.{◌≡◌, ℕ, ◌+◌, ◌*◌, ◌/◌, ◌%◌, ◌^◌, ◌<◌, List, [], ◌∷◌, ap, sym, subst, ◌∙◌, arith}
+use Rattle.std.proofs.Common.{◌≡◌, ℕ, ◌+◌, ◌*◌, ◌/◌, ◌%◌, ◌^◌, ◌<◌, List, [], ◌∷◌, ap, ◌∙◌, arith}
 use Rattle.std.specs.Prelude.{slice_index}
-use Rattle.vs_types.specs.LogEntry.{SpellsEntry, log_words}
-use Rattle.vs_types.specs.declared.answer.Answer.{Answer}
+use Rattle.vs_types.specs.LogEntry.{log_words}
 use Rattle.vs_types.specs.declared.depth.Depth.TheVariants.{Five}
 use Rattle.vs_types.specs.declared.log_entry.LogEntry.{LogEntry}
-use Rattle.vs_types.specs.inside.Telling.{entry_in}
 use Rattle.vs_types.proofs.OneEntry.{spells_told, tells_it}
 use Rattle.nr_ring.proofs.Fetches.{rest_low}
-use Rattle.nr_node.specs.inside.Told.{Told, answer_in, codes_of, entry_words}
+use Rattle.nr_node.specs.inside.Told.{answer_in, codes_of, entry_words}
 use Rattle.nr_node.proofs.Tellings.{above, answer_again}
 use Rattle.nr_node.proofs.told.Told.new.Goals as goal
 

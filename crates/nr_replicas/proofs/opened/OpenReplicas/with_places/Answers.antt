@@ -2,7 +2,7 @@ use Rattle.std.proofs.Common.{ℕ, List, [], All, length, take, drop, replicate,
 use Rattle.nr_ring.specs.Pass.{Known, new_pass}
 use Rattle.nr_replicas.specs.inside.Replicas.{IsNewPass}
 use Rattle.nr_replicas.proofs.NewPasses.{enough, first_are_new, rest_are}
-use Rattle.nr_replicas.proofs.opened.OpenReplicas.new.Goals as goal
+use Rattle.nr_replicas.proofs.opened.OpenReplicas.with_places.Goals as goal
 
 pub split_off-requires : goal.split_off-requires
 split_off-requires g c =
