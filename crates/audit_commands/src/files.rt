@@ -5,7 +5,7 @@ ghost use Rattle.std.specs.Prelude.{◌≡◌, IfOk, List, None, Option, ℕ};
 use std::fs::File;
 use std::io::{self, Read};
 
-/// Where files are opened by their names.
+/// Opens files by their names.
 pub trait FilesByName {
     /// An open file.
     type Opened: Read + Drop;

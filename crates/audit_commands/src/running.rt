@@ -157,9 +157,9 @@ fn audit_each<F: FilesByName, R: Read, W: Write, E: Write>(
     Ok(worst)
 }
 
-/// Makes the inspection, of standard input or of the files that are named. Why there is no answer is written to the errors, behind the
-/// name of the file or the word that is wrong, and with the error of an input that can't be read; so is that a chain was read as a trace,
-/// or a trace as a chain. Allocates what the task does, for one file after the other, and a line for the errors.
+/// Makes the inspection, of standard input or of the files that are named. If there is no answer, the reason is written to the errors,
+/// behind the name of the file or the word that is wrong, and with the error of an input that can't be read. A line there also says that
+/// a chain was read as a trace, or a trace as a chain. The files are taken one after the other, each in the memory that its task needs.
 ///
 /// # Errors
 ///

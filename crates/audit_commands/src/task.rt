@@ -18,10 +18,10 @@ const IS_TRACE: &str = "this is a trace: leave out --chain\n";
 
 const NO_TRACE: &str = "this is a chain, and resolve reads traces\n";
 
-/// Where a chain is looked at.
+/// The end of a chain whose pages are listed.
 #[derive(Clone, Copy, Debug)]
 pub enum ChainPoint {
-    /// Where its first segment begins.
+    /// The begin of its first segment.
     Start,
     /// After its last segment.
     End,
@@ -69,7 +69,7 @@ impl<'a> Task<'a> {
         }
     }
 
-    /// Does the task on the input, and gives the exit status. Allocates what the engine of the task does.
+    /// Does the task on the input, and gives the exit status.
     ///
     /// # Errors
     ///

@@ -23,17 +23,16 @@ use Rattle.nr_trace.specs.declared.fault.Fault.TheVariants as faults
 use Rattle.nr_trace.specs.declared.fault.Format.{Format}
 use Rattle.nr_trace.specs.declared.fault.Format.TheVariants.{Truncated}
 use Rattle.nr_trace.specs.declared.version.Form.TheVariants as forms
-use Rattle.nr_audit.specs.declared.fault.SegmentFault.TheVariants.{Start, Within}
-use Rattle.nr_audit.specs.declared.fault.StartFault.TheVariants.{Missing, Reserved, Shared}
+use Rattle.nr_trace.specs.declared.fault.Fault.TheVariants.{StartMissing, StartShared, StartReserved}
 use Rattle.nr_audit.specs.Faults.{IsSoundAfter}
 use Rattle.nr_audit.specs.Start.{first_space, start_space}
-use Rattle.nr_audit.proofs.StartSpaces.{start_is_whole}
+use Rattle.nr_audit.proofs.Judgements.{begins_of}
+use Rattle.nr_audit.proofs.StartSpaces.{space_of_start, start_is_whole}
 use Rattle.nr_audit.proofs.Starts.{none_walked}
 use Rattle.nr_chain.specs.Bytes.{BeginsWith}
 use Rattle.nr_chain.proofs.Ends.{none_is_short}
 use Rattle.nr_chain.proofs.Judged.{cut_so, first_next}
 use Rattle.nr_chain.proofs.Pieces.{ended, too_short, took, took_all, Took}
-use Rattle.nr_chain.proofs.Restarts.{space_of_start}
 use Rattle.nr_chain.proofs.Wholes.{not_refused}
 use Rattle.nr_chain.specs.inside.Between.{bytes_in}
 use Rattle.audit_texts.specs.Dumps.{dump_text}
@@ -206,7 +205,7 @@ said_of_first as_ranges bytes segment rest text status starts (inr (fault, first
 pub said_unread : (as_ranges : Bool) (bytes : List ℕ) (fail : Fail Format) (text : List ℕ) (status : ℕ) → BeginsSo bytes (Err fail)
     → SaysUnread fail text status → IsChainStart as_ranges bytes text status
 said_unread as_ranges bytes (Refused fault) text status has says = inr record {
-  fault = Within (faults.Format fault);
+  fault = faults.Format fault;
   goes_on = has;
   text_is = says.text_is;
   status_is = says.status_is;
@@ -219,16 +218,17 @@ said_unread as_ranges bytes Memory text status has says = absurd says
 pub start_walked : (segment : Recording) (start : Image) → segment.start ≡ Some start → IsSoundAfter None segment
     → walk_fault segment.layout.depth start.frames start.root ≡ None
 start_walked segment start has sound =
-    none_walked segment.layout.depth start (λ number holds. sound.faultless (Start (Missing number)) (start, has, holds))
-    (λ number holds. sound.faultless (Start (Shared number)) (start, has, holds))
-    (λ number index holds. sound.faultless (Start (Reserved number index)) (start, has, holds))
+    none_walked segment.layout.depth start (λ number holds. sound.faultless (StartMissing number) (start, has, holds))
+    (λ number holds. sound.faultless (StartShared number) (start, has, holds))
+    (λ number index holds. sound.faultless (StartReserved number index) (start, has, holds))
 
 -- and finds the pages with which the segment begins
 pub start_shown : (as_ranges : Bool) (segment : Recording) (start : Image) → IsRecording segment → segment.start ≡ Some start
     → IsSoundAfter None segment
     → dump_text as_ranges segment.layout.depth start ≡ pages_text as_ranges (pages (first_space None segment))
 start_shown as_ranges segment start in_range has sound =
-    let begun = space_of_start segment start has in_range sound in
+    let begun = space_of_start segment.layout.depth None start (start_is_whole segment start in_range has)
+    (λ fault holds. begins_of None segment sound.faultless fault (start, has, holds)) in
     ap (pages_text as_ranges)
     (translates_found segment.layout.depth start.frames start.root (start_space segment.layout.depth (Some start))
     (start_is_whole segment start in_range has) begun.0 begun.1

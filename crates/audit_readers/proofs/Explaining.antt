@@ -6,9 +6,9 @@ use Rattle.std.proofs.lemmas.List.{append-nil, append_assoc, length-append}
 use Rattle.nr_trace.specs.Recording.{Recording}
 use Rattle.nr_trace.specs.FirstFault.{HasSegmentFault}
 use Rattle.nr_trace.specs.declared.fault.Format.TheVariants.{Truncated}
-use Rattle.nr_explain.specs.Progress.{Seen, kept_in, layout_in}
+use Rattle.nr_explain.specs.Progress.{ReaderState, kept_in, layout_in}
 use Rattle.nr_explain.specs.ChainExplanation.{Explains, FeedsReader, GoesOnTo, IsExplanationFrom, IsExplanationOfChain}
-use Rattle.nr_explain.specs.declared.chain.reader.Fed.TheVariants.{More}
+use Rattle.nr_explain.specs.declared.chain.reader.ReaderStep.TheVariants.{More}
 use Rattle.nr_explain.proofs.Feeding.{explains_on, goes_and, goes_with}
 use Rattle.nr_explain.proofs.Verdicts.{goes_on_so, orders_in}
 use Rattle.audit_readers.specs.ChainAudit.{HasReadFewOfChain}
@@ -21,18 +21,18 @@ use Rattle.audit_readers.proofs.Inputs.{one_block, whole_read, whole_with}
 use Rattle.audit_readers.specs.inside.Explaining.{HasExplained}
 
 -- what was read is right segments, and the beginning of one more, and so many blocks may be read yet
-pub record IsExplaining (known left : Option (List ℕ)) (chain : Seen) (room : ℕ) : Type 0 where
+pub record IsExplaining (known left : Option (List ℕ)) (chain : ReaderState) (room : ℕ) : Type 0 where
   pub read : List ℕ
   pub many : 2 ^ 52 - 1 ≤ room + length read
   pub consumed : Consumes known left read
   pub segments : List Recording
-  pub goes_on : GoesOnTo None read segments chain.came chain.bytes
-  pub short : HasSegmentFault (layout_in chain.came) chain.bytes Truncated
+  pub goes_on : GoesOnTo None read segments chain.state chain.bytes
+  pub short : HasSegmentFault (layout_in chain.state) chain.bytes Truncated
 
-pub explaining_starts : (known : Option (List ℕ)) (chain : Seen) → chain ≡ record { came = None; bytes = [] }
+pub explaining_starts : (known : Option (List ℕ)) (chain : ReaderState) → chain ≡ record { state = None; bytes = [] }
     → IsExplaining known known chain MOST_BLOCKS
 explaining_starts known chain is =
-    let nothing : Seen = record { came = None; bytes = [] } in
+    let nothing : ReaderState = record { state = None; bytes = [] } in
     let here : IsExplaining known known nothing MOST_BLOCKS = record {
       read = [];
       many = omega arith;
@@ -41,10 +41,10 @@ explaining_starts known chain is =
       goes_on = (refl, refl);
       short = none_short None;
     } in
-    subst (λ (seen : Seen). IsExplaining known known seen MOST_BLOCKS) (sym is) here
+    subst (λ (seen : ReaderState). IsExplaining known known seen MOST_BLOCKS) (sym is) here
 
 -- a block was read and taken
-pub explaining_goes_on : (known left new : Option (List ℕ)) (chain next : Seen) (block : List ℕ) (room less : ℕ)
+pub explaining_goes_on : (known left new : Option (List ℕ)) (chain next : ReaderState) (block : List ℕ) (room less : ℕ)
     → IsExplaining known left chain room → Consumes left new block → 1 ≤ length block → less + 1 ≡ room → (block ≡ [] → ⊥)
     → FeedsReader chain block (More next) → IsExplaining known new next less
 explaining_goes_on known left new chain next block room less here lost size one some ((more, on), short) = record {
@@ -52,42 +52,42 @@ explaining_goes_on known left new chain next block room less here lost size one 
   many = many_more (length here.read) (length block) _ room less here.many size one (length-append here.read block);
   consumed = Consumes-trans known left new here.read block here.consumed lost;
   segments = here.segments ++ more;
-  goes_on = goes_and None chain.came next.came (here.read ++ block) (chain.bytes ++ block) next.bytes here.segments more
-      (goes_with None chain.came here.read chain.bytes block here.segments here.goes_on) on;
+  goes_on = goes_and None chain.state next.state (here.read ++ block) (chain.bytes ++ block) next.bytes here.segments more
+      (goes_with None chain.state here.read chain.bytes block here.segments here.goes_on) on;
   short = short some;
 }
 
 -- nothing is wrong yet with the bytes before the block
-few_more : {room : ℕ} (known left new : Option (List ℕ)) (chain : Seen) (block : List ℕ) → IsExplaining known left chain room → Consumes left new block
+few_more : {room : ℕ} (known left new : Option (List ℕ)) (chain : ReaderState) (block : List ℕ) → IsExplaining known left chain room → Consumes left new block
     → length block ≤ 4096 → HasReadFewOfChain known new
 few_more known left new chain block here lost size =
-    let (found, ends, early) = ends_yet (kept_in chain.came) chain.bytes here.short in
+    let (found, ends, early) = ends_yet (kept_in chain.state) chain.bytes here.short in
     record {
       before = here.read;
       block = block;
       read = Consumes-trans known left new here.read block here.consumed lost;
       orders = orders_in here.segments;
-      right_yet = (found, goes_on_so None chain.came here.read chain.bytes here.segments found here.goes_on ends, early);
+      right_yet = (found, goes_on_so None chain.state here.read chain.bytes here.segments found here.goes_on ends, early);
       one_block = size;
     }
 
-pub few_read : {known left new : Option (List ℕ)} {chain : Seen} {room : ℕ} (count : ℕ) (block : List ℕ) → IsExplaining known left chain room
+pub few_read : {known left new : Option (List ℕ)} {chain : ReaderState} {room : ℕ} (count : ℕ) (block : List ℕ) → IsExplaining known left chain room
     → Consumes left new (take count block) → length block ≡ 4096 → HasReadFewOfChain known new
 few_read count block here lost full = few_more _ _ _ _ (take count block) here lost (one_block count block full)
 
-pub few_kept : {known left new : Option (List ℕ)} {chain : Seen} {room : ℕ} → IsExplaining known left chain room → Keeps left new → HasReadFewOfChain known new
+pub few_kept : {known left new : Option (List ℕ)} {chain : ReaderState} {room : ℕ} → IsExplaining known left chain room → Keeps left new → HasReadFewOfChain known new
 few_kept {left = left} {new = new} here keeps =
     few_more _ _ _ _ [] here (Consumes-kept left left new [] (Consumes-nil left) keeps) (omega arith)
 
 -- so many blocks were read
-pub explains_too_late : {known left : Option (List ℕ)} {chain : Seen} {room : ℕ} (last : Option ℕ) → IsExplaining known left chain room → room ≡ 0
+pub explains_too_late : {known left : Option (List ℕ)} {chain : ReaderState} {room : ℕ} (last : Option ℕ) → IsExplaining known left chain room → room ≡ 0
     → IsUnreadable (2 ^ 52 - 1) known left last
 explains_too_late last here none =
     let many = here.many in
     inr (here.read, here.consumed, omega (arith, many, none))
 
 -- nothing is left to read
-pub explained_at_end : {room : ℕ} (known left new : Option (List ℕ)) (chain : Seen) (block : List ℕ) (explanation : ChainExplanation)
+pub explained_at_end : {room : ℕ} (known left new : Option (List ℕ)) (chain : ReaderState) (block : List ℕ) (explanation : ChainExplanation)
     → IsExplaining known left chain room → Consumes left new block → block ≡ [] → IsAtEnd new → Explains chain [] explanation
     → HasExplained known explanation
 explained_at_end known left new chain block explanation here lost none end explains =
@@ -96,12 +96,12 @@ explained_at_end known left new chain block explanation here lost none end expla
     record {
       input = here.read;
       is_read = whole_read known new here.read consumed end;
-      is_explanation = explains_on None chain.came here.read chain.bytes here.segments explanation here.goes_on
-          (subst (λ (bytes : List ℕ). IsExplanationFrom chain.came bytes explanation) (append-nil chain.bytes) explains);
+      is_explanation = explains_on None chain.state here.read chain.bytes here.segments explanation here.goes_on
+          (subst (λ (bytes : List ℕ). IsExplanationFrom chain.state bytes explanation) (append-nil chain.bytes) explains);
     }
 
 -- the fault shows in a block, whatever comes behind it
-pub explained_in_block : {room : ℕ} (known left new : Option (List ℕ)) (chain : Seen) (block : List ℕ) (explanation : ChainExplanation)
+pub explained_in_block : {room : ℕ} (known left new : Option (List ℕ)) (chain : ReaderState) (block : List ℕ) (explanation : ChainExplanation)
     → IsExplaining known left chain room → Consumes left new block → ((rest : List ℕ) → Explains chain (block ++ rest) explanation)
     → HasExplained known explanation
 explained_in_block known left new chain block explanation here lost explains =
@@ -110,6 +110,6 @@ explained_in_block known left new chain block explanation here lost explains =
       input = (here.read ++ block) ++ behind;
       is_read = is;
       is_explanation = subst (λ (bytes : List ℕ). IsExplanationOfChain bytes explanation) (sym (append_assoc here.read block behind))
-          (explains_on None chain.came (here.read ++ (block ++ behind)) (chain.bytes ++ (block ++ behind)) here.segments explanation
-          (goes_with None chain.came here.read chain.bytes (block ++ behind) here.segments here.goes_on) (explains behind));
+          (explains_on None chain.state (here.read ++ (block ++ behind)) (chain.bytes ++ (block ++ behind)) here.segments explanation
+          (goes_with None chain.state here.read chain.bytes (block ++ behind) here.segments here.goes_on) (explains behind));
     }

@@ -8,8 +8,7 @@ use Rattle.std.proofs.lemmas.List.{length-append, length-drop, take-append-drop}
 use Rattle.nr_trace.specs.declared.fault.Fault.TheVariants.{Format}
 use Rattle.nr_trace.specs.declared.fault.Format.TheVariants.{Truncated}
 use Rattle.nr_trace.specs.declared.version.Form.TheVariants as forms
-use Rattle.nr_audit.specs.declared.fault.SegmentFault.{SegmentFault}
-use Rattle.nr_audit.specs.declared.fault.SegmentFault.TheVariants.{Within}
+use Rattle.nr_trace.specs.declared.fault.Fault.{Fault}
 use Rattle.nr_chain.specs.Fed.{ChainFed, Kept}
 use Rattle.nr_chain.specs.Bytes.{kept_after, layout_before, EndsWith, GoesOnSo}
 use Rattle.nr_chain.specs.Verdict.{FeedsChain, LastsNext}
@@ -51,7 +50,7 @@ through kept middle last bytes rest end (order ∷ orders) more (segment, behind
     (segment, behind, begins, sound, recorded, through (Some (kept_after kept segment)) middle last behind rest end orders more first next)
 
 -- and the end of the chain
-pub ended : (kept last : Option Kept) (bytes rest : List ℕ) (orders : List (List ℕ)) (found : Option SegmentFault) → GoesOnTo kept bytes orders last rest
+pub ended : (kept last : Option Kept) (bytes rest : List ℕ) (orders : List (List ℕ)) (found : Option Fault) → GoesOnTo kept bytes orders last rest
     → EndsWith last rest found → GoesOnSo kept bytes orders found
 ended kept last bytes rest [] found (same, is) ends =
     subst (λ (k : Option Kept). EndsWith k bytes found) same (subst (λ (l : List ℕ). EndsWith last l found) is ends)
@@ -75,10 +74,10 @@ pub none_short : (kept : Option Kept) → IsShort kept []
 none_short kept = none_is_short (forms.Segment (layout_before kept))
 
 pub ends_yet : (last : Option Kept) (rest : List ℕ) → IsShort last rest
-    → (found : Option SegmentFault) × EndsWith last rest found × ((found ≡ None) ⊎ (found ≡ Some (Within (Format Truncated))))
-ends_yet None rest short = (Some (Within (Format Truncated)), short, inr refl)
+    → (found : Option Fault) × EndsWith last rest found × ((found ≡ None) ⊎ (found ≡ Some (Format Truncated)))
+ends_yet None rest short = (Some (Format Truncated), short, inr refl)
 ends_yet (Some kept) [] short = (None, refl, inl refl)
-ends_yet (Some kept) (x ∷ rest) short = (Some (Within (Format Truncated)), short, inr refl)
+ends_yet (Some kept) (x ∷ rest) short = (Some (Format Truncated), short, inr refl)
 
 pub right_yet : (last : Option Kept) (bytes rest : List ℕ) (orders : List (List ℕ)) → GoesOnTo None bytes orders last rest → IsShort last rest
     → AreRightYet bytes orders
@@ -92,7 +91,7 @@ nothing_left : (front behind : List ℕ) → front ++ behind ≡ [] → front �
 nothing_left [] behind e = refl
 nothing_left (x ∷ front) behind e = cc
 
-pub lasting : (last : Option Kept) (bytes rest left : List ℕ) (orders : List (List ℕ)) (fault : SegmentFault) → GoesOnTo None bytes orders last rest
+pub lasting : (last : Option Kept) (bytes rest left : List ℕ) (orders : List (List ℕ)) (fault : Fault) → GoesOnTo None bytes orders last rest
     → LastsNext last rest fault → (rest ≡ [] → ⊥) → GoesOnSo None (bytes ++ left) orders (Some fault)
 lasting last bytes rest left orders fault goes_on lasts some =
     ended None last (bytes ++ left) (rest ++ left) orders (Some fault) (extend None last bytes rest left orders goes_on)
@@ -182,7 +181,7 @@ some_behind [] left some e = some e
 some_behind (x ∷ front) left some e = cc
 
 -- the next segment has a fault
-pub block_wrong : (quiet : Bool) (old chain : ChainFed) (number count : ℕ) (block left : List ℕ) (before now : Option (List ℕ)) (fault : SegmentFault)
+pub block_wrong : (quiet : Bool) (old chain : ChainFed) (number count : ℕ) (block left : List ℕ) (before now : Option (List ℕ)) (fault : Fault)
     → IsUnderWay quiet old number block chain count left before now → FeedsChain chain left (steps.Wrong fault) → (left ≡ [] → ⊥)
     → TakesBlock quiet old number block before now (Wrong count fault)
 block_wrong quiet old chain number count block left before now fault under lasts some =

@@ -4,7 +4,7 @@ use Rattle.vs_types.specs.Config.{Layout}
 use Rattle.vs_types.specs.Space.{pages, IsSpace}
 use Rattle.nr_trace.specs.Recording.{Recording}
 use Rattle.nr_audit.specs.Start.{first_space}
-use Rattle.nr_audit.specs.declared.fault.SegmentFault.{SegmentFault}
+use Rattle.nr_trace.specs.declared.fault.Fault.{Fault}
 use Rattle.nr_audit.proofs.FirstFaults.{one_first_after}
 use Rattle.nr_chain.specs.Bytes.{kept_after, layout_before, GoesOnSo}
 use Rattle.nr_chain.specs.Fed.{Kept}
@@ -31,7 +31,7 @@ same_faults : (orders others : List (List ℕ)) (bytes text other : List ℕ) (s
 same_faults orders others bytes text other status same a b =
     let one = found_once one_first_after None bytes orders others (Some a.fault) (Some b.fault) a.goes_on b.goes_on in
     let count : length orders ≡ length others = ap (λ (os : List (List ℕ)). length os) one.0 in
-    (a.text_is ∙ ap₂ (λ (n : ℕ) (f : Option SegmentFault). end_lines n f) count one.1 ∙ sym b.text_is, a.status_is ∙ sym b.status_is)
+    (a.text_is ∙ ap₂ (λ (n : ℕ) (f : Option Fault). end_lines n f) count one.1 ∙ sym b.text_is, a.status_is ∙ sym b.status_is)
 
 pub one_start : (as_ranges : Bool) (bytes text other : List ℕ) (status same : ℕ) → IsChainStart as_ranges bytes text status
     → IsChainStart as_ranges bytes other same → Same text other status same
@@ -56,7 +56,7 @@ comes_once kept bytes (segment ∷ more) (other ∷ others) a b (rest, begins, n
     (subst (λ (bs : List ℕ). SpellUpTo (Some (kept_after kept segment)) bs others b) (sym one.0)
     (subst (λ (s : Recording). SpellUpTo (Some (kept_after kept s)) last others b) (sym one.1) next_too))
 
-well_or_not : (bytes : List ℕ) (orders others : List (List ℕ)) (fault : SegmentFault) → GoesOnSo None bytes orders None
+well_or_not : (bytes : List ℕ) (orders others : List (List ℕ)) (fault : Fault) → GoesOnSo None bytes orders None
     → GoesOnSo None bytes others (Some fault) → ⊥
 well_or_not bytes orders others fault well not_well =
     let one = found_once one_first_after None bytes orders others None (Some fault) well not_well in

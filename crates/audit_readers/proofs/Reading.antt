@@ -9,7 +9,7 @@ use Rattle.audit_readers.specs.Answers.{IsReadOf, WritesReport}
 use Rattle.audit_readers.specs.Ends.{IsUnreadable}
 use Rattle.audit_readers.specs.declared.fault.ProgFault.{ProgFault}
 use Rattle.audit_readers.specs.declared.fault.ProgFault.TheVariants.{CannotRead, CannotWrite, Memory}
-use Rattle.nr_audit.specs.declared.fault.SegmentFault.{SegmentFault}
+use Rattle.nr_trace.specs.declared.fault.Fault.{Fault}
 use Rattle.nr_chain.specs.Fed.{ChainFed, Kept}
 use Rattle.nr_chain.specs.Bytes.{EndsWith, GoesOnSo}
 use Rattle.nr_chain.specs.Verdict.{LastsNext}
@@ -251,7 +251,7 @@ end_refused contents now next (Err fault) here (inr (none, same)) = λ written.
 
 -- ---- the answer
 
-audit_of : (quiet : Bool) (bytes text : List ℕ) (orders : List (List ℕ)) (found : Option SegmentFault) (status : ℕ)
+audit_of : (quiet : Bool) (bytes text : List ℕ) (orders : List (List ℕ)) (found : Option Fault) (status : ℕ)
     → GoesOnSo None bytes orders found
     → text ≡ chain_text quiet orders found → status ≡ chain_status found → IsChainAudit quiet bytes text status
 audit_of quiet bytes text orders found status goes_on is exit = record {
@@ -263,13 +263,13 @@ audit_of quiet bytes text orders found status goes_on is exit = record {
   status_is = exit;
 }
 
-text_is : (quiet : Bool) (orders : List (List ℕ)) (count : ℕ) (found : Option SegmentFault) → count ≡ length orders
+text_is : (quiet : Bool) (orders : List (List ℕ)) (count : ℕ) (found : Option Fault) → count ≡ length orders
     → shown_lines quiet 0 orders ++ end_lines count found ≡ chain_text quiet orders found
 text_is quiet orders count found counted = ap (λ n. shown_lines quiet 0 orders ++ end_lines n found) counted
 
 -- the lines of right segments, and the last ones of what is found of these bytes
 audited : {quiet : Bool} {known left old now : Option (List ℕ)} {last : Option Kept} {rest : List ℕ} {count : ℕ} (bytes : List ℕ)
-    (found : Option SegmentFault) (status : ℕ) → (here : IsAt quiet known left old now last rest count)
+    (found : Option Fault) (status : ℕ) → (here : IsAt quiet known left old now last rest count)
     → GoesOnSo None bytes here.orders found
     → status ≡ chain_status found → IsChainAudit quiet bytes (shown_lines quiet 0 here.orders ++ end_lines count found) status
 audited {quiet = quiet} {count = count} bytes found status here goes_on exit =
@@ -278,7 +278,7 @@ audited {quiet = quiet} {count = count} bytes found status here goes_on exit =
 
 -- they are an answer on what was read
 answers : {quiet : Bool} {known left old now : Option (List ℕ)} {last : Option Kept} {rest : List ℕ} {count : ℕ} {E : Type 0}
-    (new : Option (List ℕ)) (found : Option SegmentFault) (result : Result ℕ E) → (here : IsAt quiet known left old now last rest count)
+    (new : Option (List ℕ)) (found : Option Fault) (result : Result ℕ E) → (here : IsAt quiet known left old now last rest count)
     → GoesOnSo None here.read here.orders found
     → IfOk result (λ status. (status ≡ chain_status found) × Appends now new (end_lines count found))
     → IfOk result (AuditsWhatIsRead quiet known left old new)
@@ -294,7 +294,7 @@ answers new found (Err fault) here goes_on failed = tt
 -- and on the input
 reports : {quiet : Bool} {known left old now : Option (List ℕ)} {last : Option Kept} {rest : List ℕ} {count : ℕ} {E : Type 0}
     (new : Option (List ℕ)) (input : List ℕ)
-    (found : Option SegmentFault) (result : Result ℕ E) → IsReadOf known input → (here : IsAt quiet known left old now last rest count)
+    (found : Option Fault) (result : Result ℕ E) → IsReadOf known input → (here : IsAt quiet known left old now last rest count)
     → GoesOnSo None input here.orders found → IfOk result (λ status. (status ≡ chain_status found) × Appends now new (end_lines count found))
     → IfOk result (WritesReport (IsChainAudit quiet) known old new)
 reports {quiet = quiet} {old = old} {now = now} {count = count} new input found (Ok status) is here goes_on (exit, written) = record {
@@ -309,7 +309,7 @@ reports new input found (Err fault) is here goes_on failed = tt
 -- ---- the input ends
 
 pub answers_end : {quiet : Bool} {known left old now : Option (List ℕ)} {last : Option Kept} {rest : List ℕ} {count : ℕ} {E : Type 0}
-    (new : Option (List ℕ)) (found : Option SegmentFault) (result : Result ℕ E) → IsAt quiet known left old now last rest count
+    (new : Option (List ℕ)) (found : Option Fault) (result : Result ℕ E) → IsAt quiet known left old now last rest count
     → EndsWith last rest found
     → IfOk result (λ status. (status ≡ chain_status found) × Appends now new (end_lines count found))
     → IfOk result (AuditsWhatIsRead quiet known left old new)
@@ -317,7 +317,7 @@ answers_end {last = last} {rest = rest} new found result here ends done =
     answers new found result here (ended None last here.read rest here.orders found here.goes_on ends) done
 
 pub reports_end : {quiet : Bool} {known left old now : Option (List ℕ)} {last : Option Kept} {rest : List ℕ} {count : ℕ} {E : Type 0}
-    (new : Option (List ℕ)) (found : Option SegmentFault) (result : Result ℕ E) → IsAt quiet known left old now last rest count
+    (new : Option (List ℕ)) (found : Option Fault) (result : Result ℕ E) → IsAt quiet known left old now last rest count
     → IsAtEnd left → EndsWith last rest found
     → IfOk result (λ status. (status ≡ chain_status found) × Appends now new (end_lines count found))
     → IfOk result (WritesReport (IsChainAudit quiet) known old new)
@@ -328,7 +328,7 @@ reports_end {known = known} {left = left} {last = last} {rest = rest} new found 
 -- ---- a fault, of what was read, and of whatever comes behind it
 
 pub answers_wrong : {quiet : Bool} {known left old now : Option (List ℕ)} {last : Option Kept} {rest : List ℕ} {count : ℕ} {E : Type 0}
-    (new : Option (List ℕ)) (fault : SegmentFault) (result : Result ℕ E) → IsAt quiet known left old now last rest count
+    (new : Option (List ℕ)) (fault : Fault) (result : Result ℕ E) → IsAt quiet known left old now last rest count
     → LastsNext last rest fault → (rest ≡ [] → ⊥)
     → IfOk result (λ status. (status ≡ 1) × Appends now new (end_lines count (Some fault)))
     → IfOk result (AuditsWhatIsRead quiet known left old new)
@@ -338,7 +338,7 @@ answers_wrong {last = last} {rest = rest} new fault result here lasts some done 
     (lasting last here.read rest [] here.orders fault here.goes_on lasts some)) done
 
 pub reports_wrong : {quiet : Bool} {known left old now : Option (List ℕ)} {last : Option Kept} {rest : List ℕ} {count : ℕ} {E : Type 0}
-    (new : Option (List ℕ)) (fault : SegmentFault) (result : Result ℕ E) → IsAt quiet known left old now last rest count
+    (new : Option (List ℕ)) (fault : Fault) (result : Result ℕ E) → IsAt quiet known left old now last rest count
     → LastsNext last rest fault → (rest ≡ [] → ⊥)
     → IfOk result (λ status. (status ≡ 1) × Appends now new (end_lines count (Some fault)))
     → IfOk result (WritesReport (IsChainAudit quiet) known old new)

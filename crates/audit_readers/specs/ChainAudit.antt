@@ -3,8 +3,7 @@ use Rattle.std.specs.Prelude.{◌≡◌, ◌≤◌, ◌⊎◌, ◌++◌, ℕ, Bo
 use Rattle.std.specs.Io.KnownBytes.{Appends, Consumes}
 use Rattle.nr_trace.specs.declared.fault.Fault.TheVariants.{Format}
 use Rattle.nr_trace.specs.declared.fault.Format.TheVariants.{Truncated}
-use Rattle.nr_audit.specs.declared.fault.SegmentFault.{SegmentFault}
-use Rattle.nr_audit.specs.declared.fault.SegmentFault.TheVariants.{Within}
+use Rattle.nr_trace.specs.declared.fault.Fault.{Fault}
 use Rattle.nr_chain.specs.Bytes.{GoesOnSo}
 use Rattle.nr_chain.specs.Headline.{IsRightChain}
 use Rattle.audit_readers.specs.declared.fault.ProgFault.{ProgFault}
@@ -14,7 +13,7 @@ use Rattle.audit_texts.specs.ChainText.{chain_status, chain_text, shown_lines}
 -- the text and the status are those of what is found of these bytes; where no fault is, they are right with these orders
 pub record IsChainAudit (quiet : Bool) (bytes text : List ℕ) (status : ℕ) : Type 0 where
   pub orders : List (List ℕ)
-  pub found : Option SegmentFault
+  pub found : Option Fault
   pub goes_on : GoesOnSo None bytes orders found
   pub right : found ≡ None → IsRightChain bytes orders
   pub text_is : text ≡ chain_text quiet orders found
@@ -22,7 +21,7 @@ pub record IsChainAudit (quiet : Bool) (bytes text : List ℕ) (status : ℕ) : 
 
 -- the bytes are those of right segments with these orders, and perhaps of one that is not whole, and has no fault but that
 abbrev pub AreRightYet : List ℕ → List (List ℕ) → Type 0
-AreRightYet bytes orders = (found : Option SegmentFault) × GoesOnSo None bytes orders found × ((found ≡ None) ⊎ (found ≡ Some (Within (Format Truncated))))
+AreRightYet bytes orders = (found : Option Fault) × GoesOnSo None bytes orders found × ((found ≡ None) ⊎ (found ≡ Some (Format Truncated)))
 
 -- a text that goes with the status, on what was read, was written after what was there, and nothing else
 pub record AuditsWhatIsRead (quiet : Bool) (known left old new : Option (List ℕ)) (status : ℕ) : Type 0 where

@@ -7,7 +7,7 @@ use Rattle.nr_trace.specs.FirstFault.{HasSegmentFault}
 use Rattle.nr_trace.specs.declared.fault.Format.TheVariants.{Truncated}
 use Rattle.nr_audit.specs.Faults.{IsSoundAfter}
 use Rattle.nr_audit.specs.Start.{first_space}
-use Rattle.nr_audit.specs.declared.fault.SegmentFault.{SegmentFault}
+use Rattle.nr_trace.specs.declared.fault.Fault.{Fault}
 use Rattle.nr_chain.specs.Bytes.{BeginsWith, GoesOnSo}
 use Rattle.nr_chain.specs.Fed.{Kept}
 use Rattle.nr_chain.specs.Headline.{IsRightChain}
@@ -17,7 +17,7 @@ use Rattle.audit_texts.specs.ChainText.{end_lines}
 
 -- after these right segments the next one has a fault, and the text is that of the first: the last lines of an audit
 pub record TellsFault (orders : List (List ℕ)) (bytes text : List ℕ) (status : ℕ) : Type 0 where
-  pub fault : SegmentFault
+  pub fault : Fault
   pub goes_on : GoesOnSo None bytes orders (Some fault)
   pub text_is : text ≡ end_lines (length orders) (Some fault)
   pub status_is : status ≡ 1

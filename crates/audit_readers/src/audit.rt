@@ -81,8 +81,8 @@ fn named_line(alloc: Global, name: &str, verdict: &Verdict) -> Result<String, Al
     format!(in alloc; "{name}: {line}")
 }
 
-/// What `audit` answers to what was read of one of several files: its line, and the status of its verdict. Allocates what
-/// `audit_read` does.
+/// What `audit` answers to what was read of one of several files: its line, and the status of its verdict. Needs the memory of
+/// `audit_read`.
 ///
 /// # Errors
 ///
@@ -103,8 +103,8 @@ pub fn named_audit_read(
     })
 }
 
-/// Reads a trace as `audit_io` does, judges it, and writes a line: this name, a colon and the first line of the verdict. Allocates what
-/// `audit_io` does.
+/// Reads a trace as `audit_io` does, judges it, and writes a line: this name, a colon and the first line of the verdict. Needs the memory
+/// of `audit_io`.
 ///
 /// # Errors
 ///

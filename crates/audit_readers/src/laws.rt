@@ -24,10 +24,10 @@ pub fn a_chain_has_one_text()
         → (text ≡ other) × (status ≡ same) }
 {}
 
-/// Two parts of a chain with one layout, of which the same is printed for the end of the first and for the start of the second: the space
-/// at the one is that at the other, and where the second is right, they are right as one, with the orders one after the other. What is
-/// printed for the end of the whole is what is for the end of the second, so that a third part may follow: and so of any number of
-/// parts, each of which may be judged elsewhere.
+/// Let two parts of a chain have one layout, and let the same be printed for the end of the first and for the start of the second. Then
+/// the space at the one is that at the other. If the second is right, they are right as one, with the orders one after the other. What is
+/// printed for the end of the whole is what is printed for the end of the second, so that a third part may follow. So any number of
+/// parts can be judged, each elsewhere.
 pub fn parts_with_equal_ends_are_right_as_one()
     ensures spaces { (as_ranges : Bool) (front back text : List ℕ) (status same : ℕ)
         (end : ShowsEnd as_ranges front text status) (start : ShowsStart as_ranges back text same)
@@ -42,7 +42,7 @@ pub fn parts_with_equal_ends_are_right_as_one()
         → ShowsEnd as_ranges (front ++ back) last 0 }
 {}
 
-/// Of a chain that is refused the last lines of its audit are printed.
+/// For a chain that is refused the last lines of its audit are printed.
 pub fn refused_chains_are_told_as_audited()
     ensures { (orders : List (List ℕ)) (bytes text : List ℕ) (status : ℕ)
         → TellsFault orders bytes text status → IsChainAudit true bytes text status }

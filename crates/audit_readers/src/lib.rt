@@ -1,6 +1,6 @@
-//! The audit's commands over a reader and a writer, of traces and of chains: `audit_io` writes the verdict, `explain_io` the verdict and
-//! what shows its fault, `resolve_io` where an address leads in a dump, `pages_io` the pages of one; `audit_chain_io` writes the lines of each
-//! segment as soon as it is whole. What they write is a function of what they read.
+//! The audit's commands over a reader and a writer, of traces and of chains. `audit_io` writes the verdict, `explain_io` the verdict and
+//! what shows its fault, `resolve_io` where an address leads in a dump, and `pages_io` the pages of one. `audit_chain_io` writes the lines
+//! of each segment as soon as it is whole. What they write is a function of what they read.
 #![tactic(auto)]
 
 mod audit;

@@ -3,7 +3,7 @@
 use crate::audit::trace_of;
 use crate::audit_cases::{CALLS, Case, DUMPS, FORMATS, ORDERS};
 use crate::units::feed_in_units;
-use nr_explain::{Evidence, Explanation, Step, explain_read};
+use nr_explain::{Evidence, Explanation, TableEntry, explain_read};
 use nr_trace::Event;
 use std::alloc::{AllocError, Global};
 use std::process::Abort;
@@ -45,7 +45,7 @@ fn end_of(walk: Walk) -> u64 {
 }
 
 /// Adds level, frame, index and word of each step.
-fn push_steps(numbers: &mut Vec<u64>, steps: &[Step]) -> Result<(), AllocError> {
+fn push_steps(numbers: &mut Vec<u64>, steps: &[TableEntry]) -> Result<(), AllocError> {
     for step in steps {
         numbers.extend_from_slice(&[
             u64::from(step.level),

@@ -6,12 +6,12 @@ use crate::audit::trace_of;
 use crate::audit_cases::{
     Case, EMPTY, EMPTY_LATE, Event, MAPPED, NOT_MAPPED, PAGE_EARLY, RESOLVE, RIGHT, UNMAP,
 };
-use nr_audit::{Judged, judge_from};
+use nr_audit::{Order, judge_segment};
 use nr_trace::{Fault, Trace, read};
 use std::alloc::Global;
 use std::process::Abort;
 use vs_plain::PlainSpace;
-use vs_types::{Op, Rights, Size};
+use vs_types::{Fail, Op, Rights, Size};
 
 /// Call 0 saw no entry, and found its address mapped to 0x1123.
 const SEES_THE_PAGE: &[Event] = &[Event(RESOLVE, &[]), Event(MAPPED, &[(7, 0), (11, 0)])];
@@ -101,16 +101,21 @@ fn read_case(rt: &impl Abort, alloc: Global, case: &Case) -> Trace {
 }
 
 /// Holds what is found of a case against what is expected; gives the space at the end.
-fn expect_case(rt: &impl Abort, case: &Case, judged: Judged) -> Option<PlainSpace> {
+fn expect_case(
+    rt: &impl Abort,
+    case: &Case,
+    judged: Result<(Order, PlainSpace), Fail<Fault>>,
+) -> Option<PlainSpace> {
     match judged {
-        Judged::Right(order, space) => {
+        Ok((order, space)) => {
             assert!(rt; Ok(order.calls()) == case.verdict, "{}", case.name);
             Some(space)
         }
-        Judged::Wrong(fault) => {
+        Err(Fail::Refused(fault)) => {
             assert!(rt; Err(fault) == case.verdict, "{}", case.name);
             None
         }
+        Err(Fail::Memory) => panic!(rt; "memory"),
     }
 }
 
@@ -120,7 +125,7 @@ fn begun_with_a_page(rt: HostRuntime) {
     for (case, left) in &BEGUN_WITH_A_PAGE {
         let trace = read_case(&rt, alloc, case);
         let start = space_with_page(&rt, alloc, &trace);
-        let judged = judge_from(alloc, &trace, start).expect(&rt, "memory");
+        let judged = judge_segment(alloc, &trace, Some(start));
         if let Some(space) = expect_case(&rt, case, judged) {
             let pages = space.pages().expect(&rt, "memory");
             assert_eq!(&rt; pages.len(), *left, "{}", case.name);
@@ -141,12 +146,12 @@ fn after(
     ensures depth { result.depth ≡ trace.now.layout.depth }
     ensures limit { result.limit ≡ trace.now.layout.tables }
 {
-    match judge_from(alloc, trace, start).expect(rt, "memory") {
-        Judged::Right(order, space) => {
+    match judge_segment(alloc, trace, Some(start)) {
+        Ok((order, space)) => {
             assert!(rt; order.calls() == calls);
             space
         }
-        Judged::Wrong(_) => panic!(rt; "the trace is right"),
+        Err(_) => panic!(rt; "the trace is right"),
     }
 }
 

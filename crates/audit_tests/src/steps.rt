@@ -1,31 +1,31 @@
 //! The entries that the walk of an address reads.
 
 use crate::bytes::map_then_resolve;
-use nr_explain::{Step, entries_read};
+use nr_explain::{TableEntry, entries_read};
 use nr_trace::read;
 use vs_types::Depth;
 
 /// The entries on the way to 0x400123, a root's first.
-static STEPS: [Step; 4] = [
-    Step {
+static STEPS: [TableEntry; 4] = [
+    TableEntry {
         level: 4,
         frame: 1,
         index: 0,
         word: 0x2007,
     },
-    Step {
+    TableEntry {
         level: 3,
         frame: 2,
         index: 0,
         word: 0x3007,
     },
-    Step {
+    TableEntry {
         level: 2,
         frame: 3,
         index: 2,
         word: 0x4007,
     },
-    Step {
+    TableEntry {
         level: 1,
         frame: 4,
         index: 0,

@@ -3,8 +3,8 @@
 ghost use Rattle.std.specs.Prelude.{◌<◌};
 
 use crate::bytes::{changed, map_then_resolve};
-use nr_explain::{BadField, BadUnit, EventField, FieldFault, Next, TraceUnit, UnitFeed, Unread};
-use nr_trace::{Format, Trace};
+use nr_explain::{BadField, BadUnit, EventField, FieldFault, UnitFeed, Unread};
+use nr_trace::{Format, Trace, TraceUnit};
 use std::alloc::Global;
 use std::process::Abort;
 
@@ -156,29 +156,6 @@ fn what_stands_behind_the_last_unit(rt: HostRuntime) {
         (Format::Trailing, TraceUnit::Behind),
         (16552, 1),
     );
-}
-
-#[test]
-fn what_comes_behind_the_counts(rt: HostRuntime) {
-    let bytes = map_then_resolve(&rt, rt.alloc());
-    let next = behind_header(&bytes);
-    assert!(rt; next.unit == TraceUnit::Place(0));
-    let numbers = next.numbers;
-    assert!(rt; !numbers.segment);
-    assert!(rt; (numbers.places, numbers.events) == (1, 4));
-    assert!(rt; (numbers.replicas, numbers.frames) == (1, 0));
-    let event = next.after(&[0; 4]);
-    assert!(rt; event.unit == TraceUnit::Event(0));
-}
-
-/// What comes behind the first twenty bytes.
-fn behind_header(bytes: &[u8]) -> Next {
-    let header = &bytes[..bytes.len().min(20)];
-    let (magic, rest) = header.split_at(header.len().min(4));
-    let (version, counts) = rest.split_at(rest.len().min(2));
-    let second = Next::first().after(magic);
-    let third = second.after(version);
-    third.after(counts)
 }
 
 /// Where a byte of a trace of version 1 is another: the index, the byte, the field that is named, its value and what is wrong with it.

@@ -2,9 +2,9 @@
 use Rattle.std.proofs.Common.{◌≡◌, false, ◌++◌, List, [], ◌∷◌, Option, Some, None, ap, ap₂, map, refl}
 use Rattle.serde_json.specs.View.{items_of}
 use Rattle.serde_json.specs.Written.{has_float, items_have_float}
-use Rattle.nr_explain.specs.declared.evidence.Difference.{Difference}
-use Rattle.nr_explain.specs.declared.evidence.OtherAnswer.{OtherAnswer}
-use Rattle.nr_explain.specs.declared.evidence.PlacedUpdate.{PlacedUpdate}
+use Rattle.nr_explain.specs.declared.trace.evidence.Difference.{Difference}
+use Rattle.nr_explain.specs.declared.trace.evidence.OtherAnswer.{OtherAnswer}
+use Rattle.nr_explain.specs.declared.trace.evidence.PlacedUpdate.{PlacedUpdate}
 use Rattle.nr_explain.specs.declared.chain.evidence.Origin.{Origin}
 use Rattle.nr_explain.specs.declared.chain.evidence.Origin.TheVariants.{Nothing, Start, Earlier}
 use Rattle.nr_explain.specs.declared.chain.evidence.Moment.{Moment}
@@ -12,15 +12,15 @@ use Rattle.nr_explain.specs.declared.chain.evidence.SegmentEvidence.{SegmentEvid
 use Rattle.nr_explain.specs.declared.chain.evidence.SegmentEvidence.TheVariants as shown
 use Rattle.nr_explain.specs.declared.chain.explanation.ChainExplanation.{ChainExplanation}
 use Rattle.nr_explain.specs.declared.chain.explanation.ChainExplanation.TheVariants.{Yes, No}
-use Rattle.audit_texts.proofs.NoFloats.{evidence_has_no_float, one, two, way}
+use Rattle.audit_texts.proofs.NoFloats.{evidence_has_no_float, missing_has_no_float, one, reserved_has_no_float, shared_has_no_float, two, way}
 use Rattle.audit_texts.specs.Parts.{parts_data, says_data}
-use Rattle.audit_texts.specs.Evidence.{answer_parts, look_parts, missing_frame_parts, read_parts, reserved_entry_parts, shared_frame_parts}
+use Rattle.audit_texts.specs.Evidence.{answer_parts, look_parts, read_parts}
 use Rattle.audit_texts.specs.Evidence.{stray_frame_parts, unlike_parts}
 use Rattle.audit_texts.specs.ChainExplained.{chain_explanation_data}
 use Rattle.audit_texts.specs.ChainEvidence.{allowed_parts, bad_segment_parts, begin_parts, chain_counts_parts, change_parts}
 use Rattle.audit_texts.specs.ChainEvidence.{difference_parts, moment_data, origin_parts, origin_says, other_answer_parts, segment_evidence_data}
-use Rattle.audit_texts.specs.ChainEvidence.{segment_parts, start_beyond_parts, start_differs_parts, start_missing_parts, start_reserved_parts}
-use Rattle.audit_texts.specs.ChainEvidence.{start_shared_parts, start_stray_parts, window_parts, with_looks}
+use Rattle.audit_texts.specs.ChainEvidence.{segment_parts, start_beyond_parts, start_differs_parts}
+use Rattle.audit_texts.specs.ChainEvidence.{start_stray_parts, window_parts, with_looks}
 
 moments : (looks : List Moment) → items_have_float (items_of (map moment_data looks)) ≡ false
 moments [] = refl
@@ -45,17 +45,17 @@ translated wrong None origin = ap₂ two (from origin) (way wrong.path.items)
 translated wrong (Some update) origin = ap one (way wrong.path.items)
 
 segment_evidence_has_no_float : (evidence : SegmentEvidence) → has_float (segment_evidence_data evidence) ≡ false
-unfolding says_data bad_segment_parts other_answer_parts difference_parts start_missing_parts start_shared_parts
-    start_reserved_parts start_stray_parts start_beyond_parts start_differs_parts window_parts segment_parts with_looks change_parts begin_parts
-    allowed_parts origin_parts read_parts missing_frame_parts shared_frame_parts reserved_entry_parts stray_frame_parts answer_parts look_parts
+unfolding says_data bad_segment_parts other_answer_parts difference_parts
+    start_stray_parts start_beyond_parts start_differs_parts window_parts segment_parts with_looks change_parts begin_parts
+    allowed_parts origin_parts read_parts stray_frame_parts answer_parts look_parts
     unlike_parts
 segment_evidence_has_no_float (shown.Format bad) = refl
 segment_evidence_has_no_float (shown.Within evidence) = evidence_has_no_float evidence
 segment_evidence_has_no_float (shown.WrongAnswer wrong origin) = answered wrong wrong.changed origin
 segment_evidence_has_no_float (shown.Differs wrong origin) = translated wrong wrong.changed origin
-segment_evidence_has_no_float (shown.StartMissing wrong) = ap one (way wrong.path.items)
-segment_evidence_has_no_float (shown.StartShared wrong) = ap₂ two (way wrong.first.items) (way wrong.second.items)
-segment_evidence_has_no_float (shown.StartReserved wrong) = ap one (way wrong.path.items)
+segment_evidence_has_no_float (shown.StartMissing wrong) = missing_has_no_float wrong
+segment_evidence_has_no_float (shown.StartShared wrong) = shared_has_no_float wrong
+segment_evidence_has_no_float (shown.StartReserved wrong) = reserved_has_no_float wrong
 segment_evidence_has_no_float (shown.StartStray frame) = refl
 segment_evidence_has_no_float (shown.StartBeyond wrong) = ap one (way wrong.path.items)
 segment_evidence_has_no_float (shown.StartDiffers wrong) = ap₂ two (from wrong.origin) (way wrong.path.items)

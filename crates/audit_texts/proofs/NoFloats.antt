@@ -1,27 +1,32 @@
 -- No float is in the JSON of an explanation.
-use Rattle.std.proofs.Common.{◌≡◌, ℕ, Bool, false, ◌||◌, List, [], ◌∷◌, Option, Some, None, ap, ap₂, map, refl}
+use Rattle.std.proofs.Common.{◌≡◌, ℕ, Bool, false, ◌||◌, ◌++◌, List, [], ◌∷◌, Option, Some, None, ap, ap₂, map, refl}
 use Rattle.serde_json.specs.View.{items_of}
 use Rattle.serde_json.specs.Written.{has_float, items_have_float}
 use Rattle.nr_trace.specs.declared.event.Event.{Event}
 use Rattle.nr_trace.specs.declared.event.Event.TheVariants.{Call, Reply, Touch}
-use Rattle.nr_explain.specs.declared.evidence.RecordedReply.{RecordedReply}
-use Rattle.nr_explain.specs.declared.evidence.PlacedUpdate.{PlacedUpdate}
-use Rattle.nr_explain.specs.declared.evidence.Step.{Step}
-use Rattle.nr_explain.specs.declared.evidence.Evidence.{Evidence}
-use Rattle.nr_explain.specs.declared.evidence.Evidence.TheVariants as evidence
-use Rattle.nr_explain.specs.declared.explaining.Explanation.{Explanation}
-use Rattle.nr_explain.specs.declared.explaining.Explanation.TheVariants.{Yes, No}
-use Rattle.nr_explain.specs.declared.all_dumps.DumpExplanation.{DumpExplanation}
-use Rattle.nr_explain.specs.declared.all_dumps.DumpExplanation.TheVariants.{Sound, Faulty}
+use Rattle.nr_explain.specs.declared.trace.evidence.RecordedReply.{RecordedReply}
+use Rattle.nr_explain.specs.declared.trace.evidence.MissingTable.{MissingTable}
+use Rattle.nr_explain.specs.declared.trace.evidence.Owner.{Owner}
+use Rattle.nr_explain.specs.declared.trace.evidence.Owner.TheVariants.{Dump, Start}
+use Rattle.nr_explain.specs.declared.trace.evidence.PlacedUpdate.{PlacedUpdate}
+use Rattle.nr_explain.specs.declared.trace.evidence.ReservedEntry.{ReservedEntry}
+use Rattle.nr_explain.specs.declared.trace.evidence.SharedTable.{SharedTable}
+use Rattle.nr_explain.specs.declared.trace.evidence.TableEntry.{TableEntry}
+use Rattle.nr_explain.specs.declared.trace.evidence.Evidence.{Evidence}
+use Rattle.nr_explain.specs.declared.trace.evidence.Evidence.TheVariants as evidence
+use Rattle.nr_explain.specs.declared.trace.explaining.Explanation.{Explanation}
+use Rattle.nr_explain.specs.declared.trace.explaining.Explanation.TheVariants.{Yes, No}
+use Rattle.nr_explain.specs.declared.trace.all_dumps.DumpExplanation.{DumpExplanation}
+use Rattle.nr_explain.specs.declared.trace.all_dumps.DumpExplanation.TheVariants.{Sound, Faulty}
 use Rattle.audit_texts.specs.FullExplained.{dump_data, full_data}
 use Rattle.audit_texts.specs.EvidenceJson.{changed_data, event_data, number_data, option_data, own_data, step_data, way_data}
-use Rattle.audit_texts.specs.Parts.{says_data}
+use Rattle.audit_texts.specs.Parts.{parts_data, says_data}
 use Rattle.audit_texts.specs.Evidence.{counts_parts, evidence_data, evidence_parts}
 use Rattle.audit_texts.specs.Evidence.{bad_unit_parts, difference_parts, early_parts, long_prefix_parts, misplaced_parts, missing_parts, no_update_parts}
 use Rattle.audit_texts.specs.Evidence.{open_parts, other_answer_parts}
 use Rattle.audit_texts.specs.Evidence.{past_end_parts, reserved_parts, shared_parts, short_prefix_parts, stray_parts, stray_reply_parts, two_places_parts}
 use Rattle.audit_texts.specs.Evidence.{two_replies_parts}
-use Rattle.audit_texts.specs.Evidence.{answer_parts, changed_parts, look_parts, missing_frame_parts, read_parts, replica_parts, reserved_entry_parts}
+use Rattle.audit_texts.specs.Evidence.{answer_parts, changed_parts, look_parts, missing_frame_parts, owner_parts, read_parts, replica_parts, reserved_entry_parts}
 use Rattle.audit_texts.specs.Evidence.{shared_frame_parts, stray_frame_parts, unlike_parts}
 use Rattle.audit_texts.specs.Explained.{explanation_data}
 
@@ -29,11 +34,11 @@ numbers : (order : List ℕ) → items_have_float (items_of (map number_data ord
 numbers [] = refl
 numbers (call ∷ more) = numbers more
 
-steps : (way : List Step) → items_have_float (items_of (map step_data way)) ≡ false
+steps : (way : List TableEntry) → items_have_float (items_of (map step_data way)) ≡ false
 steps [] = refl
 steps (step ∷ more) = steps more
 
-pub way : (entries : List Step) → has_float (way_data entries) ≡ false
+pub way : (entries : List TableEntry) → has_float (way_data entries) ≡ false
 way entries = steps entries
 
 option : (n : Option ℕ) → has_float (option_data n) ≡ false
@@ -61,10 +66,40 @@ one b = b || false
 abbrev pub two : Bool → Bool → Bool
 two a b = a || (b || false)
 
+missing : (owner : Owner) (fault end : List ℕ) (path : List TableEntry) (frame : ℕ)
+    → has_float (parts_data (missing_frame_parts fault path frame end ++ owner_parts owner)) ≡ false
+unfolding says_data missing_frame_parts owner_parts replica_parts
+missing (Dump replica) fault end path frame = ap one (way path)
+missing Start fault end path frame = ap one (way path)
+
+shared : (owner : Owner) (fault : List ℕ) (first second : List TableEntry) (frame : ℕ)
+    → has_float (parts_data (shared_frame_parts fault first second frame ++ owner_parts owner)) ≡ false
+unfolding says_data shared_frame_parts owner_parts replica_parts
+shared (Dump replica) fault first second frame = ap₂ two (way first) (way second)
+shared Start fault first second frame = ap₂ two (way first) (way second)
+
+reserved : (owner : Owner) (fault : List ℕ) (path : List TableEntry) (entry : TableEntry) (bit : ℕ)
+    → has_float (parts_data (reserved_entry_parts fault path entry bit ++ owner_parts owner)) ≡ false
+unfolding says_data reserved_entry_parts owner_parts replica_parts
+reserved (Dump replica) fault path entry bit = ap one (way path)
+reserved Start fault path entry bit = ap one (way path)
+
+pub missing_has_no_float : (wrong : MissingTable) → has_float (parts_data (missing_parts wrong)) ≡ false
+unfolding missing_parts
+missing_has_no_float wrong = missing wrong.owner _ _ wrong.path.items wrong.frame
+
+pub shared_has_no_float : (wrong : SharedTable) → has_float (parts_data (shared_parts wrong)) ≡ false
+unfolding shared_parts
+shared_has_no_float wrong = shared wrong.owner _ wrong.first.items wrong.second.items wrong.frame
+
+pub reserved_has_no_float : (wrong : ReservedEntry) → has_float (parts_data (reserved_parts wrong)) ≡ false
+unfolding reserved_parts
+reserved_has_no_float wrong = reserved wrong.owner _ wrong.path.items wrong.entry wrong.bit
+
 pub evidence_has_no_float : (shown : Evidence) → has_float (evidence_data shown) ≡ false
 unfolding evidence_parts says_data bad_unit_parts open_parts stray_reply_parts two_replies_parts no_update_parts two_places_parts
-    misplaced_parts past_end_parts early_parts other_answer_parts long_prefix_parts short_prefix_parts missing_parts shared_parts
-    reserved_parts stray_parts difference_parts read_parts missing_frame_parts shared_frame_parts reserved_entry_parts stray_frame_parts
+    misplaced_parts past_end_parts early_parts other_answer_parts long_prefix_parts short_prefix_parts
+    stray_parts difference_parts read_parts stray_frame_parts
     answer_parts look_parts unlike_parts changed_parts replica_parts
 evidence_has_no_float (evidence.Format bad) = refl
 evidence_has_no_float (evidence.ThreadOpen calls) = refl
@@ -78,9 +113,9 @@ evidence_has_no_float (evidence.Early early) = ap one (own early.own)
 evidence_has_no_float (evidence.WrongAnswer wrong) = ap one (changed wrong.changed)
 evidence_has_no_float (evidence.PrefixPastLog wrong) = refl
 evidence_has_no_float (evidence.PrefixShort wrong) = refl
-evidence_has_no_float (evidence.MissingFrame wrong) = ap one (way wrong.path.items)
-evidence_has_no_float (evidence.SharedFrame wrong) = ap₂ two (way wrong.first.items) (way wrong.second.items)
-evidence_has_no_float (evidence.ReservedBit wrong) = ap one (way wrong.path.items)
+evidence_has_no_float (evidence.MissingFrame wrong) = missing_has_no_float wrong
+evidence_has_no_float (evidence.SharedFrame wrong) = shared_has_no_float wrong
+evidence_has_no_float (evidence.ReservedBit wrong) = reserved_has_no_float wrong
 evidence_has_no_float (evidence.StrayFrame wrong) = refl
 evidence_has_no_float (evidence.Differs wrong) = ap₂ two (changed wrong.changed) (way wrong.path.items)
 

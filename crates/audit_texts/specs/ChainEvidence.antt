@@ -5,18 +5,15 @@ use Rattle.serde_json.specs.View.{items_of}
 use Rattle.vs_walk.specs.declared.walk.Walk.TheVariants.{Mapped}
 use Rattle.nr_trace.specs.declared.fault.Format.{Format}
 use Rattle.nr_trace.specs.declared.fault.Format.TheVariants as formats
-use Rattle.nr_explain.specs.declared.evidence.PlacedUpdate.{PlacedUpdate}
-use Rattle.nr_explain.specs.declared.evidence.OtherAnswer.{OtherAnswer}
-use Rattle.nr_explain.specs.declared.evidence.Difference.{Difference}
-use Rattle.nr_explain.specs.Units.{size}
-use Rattle.nr_explain.specs.declared.units.TraceUnit.{TraceUnit}
+use Rattle.nr_explain.specs.declared.trace.evidence.PlacedUpdate.{PlacedUpdate}
+use Rattle.nr_explain.specs.declared.trace.evidence.OtherAnswer.{OtherAnswer}
+use Rattle.nr_explain.specs.declared.trace.evidence.Difference.{Difference}
+use Rattle.nr_trace.specs.FirstFault.{unit_size}
+use Rattle.nr_trace.specs.declared.refusal.TraceUnit.{TraceUnit}
 use Rattle.nr_explain.specs.Progress.{sum_up}
 use Rattle.nr_explain.specs.declared.chain.evidence.Origin.{Origin}
 use Rattle.nr_explain.specs.declared.chain.evidence.Origin.TheVariants.{Nothing, Start, Earlier}
 use Rattle.nr_explain.specs.declared.chain.evidence.BadSegment.{BadSegment}
-use Rattle.nr_explain.specs.declared.chain.evidence.StartMissing.{StartMissing}
-use Rattle.nr_explain.specs.declared.chain.evidence.StartShared.{StartShared}
-use Rattle.nr_explain.specs.declared.chain.evidence.StartReserved.{StartReserved}
 use Rattle.nr_explain.specs.declared.chain.evidence.StartBeyond.{StartBeyond}
 use Rattle.nr_explain.specs.declared.chain.evidence.StartDiffers.{StartDiffers}
 use Rattle.nr_explain.specs.declared.chain.evidence.Moment.{Moment}
@@ -28,8 +25,8 @@ use Rattle.audit_texts.specs.Text.{answer_text, line_end}
 use Rattle.audit_texts.specs.EvidenceJson.{number_data}
 use Rattle.audit_texts.specs.Parts.{Part, Says, in_both, in_json, in_lines, words, parts_data, parts_text, put_part}
 use Rattle.audit_texts.specs.Parts.{address, allowed, call, changed, count, nothing, reply, steps, text, unit, walk}
-use Rattle.audit_texts.specs.Evidence.{answer_parts, evidence_parts, fault_is, look_parts, missing_frame_parts, read_parts, reserved_entry_parts}
-use Rattle.audit_texts.specs.Evidence.{shared_frame_parts, stray_frame_parts, unlike_parts}
+use Rattle.audit_texts.specs.Evidence.{answer_parts, evidence_parts, fault_is, look_parts, missing_parts, read_parts, reserved_parts}
+use Rattle.audit_texts.specs.Evidence.{shared_parts, stray_frame_parts, unlike_parts}
 
 -- what an address looks like that no update of the segment has changed
 unfoldable pub origin_says : Origin → Says
@@ -77,16 +74,7 @@ begin_parts begins it = fault_is (codes "Format") ∷ words (codes "the segment 
 -- where the segment begins, the unit, how many of its bytes there are, and the first of them; and what is allowed there
 unfoldable pub bad_segment_parts : BadSegment → List Part
 bad_segment_parts bad = (begin_parts bad.begins bad.unit.unit
-    ++ read_parts (sum_up bad.begins bad.unit.offset) bad.unit.read.items (size bad.unit.unit)) ++ allowed_parts bad.unit.fault
-
-unfoldable pub start_missing_parts : StartMissing → List Part
-start_missing_parts wrong = missing_frame_parts (codes "StartMissing") wrong.path.items wrong.frame (codes ", which the start doesn't have\n")
-
-unfoldable pub start_shared_parts : StartShared → List Part
-start_shared_parts wrong = shared_frame_parts (codes "StartShared") wrong.first.items wrong.second.items wrong.frame
-
-unfoldable pub start_reserved_parts : StartReserved → List Part
-start_reserved_parts wrong = reserved_entry_parts (codes "StartReserved") wrong.path.items wrong.entry wrong.bit
+    ++ read_parts (sum_up bad.begins bad.unit.offset) bad.unit.read.items (unit_size bad.unit.unit)) ++ allowed_parts bad.unit.fault
 
 unfoldable pub start_stray_parts : ℕ → List Part
 start_stray_parts number = stray_frame_parts (codes "StartStray") number
@@ -122,9 +110,9 @@ segment_parts (shown.Format bad) = bad_segment_parts bad
 segment_parts (shown.Within evidence) = evidence_parts evidence
 segment_parts (shown.WrongAnswer wrong origin) = other_answer_parts wrong origin
 segment_parts (shown.Differs wrong origin) = difference_parts wrong origin
-segment_parts (shown.StartMissing wrong) = start_missing_parts wrong
-segment_parts (shown.StartShared wrong) = start_shared_parts wrong
-segment_parts (shown.StartReserved wrong) = start_reserved_parts wrong
+segment_parts (shown.StartMissing wrong) = missing_parts wrong
+segment_parts (shown.StartShared wrong) = shared_parts wrong
+segment_parts (shown.StartReserved wrong) = reserved_parts wrong
 segment_parts (shown.StartStray number) = start_stray_parts number
 segment_parts (shown.StartBeyond wrong) = start_beyond_parts wrong
 segment_parts (shown.StartDiffers wrong) = start_differs_parts wrong

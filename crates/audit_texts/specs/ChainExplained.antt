@@ -6,9 +6,9 @@ use Rattle.nr_explain.specs.ChainExplanation.{IsExplanationOfChain}
 use Rattle.nr_explain.specs.declared.chain.evidence.SegmentEvidence.{SegmentEvidence}
 use Rattle.nr_explain.specs.declared.chain.explanation.ChainExplanation.{ChainExplanation}
 use Rattle.nr_explain.specs.declared.chain.explanation.ChainExplanation.TheVariants.{Yes, No}
-use Rattle.audit_texts.specs.Text.{line_end}
+use Rattle.audit_texts.specs.Text.{fault_text, line_end}
 use Rattle.audit_texts.specs.EvidenceJson.{number_data}
-use Rattle.audit_texts.specs.ChainText.{end_lines, segment_fault_text}
+use Rattle.audit_texts.specs.ChainText.{end_lines}
 use Rattle.audit_texts.specs.ChainSentence.{segment_sentence}
 use Rattle.audit_texts.specs.ChainEvidence.{chain_counts_data, chain_counts_lines, segment_evidence_data, segment_evidence_text}
 
@@ -32,7 +32,7 @@ chain_explanation_data (No number fault evidence) = object
     (member (codes "evidence") (segment_evidence_data evidence)
     (member (codes "segment") (number_data number)
     (member (codes "sentence") (string (segment_sentence evidence))
-    (member (codes "verdict") (string (codes "no " ++ segment_fault_text fault)) no_members))))
+    (member (codes "verdict") (string (codes "no " ++ fault_text fault)) no_members))))
 
 -- the object on one line
 abbrev pub chain_explanation_json : ChainExplanation → List ℕ

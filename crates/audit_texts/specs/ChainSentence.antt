@@ -1,13 +1,9 @@
 -- The sentence of a fault of a chain.
-use Rattle.std.specs.Prelude.{ℕ, ◌++◌, List, [], ◌∷◌, codes, decimal}
+use Rattle.std.specs.Prelude.{ℕ, ◌++◌, List, [], codes, decimal}
 use Rattle.vs_text.specs.Words.{hexadecimal}
 use Rattle.nr_trace.specs.declared.fault.Format.{Format}
 use Rattle.nr_trace.specs.declared.fault.Format.TheVariants as formats
-use Rattle.nr_explain.specs.declared.evidence.Step.{Step}
 use Rattle.nr_explain.specs.declared.units.BadUnit.{BadUnit}
-use Rattle.nr_explain.specs.declared.chain.evidence.StartMissing.{StartMissing}
-use Rattle.nr_explain.specs.declared.chain.evidence.StartShared.{StartShared}
-use Rattle.nr_explain.specs.declared.chain.evidence.StartReserved.{StartReserved}
 use Rattle.nr_explain.specs.declared.chain.evidence.StartBeyond.{StartBeyond}
 use Rattle.nr_explain.specs.declared.chain.evidence.StartDiffers.{StartDiffers}
 use Rattle.nr_explain.specs.declared.chain.evidence.StaleTouch.{StaleTouch}
@@ -15,7 +11,7 @@ use Rattle.nr_explain.specs.declared.chain.evidence.SegmentEvidence.{SegmentEvid
 use Rattle.nr_explain.specs.declared.chain.evidence.SegmentEvidence.TheVariants as shown
 use Rattle.audit_texts.specs.Text.{answer_text, walk_words}
 use Rattle.audit_texts.specs.EvidenceText.{bytes_text}
-use Rattle.audit_texts.specs.Sentence.{difference_sentence, other_answer_sentence, reason_text, sentence_text}
+use Rattle.audit_texts.specs.Sentence.{difference_sentence, missing_sentence, other_answer_sentence, reason_text, reserved_sentence, sentence_text, shared_sentence}
 
 -- why bytes with this fault are no segment: but for these two as of a trace
 unfoldable pub segment_reason : BadUnit → Format → List ℕ
@@ -25,27 +21,6 @@ segment_reason bad fault = reason_text bad fault
 
 abbrev pub bad_segment_sentence : BadUnit → List ℕ
 bad_segment_sentence bad = codes "These bytes are no segment: " ++ (segment_reason bad bad.fault ++ codes ".")
-
--- what leads to a frame of a start, by the entries on the way from the root
-unfoldable pub start_leads_text : List Step → List ℕ
-start_leads_text [] = codes "The root of the start is"
-start_leads_text (step ∷ steps) = codes "An entry of the tables of the start leads to"
-
-abbrev pub start_missing_sentence : StartMissing → List ℕ
-start_missing_sentence wrong = start_leads_text wrong.path.items
-    ++ (codes " frame " ++ (hexadecimal wrong.frame ++ codes ", which the start doesn't have."))
-
-abbrev pub start_shared_sentence : StartShared → List ℕ
-start_shared_sentence wrong = codes "The tables of the start reach frame " ++ (hexadecimal wrong.frame
-    ++ codes " twice: a change on one way is seen on the other.")
-
--- which entry of the start it is
-abbrev pub start_entry_text : ℕ → ℕ → List ℕ
-start_entry_text index frame = codes "Entry " ++ (decimal index ++ (codes " of frame " ++ (hexadecimal frame ++ codes " of the start")))
-
-abbrev pub start_reserved_sentence : StartReserved → List ℕ
-start_reserved_sentence wrong = start_entry_text wrong.entry.index wrong.entry.frame
-    ++ (codes " has the reserved bit " ++ (decimal wrong.bit ++ codes " set: a processor faults there."))
 
 abbrev pub start_stray_sentence : ℕ → List ℕ
 start_stray_sentence frame =
@@ -74,9 +49,9 @@ segment_sentence (shown.Format bad) = bad_segment_sentence bad.unit
 segment_sentence (shown.Within evidence) = sentence_text evidence
 segment_sentence (shown.WrongAnswer wrong origin) = other_answer_sentence wrong
 segment_sentence (shown.Differs wrong origin) = difference_sentence wrong
-segment_sentence (shown.StartMissing wrong) = start_missing_sentence wrong
-segment_sentence (shown.StartShared wrong) = start_shared_sentence wrong
-segment_sentence (shown.StartReserved wrong) = start_reserved_sentence wrong
+segment_sentence (shown.StartMissing wrong) = missing_sentence wrong
+segment_sentence (shown.StartShared wrong) = shared_sentence wrong
+segment_sentence (shown.StartReserved wrong) = reserved_sentence wrong
 segment_sentence (shown.StartStray frame) = start_stray_sentence frame
 segment_sentence (shown.StartBeyond wrong) = start_beyond_sentence wrong
 segment_sentence (shown.StartDiffers wrong) = start_differs_sentence wrong

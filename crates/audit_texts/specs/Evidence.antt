@@ -3,30 +3,33 @@ use Rattle.std.specs.Prelude.{ℕ, ◌++◌, List, [], ◌∷◌, codes, length,
 use Rattle.serde_json.specs.Data.{Data}
 use Rattle.vs_types.specs.declared.answer.Answer.{Answer}
 use Rattle.vs_walk.specs.declared.walk.Walk.{Walk}
-use Rattle.nr_explain.specs.Units.{size}
-use Rattle.nr_explain.specs.declared.counts.Counts.{Counts}
+use Rattle.nr_trace.specs.FirstFault.{unit_size}
+use Rattle.nr_explain.specs.declared.trace.counts.Counts.{Counts}
 use Rattle.nr_explain.specs.declared.units.BadUnit.{BadUnit}
-use Rattle.nr_explain.specs.declared.evidence.PlacedUpdate.{PlacedUpdate}
-use Rattle.nr_explain.specs.declared.evidence.Step.{Step}
-use Rattle.nr_explain.specs.declared.evidence.OpenCalls.{OpenCalls}
-use Rattle.nr_explain.specs.declared.evidence.StrayReply.{StrayReply}
-use Rattle.nr_explain.specs.declared.evidence.TwoReplies.{TwoReplies}
-use Rattle.nr_explain.specs.declared.evidence.NoUpdate.{NoUpdate}
-use Rattle.nr_explain.specs.declared.evidence.TwoPlaces.{TwoPlaces}
-use Rattle.nr_explain.specs.declared.evidence.Misplaced.{Misplaced}
-use Rattle.nr_explain.specs.declared.evidence.PastEnd.{PastEnd}
-use Rattle.nr_explain.specs.declared.evidence.EarlyCall.{EarlyCall}
-use Rattle.nr_explain.specs.declared.evidence.OtherAnswer.{OtherAnswer}
-use Rattle.nr_explain.specs.declared.evidence.LongPrefix.{LongPrefix}
-use Rattle.nr_explain.specs.declared.evidence.ShortPrefix.{ShortPrefix}
-use Rattle.nr_explain.specs.declared.evidence.MissingTable.{MissingTable}
-use Rattle.nr_explain.specs.declared.evidence.SharedTable.{SharedTable}
-use Rattle.nr_explain.specs.declared.evidence.ReservedEntry.{ReservedEntry}
-use Rattle.nr_explain.specs.declared.evidence.StrayTable.{StrayTable}
-use Rattle.nr_explain.specs.declared.evidence.Difference.{Difference}
-use Rattle.nr_explain.specs.declared.evidence.Evidence.{Evidence}
-use Rattle.nr_explain.specs.declared.evidence.Evidence.TheVariants as evidence
+use Rattle.nr_explain.specs.declared.trace.evidence.PlacedUpdate.{PlacedUpdate}
+use Rattle.nr_explain.specs.declared.trace.evidence.TableEntry.{TableEntry}
+use Rattle.nr_explain.specs.declared.trace.evidence.OpenCalls.{OpenCalls}
+use Rattle.nr_explain.specs.declared.trace.evidence.StrayReply.{StrayReply}
+use Rattle.nr_explain.specs.declared.trace.evidence.TwoReplies.{TwoReplies}
+use Rattle.nr_explain.specs.declared.trace.evidence.NoUpdate.{NoUpdate}
+use Rattle.nr_explain.specs.declared.trace.evidence.TwoPlaces.{TwoPlaces}
+use Rattle.nr_explain.specs.declared.trace.evidence.Misplaced.{Misplaced}
+use Rattle.nr_explain.specs.declared.trace.evidence.PastEnd.{PastEnd}
+use Rattle.nr_explain.specs.declared.trace.evidence.EarlyCall.{EarlyCall}
+use Rattle.nr_explain.specs.declared.trace.evidence.OtherAnswer.{OtherAnswer}
+use Rattle.nr_explain.specs.declared.trace.evidence.LongPrefix.{LongPrefix}
+use Rattle.nr_explain.specs.declared.trace.evidence.ShortPrefix.{ShortPrefix}
+use Rattle.nr_explain.specs.declared.trace.evidence.MissingTable.{MissingTable}
+use Rattle.nr_explain.specs.declared.trace.evidence.Owner.{Owner}
+use Rattle.nr_explain.specs.declared.trace.evidence.Owner.TheVariants.{Dump, Start}
+use Rattle.nr_explain.specs.declared.trace.evidence.SharedTable.{SharedTable}
+use Rattle.nr_explain.specs.declared.trace.evidence.ReservedEntry.{ReservedEntry}
+use Rattle.nr_explain.specs.declared.trace.evidence.StrayTable.{StrayTable}
+use Rattle.nr_explain.specs.declared.trace.evidence.Difference.{Difference}
+use Rattle.nr_explain.specs.declared.trace.evidence.Evidence.{Evidence}
+use Rattle.nr_explain.specs.declared.trace.evidence.Evidence.TheVariants as evidence
 use Rattle.audit_texts.specs.Text.{line_end}
+use Rattle.audit_texts.specs.Owners.{of_owner}
 use Rattle.audit_texts.specs.Parts.{Part, in_both, in_json, in_lines, words, parts_data, parts_text}
 use Rattle.audit_texts.specs.Parts.{address, allowed, answer, bytes, call, changed, count, event, frame, own, place, reply, reserved, step, steps, text, unit}
 use Rattle.audit_texts.specs.Parts.{walk, way}
@@ -42,17 +45,17 @@ read_parts offset read size = words (codes ", at byte ") ∷ in_both (codes "off
     ∷ in_both (codes "read") (bytes read) ∷ words line_end ∷ []
 
 -- a frame that isn't there, and the way to it
-unfoldable pub missing_frame_parts : List ℕ → List Step → ℕ → List ℕ → List Part
+unfoldable pub missing_frame_parts : List ℕ → List TableEntry → ℕ → List ℕ → List Part
 missing_frame_parts fault path number end = fault_is fault ∷ in_both (codes "path") (way path) ∷ words (codes "frame ")
     ∷ in_both (codes "frame") (frame number) ∷ words end ∷ []
 
 -- a frame to which tables lead twice, and the ways to it
-unfoldable pub shared_frame_parts : List ℕ → List Step → List Step → ℕ → List Part
+unfoldable pub shared_frame_parts : List ℕ → List TableEntry → List TableEntry → ℕ → List Part
 shared_frame_parts fault first second number = fault_is fault ∷ words (codes "one way:\n") ∷ in_both (codes "first") (way first)
     ∷ words (codes "another:\n") ∷ in_both (codes "second") (way second) ∷ in_json (codes "frame") (frame number) ∷ []
 
 -- an entry with a reserved bit set, and the way to it
-unfoldable pub reserved_entry_parts : List ℕ → List Step → Step → ℕ → List Part
+unfoldable pub reserved_entry_parts : List ℕ → List TableEntry → TableEntry → ℕ → List Part
 reserved_entry_parts fault path entry bit = fault_is fault ∷ in_both (codes "path") (steps path) ∷ in_both (codes "entry") (step entry)
     ∷ words (codes "bit ") ∷ in_both (codes "bit") (count bit) ∷ words (codes " is set: ") ∷ in_lines (reserved entry.level)
     ∷ words line_end ∷ []
@@ -69,7 +72,7 @@ answer_parts wrong = fault_is (codes "WrongAnswer") ∷ in_both (codes "call") (
     ∷ in_both (codes "address") (address wrong.address) ∷ []
 
 -- how tables translate an address, and how it looks in the space, up to the address
-unfoldable pub look_parts : Walk → List Step → Answer → ℕ → List Part
+unfoldable pub look_parts : Walk → List TableEntry → Answer → ℕ → List Part
 look_parts found path wanted at = in_both (codes "found") (walk found) ∷ words line_end ∷ in_both (codes "path") (steps path)
     ∷ words (codes "the space: ") ∷ in_both (codes "wanted") (answer wanted) ∷ words (codes "\naddress ")
     ∷ in_both (codes "address") (address at) ∷ []
@@ -88,9 +91,14 @@ changed_parts update = words (codes ", ") ∷ in_both (codes "changed") (changed
 unfoldable pub replica_parts : ℕ → List Part
 replica_parts replica = in_json (codes "replica") (count replica) ∷ []
 
+-- the same of the tables of a dump; of a start nothing
+unfoldable pub owner_parts : Owner → List Part
+owner_parts (Dump replica) = replica_parts replica
+owner_parts Start = []
+
 unfoldable pub bad_unit_parts : BadUnit → List Part
 bad_unit_parts bad = ((fault_is (codes "Format") ∷ in_both (codes "unit") (unit bad.unit) ∷ [])
-    ++ read_parts bad.offset bad.read.items (size bad.unit)) ++ (in_both (codes "format") (allowed bad.fault) ∷ [])
+    ++ read_parts bad.offset bad.read.items (unit_size bad.unit)) ++ (in_both (codes "format") (allowed bad.fault) ∷ [])
 
 unfoldable pub open_parts : OpenCalls → List Part
 open_parts calls = fault_is (codes "ThreadOpen") ∷ in_both (codes "first") (call calls.first)
@@ -144,14 +152,16 @@ short_prefix_parts wrong = fault_is (codes "PrefixShort") ∷ words (codes "appl
     ∷ in_json (codes "replica") (count wrong.replica) ∷ []
 
 unfoldable pub missing_parts : MissingTable → List Part
-missing_parts wrong = missing_frame_parts (codes "MissingFrame") wrong.path.items wrong.frame (codes ", which the dump doesn't have\n")
-    ++ replica_parts wrong.replica
+missing_parts wrong = missing_frame_parts (of_owner wrong.owner (codes "MissingFrame") (codes "StartMissing")) wrong.path.items wrong.frame
+    (of_owner wrong.owner (codes ", which the dump doesn't have\n") (codes ", which the start doesn't have\n")) ++ owner_parts wrong.owner
 
 unfoldable pub shared_parts : SharedTable → List Part
-shared_parts wrong = shared_frame_parts (codes "SharedFrame") wrong.first.items wrong.second.items wrong.frame ++ replica_parts wrong.replica
+shared_parts wrong = shared_frame_parts (of_owner wrong.owner (codes "SharedFrame") (codes "StartShared")) wrong.first.items wrong.second.items wrong.frame
+    ++ owner_parts wrong.owner
 
 unfoldable pub reserved_parts : ReservedEntry → List Part
-reserved_parts wrong = reserved_entry_parts (codes "ReservedBit") wrong.path.items wrong.entry wrong.bit ++ replica_parts wrong.replica
+reserved_parts wrong = reserved_entry_parts (of_owner wrong.owner (codes "ReservedBit") (codes "StartReserved")) wrong.path.items wrong.entry wrong.bit
+    ++ owner_parts wrong.owner
 
 unfoldable pub stray_parts : StrayTable → List Part
 stray_parts wrong = stray_frame_parts (codes "StrayFrame") wrong.frame ++ replica_parts wrong.replica

@@ -4,10 +4,10 @@ use Rattle.serde_json.specs.Data.{Data, array, member, no_members, null, number,
 use Rattle.serde_json.specs.View.{items_of}
 use Rattle.nr_trace.specs.declared.event.Event.{Event}
 use Rattle.nr_trace.specs.declared.event.Event.TheVariants.{Call, Reply, Touch}
-use Rattle.nr_explain.specs.declared.evidence.RecordedCall.{RecordedCall}
-use Rattle.nr_explain.specs.declared.evidence.RecordedReply.{RecordedReply}
-use Rattle.nr_explain.specs.declared.evidence.PlacedUpdate.{PlacedUpdate}
-use Rattle.nr_explain.specs.declared.evidence.Step.{Step}
+use Rattle.nr_explain.specs.declared.trace.evidence.RecordedCall.{RecordedCall}
+use Rattle.nr_explain.specs.declared.trace.evidence.RecordedReply.{RecordedReply}
+use Rattle.nr_explain.specs.declared.trace.evidence.PlacedUpdate.{PlacedUpdate}
+use Rattle.nr_explain.specs.declared.trace.evidence.TableEntry.{TableEntry}
 use Rattle.vs_types.specs.declared.request.Query.TheVariants.{Access}
 use Rattle.vs_text.specs.Words.{hexadecimal}
 use Rattle.audit_texts.specs.Text.{answer_text}
@@ -60,12 +60,12 @@ changed_data (Some update) = object
     (member (codes "call") (call_data update.call)
     (member (codes "place") (number_data update.place) no_members))
 
-abbrev pub step_data : Step → Data
+abbrev pub step_data : TableEntry → Data
 step_data step = object
     (member (codes "frame") (number_data step.frame)
     (member (codes "index") (number_data step.index)
     (member (codes "level") (number_data step.level)
     (member (codes "word") (string (hexadecimal step.word)) no_members))))
 
-abbrev pub way_data : List Step → Data
+abbrev pub way_data : List TableEntry → Data
 way_data steps = array (items_of (map step_data steps))

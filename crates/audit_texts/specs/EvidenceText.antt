@@ -1,7 +1,6 @@
 -- The texts of facts that show a fault: calls, replies, entries of tables, units of a trace.
 use Rattle.std.specs.Prelude.{ℕ, ◌/◌, ◌%◌, ◌==◌, ◌++◌, Bool, true, false, List, [], ◌∷◌, take, codes, decimal, flat_map, if◌then◌else◌, Option, Some, None}
 use Rattle.std.specs.Fmt.{digits}
-use Rattle.vs_types.specs.declared.answer.Answer.{Answer}
 use Rattle.vs_types.specs.declared.request.Query.{Query}
 use Rattle.vs_types.specs.declared.request.Query.TheVariants.{Update, Resolve, Access}
 use Rattle.vs_text.specs.Requests.{request_text}
@@ -10,12 +9,12 @@ use Rattle.nr_trace.specs.declared.event.Event.{Event}
 use Rattle.nr_trace.specs.declared.event.Event.TheVariants.{Call, Reply, Touch}
 use Rattle.nr_trace.specs.declared.fault.Format.{Format}
 use Rattle.nr_trace.specs.declared.fault.Format.TheVariants as formats
-use Rattle.nr_explain.specs.declared.units.TraceUnit.{TraceUnit}
-use Rattle.nr_explain.specs.declared.units.TraceUnit.TheVariants as units
-use Rattle.nr_explain.specs.declared.evidence.RecordedCall.{RecordedCall}
-use Rattle.nr_explain.specs.declared.evidence.RecordedReply.{RecordedReply}
-use Rattle.nr_explain.specs.declared.evidence.PlacedUpdate.{PlacedUpdate}
-use Rattle.nr_explain.specs.declared.evidence.Step.{Step}
+use Rattle.nr_trace.specs.declared.refusal.TraceUnit.{TraceUnit}
+use Rattle.nr_trace.specs.declared.refusal.TraceUnit.TheVariants as units
+use Rattle.nr_explain.specs.declared.trace.evidence.RecordedCall.{RecordedCall}
+use Rattle.nr_explain.specs.declared.trace.evidence.RecordedReply.{RecordedReply}
+use Rattle.nr_explain.specs.declared.trace.evidence.PlacedUpdate.{PlacedUpdate}
+use Rattle.nr_explain.specs.declared.trace.evidence.TableEntry.{TableEntry}
 use Rattle.audit_texts.specs.Text.{answer_text, line_end}
 
 -- what is asked, in the words of a script; of a touch, which a script has not, in those of an access
@@ -61,16 +60,16 @@ changed_line None = codes "last changed by: none\n"
 changed_line (Some update) = codes "last changed by place " ++ (decimal update.place ++ (codes ", " ++ call_line update.call))
 
 -- the line of an entry of a table
-unfoldable pub step_line : Step → List ℕ
+unfoldable pub step_line : TableEntry → List ℕ
 step_line step = codes "level " ++ (decimal step.level ++ (codes ", frame " ++ (hexadecimal step.frame ++ (codes ", index " ++ (decimal step.index
     ++ (codes ": " ++ (hexadecimal step.word ++ line_end)))))))
 
 -- the lines of entries
-abbrev pub steps_lines : List Step → List ℕ
+abbrev pub steps_lines : List TableEntry → List ℕ
 steps_lines steps = flat_map step_line steps
 
 -- the lines of the entries on a way from the root; the way to the root itself has none
-unfoldable pub way_lines : List Step → List ℕ
+unfoldable pub way_lines : List TableEntry → List ℕ
 way_lines [] = codes "it is the root\n"
 way_lines (step ∷ steps) = steps_lines (step ∷ steps)
 

@@ -4,9 +4,9 @@ use Rattle.serde_json.specs.Data.{Data, array, member, no_members, object, strin
 use Rattle.serde_json.specs.View.{items_of}
 use Rattle.serde_json.specs.Written.{compact_text}
 use Rattle.nr_explain.specs.Explanation.{IsExplanationOf}
-use Rattle.nr_explain.specs.declared.evidence.Evidence.{Evidence}
-use Rattle.nr_explain.specs.declared.explaining.Explanation.{Explanation}
-use Rattle.nr_explain.specs.declared.explaining.Explanation.TheVariants.{Yes, No}
+use Rattle.nr_explain.specs.declared.trace.evidence.Evidence.{Evidence}
+use Rattle.nr_explain.specs.declared.trace.explaining.Explanation.{Explanation}
+use Rattle.nr_explain.specs.declared.trace.explaining.Explanation.TheVariants.{Yes, No}
 use Rattle.audit_texts.specs.Text.{fault_text, line_end, no_text, yes_text}
 use Rattle.audit_texts.specs.Sentence.{sentence_text}
 use Rattle.audit_texts.specs.EvidenceJson.{number_data}

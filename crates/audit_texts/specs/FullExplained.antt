@@ -4,11 +4,11 @@ use Rattle.serde_json.specs.Data.{Data, Members, array, member, no_members, null
 use Rattle.serde_json.specs.View.{items_of}
 use Rattle.serde_json.specs.Written.{compact_text}
 use Rattle.nr_explain.specs.Dumps.{IsFullExplanationOf}
-use Rattle.nr_explain.specs.declared.explaining.Explanation.{Explanation}
-use Rattle.nr_explain.specs.declared.explaining.Explanation.TheVariants.{Yes, No}
-use Rattle.nr_explain.specs.declared.all_dumps.DumpExplanation.{DumpExplanation}
-use Rattle.nr_explain.specs.declared.all_dumps.DumpExplanation.TheVariants.{Sound, Faulty}
-use Rattle.nr_explain.specs.declared.all_dumps.FullExplanation.{FullExplanation}
+use Rattle.nr_explain.specs.declared.trace.explaining.Explanation.{Explanation}
+use Rattle.nr_explain.specs.declared.trace.explaining.Explanation.TheVariants.{Yes, No}
+use Rattle.nr_explain.specs.declared.trace.all_dumps.DumpExplanation.{DumpExplanation}
+use Rattle.nr_explain.specs.declared.trace.all_dumps.DumpExplanation.TheVariants.{Sound, Faulty}
+use Rattle.nr_explain.specs.declared.trace.all_dumps.FullExplanation.{FullExplanation}
 use Rattle.audit_texts.specs.Text.{fault_text, line_end}
 use Rattle.audit_texts.specs.Sentence.{sentence_text}
 use Rattle.audit_texts.specs.EvidenceJson.{number_data}

@@ -1,6 +1,7 @@
 pub mod Text
 pub mod EvidenceText
 pub mod FieldText
+pub mod Owners
 pub mod Sentence
 pub mod EvidenceJson
 pub mod Parts

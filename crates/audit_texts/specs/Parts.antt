@@ -6,11 +6,11 @@ use Rattle.vs_text.specs.Words.{hexadecimal}
 use Rattle.vs_walk.specs.declared.walk.Walk.{Walk}
 use Rattle.nr_trace.specs.declared.event.Event.{Event}
 use Rattle.nr_trace.specs.declared.fault.Format.{Format}
-use Rattle.nr_explain.specs.declared.units.TraceUnit.{TraceUnit}
-use Rattle.nr_explain.specs.declared.evidence.RecordedCall.{RecordedCall}
-use Rattle.nr_explain.specs.declared.evidence.RecordedReply.{RecordedReply}
-use Rattle.nr_explain.specs.declared.evidence.PlacedUpdate.{PlacedUpdate}
-use Rattle.nr_explain.specs.declared.evidence.Step.{Step}
+use Rattle.nr_trace.specs.declared.refusal.TraceUnit.{TraceUnit}
+use Rattle.nr_explain.specs.declared.trace.evidence.RecordedCall.{RecordedCall}
+use Rattle.nr_explain.specs.declared.trace.evidence.RecordedReply.{RecordedReply}
+use Rattle.nr_explain.specs.declared.trace.evidence.PlacedUpdate.{PlacedUpdate}
+use Rattle.nr_explain.specs.declared.trace.evidence.TableEntry.{TableEntry}
 use Rattle.audit_texts.specs.Text.{answer_text, format_text, walk_words}
 use Rattle.audit_texts.specs.EvidenceText.{bytes_text, call_line, changed_line, event_line, format_lines, option_text, own_line}
 use Rattle.audit_texts.specs.EvidenceText.{read_text, reply_line, reserved_text, step_line, steps_lines, unit_text, way_lines}
@@ -28,9 +28,9 @@ pub data Says : Type 0 where
   own : Option RecordedReply → Says
   event : ℕ → Option Event → Says
   changed : Option PlacedUpdate → Says
-  step : Step → Says
-  steps : List Step → Says
-  way : List Step → Says
+  step : TableEntry → Says
+  steps : List TableEntry → Says
+  way : List TableEntry → Says
   count : ℕ → Says
   place : Option ℕ → Says
   frame : ℕ → Says

@@ -8,28 +8,30 @@ use Rattle.nr_trace.specs.declared.event.Event.{Event}
 use Rattle.nr_trace.specs.declared.event.Event.TheVariants.{Call, Reply, Touch}
 use Rattle.nr_trace.specs.declared.fault.Format.{Format}
 use Rattle.nr_trace.specs.declared.fault.Format.TheVariants as formats
-use Rattle.nr_explain.specs.Units.{size}
+use Rattle.nr_trace.specs.FirstFault.{unit_size}
 use Rattle.nr_explain.specs.declared.units.BadUnit.{BadUnit}
 use Rattle.nr_explain.specs.declared.fields.BadField.{BadField}
-use Rattle.nr_explain.specs.declared.evidence.Step.{Step}
-use Rattle.nr_explain.specs.declared.evidence.OpenCalls.{OpenCalls}
-use Rattle.nr_explain.specs.declared.evidence.StrayReply.{StrayReply}
-use Rattle.nr_explain.specs.declared.evidence.TwoReplies.{TwoReplies}
-use Rattle.nr_explain.specs.declared.evidence.NoUpdate.{NoUpdate}
-use Rattle.nr_explain.specs.declared.evidence.TwoPlaces.{TwoPlaces}
-use Rattle.nr_explain.specs.declared.evidence.Misplaced.{Misplaced}
-use Rattle.nr_explain.specs.declared.evidence.PastEnd.{PastEnd}
-use Rattle.nr_explain.specs.declared.evidence.EarlyCall.{EarlyCall}
-use Rattle.nr_explain.specs.declared.evidence.OtherAnswer.{OtherAnswer}
-use Rattle.nr_explain.specs.declared.evidence.LongPrefix.{LongPrefix}
-use Rattle.nr_explain.specs.declared.evidence.ShortPrefix.{ShortPrefix}
-use Rattle.nr_explain.specs.declared.evidence.MissingTable.{MissingTable}
-use Rattle.nr_explain.specs.declared.evidence.SharedTable.{SharedTable}
-use Rattle.nr_explain.specs.declared.evidence.ReservedEntry.{ReservedEntry}
-use Rattle.nr_explain.specs.declared.evidence.StrayTable.{StrayTable}
-use Rattle.nr_explain.specs.declared.evidence.Difference.{Difference}
-use Rattle.nr_explain.specs.declared.evidence.Evidence.{Evidence}
-use Rattle.nr_explain.specs.declared.evidence.Evidence.TheVariants as evidence
+use Rattle.nr_explain.specs.declared.trace.evidence.TableEntry.{TableEntry}
+use Rattle.nr_explain.specs.declared.trace.evidence.OpenCalls.{OpenCalls}
+use Rattle.nr_explain.specs.declared.trace.evidence.StrayReply.{StrayReply}
+use Rattle.nr_explain.specs.declared.trace.evidence.TwoReplies.{TwoReplies}
+use Rattle.nr_explain.specs.declared.trace.evidence.NoUpdate.{NoUpdate}
+use Rattle.nr_explain.specs.declared.trace.evidence.TwoPlaces.{TwoPlaces}
+use Rattle.nr_explain.specs.declared.trace.evidence.Misplaced.{Misplaced}
+use Rattle.nr_explain.specs.declared.trace.evidence.PastEnd.{PastEnd}
+use Rattle.nr_explain.specs.declared.trace.evidence.EarlyCall.{EarlyCall}
+use Rattle.nr_explain.specs.declared.trace.evidence.OtherAnswer.{OtherAnswer}
+use Rattle.nr_explain.specs.declared.trace.evidence.LongPrefix.{LongPrefix}
+use Rattle.nr_explain.specs.declared.trace.evidence.ShortPrefix.{ShortPrefix}
+use Rattle.nr_explain.specs.declared.trace.evidence.MissingTable.{MissingTable}
+use Rattle.nr_explain.specs.declared.trace.evidence.Owner.{Owner}
+use Rattle.nr_explain.specs.declared.trace.evidence.SharedTable.{SharedTable}
+use Rattle.nr_explain.specs.declared.trace.evidence.ReservedEntry.{ReservedEntry}
+use Rattle.nr_explain.specs.declared.trace.evidence.StrayTable.{StrayTable}
+use Rattle.nr_explain.specs.declared.trace.evidence.Difference.{Difference}
+use Rattle.nr_explain.specs.declared.trace.evidence.Evidence.{Evidence}
+use Rattle.nr_explain.specs.declared.trace.evidence.Evidence.TheVariants as evidence
+use Rattle.audit_texts.specs.Owners.{of_owner, owner_text}
 use Rattle.audit_texts.specs.FieldText.{since_text}
 use Rattle.audit_texts.specs.Text.{answer_text, walk_words}
 use Rattle.audit_texts.specs.EvidenceText.{bytes_text, unit_text}
@@ -50,7 +52,7 @@ updates_text number = count_text number (codes "update") (codes "updates")
 
 -- where bytes end in a unit
 abbrev pub cut_text : BadUnit → List ℕ
-cut_text bad = codes "they end in " ++ (unit_text bad.unit ++ (codes ", of whose " ++ (decimal (size bad.unit)
+cut_text bad = codes "they end in " ++ (unit_text bad.unit ++ (codes ", of whose " ++ (decimal (unit_size bad.unit)
     ++ (codes " bytes there are " ++ decimal (length bad.read.items)))))
 
 -- which version there is not
@@ -157,21 +159,21 @@ short_prefix_sentence wrong = codes "The dump of replica " ++ (decimal wrong.rep
     ++ (entries_text wrong.applied ++ (codes ", but a reply given there shows " ++ (decimal wrong.known ++ codes ".")))))
 
 -- what leads to a frame, by the entries on the way from the root
-unfoldable pub leads_text : List Step → ℕ → List ℕ
-leads_text [] replica = codes "The root of replica " ++ (decimal replica ++ codes " is")
-leads_text (step ∷ steps) replica = codes "An entry of the tables of replica " ++ (decimal replica ++ codes " leads to")
+unfoldable pub leads_text : List TableEntry → Owner → List ℕ
+leads_text [] owner = codes "The root of " ++ (owner_text owner ++ codes " is")
+leads_text (step ∷ steps) owner = codes "An entry of the tables of " ++ (owner_text owner ++ codes " leads to")
 
 abbrev pub missing_sentence : MissingTable → List ℕ
-missing_sentence wrong = leads_text wrong.path.items wrong.replica
-    ++ (codes " frame " ++ (hexadecimal wrong.frame ++ codes ", which the dump doesn't have."))
+missing_sentence wrong = leads_text wrong.path.items wrong.owner ++ (codes " frame " ++ (hexadecimal wrong.frame
+    ++ (codes ", which " ++ (of_owner wrong.owner (codes "the dump") (codes "the start") ++ codes " doesn't have."))))
 
 abbrev pub shared_sentence : SharedTable → List ℕ
-shared_sentence wrong = codes "The tables of replica " ++ (decimal wrong.replica ++ (codes " reach frame " ++ (hexadecimal wrong.frame
+shared_sentence wrong = codes "The tables of " ++ (owner_text wrong.owner ++ (codes " reach frame " ++ (hexadecimal wrong.frame
     ++ codes " twice: a change on one way is seen on the other.")))
 
 abbrev pub reserved_sentence : ReservedEntry → List ℕ
 reserved_sentence wrong = codes "Entry " ++ (decimal wrong.entry.index ++ (codes " of frame " ++ (hexadecimal wrong.entry.frame
-    ++ (codes " of replica " ++ (decimal wrong.replica ++ (codes " has the reserved bit " ++ (decimal wrong.bit
+    ++ (codes " of " ++ (owner_text wrong.owner ++ (codes " has the reserved bit " ++ (decimal wrong.bit
     ++ codes " set: a processor faults there.")))))))
 
 abbrev pub stray_sentence : StrayTable → List ℕ

@@ -46,6 +46,13 @@ fault_text (faults.SharedFrame replica number) = codes "14 SharedFrame " ++ (dec
 fault_text (faults.ReservedBit replica number index) = codes "15 ReservedBit " ++ (decimal replica ++ (space ++ (decimal number ++ (space ++ decimal index))))
 fault_text (faults.StrayFrame replica number) = codes "16 StrayFrame " ++ (decimal replica ++ (space ++ decimal number))
 fault_text (faults.Differs replica address) = codes "17 Differs " ++ (decimal replica ++ (space ++ hexadecimal address))
+fault_text (faults.StartMissing number) = codes "18 StartMissing " ++ decimal number
+fault_text (faults.StartShared number) = codes "19 StartShared " ++ decimal number
+fault_text (faults.StartReserved number index) = codes "20 StartReserved " ++ (decimal number ++ (space ++ decimal index))
+fault_text (faults.StartStray number) = codes "21 StartStray " ++ decimal number
+fault_text (faults.StartBeyond base) = codes "22 StartBeyond " ++ hexadecimal base
+fault_text (faults.StartDiffers address) = codes "23 StartDiffers " ++ hexadecimal address
+fault_text (faults.Stale call) = codes "24 Stale " ++ decimal call
 
 -- the line of a trace that is wrong
 abbrev pub no_text : Fault → List ℕ

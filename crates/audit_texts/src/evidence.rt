@@ -2,6 +2,7 @@
 
 ghost use Rattle.std.specs.Prelude.{◌≡◌, IfOk, OnOk, map, string_bytes};
 ghost use Rattle.serde_json.specs.View.{view};
+ghost use Rattle.audit_texts.specs.Evidence.{owner_parts};
 ghost use Rattle.audit_texts.specs.Evidence.{bad_unit_parts, changed_parts, counts_data, counts_lines, counts_parts, difference_parts};
 ghost use Rattle.audit_texts.specs.Evidence.{early_parts, evidence_data, evidence_parts, evidence_text, long_prefix_parts};
 ghost use Rattle.audit_texts.specs.Evidence.{misplaced_parts, missing_parts, no_update_parts, open_parts, other_answer_parts};
@@ -10,6 +11,7 @@ ghost use Rattle.audit_texts.specs.Evidence.{stray_reply_parts, two_places_parts
 ghost use Rattle.audit_texts.specs.Parts.{part_of, put_all};
 
 use crate::output::Output;
+use crate::owner::of_owner;
 use crate::part_json::parts_value;
 use crate::part_text::parts_text;
 use crate::parts::{Part, Says};
@@ -19,7 +21,7 @@ use crate::shared::{
 };
 use nr_explain::{
     BadUnit, Counts, Difference, EarlyCall, Evidence, LongPrefix, Misplaced, MissingTable,
-    NoUpdate, OpenCalls, OtherAnswer, PastEnd, PlacedUpdate, ReservedEntry, SharedTable,
+    NoUpdate, OpenCalls, OtherAnswer, Owner, PastEnd, PlacedUpdate, ReservedEntry, SharedTable,
     ShortPrefix, StrayReply, StrayTable, TwoPlaces, TwoReplies,
 };
 use serde_json::{Map, Value};
@@ -32,6 +34,17 @@ fn put_replica<O: Output>(out: &mut O, alloc: Global, replica: u8) -> Result<(),
 {
     let parts = [Part::InJson("replica", Says::Count(u64::from(replica)))];
     out.put_all(alloc, &parts)
+}
+
+/// Puts whose tables they are.
+#[tactic(auto, unfolding(crate::specs::Evidence::owner_parts, crate::specs::Parts::put_all))]
+fn put_owner<O: Output>(out: &mut O, alloc: Global, owner: Owner) -> Result<(), AllocError>
+    ensures { OnOk result (O.held out.new ≡ put_all (owner_parts owner) (O.held out.old)) }
+{
+    match owner {
+        Owner::Dump(replica) => put_replica(out, alloc, replica),
+        Owner::Start => out.put_all(alloc, &[]),
+    }
 }
 
 /// Puts the last change of an address, behind the address.
@@ -251,51 +264,50 @@ fn put_short_prefix<O: Output>(
 }
 
 #[tactic(auto, unfolding(crate::specs::Evidence::missing_parts))]
-fn put_missing<O: Output>(
+pub(crate) fn put_missing<O: Output>(
     out: &mut O,
     alloc: Global,
     wrong: &MissingTable,
 ) -> Result<(), AllocError>
     ensures { OnOk result (O.held out.new ≡ put_all (missing_parts wrong.now) (O.held out.old)) }
 {
-    let end = ", which the dump doesn't have\n";
-    put_missing_frame(
-        out,
-        alloc,
-        "MissingFrame",
-        wrong.path.as_slice(),
-        wrong.frame,
-        end,
-    )?;
-    put_replica(out, alloc, wrong.replica)
+    let owner = wrong.owner;
+    let fault = of_owner(owner, "MissingFrame", "StartMissing");
+    let end = of_owner(
+        owner,
+        ", which the dump doesn't have\n",
+        ", which the start doesn't have\n",
+    );
+    put_missing_frame(out, alloc, fault, wrong.path.as_slice(), wrong.frame, end)?;
+    put_owner(out, alloc, owner)
 }
 
 #[tactic(auto, unfolding(crate::specs::Evidence::shared_parts))]
-fn put_shared<O: Output>(out: &mut O, alloc: Global, wrong: &SharedTable) -> Result<(), AllocError>
+pub(crate) fn put_shared<O: Output>(
+    out: &mut O,
+    alloc: Global,
+    wrong: &SharedTable,
+) -> Result<(), AllocError>
     ensures { OnOk result (O.held out.new ≡ put_all (shared_parts wrong.now) (O.held out.old)) }
 {
+    let fault = of_owner(wrong.owner, "SharedFrame", "StartShared");
     let (first, second) = (wrong.first.as_slice(), wrong.second.as_slice());
-    put_shared_frame(out, alloc, "SharedFrame", first, second, wrong.frame)?;
-    put_replica(out, alloc, wrong.replica)
+    put_shared_frame(out, alloc, fault, first, second, wrong.frame)?;
+    put_owner(out, alloc, wrong.owner)
 }
 
 #[tactic(auto, unfolding(crate::specs::Evidence::reserved_parts))]
-fn put_reserved<O: Output>(
+pub(crate) fn put_reserved<O: Output>(
     out: &mut O,
     alloc: Global,
     wrong: &ReservedEntry,
 ) -> Result<(), AllocError>
     ensures { OnOk result (O.held out.new ≡ put_all (reserved_parts wrong.now) (O.held out.old)) }
 {
-    put_reserved_entry(
-        out,
-        alloc,
-        "ReservedBit",
-        wrong.path.as_slice(),
-        wrong.entry,
-        wrong.bit,
-    )?;
-    put_replica(out, alloc, wrong.replica)
+    let fault = of_owner(wrong.owner, "ReservedBit", "StartReserved");
+    let path = wrong.path.as_slice();
+    put_reserved_entry(out, alloc, fault, path, wrong.entry, wrong.bit)?;
+    put_owner(out, alloc, wrong.owner)
 }
 
 #[tactic(auto, unfolding(crate::specs::Evidence::stray_parts))]
@@ -318,7 +330,7 @@ fn put_difference<O: Output>(
     put_changed(out, alloc, wrong.changed)
 }
 
-/// Puts the evidence of a fault. Allocates what it says.
+/// Puts the evidence of a fault, and allocates its text.
 ///
 /// # Errors
 ///

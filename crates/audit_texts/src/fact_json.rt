@@ -9,7 +9,7 @@ ghost use Rattle.audit_texts.specs.EvidenceJson.{step_data, way_data};
 
 use crate::answer::answer_text;
 use crate::fact_text::{address_text, asked_text, touch_text};
-use nr_explain::{PlacedUpdate, RecordedCall, RecordedReply, Step};
+use nr_explain::{PlacedUpdate, RecordedCall, RecordedReply, TableEntry};
 use nr_trace::Event;
 use serde_json::{Map, Value, put};
 use std::alloc::{AllocError, Global};
@@ -186,7 +186,7 @@ pub(crate) fn changed_value(
 }
 
 /// An entry of a table.
-pub(crate) fn step_value(alloc: Global, step: Step) -> Result<Value, AllocError>
+pub(crate) fn step_value(alloc: Global, step: TableEntry) -> Result<Value, AllocError>
     ensures { IfOk result (λ value. view value ≡ step_data step) }
 {
     let mut members = Map::new(alloc);
@@ -198,7 +198,7 @@ pub(crate) fn step_value(alloc: Global, step: Step) -> Result<Value, AllocError>
     Ok(Value::Object(members))
 }
 
-fn way_values(alloc: Global, steps: &[Step]) -> Result<Vec<Value>, AllocError>
+fn way_values(alloc: Global, steps: &[TableEntry]) -> Result<Vec<Value>, AllocError>
     ensures { IfOk result (λ values. map view values.items ≡ map step_data steps.now) }
 {
     let mut values = Vec::new(alloc);
@@ -210,7 +210,7 @@ fn way_values(alloc: Global, steps: &[Step]) -> Result<Vec<Value>, AllocError>
 }
 
 /// The entries on a way.
-pub(crate) fn way_value(alloc: Global, steps: &[Step]) -> Result<Value, AllocError>
+pub(crate) fn way_value(alloc: Global, steps: &[TableEntry]) -> Result<Value, AllocError>
     ensures { IfOk result (λ value. view value ≡ way_data steps.now) }
 {
     Ok(Value::Array(way_values(alloc, steps)?))

@@ -8,7 +8,7 @@ ghost use Rattle.audit_texts.specs.EvidenceText.{asked_text, call_line, changed_
 ghost use Rattle.audit_texts.specs.EvidenceText.{reply_line, reserved_text, step_line, steps_lines, way_lines};
 
 use crate::answer::answer_text;
-use nr_explain::{PlacedUpdate, RecordedCall, RecordedReply, Step};
+use nr_explain::{PlacedUpdate, RecordedCall, RecordedReply, TableEntry};
 use nr_trace::{Event, Format};
 use std::alloc::{AllocError, Global};
 use vs_text::{access_text, mode_text, request_text};
@@ -196,7 +196,7 @@ pub(crate) fn changed_line(
 
 /// The line of an entry of a table.
 #[tactic(auto, unfolding(crate::specs::EvidenceText::step_line))]
-pub(crate) fn step_line(alloc: Global, step: Step) -> Result<String, AllocError>
+pub(crate) fn step_line(alloc: Global, step: TableEntry) -> Result<String, AllocError>
     ensures { IfOk result (λ text. string_bytes text ≡ step_line step) }
 {
     let level = step.level;
@@ -207,7 +207,7 @@ pub(crate) fn step_line(alloc: Global, step: Step) -> Result<String, AllocError>
 }
 
 /// Adds the lines of entries.
-pub fn push_steps(alloc: Global, text: &mut String, steps: &[Step]) -> Result<(), AllocError>
+pub fn push_steps(alloc: Global, text: &mut String, steps: &[TableEntry]) -> Result<(), AllocError>
     ensures { OnOk result (string_bytes text.new ≡ string_bytes text.old ++ steps_lines steps.now) }
 {
     for step in steps {
@@ -218,7 +218,7 @@ pub fn push_steps(alloc: Global, text: &mut String, steps: &[Step]) -> Result<()
 }
 
 /// The lines of entries.
-pub(crate) fn steps_lines(alloc: Global, steps: &[Step]) -> Result<String, AllocError>
+pub(crate) fn steps_lines(alloc: Global, steps: &[TableEntry]) -> Result<String, AllocError>
     ensures { IfOk result (λ text. string_bytes text ≡ steps_lines steps.now) }
 {
     let mut text = String::new(alloc);
@@ -228,7 +228,7 @@ pub(crate) fn steps_lines(alloc: Global, steps: &[Step]) -> Result<String, Alloc
 
 /// The lines of the entries on a way from the root.
 #[tactic(auto, unfolding(crate::specs::EvidenceText::way_lines))]
-pub(crate) fn way_lines(alloc: Global, steps: &[Step]) -> Result<String, AllocError>
+pub(crate) fn way_lines(alloc: Global, steps: &[TableEntry]) -> Result<String, AllocError>
     ensures { IfOk result (λ text. string_bytes text ≡ way_lines steps.now) }
 {
     if steps.is_empty() {

@@ -32,8 +32,7 @@ pub fn equal_texts_are_equal_spaces()
         → dump_text as_ranges depth dump ≡ dump_text as_ranges depth other }
 {}
 
-/// Of a dump that translates as a space, what is printed is what is printed of the pages of the space; and no two spaces have the same
-/// printed.
+/// What is printed of a dump that translates as a space is what is printed of the pages of the space. No two spaces have the same text.
 pub fn spaces_have_texts()
     ensures of_dump { (as_ranges : Bool) (depth : Depth) (dump : Image) (space : Space)
         → IsDump dump → IsSpace depth space → TranslatesAs depth dump.frames dump.root space

@@ -12,6 +12,7 @@ mod field_text;
 mod full;
 pub mod laws;
 mod output;
+mod owner;
 mod pages;
 mod part_json;
 mod part_text;
@@ -23,7 +24,7 @@ mod units;
 
 pub use answer::{answer_text, push_answer};
 pub use chain::explanation::told_chain;
-pub use chain::text::{end_lines, segment_fault_text, segment_lines};
+pub use chain::text::{end_lines, segment_lines};
 pub use evidence::put_evidence;
 pub use explanation::told_explanation;
 pub use fact_json::{Members, put_text};
@@ -35,9 +36,6 @@ pub use part_json::parts_value;
 pub use part_text::parts_text;
 pub use parts::{Part, Says};
 pub use sentence::{difference_sentence, other_answer_sentence, reason_text, sentence_text};
-pub use shared::{
-    put_answer, put_look, put_missing_frame, put_read, put_reserved_entry, put_shared_frame,
-    put_stray_frame, put_unlike,
-};
+pub use shared::{put_answer, put_look, put_read, put_stray_frame, put_unlike};
 pub use text::{fault_text, no_text, verdict_line, verdict_text, walk_text, walk_words, yes_text};
 pub use units::{bytes_text, unit_text};

@@ -14,7 +14,7 @@ use std::alloc::{AllocError, Global};
 pub trait Output {
     ghost held: { Self → Put };
 
-    /// Puts parts behind what is there. Allocates what they say.
+    /// Puts parts behind what is there, and allocates their texts.
     ///
     /// # Errors
     ///

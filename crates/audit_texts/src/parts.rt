@@ -1,7 +1,7 @@
 //! What is said of a fault, as a list of parts: words, and facts with their names.
 
-use nr_explain::{PlacedUpdate, RecordedCall, RecordedReply, Step, TraceUnit};
-use nr_trace::{Event, Format};
+use nr_explain::{PlacedUpdate, RecordedCall, RecordedReply, TableEntry};
+use nr_trace::{Event, Format, TraceUnit};
 use vs_types::Answer;
 use vs_walk::Walk;
 
@@ -19,11 +19,11 @@ pub enum Says<'a> {
     /// The last update that changed how an address looks, if there is one.
     Changed(Option<PlacedUpdate>),
     /// An entry of a table.
-    Step(Step),
+    Step(TableEntry),
     /// The entries that are read on a way: a line each, and none where there are none.
-    Steps(&'a [Step]),
+    Steps(&'a [TableEntry]),
     /// The entries on the way from the root to a table: the same, but without entries it is the root, and a line says so.
-    Way(&'a [Step]),
+    Way(&'a [TableEntry]),
     Count(u64),
     /// A place of the log, or what it has there, if there is such a place.
     Place(Option<u32>),
@@ -32,7 +32,7 @@ pub enum Says<'a> {
     /// Hexadecimal in both.
     Address(u64),
     Answer(Answer),
-    /// Where a walk ends.
+    /// The end of a walk.
     Walk(Walk),
     /// Which unit of a trace or of a segment it is.
     Unit(TraceUnit),

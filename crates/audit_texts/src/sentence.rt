@@ -11,12 +11,13 @@ ghost use Rattle.audit_texts.specs.Sentence.{two_places_sentence, two_replies_se
 
 use crate::answer::answer_text;
 use crate::field_text::since_text;
+use crate::owner::{of_owner, owner_text};
 use crate::text::walk_words;
 use crate::units::{bytes_text, unit_text};
 use nr_explain::{
     BadField, BadUnit, Difference, EarlyCall, Evidence, LongPrefix, Misplaced, MissingTable,
-    NoUpdate, OpenCalls, OtherAnswer, PastEnd, ReservedEntry, SharedTable, ShortPrefix, Step,
-    StrayReply, StrayTable, TwoPlaces, TwoReplies,
+    NoUpdate, OpenCalls, OtherAnswer, Owner, PastEnd, ReservedEntry, SharedTable, ShortPrefix,
+    StrayReply, StrayTable, TableEntry, TwoPlaces, TwoReplies,
 };
 use nr_trace::{Event, Format};
 use std::alloc::{AllocError, Global};
@@ -44,7 +45,7 @@ fn updates_text(alloc: Global, number: u32) -> Result<String, AllocError>
     format!(in alloc; "{number} {updates}")
 }
 
-/// Where bytes end in a unit.
+/// The unit in which bytes end.
 fn cut_text(alloc: Global, bad: &BadUnit) -> Result<String, AllocError>
     ensures { IfOk result (λ text. string_bytes text ≡ cut_text bad.now) }
 {
@@ -317,42 +318,44 @@ fn short_prefix_sentence(alloc: Global, wrong: ShortPrefix) -> Result<String, Al
 
 /// What leads to a frame, by the entries on the way from the root.
 #[tactic(auto, unfolding(crate::specs::Sentence::leads_text))]
-fn leads_text(alloc: Global, way: &[Step], replica: u8) -> Result<String, AllocError>
-    ensures { IfOk result (λ text. string_bytes text ≡ leads_text way.now replica) }
+fn leads_text(alloc: Global, way: &[TableEntry], owner: Owner) -> Result<String, AllocError>
+    ensures { IfOk result (λ text. string_bytes text ≡ leads_text way.now owner) }
 {
+    let owner = owner_text(alloc, owner)?;
     if way.is_empty() {
-        return format!(in alloc; "The root of replica {replica} is");
+        return format!(in alloc; "The root of {owner} is");
     }
-    format!(in alloc; "An entry of the tables of replica {replica} leads to")
+    format!(in alloc; "An entry of the tables of {owner} leads to")
 }
 
-fn missing_sentence(alloc: Global, wrong: &MissingTable) -> Result<String, AllocError>
+pub(crate) fn missing_sentence(alloc: Global, wrong: &MissingTable) -> Result<String, AllocError>
     ensures { IfOk result (λ text. string_bytes text ≡ missing_sentence wrong.now) }
 {
-    let leads = leads_text(alloc, wrong.path.as_slice(), wrong.replica)?;
-    let frame = wrong.frame;
-    format!(in alloc; "{leads} frame 0x{frame:x}, which the dump doesn't have.")
+    let leads = leads_text(alloc, wrong.path.as_slice(), wrong.owner)?;
+    let frame = address_text(alloc, wrong.frame)?;
+    let lacks = of_owner(wrong.owner, "the dump", "the start");
+    format!(in alloc; "{leads} frame {frame}, which {lacks} doesn't have.")
 }
 
-fn shared_sentence(alloc: Global, wrong: &SharedTable) -> Result<String, AllocError>
+pub(crate) fn shared_sentence(alloc: Global, wrong: &SharedTable) -> Result<String, AllocError>
     ensures { IfOk result (λ text. string_bytes text ≡ shared_sentence wrong.now) }
 {
-    let replica = wrong.replica;
-    let frame = wrong.frame;
+    let owner = owner_text(alloc, wrong.owner)?;
+    let frame = address_text(alloc, wrong.frame)?;
     format!(in alloc;
-        "The tables of replica {replica} reach frame 0x{frame:x} twice: a change on one way is seen on the other."
+        "The tables of {owner} reach frame {frame} twice: a change on one way is seen on the other."
     )
 }
 
-fn reserved_sentence(alloc: Global, wrong: &ReservedEntry) -> Result<String, AllocError>
+pub(crate) fn reserved_sentence(alloc: Global, wrong: &ReservedEntry) -> Result<String, AllocError>
     ensures { IfOk result (λ text. string_bytes text ≡ reserved_sentence wrong.now) }
 {
+    let owner = owner_text(alloc, wrong.owner)?;
     let index = wrong.entry.index;
-    let frame = wrong.entry.frame;
-    let replica = wrong.replica;
+    let frame = address_text(alloc, wrong.entry.frame)?;
     let bit = wrong.bit;
     format!(in alloc;
-        "Entry {index} of frame 0x{frame:x} of replica {replica} has the reserved bit {bit} set: a processor faults there."
+        "Entry {index} of frame {frame} of {owner} has the reserved bit {bit} set: a processor faults there."
     )
 }
 
@@ -366,6 +369,7 @@ fn stray_sentence(alloc: Global, wrong: StrayTable) -> Result<String, AllocError
     )
 }
 
+/// The number as an address is written.
 fn address_text(alloc: Global, address: u64) -> Result<String, AllocError>
     ensures { IfOk result (λ text. string_bytes text ≡ hexadecimal address) }
 {

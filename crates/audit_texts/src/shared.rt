@@ -7,12 +7,12 @@ ghost use Rattle.audit_texts.specs.Parts.{part_of, put_all};
 
 use crate::output::Output;
 use crate::parts::{Part, Says};
-use nr_explain::{Difference, OtherAnswer, Step};
+use nr_explain::{Difference, OtherAnswer, TableEntry};
 use std::alloc::{AllocError, Global};
 use vs_types::Answer;
 use vs_walk::Walk;
 
-/// Puts what was read of a unit of `size` bytes, behind the name of the unit. Allocates what it says.
+/// Puts what was read of a unit of `size` bytes, behind the name of the unit. Allocates the text.
 ///
 /// # Errors
 ///
@@ -42,17 +42,17 @@ pub fn put_read<O: Output>(
     out.put_all(alloc, &parts)
 }
 
-/// Puts a frame that isn't there, and the way to it; `end` ends its line. Allocates what it says.
+/// Puts a frame that isn't there, and the way to it; `end` ends its line. Allocates the text.
 ///
 /// # Errors
 ///
 /// Out of memory. Some of it may have been put.
 #[tactic(auto, unfolding(crate::specs::Evidence::missing_frame_parts))]
-pub fn put_missing_frame<'a, O: Output>(
+pub(crate) fn put_missing_frame<'a, O: Output>(
     out: &mut O,
     alloc: Global,
     fault: &'a str,
-    path: &'a [Step],
+    path: &'a [TableEntry],
     frame: u64,
     end: &'static str,
 ) -> Result<(), AllocError>
@@ -69,18 +69,18 @@ pub fn put_missing_frame<'a, O: Output>(
     out.put_all(alloc, &parts)
 }
 
-/// Puts a frame to which tables lead twice, and the ways to it. Allocates what it says.
+/// Puts a frame to which tables lead twice, and the ways to it. Allocates the text.
 ///
 /// # Errors
 ///
 /// Out of memory. Some of it may have been put.
 #[tactic(auto, unfolding(crate::specs::Evidence::shared_frame_parts))]
-pub fn put_shared_frame<'a, O: Output>(
+pub(crate) fn put_shared_frame<'a, O: Output>(
     out: &mut O,
     alloc: Global,
     fault: &'a str,
-    first: &'a [Step],
-    second: &'a [Step],
+    first: &'a [TableEntry],
+    second: &'a [TableEntry],
     frame: u64,
 ) -> Result<(), AllocError>
     ensures { OnOk result (O.held out.new
@@ -97,18 +97,18 @@ pub fn put_shared_frame<'a, O: Output>(
     out.put_all(alloc, &parts)
 }
 
-/// Puts an entry with a reserved bit set, and the way to it. Allocates what it says.
+/// Puts an entry with a reserved bit set, and the way to it. Allocates the text.
 ///
 /// # Errors
 ///
 /// Out of memory. Some of it may have been put.
 #[tactic(auto, unfolding(crate::specs::Evidence::reserved_entry_parts))]
-pub fn put_reserved_entry<'a, O: Output>(
+pub(crate) fn put_reserved_entry<'a, O: Output>(
     out: &mut O,
     alloc: Global,
     fault: &'a str,
-    path: &'a [Step],
-    entry: Step,
+    path: &'a [TableEntry],
+    entry: TableEntry,
     bit: u8,
 ) -> Result<(), AllocError>
     ensures { OnOk result (O.held out.new
@@ -127,7 +127,7 @@ pub fn put_reserved_entry<'a, O: Output>(
     out.put_all(alloc, &parts)
 }
 
-/// Puts a frame to which no table leads. Allocates what it says.
+/// Puts a frame to which no table leads. Allocates the text.
 ///
 /// # Errors
 ///
@@ -151,7 +151,7 @@ pub fn put_stray_frame<O: Output>(
     out.put_all(alloc, &parts)
 }
 
-/// Puts a wrong answer, and the one of the space, up to the address. Allocates what it says.
+/// Puts a wrong answer, and the one of the space, up to the address. Allocates the text.
 ///
 /// # Errors
 ///
@@ -176,7 +176,7 @@ pub fn put_answer<O: Output>(
     out.put_all(alloc, &parts)
 }
 
-/// Puts how tables translate an address, and how it looks in the space, up to the address. Allocates what it says.
+/// Puts how tables translate an address, and how it looks in the space, up to the address. Allocates the text.
 ///
 /// # Errors
 ///
@@ -186,7 +186,7 @@ pub fn put_look<O: Output>(
     out: &mut O,
     alloc: Global,
     found: Walk,
-    path: &[Step],
+    path: &[TableEntry],
     wanted: Answer,
     address: u64,
 ) -> Result<(), AllocError>
@@ -205,7 +205,7 @@ pub fn put_look<O: Output>(
     out.put_all(alloc, &parts)
 }
 
-/// Puts how a dump translates an address and the space doesn't, up to the address. Allocates what it says.
+/// Puts how a dump translates an address and the space doesn't, up to the address. Allocates the text.
 ///
 /// # Errors
 ///

@@ -69,6 +69,15 @@ pub fn fault_text(alloc: Global, fault: Fault) -> Result<String, AllocError>
         Fault::Differs(replica, address) => {
             format!(in alloc; "17 Differs {replica} 0x{address:x}")
         }
+        Fault::StartMissing(number) => format!(in alloc; "18 StartMissing {number}"),
+        Fault::StartShared(number) => format!(in alloc; "19 StartShared {number}"),
+        Fault::StartReserved(number, index) => {
+            format!(in alloc; "20 StartReserved {number} {index}")
+        }
+        Fault::StartStray(number) => format!(in alloc; "21 StartStray {number}"),
+        Fault::StartBeyond(base) => format!(in alloc; "22 StartBeyond 0x{base:x}"),
+        Fault::StartDiffers(address) => format!(in alloc; "23 StartDiffers 0x{address:x}"),
+        Fault::Stale(call) => format!(in alloc; "24 Stale {call}"),
     }
 }
 
@@ -143,7 +152,7 @@ pub fn verdict_line(alloc: Global, verdict: &Verdict) -> Result<String, AllocErr
     }
 }
 
-/// Where a walk ends. Allocates the text.
+/// The end of a walk. Allocates the text.
 ///
 /// # Errors
 ///

@@ -3,7 +3,7 @@
 ghost use Rattle.std.specs.Prelude.{◌≡◌, ◌++◌, IfOk, OnOk, flat_map, string_bytes, take};
 ghost use Rattle.audit_texts.specs.EvidenceText.{byte_text, bytes_text, read_text, unit_text};
 
-use nr_explain::TraceUnit;
+use nr_trace::TraceUnit;
 use std::alloc::{AllocError, Global};
 
 /// Which unit of a trace or of a segment it is. Allocates memory for the text.

@@ -9,7 +9,7 @@ use Rattle.nr_trace.specs.Calls.{call_of, IsCall, IsUpdate, IsRead, Response, re
 use Rattle.nr_trace.specs.Orders.{before, space_from, answer_in, recorded_order, known_by, floor}
 use Rattle.nr_trace.specs.Faults.{OpensTwice, IsWrongFrom, StandsAfter}
 use Rattle.nr_trace.specs.Laws.{HasCleanLog, IsFaultlessFrom}
-use Rattle.nr_trace.specs.declared.fault.Fault.TheVariants.{Format, ThreadOpen, NoSuchCall, AnsweredTwice, NotAnUpdate, PlacedTwice, NotPlaced, PastLog, Early}
+use Rattle.nr_trace.specs.declared.fault.Fault.TheVariants.{ThreadOpen, NoSuchCall, AnsweredTwice, NotAnUpdate, PlacedTwice, NotPlaced, PastLog, Early}
 use Rattle.nr_trace.specs.declared.fault.Fault.TheVariants.{WrongAnswer, PrefixPastLog, PrefixShort, MissingFrame, SharedFrame, ReservedBit, StrayFrame}
 use Rattle.nr_trace.specs.declared.fault.Fault.TheVariants.{Differs}
 use Rattle.nr_trace.proofs.LawsOfLists.{In}
@@ -166,7 +166,6 @@ module _ (start : Space) (first second : Recording) (closed : IsClosed first) (f
   none_there replica dump is = none-some dump is
 
   pub front_faultless : IsFaultlessFrom start (without_dumps first)
-  front_faultless (Format fault) h = h
   front_faultless (ThreadOpen index) h = opens_once index (record {
     made = h.made;
     is_made = h.is_made;
@@ -193,3 +192,4 @@ module _ (start : Space) (first second : Recording) (closed : IsClosed first) (f
   front_faultless (ReservedBit replica number index) h = none_there replica h.0 h.1
   front_faultless (StrayFrame replica number) h = none_there replica h.0 h.1
   front_faultless (Differs replica address) h = none_there replica h.0 h.1
+  front_faultless _ h = h

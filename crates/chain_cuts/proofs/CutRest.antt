@@ -11,7 +11,7 @@ use Rattle.nr_trace.specs.Calls.{operation_of, IsCall, IsUpdate, IsRead, Respons
 use Rattle.nr_trace.specs.Orders.{before, space_from, answer_in, recorded_order, known_by, floor}
 use Rattle.nr_trace.specs.Faults.{OpensTwice, IsWrongFrom, RestsOnMore, StandsAfter}
 use Rattle.nr_trace.specs.Laws.{HasCleanLog, IsFaultlessFrom}
-use Rattle.nr_trace.specs.declared.fault.Fault.TheVariants.{Format, ThreadOpen, NoSuchCall, AnsweredTwice, NotAnUpdate, PlacedTwice, NotPlaced, PastLog, Early}
+use Rattle.nr_trace.specs.declared.fault.Fault.TheVariants.{ThreadOpen, NoSuchCall, AnsweredTwice, NotAnUpdate, PlacedTwice, NotPlaced, PastLog, Early}
 use Rattle.nr_trace.specs.declared.fault.Fault.TheVariants.{WrongAnswer, PrefixPastLog, PrefixShort, MissingFrame, SharedFrame, ReservedBit, StrayFrame}
 use Rattle.nr_trace.specs.declared.fault.Fault.TheVariants.{Differs}
 use Rattle.nr_trace.proofs.LawsOfLists.{In, in_filter}
@@ -240,7 +240,6 @@ module _ (start : Space) (first second : Recording) (same_layout : second.layout
       (dump_behind (length first.log) dump, dump_there replica dump is, is_there, same dump (subst (λ (l : Layout). P l dump) same_layout h))
 
   pub rest_faultless : IsFaultlessFrom space second
-  rest_faultless (Format fault) h = h
   rest_faultless (ThreadOpen index) h = opens_once index h
   rest_faultless (NoSuchCall index) h = is_of_a_call index h.0 h.1 h.2
   rest_faultless (AnsweredTwice index) h = answered_once index h.0 h.2.0 h.1 h.2.1 h.2.2
@@ -261,3 +260,4 @@ module _ (start : Space) (first second : Recording) (same_layout : second.layout
   rest_faultless (StrayFrame replica number) h =
       faultless (StrayFrame replica number) (of_frames (λ (l : Layout) (d : Image). HasStrayFrame l.depth d number) (λ dump x. x) replica h)
   rest_faultless (Differs replica address) h = none_differs replica h.0 address h.1 h.2 h.3
+  rest_faultless _ h = h

@@ -3,21 +3,20 @@ use Rattle.std.proofs.Common.{◌≡◌, ℕ, List, [], ◌∷◌, Option, Some,
 use Rattle.vs_types.specs.Config.{Layout}
 use Rattle.vs_types.specs.Space.{Space}
 use Rattle.nr_trace.specs.Recording.{Recording}
-use Rattle.nr_trace.specs.Faults.{HasFaultFrom}
 use Rattle.nr_trace.specs.Laws.{IsFaultlessFrom}
 use Rattle.nr_trace.specs.Orders.{recorded_order, space_from}
 use Rattle.nr_trace.proofs.LawsOfDumps.{clean_if_faultless}
-use Rattle.nr_audit.specs.Start.{first_space}
-use Rattle.nr_audit.specs.Touches.{HasRightTouches, IsStale}
-use Rattle.nr_audit.specs.Faults.{HasNoFaultAfter, IsSoundAfter}
+use Rattle.nr_audit.specs.Start.{first_space, BeginsRight}
+use Rattle.nr_audit.specs.Touches.{HasRightTouches}
+use Rattle.nr_audit.specs.Faults.{IsSoundAfter}
 use Rattle.nr_audit.specs.Segments.{last_space}
-use Rattle.nr_audit.specs.declared.fault.SegmentFault.TheVariants.{Start, Within, Stale}
 use Rattle.nr_chain.specs.Bytes.{kept_after, layout_before, space_before, SpellAll, SpellsChain, GoesOnSo}
 use Rattle.chain_cuts.specs.Cut.{orders_of, AreCut, AreRecorded, AreSoundAfter, HasNoDumps, HaveNoStarts, IsClosed, IsSameRun}
 use Rattle.nr_chain.specs.Fed.{Kept}
 use Rattle.nr_chain.specs.Headline.{traces}
 use Rattle.nr_chain.specs.Joined.{Segment, both, joined, joined_traces}
 use Rattle.nr_chain.specs.Run.{AreFaultlessFrom, space_behind}
+use Rattle.nr_audit.proofs.Judgements.{begins_of, faultless_of, sound_by}
 use Rattle.chain_cuts.proofs.Cuts.{cut_joined, faultless_apart, faultless_both, space_of_both, whole_from_segments}
 use Rattle.nr_chain.proofs.OneChain.{one_front}
 use Rattle.chain_cuts.proofs.SameRuns.{same_back, sound_as_same}
@@ -28,12 +27,6 @@ same_first : (before : Option Space) (first second : Recording) → first_space 
 same_first None first second = refl
 same_first (Some space) first second = refl
 
-sound_faultless : (before : Option Space) (segment : Recording) → IsSoundAfter before segment → IsFaultlessFrom (first_space before segment) segment
-sound_faultless before segment sound fault h = sound.faultless (Within fault) h
-
-none_stale : (start : Space) (segment : Recording) (call : ℕ) → HasRightTouches start segment → IsStale start segment call → ⊥
-none_stale start segment call right (touch, has, made, wrong) = wrong (right touch has)
-
 module _ (before : Option Space) (first next : Segment) (same_layout : next.trace.layout ≡ first.trace.layout) (closed : IsClosed first.trace)
     (none : HasNoDumps first.trace) where
   abbrev whole : Recording
@@ -43,54 +36,45 @@ module _ (before : Option Space) (first next : Segment) (same_layout : next.trac
   start = first_space before first.trace
 
   pub sound_both : IsSoundAfter before first.trace → IsSoundAfter (Some (last_space before first.trace)) next.trace → IsSoundAfter before whole
-  sound_both front rest = record { faultless = faultless; touches = touches } where
-    clean_front : IsFaultlessFrom start first.trace
-    clean_front = sound_faultless before first.trace front
+  sound_both front rest = sound_by before whole (begins_of before first.trace front.faultless)
+      (subst (λ (space : Space). IsFaultlessFrom space whole) (sym (same_first before first.trace next.trace)) clean) touches where
+        clean_front : IsFaultlessFrom start first.trace
+        clean_front = faultless_of before first.trace front.faultless
 
-    clean : IsFaultlessFrom start whole
-    clean =
-        faultless_both start first next same_layout closed none clean_front
-        (sound_faultless (Some (last_space before first.trace)) next.trace rest)
+        clean : IsFaultlessFrom start whole
+        clean =
+            faultless_both start first next same_layout closed none clean_front
+            (faultless_of (Some (last_space before first.trace)) next.trace rest.faultless)
 
-    touches : HasRightTouches (first_space before whole) whole
-    touches =
-        subst (λ (space : Space). HasRightTouches space whole) (sym (same_first before first.trace next.trace))
-        (touches_as_one start first.trace next.trace same_layout closed (clean_if_faultless start first.trace clean_front) (front.touches, rest.touches))
-
-    faultless : HasNoFaultAfter before whole
-    faultless (Start fault) h = front.faultless (Start fault) h
-    faultless (Within fault) h = clean fault (subst (λ (space : Space). HasFaultFrom space whole fault) (same_first before first.trace next.trace) h)
-    faultless (Stale call) h = none_stale (first_space before whole) whole call touches h
+        touches : HasRightTouches (first_space before whole) whole
+        touches =
+            subst (λ (space : Space). HasRightTouches space whole) (sym (same_first before first.trace next.trace))
+            (touches_as_one start first.trace next.trace same_layout closed (clean_if_faultless start first.trace clean_front) (front.touches, rest.touches))
 
   pub sound_apart : next.trace.start ≡ None → IsSoundAfter before whole
       → IsSoundAfter before first.trace × IsSoundAfter (Some (last_space before first.trace)) next.trace
-  sound_apart no_start sound =
-      (record { faultless = faultless_front; touches = touches.0 }, record { faultless = faultless_rest; touches = touches.1 }) where
-        parts : IsFaultlessFrom start first.trace × IsFaultlessFrom (last_space before first.trace) next.trace
-        parts =
-            faultless_apart start first next same_layout closed none
-            (subst (λ (space : Space). IsFaultlessFrom space whole) (same_first before first.trace next.trace) (sound_faultless before whole sound))
+  sound_apart no_start sound = (
+    sound_by before first.trace (begins_of before whole sound.faultless) parts.0 touches.0,
+    sound_by (Some (last_space before first.trace)) next.trace begins parts.1 touches.1,
+  ) where
+    parts : IsFaultlessFrom start first.trace × IsFaultlessFrom (last_space before first.trace) next.trace
+    parts =
+        faultless_apart start first next same_layout closed none
+        (subst (λ (space : Space). IsFaultlessFrom space whole) (same_first before first.trace next.trace) (faultless_of before whole sound.faultless))
 
-        touches : HasRightTouches start first.trace × HasRightTouches (last_space before first.trace) next.trace
-        touches =
-            touches_apart start first.trace next.trace same_layout closed (clean_if_faultless start first.trace parts.0)
-            (subst (λ (space : Space). HasRightTouches space whole) (same_first before first.trace next.trace) sound.touches)
+    touches : HasRightTouches start first.trace × HasRightTouches (last_space before first.trace) next.trace
+    touches =
+        touches_apart start first.trace next.trace same_layout closed (clean_if_faultless start first.trace parts.0)
+        (subst (λ (space : Space). HasRightTouches space whole) (same_first before first.trace next.trace) sound.touches)
 
-        faultless_front : HasNoFaultAfter before first.trace
-        faultless_front (Start fault) h = sound.faultless (Start fault) h
-        faultless_front (Within fault) h = parts.0 fault h
-        faultless_front (Stale call) h = none_stale start first.trace call touches.0 h
-
-        faultless_rest : HasNoFaultAfter (Some (last_space before first.trace)) next.trace
-        faultless_rest (Start fault) (start, is, holds) = absurd (let some : None ≡ Some start = sym no_start ∙ is in cc)
-        faultless_rest (Within fault) h = parts.1 fault h
-        faultless_rest (Stale call) h = none_stale (last_space before first.trace) next.trace call touches.1 h
+    begins : BeginsRight (Some (last_space before first.trace)) next.trace
+    begins fault (start, is, holds) = absurd (let some : None ≡ Some start = sym no_start ∙ is in cc)
 
   -- the space after both
   pub last_of_both : IsSoundAfter before first.trace → last_space before whole ≡ last_space (Some (last_space before first.trace)) next.trace
   last_of_both front =
       ap (λ (space : Space). space_from space whole whole.log) (same_first before first.trace next.trace)
-      ∙ space_of_both start first next same_layout closed none (sound_faultless before first.trace front)
+      ∙ space_of_both start first next same_layout closed none (faultless_of before first.trace front.faultless)
 
 -- ---- all segments
 
@@ -119,7 +103,7 @@ faultless_behind : (space : Space) (layout : Layout) (segments : List Segment) �
 faultless_behind space layout [] recorded sound = tt
 faultless_behind space layout (segment ∷ more) (has_layout, order, others) (sound, rest) = (
   has_layout,
-  sound_faultless (Some space) segment.trace sound,
+  faultless_of (Some space) segment.trace sound.faultless,
   order,
   faultless_behind (space_behind space segment) layout more others rest,
 )
@@ -129,7 +113,7 @@ order_of_whole : (before : Option Space) (layout : Layout) (first : Segment) (mo
 order_of_whole before layout first more cuts (has_layout, order, others) (sound, rest) =
     (whole_from_segments (first_space before first.trace) layout first more cuts (
       has_layout,
-      sound_faultless before first.trace sound,
+      faultless_of before first.trace sound.faultless,
       order,
       faultless_behind (last_space before first.trace) layout more others rest,
     )).1

@@ -15,7 +15,7 @@ use Rattle.nr_trace.specs.Orders.{before, space_from, answer_in, recorded_order,
 use Rattle.nr_trace.specs.Faults.{HasFaultFrom, OpensTwice, IsWrongFrom, RestsOnMore, StandsAfter}
 use Rattle.nr_trace.specs.Laws.{HasCleanLog, IsFaultlessFrom}
 use Rattle.nr_trace.specs.declared.fault.Fault.{Fault}
-use Rattle.nr_trace.specs.declared.fault.Fault.TheVariants.{Format, ThreadOpen, NoSuchCall, AnsweredTwice, NotAnUpdate, PlacedTwice, NotPlaced, PastLog, Early}
+use Rattle.nr_trace.specs.declared.fault.Fault.TheVariants.{ThreadOpen, NoSuchCall, AnsweredTwice, NotAnUpdate, PlacedTwice, NotPlaced, PastLog, Early}
 use Rattle.nr_trace.specs.declared.fault.Fault.TheVariants.{WrongAnswer, PrefixPastLog, PrefixShort, MissingFrame, SharedFrame, ReservedBit, StrayFrame}
 use Rattle.nr_trace.specs.declared.fault.Fault.TheVariants.{Differs}
 use Rattle.nr_trace.proofs.LawsOfCalls.{answers_within, call_within, is_some_from, ordered_from_made, ordered_or_touch, reply_behind_call, reply_is_first, the_some}
@@ -424,7 +424,6 @@ module _ (start : Space) (first second : Recording) (same_layout : second.layout
 
     module _ (front : IsFaultlessFrom start (without_dumps first)) where
       pub whole_faultless : (fault : Fault) → HasFaultFrom start whole fault → ⊥
-      whole_faultless (Format fault) h = h
       whole_faultless (ThreadOpen index) h =
           by_events (λ (i : ℕ). HasFaultFrom start whole (ThreadOpen i) → ⊥) opens_left opens_right index h
       whole_faultless (NoSuchCall index) h =
@@ -453,6 +452,7 @@ module _ (start : Space) (first second : Recording) (same_layout : second.layout
       whole_faultless (StrayFrame replica number) h =
           faultless (StrayFrame replica number) (of_frames (λ (layout : Layout) (dump : Image). HasStrayFrame layout.depth dump number) replica h)
       whole_faultless (Differs replica address) h = dumps_differ replica address h
+      whole_faultless _ h = h
 
 pub cut : (start : Space) (first second : Recording) → second.layout ≡ first.layout → IsClosed first
     → IsFaultlessFrom start (joined_traces first second)

@@ -11,8 +11,8 @@ use Rattle.nr_trace.specs.declared.fault.Fault.TheVariants.{ThreadOpen, WrongAns
 use Rattle.nr_trace.specs.declared.fault.Fault.TheVariants.{StrayFrame, Differs}
 use Rattle.nr_audit.specs.Start.{first_space}
 use Rattle.nr_audit.specs.Touches.{HasTouch, HasRightTouches}
-use Rattle.nr_audit.specs.Faults.{HasNoFaultAfter, IsSoundAfter}
-use Rattle.nr_audit.specs.declared.fault.SegmentFault.TheVariants.{Start, Within, Stale}
+use Rattle.nr_audit.specs.Faults.{IsSoundAfter}
+use Rattle.nr_audit.proofs.Judgements.{begins_of, faultless_of, sound_by}
 use Rattle.chain_cuts.specs.Cut.{without_dumps, HasNoDumps, IsSameRun}
 
 -- the dumps that are there among some are among others
@@ -84,23 +84,22 @@ module _ (trace : Recording) (some others : List Image) where
 
 same_sound : (before : Option Space) (trace : Recording) (some others : List Image) → AreAmong others some
     → IsSoundAfter before (record trace { dumps = some }) → IsSoundAfter before (record trace { dumps = others })
-same_sound before trace some others among sound = record { faultless = faultless; touches = touches } where
-  start : Space
-  start = first_space before (record trace { dumps = some })
+same_sound before trace some others among sound =
+    sound_by before (record trace { dumps = others }) (begins_of before (record trace { dumps = some }) sound.faultless) clean touches where
+      start : Space
+      start = first_space before (record trace { dumps = some })
 
-  begin : start ≡ first_space before (record trace { dumps = others })
-  begin = same_begin trace some others before
+      begin : start ≡ first_space before (record trace { dumps = others })
+      begin = same_begin trace some others before
 
-  touches : HasRightTouches (first_space before (record trace { dumps = others })) (record trace { dumps = others })
-  touches =
-      subst (λ (space : Space). HasRightTouches space (record trace { dumps = others })) begin (same_touches trace some others start sound.touches)
+      touches : HasRightTouches (first_space before (record trace { dumps = others })) (record trace { dumps = others })
+      touches =
+          subst (λ (space : Space). HasRightTouches space (record trace { dumps = others })) begin (same_touches trace some others start sound.touches)
 
-  faultless : HasNoFaultAfter before (record trace { dumps = others })
-  faultless (Start fault) h = sound.faultless (Start fault) h
-  faultless (Within fault) h =
-      sound.faultless (Within fault)
-      (same_fault trace others some start among fault (subst (λ (space : Space). HasFaultFrom space (record trace { dumps = others }) fault) (sym begin) h))
-  faultless (Stale call) (touch, has, made, wrong) = wrong (touches touch has)
+      clean : IsFaultlessFrom (first_space before (record trace { dumps = others })) (record trace { dumps = others })
+      clean fault h =
+          faultless_of before (record trace { dumps = some }) sound.faultless fault
+          (same_fault trace others some start among fault (subst (λ (space : Space). HasFaultFrom space (record trace { dumps = others }) fault) (sym begin) h))
 
 -- the same run is sound
 pub sound_as_same : (before : Option Space) (first second : Recording) → IsSameRun first second → IsSoundAfter before first → IsSoundAfter before second

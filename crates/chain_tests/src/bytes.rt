@@ -1,6 +1,5 @@
 //! The worked chains.
 
-use nr_audit::{SegmentFault, StartFault};
 use nr_trace::{Fault, Format};
 use std::alloc::{AllocError, Global};
 use std::process::Abort;
@@ -22,7 +21,7 @@ pub struct Case {
     pub name: &'static str,
     parts: &'static [Part],
     pub orders: &'static [&'static [u32]],
-    pub fault: Option<SegmentFault>,
+    pub fault: Option<Fault>,
 }
 
 /// A root without a page.
@@ -140,13 +139,13 @@ const FINDS_A_THIRD: Part = Bytes(&[
     0, 0, 0, 0, 0, 0, 0, 0, 0, 0, 0, 0, 0, 0, 0, 0, // no dump
 ]);
 
-const TRUNCATED: SegmentFault = SegmentFault::Within(Fault::Format(Format::Truncated));
+const TRUNCATED: Fault = Fault::Format(Format::Truncated);
 
-const BAD_MAGIC: SegmentFault = SegmentFault::Within(Fault::Format(Format::BadMagic));
+const BAD_MAGIC: Fault = Fault::Format(Format::BadMagic);
 
-const BAD_VERSION: SegmentFault = SegmentFault::Within(Fault::Format(Format::BadVersion));
+const BAD_VERSION: Fault = Fault::Format(Format::BadVersion);
 
-const BAD_CHAIN: SegmentFault = SegmentFault::Within(Fault::Format(Format::BadChain));
+const BAD_CHAIN: Fault = Fault::Format(Format::BadChain);
 
 /// Each chain.
 pub static CASES: [Case; 17] = [
@@ -166,7 +165,7 @@ pub static CASES: [Case; 17] = [
         name: "the second begins anew",
         parts: &[MAPS, Frames(TABLES), FINDS_NOTHING],
         orders: &[&[0, 2]],
-        fault: Some(SegmentFault::Within(Fault::WrongAnswer(0))),
+        fault: Some(Fault::WrongAnswer(0)),
     },
     Case {
         name: "the second begins elsewhere",
@@ -178,7 +177,7 @@ pub static CASES: [Case; 17] = [
             FINDS_THE_PAGE,
         ],
         orders: &[&[0, 2]],
-        fault: Some(SegmentFault::Start(StartFault::Differs(0x400000))),
+        fault: Some(Fault::StartDiffers(0x400000)),
     },
     Case {
         name: "begins with a page",
@@ -190,7 +189,7 @@ pub static CASES: [Case; 17] = [
         name: "a reply to a call of the segment before",
         parts: &[MAPS, Frames(TABLES), REPLIES],
         orders: &[&[0, 2]],
-        fault: Some(SegmentFault::Within(Fault::NoSuchCall(0))),
+        fault: Some(Fault::NoSuchCall(0)),
     },
     Case {
         name: "other tables",
@@ -232,7 +231,7 @@ pub static CASES: [Case; 17] = [
         name: "a touch that foresees a map",
         parts: &[FORESEES_A_MAP],
         orders: &[],
-        fault: Some(SegmentFault::Stale(0)),
+        fault: Some(Fault::Stale(0)),
     },
     Case {
         name: "a touch of a page between open updates",
@@ -244,7 +243,7 @@ pub static CASES: [Case; 17] = [
         name: "a touch of a page that there never was",
         parts: &[OPEN_UPDATES, FINDS_A_THIRD],
         orders: &[],
-        fault: Some(SegmentFault::Stale(4)),
+        fault: Some(Fault::Stale(4)),
     },
     Case {
         name: "version 2",

@@ -12,7 +12,7 @@ use std::process::Abort;
 /// What a piece makes of a chain.
 enum Fed {
     Going(Chain),
-    Ended(nr_audit::SegmentFault),
+    Ended(nr_trace::Fault),
 }
 
 /// Gives the chain the piece, and adds the order of each segment that is whole then.

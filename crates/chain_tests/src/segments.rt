@@ -4,12 +4,12 @@ ghost use Rattle.std.specs.Prelude.{◌≡◌, IfSome};
 ghost use Rattle.nr_audit.specs.Segments.{FitsLayout};
 
 use crate::bytes::{CASES, bytes_of};
-use nr_audit::{SegmentFault, SegmentVerdict, StartFault, judge_segment};
+use nr_audit::judge_segment;
 use nr_trace::{Fault, SegmentFeed, Trace};
 use std::alloc::Global;
 use std::process::Abort;
 use vs_plain::PlainSpace;
-use vs_types::{Op, Rights, Size};
+use vs_types::{Fail, Op, Rights, Size};
 
 /// The first segment of the worked chain of this name.
 fn segment_of(rt: &impl Abort, alloc: Global, name: &str) -> Trace {
@@ -38,17 +38,18 @@ fn page_at(rt: &impl Abort, alloc: Global, segment: &Trace, phys: u64) -> PlainS
 }
 
 /// How many calls the order of a segment has, and how many pages the space after it; or its fault.
-type Found = Result<(usize, usize), SegmentFault>;
+type Found = Result<(usize, usize), Fault>;
 
 fn found(rt: &impl Abort, alloc: Global, segment: &Trace, before: Option<PlainSpace>) -> Found
     requires { IfSome before (FitsLayout segment.now.layout) }
 {
-    match judge_segment(alloc, segment, before).expect(rt, "memory") {
-        SegmentVerdict::Right(order, space) => {
+    match judge_segment(alloc, segment, before) {
+        Ok((order, space)) => {
             let pages = space.pages().expect(rt, "memory");
             Ok((order.calls().len(), pages.len()))
         }
-        SegmentVerdict::Wrong(fault) => Err(fault),
+        Err(Fail::Refused(fault)) => Err(fault),
+        Err(Fail::Memory) => panic!(rt; "memory: Memory"),
     }
 }
 
@@ -58,7 +59,7 @@ fn found_after_page(rt: &impl Abort, alloc: Global, segment: &Trace, phys: u64) 
     found(rt, alloc, segment, Some(space))
 }
 
-const DIFFERS: SegmentFault = SegmentFault::Start(StartFault::Differs(0x400000));
+const DIFFERS: Fault = Fault::StartDiffers(0x400000);
 
 #[test]
 fn a_first_segment(rt: HostRuntime) {
@@ -66,7 +67,7 @@ fn a_first_segment(rt: HostRuntime) {
     let segment = segment_of(&rt, alloc, "two segments");
     assert!(rt; found(&rt, alloc, &segment, None) == Ok((2, 1)));
     // Where the page is mapped already, the answer of the map is wrong.
-    let overlaps = SegmentFault::Within(Fault::WrongAnswer(0));
+    let overlaps = Fault::WrongAnswer(0);
     assert!(rt; found_after_page(&rt, alloc, &segment, 0x1000) == Err(overlaps));
 }
 
@@ -95,6 +96,6 @@ fn a_touch_of_nothing(rt: HostRuntime) {
     let alloc = rt.alloc();
     let segment = segment_of(&rt, alloc, "a touch of nothing");
     assert!(rt; found(&rt, alloc, &segment, None) == Ok((0, 0)));
-    let stale = SegmentFault::Stale(0);
+    let stale = Fault::Stale(0);
     assert!(rt; found_after_page(&rt, alloc, &segment, 0x1000) == Err(stale));
 }

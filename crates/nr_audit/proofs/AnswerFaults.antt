@@ -20,7 +20,7 @@ use Rattle.vs_plain.specs.Plain.{BoundedSpace}
 use Rattle.nr_trace.specs.Recording.{Recording}
 use Rattle.nr_trace.specs.Calls.{Invocation, made_by, Response, call_of, operation_in, operation_of, reply_to}
 use Rattle.nr_trace.specs.Orders.{before, updates, operations, space_from, answer_in, recorded_order}
-use Rattle.nr_trace.specs.Faults.{HasFaultFrom, Earlier, IsWrongFrom}
+use Rattle.nr_trace.specs.Faults.{Earlier, IsWrongFrom}
 use Rattle.nr_trace.specs.Laws.{HasCleanLog}
 use Rattle.nr_trace.specs.declared.event.Event.{Event}
 use Rattle.nr_trace.specs.declared.event.Event.TheVariants.{Call}
@@ -28,7 +28,7 @@ use Rattle.nr_trace.specs.declared.fault.Fault.{Fault}
 use Rattle.nr_trace.specs.declared.fault.Fault.TheVariants.{WrongAnswer}
 use Rattle.nr_trace.proofs.LawsOfOrder.{order_distinct, updates_of_order}
 use Rattle.nr_trace.proofs.LawsOfFaults.{below_from_less, wrong_is_member}
-use Rattle.nr_audit.specs.inside.Search.{HasNoneFrom, IsFirstAmongFrom}
+use Rattle.nr_audit.specs.inside.Search.{HasFaultOn, HasNoneFrom, IsFirstAmongFrom}
 use Rattle.nr_audit.specs.inside.Passes.{IsAnswerFault}
 use Rattle.nr_audit.specs.Served.{asked_by, Serves}
 use Rattle.nr_audit.specs.Verdict.{space_of}
@@ -234,7 +234,7 @@ module _ (start : Space) (trace : Recording) (order : List ℕ) (listed : order 
     holds = wrong;
     none_earlier = λ other among holds earlier. no_earlier other among holds earlier;
   } where
-    no_earlier : (other : Fault) → IsAnswerFault other → HasFaultFrom start trace other → Earlier trace other (WrongAnswer (get_or order k 0)) → ⊥
+    no_earlier : (other : Fault) → IsAnswerFault other → HasFaultOn start trace other → Earlier trace other (WrongAnswer (get_or order k 0)) → ⊥
     no_earlier (WrongAnswer call) among holds earlier =
         let counted = ap length (before_here k within) in
         let taken = length-take-le k order (omega arith) in

@@ -5,14 +5,15 @@ use Rattle.std.proofs.Common.{inl, inr, arith, get_or-set_other, get_or-set_same
 use Rattle.std.specs.Prelude.{slice_get}
 use Rattle.std.proofs.lemmas.List.{get_or-replicate, get_or_past, length-set, length-replicate}
 use Rattle.std.proofs.lemmas.Bool.{cases_lt, cases_eq}
+use Rattle.vs_types.specs.Space.{no_pages}
 use Rattle.nr_trace.specs.Recording.{Recording}
 use Rattle.nr_trace.specs.Calls.{Invocation, call_of, Response, reply_of, Answers, IsCall}
-use Rattle.nr_trace.specs.Faults.{HasFault, Earlier, OpensTwice, IsReplyWith}
+use Rattle.nr_trace.specs.Faults.{Earlier, OpensTwice, IsReplyWith}
 use Rattle.nr_trace.specs.declared.fault.Fault.{Fault}
 use Rattle.nr_trace.specs.declared.fault.Fault.TheVariants.{ThreadOpen, NoSuchCall, AnsweredTwice}
 use Rattle.nr_trace.specs.declared.event.Event.TheVariants.{Reply}
 use Rattle.vs_types.specs.declared.answer.Answer.{Answer}
-use Rattle.nr_audit.specs.inside.Search.{HasNone, IsFirstAmong}
+use Rattle.nr_audit.specs.inside.Search.{HasFaultOn, HasNone, IsFirstAmong}
 use Rattle.nr_audit.specs.inside.Passes.{IsCallFaultAt, IsCallFault}
 use Rattle.nr_audit.specs.inside.Tables.{IsReplyBelow, AreReplies}
 use Rattle.nr_audit.proofs.Ranks.{IsRanked, none_of_all, first_of_all, lower_number}
@@ -79,11 +80,11 @@ unanswered trace end call (Some reply) e h = absurd (cc)
 abbrev pub IsIdle : (ℕ → Option ℕ) → List (Option ℕ) → ℕ → Type 0
 IsIdle last table thread = (call : ℕ) → last thread ≡ Some call → get_or table call None ≢ None
 
-none_at : (trace : Recording) (i : ℕ) → (OpensTwice trace i → ⊥) → (HasFault trace (NoSuchCall i) → ⊥) → (HasFault trace (AnsweredTwice i) → ⊥)
+none_at : (trace : Recording) (i : ℕ) → (OpensTwice trace i → ⊥) → (HasFaultOn no_pages trace (NoSuchCall i) → ⊥) → (HasFaultOn no_pages trace (AnsweredTwice i) → ⊥)
     → HasNone (IsCallFaultAt i) trace
 none_at trace i a b c (ThreadOpen j) among holds = a (subst (λ k. OpensTwice trace k) among holds)
-none_at trace i a b c (NoSuchCall j) among holds = b (subst (λ k. HasFault trace (NoSuchCall k)) among holds)
-none_at trace i a b c (AnsweredTwice j) among holds = c (subst (λ k. HasFault trace (AnsweredTwice k)) among holds)
+none_at trace i a b c (NoSuchCall j) among holds = b (subst (λ k. HasFaultOn no_pages trace (NoSuchCall k)) among holds)
+none_at trace i a b c (AnsweredTwice j) among holds = c (subst (λ k. HasFaultOn no_pages trace (AnsweredTwice k)) among holds)
 none_at trace i a b c fault among holds = absurd among
 
 open_is_first : (trace : Recording) (i : ℕ) (other : Fault) → IsCallFaultAt i other → Earlier trace other (ThreadOpen i) → ⊥
@@ -92,17 +93,17 @@ open_is_first trace i (NoSuchCall j) among earlier = let h = lower_number 2 j 3 
 open_is_first trace i (AnsweredTwice j) among earlier = let h = lower_number 2 j 4 i 2 earlier among in absurd (omega arith)
 open_is_first trace i fault among earlier = absurd among
 
-no_call_is_first : (trace : Recording) (i : ℕ) (other : Fault) → (OpensTwice trace i → ⊥) → IsCallFaultAt i other → HasFault trace other
+no_call_is_first : (trace : Recording) (i : ℕ) (other : Fault) → (OpensTwice trace i → ⊥) → IsCallFaultAt i other → HasFaultOn no_pages trace other
     → Earlier trace other (NoSuchCall i) → ⊥
 no_call_is_first trace i (ThreadOpen j) idle among holds earlier = idle (subst (λ k. OpensTwice trace k) among holds)
 no_call_is_first trace i (NoSuchCall j) idle among holds earlier = let h = lower_number 2 j 3 i 3 earlier among in absurd (omega arith)
 no_call_is_first trace i (AnsweredTwice j) idle among holds earlier = let h = lower_number 2 j 4 i 3 earlier among in absurd (omega arith)
 no_call_is_first trace i fault idle among holds earlier = absurd among
 
-twice_is_first : (trace : Recording) (i : ℕ) (other : Fault) → (OpensTwice trace i → ⊥) → (HasFault trace (NoSuchCall i) → ⊥) → IsCallFaultAt i other
-    → HasFault trace other → Earlier trace other (AnsweredTwice i) → ⊥
+twice_is_first : (trace : Recording) (i : ℕ) (other : Fault) → (OpensTwice trace i → ⊥) → (HasFaultOn no_pages trace (NoSuchCall i) → ⊥) → IsCallFaultAt i other
+    → HasFaultOn no_pages trace other → Earlier trace other (AnsweredTwice i) → ⊥
 twice_is_first trace i (ThreadOpen j) idle such among holds earlier = idle (subst (λ k. OpensTwice trace k) among holds)
-twice_is_first trace i (NoSuchCall j) idle such among holds earlier = such (subst (λ k. HasFault trace (NoSuchCall k)) among holds)
+twice_is_first trace i (NoSuchCall j) idle such among holds earlier = such (subst (λ k. HasFaultOn no_pages trace (NoSuchCall k)) among holds)
 twice_is_first trace i (AnsweredTwice j) idle such among holds earlier = let h = lower_number 2 j 4 i 4 earlier among in absurd (omega arith)
 twice_is_first trace i fault idle such among holds earlier = absurd among
 

@@ -9,34 +9,34 @@ use Rattle.vs_types.specs.Space.{Space}
 use Rattle.vs_walk.specs.Dump.{Image}
 use Rattle.nr_trace.specs.Recording.{Recording, IsThere}
 use Rattle.nr_trace.specs.Orders.{space_from}
-use Rattle.nr_trace.specs.Faults.{HasFaultFrom, Earlier, rank, RestsOnMore, HasDump}
+use Rattle.nr_trace.specs.Faults.{Earlier, rank, RestsOnMore, HasDump}
 use Rattle.nr_trace.specs.declared.fault.Fault.{Fault}
 use Rattle.nr_trace.specs.declared.fault.Fault.TheVariants.{PrefixPastLog, PrefixShort, MissingFrame, SharedFrame, ReservedBit, StrayFrame, Differs}
 use Rattle.nr_trace.proofs.LawsOfCalls.{reply_below}
 use Rattle.nr_dump.specs.Faults as dumps
 use Rattle.nr_dump.specs.declared.fault.DumpFault.{DumpFault}
 use Rattle.nr_dump.specs.declared.fault.DumpFault.TheVariants as of_dump
-use Rattle.nr_audit.specs.inside.Search.{HasNoneFrom, IsFirstAmongFrom}
+use Rattle.nr_audit.specs.inside.Search.{HasFaultOn, HasNoneFrom, IsFirstAmongFrom}
 use Rattle.nr_audit.specs.inside.Passes.{IsDumpFaultAt, IsDumpFault}
 use Rattle.nr_audit.specs.Dumps.{at_replica}
 use Rattle.nr_audit.specs.inside.Prefixes.{AreNeeds}
 use Rattle.nr_audit.proofs.Ranks.{IsRanked, none_from, first_from, lower_number}
 
-pub dump_ranks : (trace : Recording) → IsRanked IsDumpFaultAt 7 trace
-dump_ranks trace replica (PrefixPastLog at) among = (11, ap (λ i. 7 ∷ i ∷ 11 ∷ []) among)
-dump_ranks trace replica (PrefixShort at) among = (12, ap (λ i. 7 ∷ i ∷ 12 ∷ []) among)
-dump_ranks trace replica (MissingFrame at number) among = (13, ap (λ i. 7 ∷ i ∷ 13 ∷ []) among)
-dump_ranks trace replica (SharedFrame at number) among = (14, ap (λ i. 7 ∷ i ∷ 14 ∷ []) among)
-dump_ranks trace replica (ReservedBit at number index) among = (15, ap (λ i. 7 ∷ i ∷ 15 ∷ []) among)
-dump_ranks trace replica (StrayFrame at number) among = (16, ap (λ i. 7 ∷ i ∷ 16 ∷ []) among)
-dump_ranks trace replica (Differs at address) among = (17, ap (λ i. 7 ∷ i ∷ 17 ∷ []) among)
+pub dump_ranks : (trace : Recording) → IsRanked IsDumpFaultAt 8 trace
+dump_ranks trace replica (PrefixPastLog at) among = (11, ap (λ i. 8 ∷ i ∷ 11 ∷ []) among)
+dump_ranks trace replica (PrefixShort at) among = (12, ap (λ i. 8 ∷ i ∷ 12 ∷ []) among)
+dump_ranks trace replica (MissingFrame at number) among = (13, ap (λ i. 8 ∷ i ∷ 13 ∷ []) among)
+dump_ranks trace replica (SharedFrame at number) among = (14, ap (λ i. 8 ∷ i ∷ 14 ∷ []) among)
+dump_ranks trace replica (ReservedBit at number index) among = (15, ap (λ i. 8 ∷ i ∷ 15 ∷ []) among)
+dump_ranks trace replica (StrayFrame at number) among = (16, ap (λ i. 8 ∷ i ∷ 16 ∷ []) among)
+dump_ranks trace replica (Differs at address) among = (17, ap (λ i. 8 ∷ i ∷ 17 ∷ []) among)
 dump_ranks trace replica fault among = absurd among
 
 -- the first fault of a replica, after replicas that have none, is the first of the dumps
 pub first_dump_fault : (start : Space) (trace : Recording) (replica : ℕ) (fault : Fault)
     → ((lower : ℕ) → lower < replica → HasNoneFrom start (IsDumpFaultAt lower) trace)
     → IsFirstAmongFrom start (IsDumpFaultAt replica) trace fault → IsFirstAmongFrom start IsDumpFault trace fault
-first_dump_fault start trace = first_from start IsDumpFaultAt 7 trace (dump_ranks trace)
+first_dump_fault start trace = first_from start IsDumpFaultAt 8 trace (dump_ranks trace)
 
 -- a dump, as it is read
 pub read_dump : (dumps real : List Image) (i : ℕ) (dump : Image) → dumps ≡ real → i < length real → dump ≡ get_or dumps i dump → slice_get real i ≡ Some dump
@@ -69,7 +69,7 @@ none_absent start trace replica dump is absent other among holds = by_fault othe
   at_other : (at : ℕ) → at ≡ replica → slice_get trace.dumps at ≡ Some dump
   at_other at same = ap (slice_get trace.dumps) same ∙ is
 
-  by_fault : (fault : Fault) → IsDumpFaultAt replica fault → HasFaultFrom start trace fault → ⊥
+  by_fault : (fault : Fault) → IsDumpFaultAt replica fault → HasFaultOn start trace fault → ⊥
   by_fault (PrefixPastLog at) among holds = not_there trace at dump _ absent (at_other at among) holds
   by_fault (PrefixShort at) among holds = not_there trace at dump _ absent (at_other at among) holds
   by_fault (MissingFrame at frame) among holds = not_there trace at dump _ absent (at_other at among) holds
@@ -98,11 +98,11 @@ number_of (StrayFrame at number) = 16
 number_of (Differs at address) = 17
 number_of fault = 0
 
-module _ (trace : Recording) (replica number : ℕ) (fault : Fault) (is : rank trace fault ≡ 7 ∷ replica ∷ number ∷ []) where
-  ordered : (other : Fault) (at own : ℕ) → rank trace other ≡ 7 ∷ at ∷ own ∷ [] → at ≡ replica → Earlier trace other fault → own < number
+module _ (trace : Recording) (replica number : ℕ) (fault : Fault) (is : rank trace fault ≡ 8 ∷ replica ∷ number ∷ []) where
+  ordered : (other : Fault) (at own : ℕ) → rank trace other ≡ 8 ∷ at ∷ own ∷ [] → at ≡ replica → Earlier trace other fault → own < number
   ordered other at own ranks same earlier =
-      lower_number 7 at own replica number
-      (subst (λ r. slice_cmp nat_cmp (7 ∷ at ∷ own ∷ []) r ≡ Less) is (subst (λ r. slice_cmp nat_cmp r (rank trace fault) ≡ Less) ranks earlier)) same
+      lower_number 8 at own replica number
+      (subst (λ r. slice_cmp nat_cmp (8 ∷ at ∷ own ∷ []) r ≡ Less) is (subst (λ r. slice_cmp nat_cmp r (rank trace fault) ≡ Less) ranks earlier)) same
 
   lower : (other : Fault) → IsDumpFaultAt replica other → Earlier trace other fault → number_of other < number
   lower (PrefixPastLog at) among = ordered (PrefixPastLog at) at 11 refl among
@@ -125,9 +125,9 @@ none_lower replica (StrayFrame at frame) among lt = omega arith
 none_lower replica (Differs at address) among lt = omega arith
 none_lower replica other among lt = among
 
-one_lower : (start : Space) (trace : Recording) (replica : ℕ) (other : Fault) → (HasFaultFrom start trace (PrefixPastLog replica) → ⊥)
-    → IsDumpFaultAt replica other → HasFaultFrom start trace other → number_of other < 12 → ⊥
-one_lower start trace replica (PrefixPastLog at) none among holds lt = none (subst (λ r. HasFaultFrom start trace (PrefixPastLog r)) among holds)
+one_lower : (start : Space) (trace : Recording) (replica : ℕ) (other : Fault) → (HasFaultOn start trace (PrefixPastLog replica) → ⊥)
+    → IsDumpFaultAt replica other → HasFaultOn start trace other → number_of other < 12 → ⊥
+one_lower start trace replica (PrefixPastLog at) none among holds lt = none (subst (λ r. HasFaultOn start trace (PrefixPastLog r)) among holds)
 one_lower start trace replica (PrefixShort at) none among holds lt = omega arith
 one_lower start trace replica (MissingFrame at frame) none among holds lt = omega arith
 one_lower start trace replica (SharedFrame at frame) none among holds lt = omega arith
@@ -145,7 +145,7 @@ number_in (of_dump.ReservedBit frame index) = 15
 number_in (of_dump.StrayFrame frame) = 16
 number_in (of_dump.Differs address) = 17
 
-rank_in : (trace : Recording) (replica : ℕ) (fault : DumpFault) → rank trace (at_replica replica fault) ≡ 7 ∷ replica ∷ number_in fault ∷ []
+rank_in : (trace : Recording) (replica : ℕ) (fault : DumpFault) → rank trace (at_replica replica fault) ≡ 8 ∷ replica ∷ number_in fault ∷ []
 rank_in trace replica (of_dump.MissingFrame frame) = refl
 rank_in trace replica _ = refl
 
@@ -156,7 +156,7 @@ is_of_replica replica _ = refl
 module _ (start : Space) (trace : Recording) (replica : ℕ) (dump : Image) (is : slice_get trace.dumps replica ≡ Some dump) (there : IsThere dump) where
   -- what holds of the dump holds of the trace
   told : (fault : DumpFault) → dumps.HoldsOfDump trace.layout.depth dump (space_from start trace (take dump.applied trace.log)) fault
-      → HasFaultFrom start trace (at_replica replica fault)
+      → HasFaultOn start trace (at_replica replica fault)
   told (of_dump.MissingFrame frame) holds = (dump, is, there, holds)
   told _ holds = (dump, is, there, holds)
 
@@ -164,7 +164,7 @@ module _ (start : Space) (trace : Recording) (replica : ℕ) (dump : Image) (is 
   own_dump at other same there = same_Some other dump (sym there ∙ ap (slice_get trace.dumps) same ∙ is)
 
   -- a fault of the replica that holds is one of its prefix, or one of the dump's
-  back : (other : Fault) → IsDumpFaultAt replica other → HasFaultFrom start trace other → (number_of other < 13)
+  back : (other : Fault) → IsDumpFaultAt replica other → HasFaultOn start trace other → (number_of other < 13)
       ⊎ ((fault : DumpFault) × dumps.HoldsOfDump trace.layout.depth dump (space_from start trace (take dump.applied trace.log)) fault
       × (number_in fault ≡ number_of other))
   back (PrefixPastLog at) among holds = inl (lit< tt)
@@ -206,10 +206,10 @@ module _ (start : Space) (trace : Recording) (replica : ℕ) (dump : Image) (is 
       )
   back other among holds = absurd among
 
-  past_log : HasFaultFrom start trace (PrefixPastLog replica) → length trace.log < dump.applied
+  past_log : HasFaultOn start trace (PrefixPastLog replica) → length trace.log < dump.applied
   past_log holds = subst (λ (d : Image). length trace.log < d.applied) (own_dump replica holds.0 refl holds.1) holds.3
 
-  rests_on_more : HasFaultFrom start trace (PrefixShort replica) → RestsOnMore trace replica dump
+  rests_on_more : HasFaultOn start trace (PrefixShort replica) → RestsOnMore trace replica dump
   rests_on_more holds = subst (λ (d : Image). RestsOnMore trace replica d) (own_dump replica holds.0 refl holds.1) holds.3
 
   -- a fault of a lower number comes earlier
@@ -240,7 +240,7 @@ module _ (start : Space) (trace : Recording) (replica : ℕ) (dump : Image) (is 
   }
 
   module _ (within : dump.applied ≤ length trace.log) where
-    not_past : HasFaultFrom start trace (PrefixPastLog replica) → ⊥
+    not_past : HasFaultOn start trace (PrefixPastLog replica) → ⊥
     not_past holds = let past = past_log holds in omega arith
 
     pub first_short : (needs : List ℕ) → AreNeeds trace (length trace.events) needs → dump.applied < get_or needs replica 0
@@ -268,7 +268,7 @@ module _ (start : Space) (trace : Recording) (replica : ℕ) (dump : Image) (is 
         }
 
     module _ (needs : List ℕ) (are : AreNeeds trace (length trace.events) needs) (enough : get_or needs replica 0 ≤ dump.applied) where
-      not_short : HasFaultFrom start trace (PrefixShort replica) → ⊥
+      not_short : HasFaultOn start trace (PrefixShort replica) → ⊥
       not_short holds =
           let rests = rests_on_more holds in
           let most = are.most replica rests.index rests.reply (record {
@@ -282,9 +282,9 @@ module _ (start : Space) (trace : Recording) (replica : ℕ) (dump : Image) (is 
           let more = rests.more in
           omega arith
 
-      no_prefix : (other : Fault) → IsDumpFaultAt replica other → HasFaultFrom start trace other → number_of other < 13 → ⊥
-      no_prefix (PrefixPastLog at) among holds lt = not_past (subst (λ r. HasFaultFrom start trace (PrefixPastLog r)) among holds)
-      no_prefix (PrefixShort at) among holds lt = not_short (subst (λ r. HasFaultFrom start trace (PrefixShort r)) among holds)
+      no_prefix : (other : Fault) → IsDumpFaultAt replica other → HasFaultOn start trace other → number_of other < 13 → ⊥
+      no_prefix (PrefixPastLog at) among holds lt = not_past (subst (λ r. HasFaultOn start trace (PrefixPastLog r)) among holds)
+      no_prefix (PrefixShort at) among holds lt = not_short (subst (λ r. HasFaultOn start trace (PrefixShort r)) among holds)
       no_prefix (MissingFrame at frame) among holds lt = omega arith
       no_prefix (SharedFrame at frame) among holds lt = omega arith
       no_prefix (ReservedBit at frame index) among holds lt = omega arith

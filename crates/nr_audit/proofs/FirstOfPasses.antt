@@ -4,18 +4,19 @@ use Rattle.std.specs.Prelude.{⊤, MatchBool}
 use Rattle.std.proofs.lemmas.Bool.{cases_lt}
 use Rattle.vs_types.specs.Space.{Space, no_pages}
 use Rattle.nr_trace.specs.Recording.{Recording}
-use Rattle.nr_trace.specs.Faults.{HasFaultFrom, Earlier, IsFirst, IsFirstFrom}
-use Rattle.nr_trace.specs.Laws.{HasCleanLog, IsFaultlessFrom}
+use Rattle.nr_trace.specs.Faults.{Earlier}
+use Rattle.nr_trace.specs.Laws.{HasCleanLog}
 use Rattle.nr_trace.specs.declared.fault.Fault.{Fault}
 use Rattle.nr_trace.specs.declared.fault.Fault.TheVariants.{Format, ThreadOpen, NoSuchCall, AnsweredTwice, NotAnUpdate, PlacedTwice, NotPlaced, PastLog, Early}
 use Rattle.nr_trace.specs.declared.fault.Fault.TheVariants.{WrongAnswer, PrefixPastLog, PrefixShort, MissingFrame, SharedFrame, ReservedBit, StrayFrame}
 use Rattle.nr_trace.specs.declared.fault.Fault.TheVariants.{Differs}
+use Rattle.nr_trace.specs.declared.fault.Fault.TheVariants.{StartMissing, StartShared, StartReserved, StartStray, StartBeyond, StartDiffers, Stale}
 use Rattle.nr_trace.proofs.LawsOfFaults.{pass as pass_of, earlier_parts}
 use Rattle.vs_types.specs.Refusal.{IfRefused}
 use Rattle.vs_types.specs.declared.refusal.Fail.{Fail}
 use Rattle.vs_types.specs.declared.refusal.Fail.TheVariants.{Memory, Refused}
-use Rattle.nr_audit.specs.inside.Search.{HasNone, HasNoneFrom, IsFirstAmong, IsFirstAmongFrom, IsFirstFromAny}
-use Rattle.nr_audit.specs.inside.Passes.{IsCallFault, IsLogFault, IsPositionFault, IsFloorFault, IsAnswerFault, IsDumpFault}
+use Rattle.nr_audit.specs.inside.Search.{HasFaultOn, HasNoFaultOn, HasNone, HasNoneFrom, IsFirstAmong, IsFirstAmongFrom, IsFirstFromAny, IsFirstOn}
+use Rattle.nr_audit.specs.inside.Passes.{IsCallFault, IsLogFault, IsPositionFault, IsFloorFault, IsAnswerFault, IsTouchFault, IsDumpFault}
 
 -- the faults among these are those of the pass
 pub record AreOfPass (pass : ℕ) (Among : Fault → Type 0) : Type 0 where
@@ -24,10 +25,16 @@ pub record AreOfPass (pass : ℕ) (Among : Fault → Type 0) : Type 0 where
 
 -- no fault of a pass before this one holds from a start on
 abbrev pub HasNoneBefore : Space → ℕ → Recording → Type 0
-HasNoneBefore start pass trace = (fault : Fault) → pass_of fault < pass → HasFaultFrom start trace fault → ⊥
+HasNoneBefore start pass trace = (fault : Fault) → pass_of fault < pass → HasFaultOn start trace fault → ⊥
 
 pub none_of_format : (trace : Recording) → HasNoneBefore no_pages 2 trace
 none_of_format trace (Format fault) lt holds = holds
+none_of_format trace (StartMissing number) lt holds = holds
+none_of_format trace (StartShared number) lt holds = holds
+none_of_format trace (StartReserved number index) lt holds = holds
+none_of_format trace (StartStray number) lt holds = holds
+none_of_format trace (StartBeyond base) lt holds = holds
+none_of_format trace (StartDiffers address) lt holds = holds
 none_of_format trace _ lt holds = omega arith
 
 -- one pass more
@@ -39,7 +46,7 @@ none_before_next start pass Among trace are none here fault lt holds = elim (cas
 ]
 
 -- what comes earlier is of no later pass
-not_later : (trace : Recording) (other fault : Fault) → Earlier trace other fault → pass_of other ≤ pass_of fault
+pub not_later : (trace : Recording) (other fault : Fault) → Earlier trace other fault → pass_of other ≤ pass_of fault
 not_later trace other fault earlier = elim (earlier_parts trace other fault earlier) [
   | inl low ↦ omega arith
   | inr rest ↦ elim rest [
@@ -50,7 +57,7 @@ not_later trace other fault earlier = elim (earlier_parts trace other fault earl
 
 -- the first fault of a pass is the first of all
 pub first_of_pass : (start : Space) (pass : ℕ) (Among : Fault → Type 0) (trace : Recording) (fault : Fault) → AreOfPass pass Among
-    → HasNoneBefore start pass trace → IsFirstAmongFrom start Among trace fault → IsFirstFrom start trace fault
+    → HasNoneBefore start pass trace → IsFirstAmongFrom start Among trace fault → IsFirstOn start trace fault
 first_of_pass start pass Among trace fault are none first = record {
   holds = first.holds;
   none_earlier = λ other holds earlier.
@@ -64,14 +71,19 @@ first_of_pass start pass Among trace fault are none first = record {
 
 -- what a pass refuses is the first of all
 pub refused_by_pass : (start : Space) (pass : ℕ) (Among : Fault → Type 0) (trace : Recording) (fail : Fail Fault) → AreOfPass pass Among
-    → HasNoneBefore start pass trace → IfRefused (IsFirstAmongFrom start Among trace) fail → IfRefused (IsFirstFrom start trace) fail
+    → HasNoneBefore start pass trace → IfRefused (IsFirstAmongFrom start Among trace) fail → IfRefused (IsFirstOn start trace) fail
 refused_by_pass start pass Among trace Memory are none first = tt
 refused_by_pass start pass Among trace (Refused fault) are none first = first_of_pass start pass Among trace fault are none first
 
 -- what is refused of a history is refused of its trace
-pub refused_of : (start : Space) (history trace : Recording) (fail : Fail Fault) → history ≡ trace → IfRefused (IsFirstFrom start history) fail
-    → IfRefused (IsFirstFrom start trace) fail
-refused_of start history trace fail same first = subst (λ t. IfRefused (IsFirstFrom start t) fail) same first
+pub refused_of : (start : Space) (history trace : Recording) (fail : Fail Fault) → history ≡ trace → IfRefused (IsFirstOn start history) fail
+    → IfRefused (IsFirstOn start trace) fail
+refused_of start history trace fail same first = subst (λ t. IfRefused (IsFirstOn start t) fail) same first
+
+-- or from a space that is the same
+pub refused_on : (one other : Space) (trace : Recording) (fail : Fail Fault) → one ≡ other → IfRefused (IsFirstOn one trace) fail
+    → IfRefused (IsFirstOn other trace) fail
+refused_on one other trace fail same first = subst (λ s. IfRefused (IsFirstOn s trace) fail) same first
 
 pub refused_in : (start : Space) (Among : Fault → Type 0) (one other : Recording) (fail : Fail Fault) → one ≡ other
     → IfRefused (IsFirstAmongFrom start Among one) fail → IfRefused (IsFirstAmongFrom start Among other) fail
@@ -79,15 +91,16 @@ refused_in start Among one other fail same first = subst (λ t. IfRefused (IsFir
 
 -- ---- faults of the passes before the answers are those from any start on
 
-of_any : (one other : Space) (trace : Recording) (fault : Fault) → pass_of fault < 6 → HasFaultFrom one trace fault → HasFaultFrom other trace fault
+of_any : (one other : Space) (trace : Recording) (fault : Fault) → pass_of fault < 6 → HasFaultOn one trace fault → HasFaultOn other trace fault
 of_any one other trace (WrongAnswer call) low holds = absurd (omega arith)
 of_any one other trace (Differs replica address) low holds = absurd (omega arith)
+of_any one other trace (Stale call) low holds = absurd (omega arith)
 of_any one other trace _ low holds = holds
 
 pub none_before_from : (start : Space) (trace : Recording) → HasNoneBefore no_pages 6 trace → HasNoneBefore start 6 trace
 none_before_from start trace none fault low holds = none fault low (of_any start no_pages trace fault low holds)
 
-pub first_from_any : (trace : Recording) (fault : Fault) → pass_of fault < 6 → IsFirst trace fault → IsFirstFromAny trace fault
+pub first_from_any : (trace : Recording) (fault : Fault) → pass_of fault < 6 → IsFirstOn no_pages trace fault → IsFirstFromAny trace fault
 first_from_any trace fault low first = λ start. record {
   holds = of_any no_pages start trace fault low first.holds;
   none_earlier = λ other holds earlier.
@@ -97,13 +110,13 @@ first_from_any trace fault low first = λ start. record {
 
 -- what such a pass refuses is the first from any start on
 pub refused_from_any : (start : Space) (pass : ℕ) (Among : Fault → Type 0) (trace : Recording) (fail : Fail Fault) → pass < 6 → AreOfPass pass Among
-    → HasNoneBefore no_pages pass trace → IfRefused (IsFirstAmong Among trace) fail → IfRefused (IsFirstFrom start trace) fail
+    → HasNoneBefore no_pages pass trace → IfRefused (IsFirstAmong Among trace) fail → IfRefused (IsFirstOn start trace) fail
 refused_from_any start pass Among trace Memory low are none first = tt
 refused_from_any start pass Among trace (Refused fault) low are none first =
     let own = are.only fault first.is_among in
     first_from_any trace fault (omega arith) (first_of_pass no_pages pass Among trace fault are none first) start
 
-pub refused_of_any : (start : Space) (trace : Recording) (fail : Fail Fault) → IfRefused (IsFirstFromAny trace) fail → IfRefused (IsFirstFrom start trace) fail
+pub refused_of_any : (start : Space) (trace : Recording) (fail : Fail Fault) → IfRefused (IsFirstFromAny trace) fail → IfRefused (IsFirstOn start trace) fail
 refused_of_any start trace Memory first = tt
 refused_of_any start trace (Refused fault) first = first start
 
@@ -111,7 +124,8 @@ refused_of_any start trace (Refused fault) first = first start
 abbrev IsOfPass : ℕ → Fault → Type 0
 IsOfPass pass fault =
     MatchBool (pass == 2) (IsCallFault fault) (MatchBool (pass == 3) (IsLogFault fault) (MatchBool (pass == 4) (IsPositionFault fault)
-    (MatchBool (pass == 5) (IsFloorFault fault) (MatchBool (pass == 6) (IsAnswerFault fault) (MatchBool (pass == 7) (IsDumpFault fault) ⊤)))))
+    (MatchBool (pass == 5) (IsFloorFault fault) (MatchBool (pass == 6) (IsAnswerFault fault) (MatchBool (pass == 7) (IsTouchFault fault)
+    (MatchBool (pass == 8) (IsDumpFault fault) ⊤))))))
 
 own_pass : (fault : Fault) → IsOfPass (pass_of fault) fault
 own_pass (ThreadOpen index) = (index, refl)
@@ -170,7 +184,14 @@ from_answer fault among = absurd among
 pub answer_faults : AreOfPass 6 IsAnswerFault
 answer_faults = record { all = λ fault e. subst (λ pass. IsOfPass pass fault) e (own_pass fault); only = from_answer }
 
-from_dump : (fault : Fault) → IsDumpFault fault → pass_of fault ≡ 7
+from_touch : (fault : Fault) → IsTouchFault fault → pass_of fault ≡ 7
+from_touch (Stale call) among = refl
+from_touch fault among = absurd among
+
+pub touch_faults : AreOfPass 7 IsTouchFault
+touch_faults = record { all = λ fault e. subst (λ pass. IsOfPass pass fault) e (own_pass fault); only = from_touch }
+
+from_dump : (fault : Fault) → IsDumpFault fault → pass_of fault ≡ 8
 from_dump (PrefixPastLog replica) among = refl
 from_dump (PrefixShort replica) among = refl
 from_dump (MissingFrame replica number) among = refl
@@ -180,15 +201,15 @@ from_dump (StrayFrame replica number) among = refl
 from_dump (Differs replica address) among = refl
 from_dump fault among = absurd among.1
 
-pub dump_faults : AreOfPass 7 IsDumpFault
+pub dump_faults : AreOfPass 8 IsDumpFault
 dump_faults = record { all = λ fault e. subst (λ pass. IsOfPass pass fault) e (own_pass fault); only = from_dump }
 
 -- a fault is of one of the passes
-last_pass : (fault : Fault) → pass_of fault < 8
+last_pass : (fault : Fault) → pass_of fault < 9
 last_pass (Format fault) = lit< tt
 last_pass _ = lit< tt
 
-pub faultless_after_all : (start : Space) (trace : Recording) → HasNoneBefore start 8 trace → IsFaultlessFrom start trace
+pub faultless_after_all : (start : Space) (trace : Recording) → HasNoneBefore start 9 trace → HasNoFaultOn start trace
 faultless_after_all start trace none fault holds = none fault (last_pass fault) holds
 
 -- nothing is wrong with the events, the log and the positions
@@ -229,5 +250,9 @@ module _ (trace : Recording) (calls : HasNone IsCallFault trace) where
             pub after_answers : HasNoneBefore start 7 trace
             after_answers = none_before_next start 6 IsAnswerFault trace answer_faults before_answers answers
 
-            pub after_dumps : HasNoneFrom start IsDumpFault trace → HasNoneBefore start 8 trace
-            after_dumps dumps = none_before_next start 7 IsDumpFault trace dump_faults after_answers dumps
+            module _ (touches : HasNoneFrom start IsTouchFault trace) where
+              pub after_touches : HasNoneBefore start 8 trace
+              after_touches = none_before_next start 7 IsTouchFault trace touch_faults after_answers touches
+
+              pub after_dumps : HasNoneFrom start IsDumpFault trace → HasNoneBefore start 9 trace
+              after_dumps dumps = none_before_next start 8 IsDumpFault trace dump_faults after_touches dumps

@@ -2,16 +2,17 @@
 use Rattle.std.proofs.Common.{◌≡◌, ℕ, ◌+◌, ◌<◌, ◌≤◌, true, false, [], ◌∷◌, inl, inr, length, Some, None, Option, refl, sym, ap, subst, ◌∙◌, arith}
 use Rattle.std.specs.Prelude.{is_some}
 use Rattle.std.proofs.lemmas.Bool.{cases_lt, false≢true}
+use Rattle.vs_types.specs.Space.{no_pages}
 use Rattle.nr_trace.specs.Recording.{Recording}
 use Rattle.nr_trace.specs.Calls.{call_of, IsCall}
 use Rattle.nr_trace.specs.Orders.{floor}
-use Rattle.nr_trace.specs.Faults.{HasFault, Earlier, StandsAfter}
+use Rattle.nr_trace.specs.Faults.{Earlier, StandsAfter}
 use Rattle.nr_trace.specs.Laws.{HasCleanLog}
 use Rattle.nr_trace.specs.declared.fault.Fault.{Fault}
 use Rattle.nr_trace.specs.declared.fault.Fault.TheVariants.{Early}
 use Rattle.nr_trace.proofs.LawsOfCalls.{call_within, stands_once, update_is_call, read_is_call}
 use Rattle.vs_types.specs.Finds.{Finds}
-use Rattle.nr_audit.specs.inside.Search.{FindsEarly, HasNone, IsFirstAmong}
+use Rattle.nr_audit.specs.inside.Search.{HasFaultOn, FindsEarly, HasNone, IsFirstAmong}
 use Rattle.nr_audit.specs.inside.Passes.{IsFloorFaultAt, IsFloorFault}
 use Rattle.nr_audit.proofs.Ranks.{IsRanked, more_of, none_of_all, first_of_all, lower_number}
 
@@ -19,8 +20,8 @@ pub floor_ranks : (trace : Recording) → IsRanked IsFloorFaultAt 5 trace
 floor_ranks trace index (Early call) among = (9, ap (λ i. 5 ∷ i ∷ 9 ∷ []) among)
 floor_ranks trace index fault among = absurd among
 
-none_at : (trace : Recording) (index : ℕ) → (HasFault trace (Early index) → ⊥) → HasNone (IsFloorFaultAt index) trace
-none_at trace index none (Early call) among holds = none (subst (λ c. HasFault trace (Early c)) among holds)
+none_at : (trace : Recording) (index : ℕ) → (HasFaultOn no_pages trace (Early index) → ⊥) → HasNone (IsFloorFaultAt index) trace
+none_at trace index none (Early call) among holds = none (subst (λ c. HasFaultOn no_pages trace (Early c)) among holds)
 none_at trace index none fault among holds = absurd among
 
 stands_as_call : (trace : Recording) (call entries : ℕ) → StandsAfter trace call entries → IsCall trace call

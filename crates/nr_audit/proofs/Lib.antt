@@ -16,12 +16,12 @@ pub mod NeededEntries
 pub mod DumpFaults
 pub mod ComparedDumps
 pub mod PassedPlaces
-pub mod PartsOfVerdicts
 pub mod FilledSpaces
 pub mod Starts
-pub mod SegmentOrder
-pub mod Judgements
-pub mod RightSegments
-pub mod TouchLists
 pub mod FirstFaults
+pub mod Judgements
+pub mod TouchLists
 pub mod StartSpaces
+pub mod Traces
+pub mod PartsOfVerdicts
+pub mod RightSegments

@@ -5,12 +5,13 @@ use Rattle.std.specs.Prelude.{slice_get, is_some, option_and_then}
 use Rattle.std.proofs.lemmas.List.{length-set, length-replicate}
 use Rattle.std.proofs.lemmas.Bool.{cases_lt, cases_eq, false≢true}
 use Rattle.std.proofs.lemmas.Option.{slice_get_past}
+use Rattle.vs_types.specs.Space.{no_pages}
 use Rattle.nr_trace.specs.Recording.{Recording}
 use Rattle.nr_trace.specs.Calls.{Invocation, made_by, operation_in, IsUpdate}
-use Rattle.nr_trace.specs.Faults.{HasFault, Earlier, HasPlaced}
+use Rattle.nr_trace.specs.Faults.{Earlier, HasPlaced}
 use Rattle.nr_trace.specs.declared.fault.Fault.{Fault}
 use Rattle.nr_trace.specs.declared.fault.Fault.TheVariants.{NotAnUpdate, PlacedTwice}
-use Rattle.nr_audit.specs.inside.Search.{HasNone, IsFirstAmong}
+use Rattle.nr_audit.specs.inside.Search.{HasFaultOn, HasNone, IsFirstAmong}
 use Rattle.nr_audit.specs.inside.Passes.{IsLogFaultAt, IsLogFault}
 use Rattle.nr_audit.specs.inside.Tables.{IsPlaceBelow, ArePlaces}
 use Rattle.nr_audit.proofs.Ranks.{IsRanked, none_of_all, first_of_all, lower_number}
@@ -51,10 +52,10 @@ place_stays trace end call (Some own) other h = (
   ],
 )
 
-none_at : (trace : Recording) (place : ℕ) → (HasFault trace (NotAnUpdate place) → ⊥) → (HasFault trace (PlacedTwice place) → ⊥)
+none_at : (trace : Recording) (place : ℕ) → (HasFaultOn no_pages trace (NotAnUpdate place) → ⊥) → (HasFaultOn no_pages trace (PlacedTwice place) → ⊥)
     → HasNone (IsLogFaultAt place) trace
-none_at trace place a b (NotAnUpdate j) among holds = a (subst (λ k. HasFault trace (NotAnUpdate k)) among holds)
-none_at trace place a b (PlacedTwice j) among holds = b (subst (λ k. HasFault trace (PlacedTwice k)) among holds)
+none_at trace place a b (NotAnUpdate j) among holds = a (subst (λ k. HasFaultOn no_pages trace (NotAnUpdate k)) among holds)
+none_at trace place a b (PlacedTwice j) among holds = b (subst (λ k. HasFaultOn no_pages trace (PlacedTwice k)) among holds)
 none_at trace place a b fault among holds = absurd among
 
 pub log_ranks : (trace : Recording) → IsRanked IsLogFaultAt 3 trace
@@ -96,9 +97,9 @@ no_update_is_first trace place (NotAnUpdate j) among earlier = let h = lower_num
 no_update_is_first trace place (PlacedTwice j) among earlier = let h = lower_number 3 j 6 place 5 earlier among in absurd (omega arith)
 no_update_is_first trace place fault among earlier = absurd among
 
-twice_is_first : (trace : Recording) (place : ℕ) (other : Fault) → (HasFault trace (NotAnUpdate place) → ⊥) → IsLogFaultAt place other → HasFault trace other
+twice_is_first : (trace : Recording) (place : ℕ) (other : Fault) → (HasFaultOn no_pages trace (NotAnUpdate place) → ⊥) → IsLogFaultAt place other → HasFaultOn no_pages trace other
     → Earlier trace other (PlacedTwice place) → ⊥
-twice_is_first trace place (NotAnUpdate j) update among holds earlier = update (subst (λ k. HasFault trace (NotAnUpdate k)) among holds)
+twice_is_first trace place (NotAnUpdate j) update among holds earlier = update (subst (λ k. HasFaultOn no_pages trace (NotAnUpdate k)) among holds)
 twice_is_first trace place (PlacedTwice j) update among holds earlier = let h = lower_number 3 j 6 place 6 earlier among in absurd (omega arith)
 twice_is_first trace place fault update among holds earlier = absurd among
 

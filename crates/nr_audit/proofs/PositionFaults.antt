@@ -2,23 +2,24 @@
 use Rattle.std.proofs.Common.{◌≡◌, ◌≢◌, ℕ, ◌<◌, [], ◌∷◌, length, Some, None, refl, ap, subst, inl, inr, arith}
 use Rattle.std.specs.Prelude.{slice_get}
 use Rattle.std.proofs.lemmas.Bool.{cases_lt}
+use Rattle.vs_types.specs.Space.{no_pages}
 use Rattle.nr_trace.specs.Recording.{Recording}
 use Rattle.nr_trace.specs.Calls.{IsUpdate, IsRead, Response, reply_of}
-use Rattle.nr_trace.specs.Faults.{HasFault, Earlier, IsReplyWith}
+use Rattle.nr_trace.specs.Faults.{Earlier, IsReplyWith}
 use Rattle.nr_trace.specs.declared.fault.Fault.{Fault}
 use Rattle.nr_trace.specs.declared.fault.Fault.TheVariants.{NotPlaced, PastLog}
 use Rattle.nr_trace.specs.declared.event.Event.TheVariants.{Reply}
 use Rattle.vs_types.specs.declared.answer.Answer.{Answer}
-use Rattle.nr_audit.specs.inside.Search.{HasNone, IsFirstAmong}
+use Rattle.nr_audit.specs.inside.Search.{HasFaultOn, HasNone, IsFirstAmong}
 use Rattle.nr_audit.specs.inside.Passes.{IsPositionFaultAt, IsPositionFault}
 use Rattle.nr_audit.proofs.Ranks.{IsRanked, none_of_all, first_of_all, lower_number}
 use Rattle.nr_trace.proofs.LawsOfCalls.{reply_here}
 use Rattle.nr_audit.proofs.CallsAndReplies.{no_reply_past, no_reply_with}
 
-none_at : (trace : Recording) (index : ℕ) → (HasFault trace (NotPlaced index) → ⊥) → (HasFault trace (PastLog index) → ⊥)
+none_at : (trace : Recording) (index : ℕ) → (HasFaultOn no_pages trace (NotPlaced index) → ⊥) → (HasFaultOn no_pages trace (PastLog index) → ⊥)
     → HasNone (IsPositionFaultAt index) trace
-none_at trace index a b (NotPlaced j) among holds = a (subst (λ k. HasFault trace (NotPlaced k)) among holds)
-none_at trace index a b (PastLog j) among holds = b (subst (λ k. HasFault trace (PastLog k)) among holds)
+none_at trace index a b (NotPlaced j) among holds = a (subst (λ k. HasFaultOn no_pages trace (NotPlaced k)) among holds)
+none_at trace index a b (PastLog j) among holds = b (subst (λ k. HasFaultOn no_pages trace (PastLog k)) among holds)
 none_at trace index a b fault among holds = absurd among
 
 pub position_ranks : (trace : Recording) → IsRanked IsPositionFaultAt 4 trace
@@ -48,9 +49,9 @@ placed_is_first trace index (NotPlaced j) among earlier = let h = lower_number 4
 placed_is_first trace index (PastLog j) among earlier = let h = lower_number 4 j 8 index 7 earlier among in absurd (omega arith)
 placed_is_first trace index fault among earlier = absurd among
 
-past_is_first : (trace : Recording) (index : ℕ) (other : Fault) → (HasFault trace (NotPlaced index) → ⊥) → IsPositionFaultAt index other → HasFault trace other
+past_is_first : (trace : Recording) (index : ℕ) (other : Fault) → (HasFaultOn no_pages trace (NotPlaced index) → ⊥) → IsPositionFaultAt index other → HasFaultOn no_pages trace other
     → Earlier trace other (PastLog index) → ⊥
-past_is_first trace index (NotPlaced j) none among holds earlier = none (subst (λ k. HasFault trace (NotPlaced k)) among holds)
+past_is_first trace index (NotPlaced j) none among holds earlier = none (subst (λ k. HasFaultOn no_pages trace (NotPlaced k)) among holds)
 past_is_first trace index (PastLog j) none among holds earlier = let h = lower_number 4 j 8 index 8 earlier among in absurd (omega arith)
 past_is_first trace index fault none among holds earlier = absurd among
 
@@ -68,7 +69,7 @@ module _ (trace : Recording) (index call at : ℕ) (answer : Answer) (is : slice
     none_earlier = λ other among held earlier. placed_is_first trace index other among earlier;
   }
 
-  not_misplaced : (IsUpdate trace call × (slice_get trace.log at ≢ Some call) → ⊥) → HasFault trace (NotPlaced index) → ⊥
+  not_misplaced : (IsUpdate trace call × (slice_get trace.log at ≢ Some call) → ⊥) → HasFaultOn no_pages trace (NotPlaced index) → ⊥
   not_misplaced none held = none (it_is (λ reply. IsUpdate trace reply.call × (slice_get trace.log reply.at ≢ Some reply.call)) held)
 
   pub first_past_log : (IsUpdate trace call × (slice_get trace.log at ≢ Some call) → ⊥) → IsRead trace call × (length trace.log < at)

@@ -1,5 +1,5 @@
 -- The reply to a call, by the table of replies.
-use Rattle.std.proofs.Common.{◌≡◌, ℕ, zero, suc, ◌<◌, true, false, inl, inr, List, [], ◌∷◌, length, get_or, Some, None, Option, refl, sym, ap, subst, ◌∙◌}
+use Rattle.std.proofs.Common.{◌≡◌, ℕ, zero, suc, true, false, List, [], ◌∷◌, length, Some, None, Option, refl, sym, ap, subst, ◌∙◌}
 use Rattle.std.proofs.Common.{arith}
 use Rattle.std.specs.Prelude.{slice_get, filter_map, option_and_then, ◌==◌, if◌then◌else◌, is_some}
 use Rattle.std.specs.List.{cons_option}
@@ -7,12 +7,11 @@ use Rattle.std.proofs.lemmas.Option.{slice_get_within}
 use Rattle.nr_trace.specs.Recording.{Recording}
 use Rattle.nr_trace.specs.Calls.{Response, reply_in, reply_of, reply_to}
 use Rattle.nr_trace.specs.declared.event.Event.{Event}
-use Rattle.std.proofs.lemmas.Bool.{cases_lt, eq-eqb, cond-true, false≢true}
-use Rattle.std.proofs.lemmas.List.{get_or_past}
+use Rattle.std.proofs.lemmas.Bool.{eq-eqb, cond-true, false≢true}
 use Rattle.std.specs.Prelude.{option_map}
 use Rattle.nr_trace.specs.Calls.{Invocation, read_address, address_of, call_of, IsRead, IsUpdate}
 use Rattle.nr_trace.proofs.LawsOfCalls.{not_both, reply_in_event, reply_that_answers}
-use Rattle.nr_audit.specs.inside.Tables.{IsReplyBelow, AreReplies}
+use Rattle.nr_audit.specs.inside.Tables.{IsReplyBelow}
 use Rattle.nr_audit.specs.inside.Replies.{position_of, entries_seen}
 
 -- the first thing that is given, where just one is
@@ -57,20 +56,6 @@ replied trace call (Some index) h =
     h.2 k (slice_get_within trace.events k other is)
     (ap (λ (p : Option Event). is_some (option_and_then (λ (reply : Response). if reply.call == call then Some reply else None) (option_and_then reply_in p)))
     is ∙ ap is_some given)) ∙ sym named.1
-
--- the reply to a call, as the table has it
-pub reply_by_table : (trace : Recording) (table : List (Option ℕ)) (call : ℕ) (o : Option ℕ) → AreReplies trace table → o ≡ get_or table call None
-    → reply_to trace call ≡ option_and_then (λ index. reply_of trace index) o
-reply_by_table trace table call o are e = elim (cases_lt call (length table)) [
-  | inl low ↦ replied trace call (get_or table call None) (are.each call low) ∙ ap (λ p. option_and_then (λ index. reply_of trace index) p) (sym e)
-  | inr past ↦ replied trace call None (λ index lt. are.no_other call past index)
-      ∙ ap (λ p. option_and_then (λ index. reply_of trace index) p) (sym (e ∙ get_or_past table call None past))
-]
-
--- the index that the table has is one of an event
-pub index_within : (trace : Recording) (table : List (Option ℕ)) (call index : ℕ) → AreReplies trace table → call < length table
-    → get_or table call None ≡ Some index → index < length trace.events
-index_within trace table call index are lt e = (subst (λ o. IsReplyBelow trace (length trace.events) call o) e (are.each call lt)).0
 
 seen_of : (address seen : Option ℕ) → is_some address ≡ true → seen ≡ option_and_then (λ (a : ℕ). seen) address
 seen_of None seen read = absurd (false≢true read)

@@ -25,15 +25,15 @@ use Rattle.nr_dump.specs.declared.fault.DumpFault.TheVariants.{MissingFrame, Sha
 use Rattle.nr_dump.specs.declared.fault.DumpFault.TheVariants as dumps
 use Rattle.nr_dump.proofs.Faultless.{faultless_fits}
 use Rattle.nr_trace.specs.Recording.{Recording, IsRecording, IsStart}
-use Rattle.nr_trace.specs.Faults.{HasFaultFrom}
+use Rattle.nr_trace.specs.Laws.{IsFaultlessFrom}
 use Rattle.nr_audit.specs.Start.{first_space, space_of_pages, start_space, BeginsRight, HasPageBeyond, HasStartFault}
 use Rattle.nr_audit.specs.Faults.{HasNoFaultAfter, IsSoundAfter}
-use Rattle.nr_audit.specs.Touches.{HasRightTouches, IsStale}
-use Rattle.nr_audit.specs.declared.fault.StartFault.{StartFault}
-use Rattle.nr_audit.specs.declared.fault.StartFault.TheVariants.{Missing, Shared, Reserved, Stray, Beyond, Differs}
-use Rattle.nr_audit.specs.declared.fault.SegmentFault.TheVariants.{Start, Within, Stale}
+use Rattle.nr_audit.specs.Touches.{HasRightTouches}
+use Rattle.nr_trace.specs.declared.fault.Fault.{Fault}
+use Rattle.nr_trace.specs.declared.fault.Fault.TheVariants.{StartMissing, StartShared, StartReserved, StartStray, StartBeyond, StartDiffers}
 use Rattle.nr_audit.specs.inside.Begun.{HasNoStartFault}
 use Rattle.nr_audit.proofs.FilledSpaces.{of_own_pages}
+use Rattle.nr_audit.proofs.Judgements.{begins_of, faultless_of, sound_by}
 use Rattle.nr_audit.proofs.Starts.{none_walked}
 
 -- ---- the frames of a start are whole
@@ -60,36 +60,38 @@ formed depth start whole none k d lt =
       here : get_or (found_in depth start) k (get_or (found_in depth start) k d) ≡ get_or (found_in depth start) k d
       here = get_or_default (found_in depth start) k (get_or (found_in depth start) k d) d lt
 
-pub translates_start : (depth : Depth) (before : Option Space) (start : Image) → AreWhole start.frames → HasNoStartFault depth before start
-    → TranslatesAs depth start.frames start.root (space_of_pages (found_in depth start))
-translates_start depth before start whole none =
+-- its pages are a space, as which it translates
+pub space_of_start : (depth : Depth) (before : Option Space) (start : Image) → AreWhole start.frames → HasNoStartFault depth before start
+    → IsSpace depth (space_of_pages (found_in depth start)) × TranslatesAs depth start.frames start.root (space_of_pages (found_in depth start))
+space_of_start depth before start whole none =
     let way : walk_fault depth start.frames start.root ≡ None =
-    none_walked depth start (λ number. none (Missing number)) (λ number. none (Shared number)) (λ number index. none (Reserved number index)) in
+    none_walked depth start (λ number. none (StartMissing number)) (λ number. none (StartShared number)) (λ number index. none (StartReserved number index)) in
     let there = found_space depth start.frames start.root whole way
-    (formed depth start whole (none_from_no_least (HasPageBeyond depth start) (λ base least. none (Beyond base) least))) in
-    subst (TranslatesAs depth start.frames start.root) (sym (ap space_of_pages (sym there.2) ∙ of_own_pages there.1)) there.3
+    (formed depth start whole (none_from_no_least (HasPageBeyond depth start) (λ base least. none (StartBeyond base) least))) in
+    let own : there.0 ≡ space_of_pages (found_in depth start) = sym (of_own_pages there.1) ∙ ap space_of_pages there.2 in
+    (subst (IsSpace depth) own there.1, subst (TranslatesAs depth start.frames start.root) own there.3)
 
 -- the same of a segment: its start translates as the space with which it begins
 pub begins_translating : (before : Option Space) (segment : Recording) (start : Image) → segment.start ≡ Some start → AreWhole start.frames
     → BeginsRight before segment → TranslatesAs segment.layout.depth start.frames start.root (start_space segment.layout.depth segment.start)
 begins_translating before segment start is whole begins =
     subst (λ o. TranslatesAs segment.layout.depth start.frames start.root (start_space segment.layout.depth o)) (sym is)
-    (translates_start segment.layout.depth before start whole (λ fault holds. begins fault (start, is, holds)))
+    (space_of_start segment.layout.depth before start whole (λ fault holds. begins fault (start, is, holds))).1
 
 -- as the space before it too, where that is one of pages
 as_before : (space : Space) (segment : Recording) (start : Image) → segment.start ≡ Some start → HasNoFaultAfter (Some space) segment
     → HasNoFault segment.layout.depth start space
-as_before space segment start is none (MissingFrame number) h = none (Start (Missing number)) (start, is, h)
-as_before space segment start is none (SharedFrame number) h = none (Start (Shared number)) (start, is, h)
-as_before space segment start is none (ReservedBit number index) h = none (Start (Reserved number index)) (start, is, h)
-as_before space segment start is none (StrayFrame number) h = none (Start (Stray number)) (start, is, h)
-as_before space segment start is none (dumps.Differs address) h = none (Start (Differs address)) (start, is, (space, refl, h))
+as_before space segment start is none (MissingFrame number) h = none (StartMissing number) (start, is, h)
+as_before space segment start is none (SharedFrame number) h = none (StartShared number) (start, is, h)
+as_before space segment start is none (ReservedBit number index) h = none (StartReserved number index) (start, is, h)
+as_before space segment start is none (StrayFrame number) h = none (StartStray number) (start, is, h)
+as_before space segment start is none (dumps.Differs address) h = none (StartDiffers address) (start, is, (space, refl, h))
 
 pub first_translates : (before : Option Space) (segment : Recording) (start : Image) → IsRecording segment → segment.start ≡ Some start
     → IfSome before (IsSpace segment.layout.depth) → HasNoFaultAfter before segment
     → TranslatesAs segment.layout.depth start.frames start.root (first_space before segment)
 first_translates None segment start recording is space none =
-    begins_translating None segment start is (start_is_whole segment start recording is) (λ fault h. none (Start fault) h)
+    begins_translating None segment start is (start_is_whole segment start recording is) (begins_of None segment none)
 first_translates (Some before) segment start recording is space none =
     (faultless_fits segment.layout.depth start before (start_is_whole segment start recording is) space (as_before before segment start is none)).translates
 
@@ -98,27 +100,23 @@ first_translates (Some before) segment start recording is space none =
 -- a segment that is sound by itself is sound behind one that leads to the space of its start
 module _ (segment : Recording) (start : Image) (space : Space) (is : segment.start ≡ Some start) (whole : AreWhole start.frames)
     (leads : start_space segment.layout.depth segment.start ≡ space) where
-  none_behind : BeginsRight None segment → (fault : StartFault) → HasStartFault (Some space) segment fault → ⊥
-  none_behind begins (Missing number) h = begins (Missing number) h
-  none_behind begins (Shared number) h = begins (Shared number) h
-  none_behind begins (Reserved number index) h = begins (Reserved number index) h
-  none_behind begins (Stray number) h = begins (Stray number) h
-  none_behind begins (Beyond base) h = begins (Beyond base) h
-  none_behind begins (Differs address) (other, other_is, (before, before_is, differs)) =
+  none_behind : BeginsRight None segment → (fault : Fault) → HasStartFault (Some space) segment fault → ⊥
+  none_behind begins (StartMissing number) h = begins (StartMissing number) h
+  none_behind begins (StartShared number) h = begins (StartShared number) h
+  none_behind begins (StartReserved number index) h = begins (StartReserved number index) h
+  none_behind begins (StartStray number) h = begins (StartStray number) h
+  none_behind begins (StartBeyond base) h = begins (StartBeyond base) h
+  none_behind begins (StartDiffers address) (other, other_is, (before, before_is, differs)) =
       let one : start ≡ other = cc in
       let same : start_space segment.layout.depth segment.start ≡ before = cc in
       let translates = begins_translating None segment start is whole begins in
       let behind = subst (TranslatesAs segment.layout.depth start.frames start.root) same translates in
       let own = subst (λ (image : Image). TranslatesAs segment.layout.depth image.frames image.root before) one behind in
       differs.0.1 (own address differs.0.0)
-
-  faultless_behind : HasNoFaultAfter None segment → HasNoFaultAfter (Some space) segment
-  faultless_behind none (Start fault) h = none_behind (λ other holds. none (Start other) holds) fault h
-  faultless_behind none (Within fault) h = none (Within fault) (subst (λ s. HasFaultFrom s segment fault) (sym leads) h)
-  faultless_behind none (Stale call) h = none (Stale call) (subst (λ s. IsStale s segment call) (sym leads) h)
+  none_behind begins _ h = absurd h.2
 
   pub sound_behind : IsSoundAfter None segment → IsSoundAfter (Some space) segment
-  sound_behind sound = record {
-    faultless = faultless_behind sound.faultless;
-    touches = subst (λ s. HasRightTouches s segment) leads sound.touches;
-  }
+  sound_behind sound =
+      sound_by (Some space) segment (none_behind (begins_of None segment sound.faultless))
+      (subst (λ s. IsFaultlessFrom s segment) leads (faultless_of None segment sound.faultless))
+      (subst (λ s. HasRightTouches s segment) leads sound.touches)

@@ -1,7 +1,7 @@
 -- What the check of a start says of its faults.
-use Rattle.std.proofs.Common.{◌≡◌, ℕ, ◌<◌, ◌≤◌, List, get_or, slice_get, Option, Some, None, Result, Ok, Err, inl, inr, refl, sym, ap, ◌∙◌, subst, arith, lit<}
+use Rattle.std.proofs.Common.{◌≡◌, ℕ, ◌<◌, ◌≤◌, List, get_or, slice_get, Option, Some, None, Result, Ok, Err, inl, inr, refl, sym, ap, ◌∙◌, subst, arith, lit<, lit≤}
 use Rattle.std.proofs.Common.{Contains}
-use Rattle.std.specs.Prelude.{All, IfErr, OnOk}
+use Rattle.std.specs.Prelude.{All, IfErr, IfOk, OnOk}
 use Rattle.std.specs.List.{AllPairs}
 use Rattle.std.proofs.lemmas.Bool.{cases_lt}
 use Rattle.std.proofs.lemmas.Option.{slice_get_within, slice_get-get_or, get_or_from_slice_get}
@@ -15,7 +15,7 @@ use Rattle.vs_types.specs.Step.{look}
 use Rattle.vs_types.specs.Refusal.{IfRefused}
 use Rattle.vs_types.specs.declared.refusal.Fail.{Fail}
 use Rattle.vs_types.specs.declared.refusal.Fail.TheVariants.{Refused}
-use Rattle.vs_walk.specs.Differences.{IsLeast, IsStray}
+use Rattle.vs_walk.specs.Differences.{IsLeast, IsStray, TranslatesOtherwise}
 use Rattle.vs_walk.specs.Dump.{Image}
 use Rattle.vs_walk.specs.Memory.{AreWhole}
 use Rattle.vs_walk.specs.Traversal.{walk_fault, found_in}
@@ -24,15 +24,17 @@ use Rattle.vs_walk.specs.declared.walk.WalkFault.{WalkFault}
 use Rattle.vs_walk.specs.declared.walk.WalkFault.TheVariants as walks
 use Rattle.vs_walk.proofs.LawsOfRising.{pages_formed}
 use Rattle.vs_walk.proofs.LawsOfSpaces.{found_are_pages}
-use Rattle.vs_walk.proofs.Leasts.{none_from_no_least}
+use Rattle.vs_walk.proofs.Leasts.{none_from_no_least, one_least}
 use Rattle.nr_dump.specs.Faults.{HoldsOfDump, IsFirstOfDump, HasNoFault, rank_in_dump}
 use Rattle.nr_dump.specs.declared.fault.DumpFault.{DumpFault}
 use Rattle.nr_dump.specs.declared.fault.DumpFault.TheVariants as dumps
 use Rattle.nr_trace.specs.Recording.{Recording}
-use Rattle.nr_audit.specs.Start.{HasPageBeyond, HoldsOfStart, rank_in_start, BeginsRight, BeginsWrong}
-use Rattle.nr_audit.specs.declared.fault.StartFault.{StartFault}
-use Rattle.nr_audit.specs.declared.fault.StartFault.TheVariants.{Missing, Shared, Reserved, Stray, Beyond, Differs}
-use Rattle.nr_audit.specs.inside.Begun.{AreApart, EndsBeyond, HasNoneBeyond, HasNoStartFault, HasRightTables, IsFirstBeyond, IsFirstOfStart}
+use Rattle.nr_trace.specs.Faults.{Earlier}
+use Rattle.nr_trace.specs.declared.fault.Fault.{Fault}
+use Rattle.nr_trace.specs.declared.fault.Fault.TheVariants.{StartMissing, StartShared, StartReserved, StartStray, StartBeyond, StartDiffers}
+use Rattle.nr_trace.proofs.LawsOfFaults.{pass, index_of, number_of, earlier_parts}
+use Rattle.nr_audit.specs.Start.{HasPageBeyond, HasStartFault, HoldsOfStart, BeginsRight, BeginsWrong}
+use Rattle.nr_audit.specs.inside.Begun.{rank_in_start, AreApart, EndsBeyond, HasNoneBeyond, HasNoStartFault, HasRightTables, IsFirstBeyond, IsFirstOfStart}
 
 -- no first fault of the traversal is none
 no_walk_fault : (depth : Depth) (dump : Image) → ((fault : WalkFault) → walk_fault depth dump.frames dump.root ≡ Some fault → ⊥)
@@ -67,53 +69,59 @@ pub faultless_tables : (depth : Depth) (start : Image) (space : Space) → HasNo
 faultless_tables depth start space none = right_tables depth start space 3 (omega arith) (λ other holds less. none other holds)
 
 pub stray_first : (depth : Depth) (before : Option Space) (start : Image) (space : Space) (number : ℕ)
-    → IsFirstOfDump depth start space (dumps.StrayFrame number) → IsFirstOfStart depth before start (Stray number)
+    → IsFirstOfDump depth start space (dumps.StrayFrame number) → IsFirstOfStart depth before start (StartStray number)
 stray_first depth before start space number first = record { holds = first.holds; none_earlier = none } where
-  none : (other : StartFault) → HoldsOfStart depth before start other → rank_in_start other < 2 → ⊥
-  none (Missing number) h less = first.none_earlier (dumps.MissingFrame number) h (omega arith)
-  none (Shared number) h less = first.none_earlier (dumps.SharedFrame number) h (omega arith)
-  none (Reserved number index) h less = first.none_earlier (dumps.ReservedBit number index) h (omega arith)
-  none (Stray number) h less = omega arith
-  none (Beyond base) h less = omega arith
-  none (Differs address) h less = omega arith
+  none : (other : Fault) → HoldsOfStart depth before start other → rank_in_start other < 2 → ⊥
+  none (StartMissing number) h less = first.none_earlier (dumps.MissingFrame number) h (omega arith)
+  none (StartShared number) h less = first.none_earlier (dumps.SharedFrame number) h (omega arith)
+  none (StartReserved number index) h less = first.none_earlier (dumps.ReservedBit number index) h (omega arith)
+  none (StartStray number) h less = omega arith
+  none (StartBeyond base) h less = omega arith
+  none (StartDiffers address) h less = omega arith
+  none _ h less = h
 
 -- where the tables are right
 module _ (depth : Depth) (before : Option Space) (start : Image) (right : HasRightTables depth start) where
-  tables_none : (other : StartFault) → rank_in_start other < 3 → HoldsOfStart depth before start other → ⊥
-  tables_none (Stray number) less h = right.none_stray number h.0
-  tables_none (Beyond base) less h = absurd (omega arith)
-  tables_none (Differs address) less h = absurd (omega arith)
-  tables_none _ less h = let none = right.walked in cc
+  tables_none : (other : Fault) → rank_in_start other < 3 → HoldsOfStart depth before start other → ⊥
+  tables_none (StartMissing number) less h = let none = right.walked in cc
+  tables_none (StartShared number) less h = let none = right.walked in cc
+  tables_none (StartReserved number index) less h = let none = right.walked in cc
+  tables_none (StartStray number) less h = right.none_stray number h.0
+  tables_none (StartBeyond base) less h = absurd (omega arith)
+  tables_none (StartDiffers address) less h = absurd (omega arith)
+  tables_none _ less h = h
 
-  pub beyond_first : (base : ℕ) → HoldsOfStart depth before start (Beyond base) → IsFirstOfStart depth before start (Beyond base)
+  pub beyond_first : (base : ℕ) → HoldsOfStart depth before start (StartBeyond base) → IsFirstOfStart depth before start (StartBeyond base)
   beyond_first base holds = record { holds = holds; none_earlier = λ other h less. tables_none other less h }
 
   none_beyond : All (IsPage depth) (found_in depth start) → (base : ℕ) → HasPageBeyond depth start base → ⊥
   none_beyond formed base h = let page = All-contains (IsPage depth) (found_in depth start) h.0 formed h.1 in omega (arith, page.phys_range, h.3)
 
-  pub differs_first : All (IsPage depth) (found_in depth start) → (address : ℕ) → HoldsOfStart depth before start (Differs address)
-      → IsFirstOfStart depth before start (Differs address)
+  pub differs_first : All (IsPage depth) (found_in depth start) → (address : ℕ) → HoldsOfStart depth before start (StartDiffers address)
+      → IsFirstOfStart depth before start (StartDiffers address)
   differs_first formed address holds = record { holds = holds; none_earlier = none } where
-    none : (other : StartFault) → HoldsOfStart depth before start other → rank_in_start other < 4 → ⊥
-    none (Missing number) h less = tables_none (Missing number) (lit< tt) h
-    none (Shared number) h less = tables_none (Shared number) (lit< tt) h
-    none (Reserved number index) h less = tables_none (Reserved number index) (lit< tt) h
-    none (Stray number) h less = tables_none (Stray number) (lit< tt) h
-    none (Beyond base) h less = none_beyond formed base h.0
-    none (Differs address) h less = omega arith
+    none : (other : Fault) → HoldsOfStart depth before start other → rank_in_start other < 4 → ⊥
+    none (StartMissing number) h less = tables_none (StartMissing number) (lit< tt) h
+    none (StartShared number) h less = tables_none (StartShared number) (lit< tt) h
+    none (StartReserved number index) h less = tables_none (StartReserved number index) (lit< tt) h
+    none (StartStray number) h less = tables_none (StartStray number) (lit< tt) h
+    none (StartBeyond base) h less = none_beyond formed base h.0
+    none (StartDiffers address) h less = omega arith
+    none _ h less = h
 
-  pub none_of_start : All (IsPage depth) (found_in depth start) → ((address : ℕ) → HoldsOfStart depth before start (Differs address) → ⊥)
+  pub none_of_start : All (IsPage depth) (found_in depth start) → ((address : ℕ) → HoldsOfStart depth before start (StartDiffers address) → ⊥)
       → HasNoStartFault depth before start
-  none_of_start formed differs (Missing number) h = tables_none (Missing number) (lit< tt) h
-  none_of_start formed differs (Shared number) h = tables_none (Shared number) (lit< tt) h
-  none_of_start formed differs (Reserved number index) h = tables_none (Reserved number index) (lit< tt) h
-  none_of_start formed differs (Stray number) h = tables_none (Stray number) (lit< tt) h
-  none_of_start formed differs (Beyond base) h = none_beyond formed base h.0
-  none_of_start formed differs (Differs address) h = differs address h
+  none_of_start formed differs (StartMissing number) h = tables_none (StartMissing number) (lit< tt) h
+  none_of_start formed differs (StartShared number) h = tables_none (StartShared number) (lit< tt) h
+  none_of_start formed differs (StartReserved number index) h = tables_none (StartReserved number index) (lit< tt) h
+  none_of_start formed differs (StartStray number) h = tables_none (StartStray number) (lit< tt) h
+  none_of_start formed differs (StartBeyond base) h = none_beyond formed base h.0
+  none_of_start formed differs (StartDiffers address) h = differs address h
+  none_of_start formed differs _ h = h
 
 -- a start that translates as a space differs from it nowhere
 pub none_differs : (depth : Depth) (start : Image) (space : Space) → TranslatesAs depth start.frames start.root space
-    → (address : ℕ) → HoldsOfStart depth (Some space) start (Differs address) → ⊥
+    → (address : ℕ) → HoldsOfStart depth (Some space) start (StartDiffers address) → ⊥
 none_differs depth start space translates address (other, is, differs) =
     let same : space ≡ other = cc in
     differs.0.1 (subst (λ s. walk depth start.frames start.root address ≡ as_walk (look s address)) same (translates address differs.0.0))
@@ -165,29 +173,104 @@ own_formed {depth} {space} is ps same = subst (All (IsPage depth)) (sym same)
     (All-weaker (Contains (pages space)) (IsPage depth) (λ page h. is.well_formed page ((holds_listed is page).0 h)) (pages space)
     (All-contains_itself (pages space)))
 
+-- ---- the order of the faults of a start
+
+-- a fault of a start is of the first pass, in which its index is its rank
+record OfStart (segment : Recording) (fault : Fault) : Type 0 where
+  pub first : pass fault ≡ 1
+  pub indexed : index_of segment fault ≡ rank_in_start fault
+  pub some : 1 ≤ rank_in_start fault
+
+of_start : (segment : Recording) (depth : Depth) (before : Option Space) (start : Image) (fault : Fault) → HoldsOfStart depth before start fault
+    → OfStart segment fault
+of_start segment depth before start (StartMissing number) h = record { first = refl; indexed = refl; some = lit≤ tt }
+of_start segment depth before start (StartShared number) h = record { first = refl; indexed = refl; some = lit≤ tt }
+of_start segment depth before start (StartReserved number index) h = record { first = refl; indexed = refl; some = lit≤ tt }
+of_start segment depth before start (StartStray number) h = record { first = refl; indexed = refl; some = lit≤ tt }
+of_start segment depth before start (StartBeyond base) h = record { first = refl; indexed = refl; some = lit≤ tt }
+of_start segment depth before start (StartDiffers address) h = record { first = refl; indexed = refl; some = lit≤ tt }
+of_start segment depth before start _ h = absurd h
+
+same_start : (depth : Depth) (before : Option Space) (start : Image) (first second : Fault) → 1 ≤ rank_in_start first → HoldsOfStart depth before start first
+    → HoldsOfStart depth before start second → rank_in_start first ≡ rank_in_start second → first ≡ second
+same_start depth before start (StartMissing a) (StartMissing b) some h k same = cc
+same_start depth before start (StartMissing a) (StartShared b) some h k same = cc
+same_start depth before start (StartMissing a) (StartReserved b i) some h k same = cc
+same_start depth before start (StartShared a) (StartMissing b) some h k same = cc
+same_start depth before start (StartShared a) (StartShared b) some h k same = cc
+same_start depth before start (StartShared a) (StartReserved b i) some h k same = cc
+same_start depth before start (StartReserved a i) (StartMissing b) some h k same = cc
+same_start depth before start (StartReserved a i) (StartShared b) some h k same = cc
+same_start depth before start (StartReserved a i) (StartReserved b j) some h k same = cc
+same_start depth before start (StartStray a) (StartStray b) some h k same = ap StartStray (one_least (IsStray depth start.frames start.root) a b h k)
+same_start depth before start (StartBeyond a) (StartBeyond b) some h k same = ap StartBeyond (one_least (HasPageBeyond depth start) a b h k)
+same_start depth before start (StartDiffers a) (StartDiffers b) some (space, is, h) (other, other_is, k) same =
+    let one : space ≡ other = cc in
+    ap StartDiffers (one_least (TranslatesOtherwise depth start.frames start.root other) a b
+    (subst (λ s. IsLeast (TranslatesOtherwise depth start.frames start.root s) a) one h) k)
+same_start depth before start first second some h k same = absurd (omega arith)
+
+-- of two that hold the earlier one has the lower rank
+earlier_rank : (segment : Recording) (depth : Depth) (before : Option Space) (start : Image) (first second : Fault)
+    → HoldsOfStart depth before start first → HoldsOfStart depth before start second → Earlier segment first second
+    → rank_in_start first < rank_in_start second
+earlier_rank segment depth before start first second h k less =
+    let a = of_start segment depth before start first h in
+    let b = of_start segment depth before start second k in
+    elim (earlier_parts segment first second less) [
+      | inl low ↦ absurd (omega (arith, low, a.first, b.first))
+      | inr rest ↦ elim rest [
+        | inl same ↦ omega (arith, same.1, a.indexed, b.indexed)
+        | inr same ↦ absurd (
+            let ranks : rank_in_start first ≡ rank_in_start second = sym a.indexed ∙ same.1 ∙ b.indexed in
+            let one = ap (number_of segment) (same_start depth before start first second a.some h k ranks) in
+            omega (arith, one, same.2))
+      ]
+    ]
+
 -- ---- the start of a segment
 
-one_start : (segment : Recording) (start other : Image) → segment.start ≡ Some start → segment.start ≡ Some other → other ≡ start
-one_start segment start other is other_is = cc
+one_image : (segment : Recording) (start other : Image) → segment.start ≡ Some start → segment.start ≡ Some other → other ≡ start
+one_image segment start other is other_is = cc
+
+-- a fault of a segment's start is one of the first pass; and at most one of them has a rank
+pub start_pass : (before : Option Space) (segment : Recording) (fault : Fault) → HasStartFault before segment fault → pass fault ≡ 1
+start_pass before segment fault (start, is, holds) = (of_start segment segment.layout.depth before start fault holds).first
+
+pub one_start : (before : Option Space) (segment : Recording) (first second : Fault) → HasStartFault before segment first
+    → HasStartFault before segment second → rank_in_start first ≡ rank_in_start second → first ≡ second
+one_start before segment first second (start, is, h) (other, other_is, k) same =
+    same_start segment.layout.depth before start first second (of_start segment segment.layout.depth before start first h).some h
+    (subst (λ (s : Image). HoldsOfStart segment.layout.depth before s second) (one_image segment start other is other_is) k) same
 
 pub begins_right : (before : Option Space) (segment : Recording) (start : Image) (depth : Depth) → segment.start ≡ Some start → depth ≡ segment.layout.depth
     → HasNoStartFault depth before start → BeginsRight before segment
 begins_right before segment start depth is same none fault (other, other_is, holds) =
     none fault (subst (λ d. HoldsOfStart d before start fault) (sym same)
-    (subst (λ (s : Image). HoldsOfStart segment.layout.depth before s fault) (one_start segment start other is other_is) holds))
+    (subst (λ (s : Image). HoldsOfStart segment.layout.depth before s fault) (one_image segment start other is other_is) holds))
 
-pub begins_wrong : (before : Option Space) (segment : Recording) (start : Image) (depth : Depth) (fault : StartFault) → segment.start ≡ Some start
+pub begins_wrong : (before : Option Space) (segment : Recording) (start : Image) (depth : Depth) (fault : Fault) → segment.start ≡ Some start
     → depth ≡ segment.layout.depth → IsFirstOfStart depth before start fault → BeginsWrong before segment fault
 begins_wrong before segment start depth fault is same first = record {
   holds = (start, is, subst (λ d. HoldsOfStart d before start fault) same first.holds);
   none_earlier = λ earlier (other, other_is, holds) less.
-      first.none_earlier earlier (subst (λ d. HoldsOfStart d before start earlier) (sym same)
-      (subst (λ (s : Image). HoldsOfStart segment.layout.depth before s earlier) (one_start segment start other is other_is) holds)) less;
+      let own = subst (λ d. HoldsOfStart d before start earlier) (sym same)
+      (subst (λ (s : Image). HoldsOfStart segment.layout.depth before s earlier) (one_image segment start other is other_is) holds) in
+      first.none_earlier earlier own (earlier_rank segment depth before start earlier fault own first.holds less);
 }
 
 pub on_ok : {A E : Type 0} (P Q : Type 0) (result : Result A E) → (P → Q) → OnOk result P → OnOk result Q
 on_ok P Q (Ok a) widen h = widen h
 on_ok P Q (Err e) widen h = tt
+
+pub on_both : {A E : Type 0} (P Q R : Type 0) (result : Result A E) → (P → Q → R) → OnOk result P → OnOk result Q → OnOk result R
+on_both P Q R (Ok a) join h k = join h k
+on_both P Q R (Err e) join h k = tt
+
+pub ok_with : {A E : Type 0} (P : Type 0) (Q R : A → Type 0) (result : Result A E) → (P → (a : A) → Q a → R a) → OnOk result P → IfOk result Q
+    → IfOk result R
+ok_with P Q R (Ok a) join h k = join h a k
+ok_with P Q R (Err e) join h k = tt
 
 pub if_refused : {A E : Type 0} (P Q : E → Type 0) (result : Result A (Fail E)) → ((fault : E) → P fault → Q fault) → IfErr result (IfRefused P)
     → IfErr result (IfRefused Q)

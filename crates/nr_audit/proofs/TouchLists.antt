@@ -1,12 +1,11 @@
--- The touches of a segment by the events at which they are made, and the replies by call.
-use Rattle.std.proofs.Common.{◌≡◌, ◌≢◌, ℕ, zero, suc, ◌+◌, ◌<◌, ◌⊎◌, ◌≤◌, List, [], ◌∷◌, ◌++◌, length, slice_get, get_or, Option, Some, None, option_and_then}
-use Rattle.std.proofs.Common.{option_map, inl, inr, IsSome, refl, sym, ap}
+-- The touches of a segment by the events at which they are made.
+use Rattle.std.proofs.Common.{◌≡◌, ℕ, zero, suc, ◌+◌, ◌<◌, ◌⊎◌, List, [], ◌∷◌, ◌++◌, length, slice_get, get_or, Option, Some, None, option_and_then}
+use Rattle.std.proofs.Common.{inl, inr, IsSome, refl, sym, ap}
 use Rattle.std.proofs.Common.{◌∙◌, subst, arith}
-use Rattle.std.specs.Prelude.{if◌then◌else◌, ◌==◌, slice_index_or}
+use Rattle.std.specs.Prelude.{if◌then◌else◌, ◌==◌}
 use Rattle.std.specs.List.{AllPairs}
-use Rattle.std.proofs.lemmas.Bool.{cases_eq, cases_lt, eq-eqb}
-use Rattle.std.proofs.lemmas.List.{get_or-set_other, get_or-set_same, length-append, length-set}
-use Rattle.std.proofs.Math.ListN.{set}
+use Rattle.std.proofs.lemmas.Bool.{cases_lt, eq-eqb}
+use Rattle.std.proofs.lemmas.List.{length-append}
 use Rattle.std.proofs.lemmas.Option.{slice_get_within, slice_get-get_or, get_or_from_slice_get}
 use Rattle.vs_types.specs.Space.{Space}
 use Rattle.vs_types.specs.declared.access.Access.{Access}
@@ -15,14 +14,13 @@ use Rattle.vs_types.specs.declared.request.Query.{Query}
 use Rattle.vs_types.specs.declared.request.Query.TheVariants as queries
 use Rattle.nr_trace.specs.Recording.{Recording}
 use Rattle.nr_trace.specs.Calls.{Invocation, made_by, touch_of, Response, reply_in, reply_of, Answers}
-use Rattle.nr_trace.specs.Laws.{HasCleanLog}
 use Rattle.nr_trace.specs.declared.event.Event.{Event}
 use Rattle.nr_trace.specs.declared.event.Event.TheVariants as events
 use Rattle.nr_touch.specs.Stale.{FindsStale}
 use Rattle.nr_touch.specs.declared.touch.Touch.{Touch}
 use Rattle.nr_audit.specs.Touches.{HasRightTouches, HasTouch, IsStale}
-use Rattle.nr_audit.specs.inside.Begun.{touch_by, touch_between, AreRepliesBelow, AreTouchesBelow, IsFirstStale}
-use Rattle.nr_trace.proofs.LawsOfCalls.{answers_from, reply_that_answers}
+use Rattle.nr_audit.specs.inside.Begun.{touch_by, touch_between, AreTouchesBelow, IsFirstStale, IsTouchAt}
+use Rattle.nr_audit.specs.inside.Tables.{IsReplyBelow}
 use Rattle.nr_audit.proofs.CallsAndReplies.{answers_only}
 
 abbrev asked_in : Option Event → Option Query
@@ -122,102 +120,6 @@ pushed_cases [] x (suc k) y e = cc
 pushed_cases (z ∷ zs) x zero y e = inl e
 pushed_cases (z ∷ zs) x (suc k) y e = pushed_cases zs x k y e
 
--- ---- the replies by call
-
--- an event that answers no call of the table changes nothing
-pub no_reply : (segment : Recording) (end : ℕ) (replies : List (Option ℕ)) → ((call : ℕ) → Answers segment end call → ⊥)
-    → AreRepliesBelow segment end replies → AreRepliesBelow segment (end + 1) replies
-no_reply segment end replies none are = record {
-  as_many = are.as_many;
-  each = λ call index at. let own = are.each call index at in (omega (arith, own.0), own.1);
-  all = λ call index lt answers. elim (cases_lt index end) [
-    | inl low ↦ are.all call index low answers
-    | inr high ↦ absurd (let same : index ≡ end = omega arith in none call (subst (λ i. Answers segment i call) same answers))
-  ];
-}
-
--- no event that is no reply answers a call
-pub no_answer : (segment : Recording) (end : ℕ) → reply_of segment end ≡ None → (call : ℕ) → Answers segment end call → ⊥
-no_answer segment end is call answers = let reply = reply_that_answers segment end call answers in let other = reply.1 in cc
-
--- with a clean log each reply is to a call that there is
-pub reply_within : (segment : Recording) (end : ℕ) (reply : Response) → HasCleanLog segment → end < length segment.events
-    → reply_of segment end ≡ Some reply → length segment.events ≤ reply.call → ⊥
-reply_within segment end reply clean lt is past = clean.no_such_call end (reply, is, λ it. omega (arith, it.0))
-
--- one reply more
-pub one_reply : (segment : Recording) (end : ℕ) (reply : Response) (replies : List (Option ℕ)) → HasCleanLog segment
-    → reply_of segment end ≡ Some reply → reply.call < length replies → AreRepliesBelow segment end replies
-    → AreRepliesBelow segment (end + 1) (set replies reply.call (Some end))
-one_reply segment end reply replies clean is lt are = record {
-  as_many = length-set replies reply.call (Some end) ∙ are.as_many;
-  each = each;
-  all = all;
-} where
-  here : slice_index_or (set replies reply.call (Some end)) reply.call None ≡ Some end
-  here = get_or-set_same replies reply.call (Some end) None lt
-
-  other : (call : ℕ) → call ≢ reply.call → slice_index_or (set replies reply.call (Some end)) call None ≡ slice_index_or replies call None
-  other call differs = get_or-set_other replies reply.call call (Some end) None differs
-
-  each : (call index : ℕ) → slice_index_or (set replies reply.call (Some end)) call None ≡ Some index → (index < end + 1) × Answers segment index call
-  each call index at = elim (cases_eq call reply.call) [
-    | inl same ↦ (
-        let there = ap (λ c. slice_index_or (set replies reply.call (Some end)) c None) (sym same) in
-        let index_is : index ≡ end = (let x = here in cc) in
-        (omega arith, answers_from segment index call reply (subst (λ i. reply_of segment i ≡ Some reply) (sym index_is) is) (sym same)))
-    | inr differs ↦ (let own = are.each call index (sym (other call differs) ∙ at) in (omega (arith, own.0), own.1))
-  ]
-
-  all : (call index : ℕ) → index < end + 1 → Answers segment index call → slice_index_or (set replies reply.call (Some end)) call None ≡ Some index
-  all call index low answers = elim (cases_lt index end) [
-    | inl before ↦ elim (cases_eq call reply.call) [
-      | inl same ↦ absurd (clean.none_twice end (reply, is, (index, before, subst (Answers segment index) same answers)))
-      | inr differs ↦ other call differs ∙ are.all call index before answers
-    ]
-    | inr behind ↦ (
-        let now : index ≡ end = omega arith in
-        let answer = reply_that_answers segment end call (subst (λ i. Answers segment i call) now answers) in
-        let one : answer.0 ≡ reply = (let a = answer.1 in cc) in
-        let called : call ≡ reply.call = sym answer.2 ∙ ap (λ (r : Response). r.call) one in
-        ap (λ c. slice_index_or (set replies reply.call (Some end)) c None) called ∙ here ∙ ap Some (sym now))
-  ]
-
--- the reply that an event is, by its index
-reply_at : (segment : Recording) (index : ℕ) (event : Event) (d : Event) → index < length segment.events → event ≡ get_or segment.events index d
-    → reply_of segment index ≡ reply_in event
-reply_at segment index event d lt is = ap (option_and_then reply_in) (slice_get-get_or segment.events index d lt ∙ ap Some (sym is))
-
--- what noting the reply of an event makes of the table
-pub noted_none : (segment : Recording) (index : ℕ) (event d : Event) (replies : List (Option ℕ)) → index < length segment.events
-    → event ≡ get_or segment.events index d → option_map (λ (r : Response). r.call) (reply_in event) ≡ None → AreRepliesBelow segment index replies
-    → AreRepliesBelow segment (index + 1) replies
-noted_none segment index event d replies lt is none are =
-    no_reply segment index replies (no_answer segment index (reply_at segment index event d lt is ∙ unmapped (reply_in event) none)) are where
-      unmapped : (o : Option Response) → option_map (λ (r : Response). r.call) o ≡ None → o ≡ None
-      unmapped None e = refl
-      unmapped (Some r) e = cc
-
-pub noted_some : (segment : Recording) (index : ℕ) (event d : Event) (call : ℕ) (old new : List (Option ℕ)) → HasCleanLog segment
-    → index < length segment.events → event ≡ get_or segment.events index d → option_map (λ (r : Response). r.call) (reply_in event) ≡ Some call
-    → (call < length old → new ≡ set old call (Some index)) → AreRepliesBelow segment index old → AreRepliesBelow segment (index + 1) new
-noted_some segment index event d call old new clean lt is some sets are =
-    by_reply (mapped (reply_in event) some) where
-      mapped : (o : Option Response) → option_map (λ (r : Response). r.call) o ≡ Some call → (r : Response) × (o ≡ Some r) × (r.call ≡ call)
-      mapped None e = cc
-      mapped (Some r) e = (r, refl, cc)
-
-      by_reply : (r : Response) × (reply_in event ≡ Some r) × (r.call ≡ call) → AreRepliesBelow segment (index + 1) new
-      by_reply (reply, reply_is, named_so) =
-          let here : reply_of segment index ≡ Some reply = reply_at segment index event d lt is ∙ reply_is in
-          elim (cases_lt reply.call (length old)) [
-            | inl within ↦
-                subst (AreRepliesBelow segment (index + 1))
-                (ap (λ c. set old c (Some index)) named_so ∙ sym (sets (subst (λ c. c < length old) named_so within)))
-                (one_reply segment index reply old clean here within are)
-            | inr past ↦ absurd (reply_within segment index reply clean lt here (let many = are.as_many in omega arith))
-          ]
-
 -- ---- the list
 
 -- none yet
@@ -279,51 +181,25 @@ one_more_touch segment end touches touch has made only are = record { each = eac
           (pushed_old touches touch k (get_or touches k d) (slice_get-get_or touches k d low))
 
 -- the touch that is made at an event, by the reply to it
-pub only_touch : (segment : Recording) (made answered : ℕ) (replies : List (Option ℕ)) → AreRepliesBelow segment (length segment.events) replies
-    → slice_index_or replies made None ≡ Some answered → (other : Touch) → HasTouch segment other → other.made ≡ made
-    → touch_between segment made answered ≡ Some other
-only_touch segment made answered replies are at other has is =
-    let answers = touch_answers segment other has in
-    let within = answered_within segment other has in
-    let same : other.answered ≡ answered =
-    (let there = are.all other.made other.answered within answers in let e = subst (λ c. slice_index_or replies c None ≡ Some other.answered) is there in cc) in
+only_touch : (segment : Recording) (made answered : ℕ) → IsReplyBelow segment (length segment.events) made (Some answered)
+    → (other : Touch) → HasTouch segment other → other.made ≡ made → touch_between segment made answered ≡ Some other
+only_touch segment made answered replied other has is =
+    let answers = subst (Answers segment other.answered) is (touch_answers segment other has) in
+    let same : other.answered ≡ answered = replied.2 other.answered (answered_within segment other has) answers in
     subst (λ m. touch_between segment m answered ≡ Some other) is
     (subst (λ a. touch_between segment other.made a ≡ Some other) same (has_between segment other has))
 
 -- where the call has no reply, no answered touch is made there
-pub unanswered : (segment : Recording) (made : ℕ) (replies : List (Option ℕ)) → AreRepliesBelow segment (length segment.events) replies
-    → slice_index_or replies made None ≡ None → (other : Touch) → HasTouch segment other → other.made ≡ made → ⊥
-unanswered segment made replies are at other has is =
-    let there = are.all other.made other.answered (answered_within segment other has) (touch_answers segment other has) in
-    let e = subst (λ c. slice_index_or replies c None ≡ Some other.answered) is there in
-    cc
+pub none_made : (segment : Recording) (made : ℕ) → IsReplyBelow segment (length segment.events) made None → IsTouchAt segment made None
+none_made segment made none touch has is =
+    none touch.answered (answered_within segment touch has) (subst (Answers segment touch.answered) is (touch_answers segment touch has))
 
--- what an event adds to the touches
-pub added_none : (segment : Recording) (made : ℕ) (replies : List (Option ℕ)) (touches : List Touch)
-    → AreRepliesBelow segment (length segment.events) replies
-    → option_and_then (touch_between segment made) (slice_index_or replies made None) ≡ None → AreTouchesBelow segment made touches
-    → AreTouchesBelow segment (made + 1) touches
-added_none segment made replies touches rs none are =
-    no_more segment made touches (λ touch has is. by_reply touch has is (slice_index_or replies made None) refl) are where
-      by_reply : (touch : Touch) → HasTouch segment touch → touch.made ≡ made → (o : Option ℕ) → slice_index_or replies made None ≡ o → ⊥
-      by_reply touch has is None at = unanswered segment made replies rs at touch has is
-      by_reply touch has is (Some answered) at =
-          let there = only_touch segment made answered replies rs at touch has is in
-          let nothing : touch_between segment made answered ≡ None = subst (λ o. option_and_then (touch_between segment made) o ≡ None) at none in
-          cc
-
-pub added_some : (segment : Recording) (made : ℕ) (replies : List (Option ℕ)) (touches : List Touch) (touch : Touch)
-    → AreRepliesBelow segment (length segment.events) replies
-    → option_and_then (touch_between segment made) (slice_index_or replies made None) ≡ Some touch → AreTouchesBelow segment made touches
-    → AreTouchesBelow segment (made + 1) (touches ++ touch ∷ [])
-added_some segment made replies touches touch rs some are = by_reply (slice_index_or replies made None) refl where
-  by_reply : (o : Option ℕ) → slice_index_or replies made None ≡ o → AreTouchesBelow segment (made + 1) (touches ++ touch ∷ [])
-  by_reply None at = absurd (let nothing : None ≡ Some touch = subst (λ o. option_and_then (touch_between segment made) o ≡ Some touch) at some in cc)
-  by_reply (Some answered) at =
-      let there : touch_between segment made answered ≡ Some touch = subst (λ o. option_and_then (touch_between segment made) o ≡ Some touch) at some in
-      let has = between_has segment made answered touch there (rs.each made answered at).1 in
-      one_more_touch segment made touches touch has.0 has.1
-      (λ other own is. let same = only_touch segment made answered replies rs at other own is in cc) are
+pub made_there : (segment : Recording) (made answered : ℕ) (o : Option Touch) → IsReplyBelow segment (length segment.events) made (Some answered)
+    → o ≡ touch_between segment made answered → IsTouchAt segment made o
+made_there segment made answered None replied is = λ touch has same. let there = only_touch segment made answered replied touch has same in cc
+made_there segment made answered (Some touch) replied is =
+    let has = between_has segment made answered touch (sym is) replied.1 in
+    (has.0, has.1, λ other own same. let there = only_touch segment made answered replied other own same in cc)
 
 -- ---- what the search finds
 

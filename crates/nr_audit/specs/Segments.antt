@@ -1,18 +1,14 @@
--- What is found of a segment: its order, and the space after it, where no fault holds, else the first fault.
-use Rattle.std.specs.Prelude.{◌≡◌, ℕ, List, Option, option_map, ⊤}
+-- What a right segment is, and the space after it.
+use Rattle.std.specs.Prelude.{◌≡◌, ℕ, List, Option, option_map}
 use Rattle.vs_types.specs.Config.{Layout}
 use Rattle.vs_types.specs.Space.{Space}
 use Rattle.vs_plain.specs.Plain.{BoundedSpace}
 use Rattle.nr_trace.specs.Recording.{Recording}
 use Rattle.nr_trace.specs.Calls.{IsWellFormedHistory}
-use Rattle.nr_trace.specs.Orders.{recorded_order, space_from, HasItsCalls, KeepsPrecedence, HasAnswersFrom}
+use Rattle.nr_trace.specs.Orders.{space_from, HasItsCalls, KeepsPrecedence, HasAnswersFrom}
 use Rattle.nr_audit.specs.Headline.{HasDumpsFrom}
-use Rattle.nr_audit.specs.Verdict.{space_of}
 use Rattle.nr_audit.specs.Start.{first_space}
 use Rattle.nr_audit.specs.Touches.{HasRightTouches}
-use Rattle.nr_audit.specs.Faults.{IsFirstAfter, IsSoundAfter}
-use Rattle.nr_audit.specs.declared.verdict.SegmentVerdict.{SegmentVerdict}
-use Rattle.nr_audit.specs.declared.verdict.SegmentVerdict.TheVariants.{Right, Wrong}
 
 -- the space after the whole log of a segment, where that is the space before it, or no segment is
 abbrev pub last_space : Option Space → Recording → Space
@@ -26,17 +22,6 @@ pages_before before = option_map (λ kept. kept.space) before
 pub record FitsLayout (layout : Layout) (before : BoundedSpace) : Type 0 where
   pub depth : before.depth ≡ layout.depth
   pub limit : before.limit ≡ layout.tables
-
--- the verdict on a segment
-abbrev pub IsVerdictAfter : Option Space → Recording → SegmentVerdict → Type 0
-IsVerdictAfter before segment (Right order space) =
-    IsSoundAfter before segment × (order ≡ recorded_order segment) × (space ≡ space_of segment.layout (last_space before segment))
-IsVerdictAfter before segment (Wrong fault) = IsFirstAfter before segment fault
-
--- where the segment is right, its order has the property
-abbrev pub IfRight : (List ℕ → Type 0) → SegmentVerdict → Type 0
-IfRight P (Right order space) = P order
-IfRight P (Wrong fault) = ⊤
 
 -- the segment is right with the order, from the space on with which it begins: its events are a well-formed history; all its answered
 -- updates and reads and some unanswered updates are in the order, each once; a call answered before another was made comes first; each

@@ -11,8 +11,9 @@ use Rattle.vs_walk.specs.Differences.{IsLeast, HasMissingFrame, HasSharedFrame, 
 use Rattle.vs_walk.specs.Dump.{Image}
 use Rattle.vs_walk.specs.Traversal.{found_in}
 use Rattle.nr_trace.specs.Recording.{Recording}
-use Rattle.nr_audit.specs.declared.fault.StartFault.{StartFault}
-use Rattle.nr_audit.specs.declared.fault.StartFault.TheVariants.{Missing, Shared, Reserved, Stray, Beyond, Differs}
+use Rattle.nr_trace.specs.Faults.{Earlier}
+use Rattle.nr_trace.specs.declared.fault.Fault.{Fault}
+use Rattle.nr_trace.specs.declared.fault.Fault.TheVariants.{StartMissing, StartShared, StartReserved, StartStray, StartBeyond, StartDiffers}
 
 -- the space of some pages
 abbrev pub space_of_pages : List Page → Space
@@ -33,33 +34,25 @@ abbrev pub HasPageBeyond : Depth → Image → ℕ → Type 0
 HasPageBeyond depth start base =
     (page : Page) × Contains (found_in depth start) page × (page.base ≡ base) × (PHYS_END < page.phys + bytes_of page.size)
 
--- what each fault says of a start, where that is the space before it, or no segment is
-abbrev pub HoldsOfStart : Depth → Option Space → Image → StartFault → Type 0
-HoldsOfStart depth before start (Missing number) = HasMissingFrame depth start number
-HoldsOfStart depth before start (Shared number) = HasSharedFrame depth start number
-HoldsOfStart depth before start (Reserved number index) = HasReservedBit depth start number index
-HoldsOfStart depth before start (Stray number) = HasStrayFrame depth start number
-HoldsOfStart depth before start (Beyond base) = IsLeast (HasPageBeyond depth start) base
-HoldsOfStart depth before start (Differs address) = (space : Space) × (before ≡ Some space) × HasDifference depth start space address
+-- what each fault of a start says of it, where that is the space before it, or no segment is
+abbrev pub HoldsOfStart : Depth → Option Space → Image → Fault → Type 0
+HoldsOfStart depth before start (StartMissing number) = HasMissingFrame depth start number
+HoldsOfStart depth before start (StartShared number) = HasSharedFrame depth start number
+HoldsOfStart depth before start (StartReserved number index) = HasReservedBit depth start number index
+HoldsOfStart depth before start (StartStray number) = HasStrayFrame depth start number
+HoldsOfStart depth before start (StartBeyond base) = IsLeast (HasPageBeyond depth start) base
+HoldsOfStart depth before start (StartDiffers address) = (space : Space) × (before ≡ Some space) × HasDifference depth start space address
+HoldsOfStart depth before start fault = ⊥
 
 -- a segment has a start with the fault
-abbrev pub HasStartFault : Option Space → Recording → StartFault → Type 0
+abbrev pub HasStartFault : Option Space → Recording → Fault → Type 0
 HasStartFault before segment fault =
     (start : Image) × (segment.start ≡ Some start) × HoldsOfStart segment.layout.depth before start fault
 
--- the first fault of the traversal comes first, then a stray frame, then a page beyond, then an address that differs
-abbrev pub rank_in_start : StartFault → ℕ
-rank_in_start (Missing number) = 1
-rank_in_start (Shared number) = 1
-rank_in_start (Reserved number index) = 1
-rank_in_start (Stray number) = 2
-rank_in_start (Beyond base) = 3
-rank_in_start (Differs address) = 4
-
 -- a segment begins with no fault of its start, or with one, which is the first
 abbrev pub BeginsRight : Option Space → Recording → Type 0
-BeginsRight before segment = (fault : StartFault) → HasStartFault before segment fault → ⊥
+BeginsRight before segment = (fault : Fault) → HasStartFault before segment fault → ⊥
 
-pub record BeginsWrong (before : Option Space) (segment : Recording) (fault : StartFault) : Type 0 where
+pub record BeginsWrong (before : Option Space) (segment : Recording) (fault : Fault) : Type 0 where
   pub holds : HasStartFault before segment fault
-  pub none_earlier : (other : StartFault) → HasStartFault before segment other → rank_in_start other < rank_in_start fault → ⊥
+  pub none_earlier : (other : Fault) → HasStartFault before segment other → Earlier segment other fault → ⊥

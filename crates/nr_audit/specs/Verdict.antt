@@ -1,37 +1,32 @@
 -- What a verdict says of a trace, and of bytes: yes with the recorded order where no fault holds, else no with the first.
-use Rattle.std.specs.Prelude.{◌≡◌, ℕ, List, ⊤}
+use Rattle.std.specs.Prelude.{◌≡◌, ℕ, List, None, ⊤}
 use Rattle.vs_types.specs.Config.{Layout}
 use Rattle.vs_types.specs.Space.{Space}
 use Rattle.vs_plain.specs.Plain.{BoundedSpace}
-use Rattle.nr_trace.specs.Recording.{Recording}
+use Rattle.nr_trace.specs.Recording.{Recording, IsRecording}
+use Rattle.nr_trace.specs.Versions.{IsVersionOf}
+use Rattle.nr_trace.specs.declared.version.Form.TheVariants as forms
 use Rattle.nr_trace.specs.Spelling.{Spells}
-use Rattle.nr_trace.specs.Faults.{IsFirst, IsFirstFrom, IsFirstOf}
-use Rattle.nr_trace.specs.Laws.{IsFaultless, IsFaultlessFrom}
-use Rattle.nr_trace.specs.Orders.{recorded_order, space_from}
+use Rattle.nr_trace.specs.Faults.{IsFirstOf}
+use Rattle.nr_trace.specs.Laws.{IsFaultless}
+use Rattle.nr_trace.specs.Orders.{recorded_order}
+use Rattle.nr_audit.specs.Faults.{IsFirstAfter, IsSoundAfter}
 use Rattle.nr_audit.specs.declared.verdict.Verdict.{Verdict}
 use Rattle.nr_audit.specs.declared.verdict.Verdict.TheVariants.{Yes, No}
-use Rattle.nr_audit.specs.declared.verdict.Judged.{Judged}
-use Rattle.nr_audit.specs.declared.verdict.Judged.TheVariants.{Right, Wrong}
 
 -- a space with the depth and the limit of a layout
 abbrev pub space_of : Layout → Space → BoundedSpace
 space_of layout space = record { depth = layout.depth; limit = layout.tables; space = space }
 
--- what is judged of a trace from a start on: where no fault holds, the recorded order, and the space after the whole log
-abbrev pub IsJudgedFrom : Space → Recording → Judged → Type 0
-IsJudgedFrom start trace (Right order space) =
-    IsFaultlessFrom start trace × (order ≡ recorded_order trace) × (space ≡ space_of trace.layout (space_from start trace trace.log))
-IsJudgedFrom start trace (Wrong fault) = IsFirstFrom start trace fault
+-- all is in the range of its version, which is one of traces, and not that of segments
+pub record IsTrace (trace : Recording) : Type 0 where
+  pub in_range : IsRecording trace
+  pub of_form : IsVersionOf forms.Trace trace.version
 
--- where the trace is right from the start on, its order has the property
-abbrev pub IfRight : (List ℕ → Type 0) → Judged → Type 0
-IfRight P (Right order space) = P order
-IfRight P (Wrong fault) = ⊤
-
--- the verdict on a trace
+-- the verdict on a trace, or on a segment that is the first of its chain
 abbrev pub IsVerdictOn : Recording → Verdict → Type 0
-IsVerdictOn trace (Yes order) = IsFaultless trace × (order ≡ recorded_order trace)
-IsVerdictOn trace (No fault) = IsFirst trace fault
+IsVerdictOn trace (Yes order) = IsSoundAfter None trace × (order ≡ recorded_order trace)
+IsVerdictOn trace (No fault) = IsFirstAfter None trace fault
 
 -- the verdict on bytes
 abbrev pub IsVerdictOf : List ℕ → Verdict → Type 0

@@ -3,7 +3,6 @@ pub mod Begun
 pub mod Chains
 pub mod Dumps
 pub mod Indexes
-pub mod Judged
 pub mod LastCalls
 pub mod LastEvents
 pub mod Passes

@@ -69,8 +69,8 @@ fn is_placed(trace: &Trace, place: usize, call: u32) -> bool
     }
 }
 
-/// Where the call is the update of the next place of the log, compares the dumps that have applied so many entries with the
-/// space before it. How many places the calls have passed with it.
+/// If the call is the update of the next place of the log, compares the dumps that have applied so many entries with the
+/// space before it. Gives how many places the calls have passed with it.
 fn pass_place(
     alloc: Global,
     trace: &Trace,

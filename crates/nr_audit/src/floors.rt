@@ -20,7 +20,7 @@ use nr_trace::{Event, Fault};
 use std::alloc::Global;
 use vs_types::{Fail, REPLICAS};
 
-/// Where the calls of a trace are in the recorded order, and what is known by its replies.
+/// The places of a trace's calls in the recorded order, and what is known by its replies.
 #[derive(Drop)]
 pub(crate) struct Standing {
     /// The answered reads, beside the places of the updates.
@@ -55,9 +55,9 @@ fn early_call(
 }
 
 /// Looks for a reply that gives an update another place than its own, and one that gives a read more entries than the log
-/// has, and then for a call that comes before one that was answered before it was made: by one pass over the events, with
-/// the most entries that are known so far by a reply. Gives where the calls are: the reads are put in chains in the table of the
-/// places. Allocates memory for it: four bytes for each place.
+/// has. Then it looks for a call that comes before one that was answered before it was made, by one pass over the events, with
+/// the most entries that are known so far by a reply. Gives the places of the calls: the reads are put in chains in the table of
+/// the places. Allocates four bytes for each place.
 pub(crate) fn check_replies(
     alloc: Global,
     history: &History,

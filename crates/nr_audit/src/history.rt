@@ -1,11 +1,11 @@
 //! A trace with the reply to each of its calls.
 
-ghost use Rattle.std.specs.Prelude.{◌≡◌, ◌<◌, IfSome, option_map, is_some};
+ghost use Rattle.std.specs.Prelude.{◌≡◌, ◌<◌, IfSome, length, option_map, is_some};
 ghost use Rattle.nr_trace.specs.Calls.{address_of, call_of, operation_of, touch_of, IsCall};
 ghost use Rattle.nr_trace.specs.Recording.{IsRecording};
 ghost use Rattle.nr_audit.specs.inside.LastEvents.{IsLastEvent};
 ghost use Rattle.nr_audit.specs.inside.Replies.{position_of};
-ghost use Rattle.nr_audit.specs.inside.Tables.{AreReplies};
+ghost use Rattle.nr_audit.specs.inside.Tables.{AreReplies, IsReplyBelow};
 
 use crate::last_events::position_at;
 use crate::requests::request_of;
@@ -102,16 +102,24 @@ impl<'a> History<'a> {
         }
     }
 
+    /// The event that is the reply to a call, or `None` if it has none.
+    #[inline(always)]
+    pub(crate) fn reply(&self, call: u32) -> Option<u32>
+        ensures { IsReplyBelow self.now (length self.now.events) call result }
+    {
+        if call as usize >= self.replies.len() {
+            return None;
+        }
+        self.replies[call as usize].get()
+    }
+
     /// The position that the reply to a call gives, or `None` where it has none: the place of an update, and for a read how
     /// many entries it saw.
     #[inline(always)]
     pub(crate) fn position(&self, call: u32) -> Option<u32>
         ensures { result ≡ position_of self.now call }
     {
-        if call as usize >= self.replies.len() {
-            return None;
-        }
-        let index = self.replies[call as usize].get()?;
+        let index = self.reply(call)?;
         position_at(self.trace, index)
     }
 

@@ -1,92 +1,88 @@
-//! The audit: of a trace, of what was read, and of bytes.
+//! The audit: of a trace, of a segment behind another, of what was read, and of bytes.
 
-ghost use Rattle.std.specs.Prelude.{◌≡◌, ℕ, IfOk, List};
-ghost use Rattle.vs_types.specs.Space.{no_pages};
+ghost use Rattle.std.specs.Prelude.{◌≡◌, ℕ, IfErr, IfOk, IfSome, List, None, OnOk};
+ghost use Rattle.vs_types.specs.Refusal.{IfRefused};
 ghost use Rattle.nr_trace.specs.Calls.{IsWellFormedHistory};
 ghost use Rattle.nr_trace.specs.Feed.{Reads};
-ghost use Rattle.nr_trace.specs.Faults.{IsFirst, IsFirstFrom, IsFirstOf};
-ghost use Rattle.nr_trace.specs.Laws.{IsFaultless, IsFaultlessFrom};
-ghost use Rattle.nr_trace.specs.Orders.{recorded_order, space_from, HasItsCalls, HasAnswersFrom, HasTheAnswers, KeepsPrecedence};
+ghost use Rattle.nr_trace.specs.Faults.{IsFirstOf};
+ghost use Rattle.nr_trace.specs.Laws.{IsFaultless};
+ghost use Rattle.nr_trace.specs.Orders.{recorded_order, HasItsCalls, HasTheAnswers, KeepsPrecedence};
 ghost use Rattle.nr_trace.specs.Recording.{Recording};
 ghost use Rattle.nr_trace.specs.Spelling.{Spells};
 ghost use Rattle.nr_trace.specs.declared.fault.Fault.{Fault};
-ghost use Rattle.nr_audit.specs.Headline.{AreRightWith, HasDumpsFrom, HasFittingDumps, IsSpelledWith, SpellsAlone};
-ghost use Rattle.nr_audit.specs.Verdict.{IfRight, IfYes, IsJudgedFrom, IsVerdictOf, IsVerdictOn, space_of};
+ghost use Rattle.nr_audit.specs.Faults.{IsFirstAfter, IsSoundAfter};
+ghost use Rattle.nr_audit.specs.Headline.{AreRightWith, HasFittingDumps, IsSpelledWith, SpellsAlone};
+ghost use Rattle.nr_audit.specs.Segments.{last_space, pages_before, FitsLayout, IsRightAfter};
+ghost use Rattle.nr_audit.specs.Verdict.{IfYes, IsVerdictOf, IsVerdictOn, space_of};
 
 use crate::search::search;
-use crate::verdict::{Judged, Verdict};
+use crate::start::begin;
+use crate::verdict::{Order, Verdict};
 use nr_trace::{Fault, Format, Trace, read};
 use std::alloc::Global;
 use vs_plain::PlainSpace;
 use vs_types::{Fail, Memory};
 
-/// Whether a trace is right where its address space begins with this start: `Right` with the recorded order of its calls and the
-/// space after its whole log where none of the faults holds, else `Wrong` with the first.
+/// The recorded order of a segment that is right, and the space after its whole log, where this is the space after the segment before,
+/// or it is the first one of its chain. A trace is such a first one, without a start and without touches.
 ///
-/// `Right` says of the trace what `judge` says, of the one sequential address space that begins with the start. So a recording
-/// that goes on where another one ended is judged from the space to which that one led.
+/// The space of the segment before, where there is one, has the depth and the limit of the segment's layout. A segment with a start
+/// is then compared with that space, and goes on from it; the first one begins with the pages of its start, or with none. The
+/// recorded order has the updates by place, and each answered read after the entries that it saw.
 ///
-/// Takes what `judge` takes; the space grows from the start.
+/// Of a right one the events are a well-formed history; the order has all answered updates and reads and some unanswered updates, each
+/// once, and keeps what came before what; each answer is that of one sequential address space, from the space on with which the
+/// segment begins; each dump that is there translates every canonical address as that space does after so many updates as the
+/// replica had applied; and each answered touch was answered as its address was at some moment of that order which no flush had
+/// ended before the touch began. That it is refused does not say that no other order explains it.
+///
+/// Allocates memory beside the trace: at most 16 bytes for each event and 4 for each thread, or where there are more threads than
+/// events an entry of a map for each thread that makes a call; where there are touches, 8 bytes more for each event, the touches, and
+/// the changes of the space, which are done and undone; and, when these are freed but for 4 bytes for each call of the order, for
+/// the pages of the space and what the check of a dump takes. It takes time for the segment's own events, log, start and dumps, and
+/// not for the pages of the space before.
 ///
 /// # Errors
 ///
-/// `Memory` where a growth of memory was refused.
-pub fn judge_from(alloc: Global, trace: &Trace, start: PlainSpace) -> Result<Judged, Memory>
-    requires depth { start.depth ≡ trace.now.layout.depth }
-    requires limit { start.limit ≡ trace.now.layout.tables }
-    ensures judged { IfOk result (IsJudgedFrom start.space trace.now) }
-    ensures right { IsFaultlessFrom start.space trace.now → IfOk result (λ judged. judged
-        ≡ Judged.Right (recorded_order trace.now)
-        (space_of trace.now.layout (space_from start.space trace.now trace.now.log))) }
-    ensures wrong { (fault : Fault) → IsFirstFrom start.space trace.now fault
-        → IfOk result (λ judged. judged ≡ Judged.Wrong fault) }
-    ensures events { IfOk result (IfRight (λ order. IsWellFormedHistory trace.now)) }
-    ensures members { IfOk result (IfRight (HasItsCalls trace.now)) }
-    ensures precedence { IfOk result (IfRight (KeepsPrecedence trace.now)) }
-    ensures answers { IfOk result (IfRight (HasAnswersFrom start.space trace.now)) }
-    ensures dumps { IfOk result (IfRight (HasDumpsFrom start.space trace.now)) }
+/// The first of the faults that hold, and `Memory` where a growth of memory was refused.
+pub fn judge_segment(
+    alloc: Global,
+    segment: &Trace,
+    before: Option<PlainSpace>,
+) -> Result<(Order, PlainSpace), Fail<Fault>>
+    requires { IfSome before (FitsLayout segment.now.layout) }
+    ensures sound { OnOk result (IsSoundAfter (pages_before before) segment.now) }
+    ensures order { IfOk result (λ right. right.0 ≡ recorded_order segment.now) }
+    ensures space { IfOk result (λ right. right.1
+        ≡ space_of segment.now.layout (last_space (pages_before before) segment.now)) }
+    ensures right { IfOk result
+        (λ right. IsRightAfter (pages_before before) segment.now right.0) }
+    ensures first { IfErr result (IfRefused (IsFirstAfter (pages_before before) segment.now)) }
 {
-    match search(alloc, trace, start) {
-        Ok((order, space)) => Ok(Judged::Right(order, space)),
-        Err(Fail::Memory) => Err(Memory),
-        Err(Fail::Refused(fault)) => Ok(Judged::Wrong(fault)),
-    }
+    let start = begin(alloc, segment, before)?;
+    search(alloc, segment, start)
 }
 
-/// Whether a trace is right: `Yes` with the recorded order of its calls where none of the faults holds, else `No` with the
-/// first. The recorded order has the updates by place, and each answered read after the entries that it saw.
+/// Whether a trace is right: `Yes` with the recorded order of its calls where none of the faults holds, else `No` with the first.
+/// Of a segment the same, where it is the first one of its chain.
 ///
-/// `Yes` says that the events are a well-formed history: each reply answers an earlier call, a call has one reply at most, and a
-/// thread has one call open at a time. And that it is linearizable, by this order, which has all answered calls and some unanswered
-/// updates, each once: a call answered before another was made comes first, and each answer is that of one sequential address
-/// space. And that each dump that is there, as all of a trace are, translates every canonical address as that space does after so
-/// many updates as the replica had applied. `No` does not say that no other order explains the trace.
-///
-/// Allocates memory beside the trace: at most 16 bytes for each event and 4 for each thread, or where there are more threads than
-/// events an entry of a map for each thread that makes a call; and, when these are freed but for 4 bytes for each call of the
-/// order, for one space and what the check of a dump takes.
+/// Takes what `judge_segment` takes, of which it is the case that no segment comes before: `Yes` says what that says.
 ///
 /// # Errors
 ///
 /// `Memory` where a growth of memory was refused.
 pub fn judge(alloc: Global, trace: &Trace) -> Result<Verdict, Memory>
     ensures verdict { IfOk result (IsVerdictOn trace.now) }
-    ensures yes { IsFaultless trace.now
+    ensures yes { IsSoundAfter None trace.now
         → IfOk result (λ verdict. verdict ≡ Verdict.Yes (recorded_order trace.now)) }
-    ensures no { (fault : Fault) → IsFirst trace.now fault
+    ensures no { (fault : Fault) → IsFirstAfter None trace.now fault
         → IfOk result (λ verdict. verdict ≡ Verdict.No fault) }
-    ensures events { IfOk result (IfYes (λ order. IsWellFormedHistory trace.now)) }
-    ensures members { IfOk result (IfYes (HasItsCalls trace.now)) }
-    ensures precedence { IfOk result (IfYes (KeepsPrecedence trace.now)) }
-    ensures answers { IfOk result (IfYes (HasTheAnswers trace.now)) }
-    ensures dumps { IfOk result (IfYes (HasDumpsFrom no_pages trace.now)) }
+    ensures right { IfOk result (IfYes (IsRightAfter None trace.now)) }
 {
-    let layout = trace.layout();
-    let empty = PlainSpace::new(alloc, layout.tables(), layout.depth());
-    let judged = judge_from(alloc, trace, empty)?;
-    match judged {
-        Judged::Right(order, _) => Ok(Verdict::Yes(order)),
-        Judged::Wrong(fault) => Ok(Verdict::No(fault)),
+    match judge_segment(alloc, trace, None) {
+        Ok((order, _)) => Ok(Verdict::Yes(order)),
+        Err(Fail::Memory) => Err(Memory),
+        Err(Fail::Refused(fault)) => Ok(Verdict::No(fault)),
     }
 }
 

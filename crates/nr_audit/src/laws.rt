@@ -1,15 +1,17 @@
 //! Laws of the definitions in `specs/`. Each function does nothing: its clauses say what holds of all bytes, traces and segments.
 
-ghost use Rattle.std.specs.Prelude.{◌≡◌, ℕ, IfSome, List, Option, Some, None};
+ghost use Rattle.std.specs.Prelude.{◌≡◌, ◌↔◌, ℕ, IfSome, List, Option, Some, None};
 ghost use Rattle.vs_types.specs.Space.{Space, IsSpace};
 ghost use Rattle.vs_walk.specs.Dump.{Image};
 ghost use Rattle.vs_walk.specs.Walk.{TranslatesAs};
 ghost use Rattle.nr_trace.specs.Recording.{Recording, IsRecording};
+ghost use Rattle.nr_trace.specs.Faults.{IsFirst};
+ghost use Rattle.nr_trace.specs.Laws.{IsFaultless};
+ghost use Rattle.nr_trace.specs.declared.fault.Fault.{Fault};
 ghost use Rattle.nr_audit.specs.Faults.{HasNoFaultAfter, IsFirstAfter, IsSoundAfter};
 ghost use Rattle.nr_audit.specs.Start.{first_space, start_space};
-ghost use Rattle.nr_audit.specs.declared.fault.SegmentFault.{SegmentFault};
 ghost use Rattle.nr_audit.specs.Headline.{AreRightWith};
-ghost use Rattle.nr_audit.specs.Verdict.{IsVerdictOf, IsVerdictOn};
+ghost use Rattle.nr_audit.specs.Verdict.{IsTrace, IsVerdictOf, IsVerdictOn};
 ghost use Rattle.nr_audit.specs.declared.verdict.Verdict.{Verdict};
 ghost use Rattle.nr_audit.specs.declared.verdict.Verdict.TheVariants.{Yes};
 
@@ -26,9 +28,18 @@ pub fn one_verdict()
         → IsVerdictOn trace second → first ≡ second }
 {}
 
+/// A trace is a segment without a start and without touches, the first of its chain: it is right as the one where it is right as the other,
+/// and else it has the same first fault.
+pub fn traces_are_first_segments()
+    ensures sound { (trace : Recording) → IsTrace trace
+        → IsSoundAfter None trace ↔ IsFaultless trace }
+    ensures first { (trace : Recording) (fault : Fault) → IsTrace trace
+        → IsFirstAfter None trace fault ↔ IsFirst trace fault }
+{}
+
 /// At most one fault of a segment is the first, where the space before it is given.
 pub fn one_fault_of_a_segment_is_first()
-    ensures { (before : Option Space) (segment : Recording) (fault other : SegmentFault)
+    ensures { (before : Option Space) (segment : Recording) (fault other : Fault)
         → IsFirstAfter before segment fault → IsFirstAfter before segment other → fault ≡ other }
 {}
 

@@ -1,17 +1,17 @@
 //! The auditor of traces and of segments: whether what was recorded is one run of the address space, which a segment goes on with.
 //!
 //! First the start of a segment is looked at, the page table with which it begins. The first pass makes a history of the
-//! trace: by number each call's reply. The later passes come one after another in the order of the faults that they look for:
-//! by the history the log, and the positions with the floors; by the last events of the calls, in the recorded order, the
-//! answers; then the touches of a segment; and then the dumps.
+//! trace: by number each call's reply. The later passes come one after another in the order of the faults that they look for.
+//! By the history they look at the log, and at the positions with the floors. By the last events of the calls, in the recorded
+//! order, they look at the answers; then at the touches of a segment, and then at the dumps.
 #![tactic(auto)]
 
 mod answers;
 mod calls;
 mod dumps;
 pub mod examples;
-mod fault;
 mod floors;
+mod forms;
 mod history;
 mod judging;
 mod last_calls;
@@ -24,7 +24,6 @@ mod positions;
 mod reads;
 mod requests;
 mod search;
-mod segment;
 mod start;
 mod tables;
 mod touches;
@@ -32,9 +31,8 @@ mod verdict;
 
 pub use answers::serve;
 pub use dumps::{fault_at, table_fault};
-pub use fault::{SegmentFault, StartFault};
-pub use judging::{audit, judge, judge_from, judge_read};
+pub use forms::is_trace;
+pub use judging::{audit, judge, judge_read, judge_segment};
 pub use requests::request_of;
-pub use segment::judge_segment;
 pub use start::{begin, copy};
-pub use verdict::{Judged, Order, SegmentVerdict, Verdict};
+pub use verdict::{Order, Verdict};

@@ -13,9 +13,8 @@ ghost use Rattle.nr_audit.specs.Segments.{pages_before, FitsLayout};
 ghost use Rattle.nr_audit.specs.inside.Begun.{AreApart, HasNoneBeyond, HasNoStartFault, HasRightTables, IsFirstBeyond};
 ghost use Rattle.nr_audit.specs.inside.Begun.{IsFirstOfAny, IsFirstOfStart};
 
-use crate::fault::StartFault;
 use nr_dump::{DumpFault, check};
-use nr_trace::Trace;
+use nr_trace::{Fault, Trace};
 use std::alloc::Global;
 use vs_plain::PlainSpace;
 use vs_plain::laws::pages_are_a_space;
@@ -70,11 +69,7 @@ fn first_beyond(found: &[Page]) -> Option<u64>
 /// # Errors
 ///
 /// The first fault of the tables: of the traversal, or a stray frame; and `Memory`.
-fn difference(
-    alloc: Global,
-    start: &Dump,
-    space: &PlainSpace,
-) -> Result<Option<u64>, Fail<StartFault>>
+fn difference(alloc: Global, start: &Dump, space: &PlainSpace) -> Result<Option<u64>, Fail<Fault>>
     ensures is_dump { IsDump start.now }
     ensures is_space { IsSpace space.now.depth space.now.space }
     ensures tables { OnOk result (HasRightTables space.now.depth start.now) }
@@ -90,12 +85,12 @@ fn difference(
         Ok(()) => Ok(None),
         Err(Fail::Memory) => Err(Fail::Memory),
         Err(Fail::Refused(fault)) => match fault {
-            DumpFault::MissingFrame(number) => Err(Fail::Refused(StartFault::Missing(number))),
-            DumpFault::SharedFrame(number) => Err(Fail::Refused(StartFault::Shared(number))),
+            DumpFault::MissingFrame(number) => Err(Fail::Refused(Fault::StartMissing(number))),
+            DumpFault::SharedFrame(number) => Err(Fail::Refused(Fault::StartShared(number))),
             DumpFault::ReservedBit(number, index) => {
-                Err(Fail::Refused(StartFault::Reserved(number, index)))
+                Err(Fail::Refused(Fault::StartReserved(number, index)))
             }
-            DumpFault::StrayFrame(number) => Err(Fail::Refused(StartFault::Stray(number))),
+            DumpFault::StrayFrame(number) => Err(Fail::Refused(Fault::StartStray(number))),
             DumpFault::Differs(address) => Ok(Some(address)),
         },
     }
@@ -105,8 +100,8 @@ fn difference(
 ///
 /// # Errors
 ///
-/// `Beyond` for the first page that ends too high, and `Memory`.
-fn pages_in(alloc: Global, start: &Dump, depth: Depth) -> Result<Pages, Fail<StartFault>>
+/// `StartBeyond` for the first page that ends too high, and `Memory`.
+fn pages_in(alloc: Global, start: &Dump, depth: Depth) -> Result<Pages, Fail<Fault>>
     requires is_dump { IsDump start.now }
     requires tables { HasRightTables depth start.now }
     ensures pages { IfOk result (λ pages. pages ≡ found_in depth start.now) }
@@ -119,17 +114,13 @@ fn pages_in(alloc: Global, start: &Dump, depth: Depth) -> Result<Pages, Fail<Sta
         Err(Fail::Refused(_)) => unreachable!(),
     };
     match first_beyond(pages.as_slice()) {
-        Some(base) => Err(Fail::Refused(StartFault::Beyond(base))),
+        Some(base) => Err(Fail::Refused(Fault::StartBeyond(base))),
         None => Ok(pages),
     }
 }
 
 /// The space of the pages of a start, in place of one that has none.
-fn begin_anew(
-    alloc: Global,
-    start: &Dump,
-    empty: PlainSpace,
-) -> Result<PlainSpace, Fail<StartFault>>
+fn begin_anew(alloc: Global, start: &Dump, empty: PlainSpace) -> Result<PlainSpace, Fail<Fault>>
     requires { empty.space ≡ no_pages }
     ensures space { IfOk result (λ space. space
         ≡ record empty { space = space_of_pages (found_in empty.depth start.now) }) }
@@ -144,7 +135,7 @@ fn begin_anew(
 }
 
 /// The space before a start, which has to translate as that does.
-fn go_on(alloc: Global, start: &Dump, before: PlainSpace) -> Result<PlainSpace, Fail<StartFault>>
+fn go_on(alloc: Global, start: &Dump, before: PlainSpace) -> Result<PlainSpace, Fail<Fault>>
     ensures same { IfOk result (λ space. space ≡ before) }
     ensures right { OnOk result (HasNoStartFault before.depth (Some before.space) start.now) }
     ensures first { IfErr result
@@ -154,7 +145,7 @@ fn go_on(alloc: Global, start: &Dump, before: PlainSpace) -> Result<PlainSpace, 
         None => Ok(before),
         Some(address) => {
             pages_in(alloc, start, before.depth())?;
-            Err(Fail::Refused(StartFault::Differs(address)))
+            Err(Fail::Refused(Fault::StartDiffers(address)))
         }
     }
 }
@@ -170,7 +161,7 @@ pub fn begin(
     alloc: Global,
     segment: &Trace,
     before: Option<PlainSpace>,
-) -> Result<PlainSpace, Fail<StartFault>>
+) -> Result<PlainSpace, Fail<Fault>>
     requires { IfSome before (FitsLayout segment.now.layout) }
     ensures space { IfOk result (λ space. space
         ≡ space_of segment.now.layout (first_space (pages_before before) segment.now)) }

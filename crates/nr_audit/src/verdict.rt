@@ -1,9 +1,7 @@
 //! What an audit finds.
 
-use crate::fault::SegmentFault;
 use nr_trace::Fault;
 use std::marker::Model;
-use vs_plain::PlainSpace;
 
 /// Calls of a trace in an order, each by the index of its event. Contracts see the list.
 #[derive(Debug, Drop)]
@@ -45,29 +43,11 @@ impl Order {
     }
 }
 
-/// What is found of a trace from a start on.
-#[derive(Debug, Drop)]
-pub enum Judged {
-    /// The trace is right, with this order of its calls, and leads to this space: that after its whole log.
-    Right(Order, PlainSpace),
-    /// The first fault.
-    Wrong(Fault),
-}
-
-/// What an audit finds.
+/// What an audit finds of a trace, or of a segment that is the first of its chain.
 #[derive(Debug, Drop)]
 pub enum Verdict {
     /// The trace is right, with this order of its calls: a linearization, which each dump fits.
     Yes(Order),
     /// The first fault.
     No(Fault),
-}
-
-/// What is found of a segment.
-#[derive(Debug, Drop)]
-pub enum SegmentVerdict {
-    /// The segment is right, with this order of its calls, and leads to this space: that after its whole log.
-    Right(Order, PlainSpace),
-    /// The first fault.
-    Wrong(SegmentFault),
 }

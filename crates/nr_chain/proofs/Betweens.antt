@@ -8,8 +8,7 @@ use Rattle.nr_trace.specs.Feed.Fed.{Taken}
 use Rattle.nr_trace.specs.declared.fault.Fault.TheVariants.{Format}
 use Rattle.nr_trace.specs.declared.fault.Format.TheVariants.{Truncated}
 use Rattle.nr_trace.specs.declared.version.Form.TheVariants as forms
-use Rattle.nr_audit.specs.declared.fault.SegmentFault.{SegmentFault}
-use Rattle.nr_audit.specs.declared.fault.SegmentFault.TheVariants.{Within}
+use Rattle.nr_trace.specs.declared.fault.Fault.{Fault}
 use Rattle.nr_chain.specs.Bytes.{layout_before, EndsWith}
 use Rattle.nr_chain.specs.Fed.{ChainFed}
 use Rattle.nr_chain.specs.declared.chain.Last.{Last}
@@ -80,16 +79,16 @@ end_well last begun feed self old view some none =
     (ends_well (option_map kept_by last) (bytes_in feed.pieces) (still_some last ∙ some) (old.none none))
 
 pub end_short : (last : Option Last) (begun : Bool) (feed : FedSegment) (self : ChainFed) → IsBetween last begun feed → seen last feed ≡ self
-    → (is_some last ≡ true → begun ≡ true) → EndsWith self.kept self.bytes (Some (Within (Format Truncated)))
+    → (is_some last ≡ true → begun ≡ true) → EndsWith self.kept self.bytes (Some (Format Truncated))
 end_short last begun feed self old view some =
-    subst (λ (fed : ChainFed). EndsWith fed.kept fed.bytes (Some (Within (Format Truncated)))) view
-    (ends_first (option_map kept_by last) (bytes_in feed.pieces) (Within (Format Truncated))
+    subst (λ (fed : ChainFed). EndsWith fed.kept fed.bytes (Some (Format Truncated))) view
+    (ends_first (option_map kept_by last) (bytes_in feed.pieces) (Format Truncated)
     (λ there. old.some (some (sym (still_some last) ∙ there)))
     (subst (λ (before : Option Layout). HasFaultAs (forms.Segment before) (bytes_in feed.pieces) Truncated) old.behind old.short))
 
-pub end_any : (last : Option Last) (begun : Bool) (feed : FedSegment) (self : ChainFed) (behind : Bool) (result : Option SegmentFault)
+pub end_any : (last : Option Last) (begun : Bool) (feed : FedSegment) (self : ChainFed) (behind : Bool) (result : Option Fault)
     → IsBetween last begun feed → seen last feed ≡ self → behind ≡ is_some last → (behind ≡ true → begun ≡ false → result ≡ None)
-    → ((behind ≡ true → begun ≡ true) → result ≡ Some (Within (Format Truncated))) → EndsWith self.kept self.bytes result
+    → ((behind ≡ true → begun ≡ true) → result ≡ Some (Format Truncated)) → EndsWith self.kept self.bytes result
 end_any last true feed self behind result old view is well short =
     subst (EndsWith self.kept self.bytes) (sym (short (λ e. refl))) (end_short last true feed self old view (λ e. refl))
 end_any last false feed self true result old view is well short =

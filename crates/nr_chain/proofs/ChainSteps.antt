@@ -1,7 +1,7 @@
 -- What a piece makes of a chain, of all its bytes.
 use Rattle.std.proofs.Common.{◌≡◌, ℕ, List, [], ◌∷◌, ◌++◌, take, drop, append_assoc, Option, Some, None, sym, ap, ◌∙◌, subst}
 use Rattle.std.proofs.lemmas.List.{append-nil, take-append-drop}
-use Rattle.nr_audit.specs.declared.fault.SegmentFault.{SegmentFault}
+use Rattle.nr_trace.specs.declared.fault.Fault.{Fault}
 use Rattle.nr_chain.specs.Fed.{ChainFed}
 use Rattle.nr_chain.specs.Bytes.{EndsWith, GoesOnSo, IsFirstNext}
 use Rattle.nr_chain.specs.Verdict.{FeedsChain}
@@ -10,7 +10,7 @@ use Rattle.nr_chain.proofs.Ends.{ends_first}
 
 -- a segment more
 pub right_step : (old new : ChainFed) (piece : List ℕ) (count : ℕ) (order : List ℕ) → FeedsChain old piece (Right count order new)
-    → (more : List (List ℕ)) (found : Option SegmentFault) → GoesOnSo new.kept (new.bytes ++ drop count piece) more found
+    → (more : List (List ℕ)) (found : Option Fault) → GoesOnSo new.kept (new.bytes ++ drop count piece) more found
     → GoesOnSo old.kept (old.bytes ++ piece) (order ∷ more) found
 right_step old new piece count order (some, within, segment, spelled, sound, same, is) more found next =
     let behind = subst (λ (fed : ChainFed). GoesOnSo fed.kept (fed.bytes ++ drop count piece) more found) is next in (
@@ -27,7 +27,7 @@ right_step old new piece count order (some, within, segment, spelled, sound, sam
     )
 
 -- no segment more
-pub more_step : (old new : ChainFed) (piece : List ℕ) → FeedsChain old piece (More new) → (more : List (List ℕ)) (found : Option SegmentFault)
+pub more_step : (old new : ChainFed) (piece : List ℕ) → FeedsChain old piece (More new) → (more : List (List ℕ)) (found : Option Fault)
     → GoesOnSo new.kept (new.bytes ++ []) more found → GoesOnSo old.kept (old.bytes ++ piece) more found
 more_step old new piece (is, yet) more found next =
     subst (λ bytes. GoesOnSo old.kept bytes more found) (append-nil (old.bytes ++ piece))
@@ -38,7 +38,7 @@ some_left [] piece some e = some e
 some_left (x ∷ front) piece some e = cc
 
 -- a fault of the next segment
-pub wrong_step : (old : ChainFed) (piece : List ℕ) (fault : SegmentFault) → FeedsChain old piece (Wrong fault) → (piece ≡ [] → ⊥)
+pub wrong_step : (old : ChainFed) (piece : List ℕ) (fault : Fault) → FeedsChain old piece (Wrong fault) → (piece ≡ [] → ⊥)
     → GoesOnSo old.kept (old.bytes ++ piece) [] (Some fault)
 wrong_step old piece fault lasts some =
     ends_first old.kept (old.bytes ++ piece) fault (λ kept. some_left old.bytes piece some)
@@ -46,7 +46,7 @@ wrong_step old piece fault lasts some =
 
 -- what is found of the rest of the bytes is found of all of them, behind these orders
 abbrev pub Leads : List ℕ → ChainFed → List (List ℕ) → List ℕ → Type 0
-Leads bytes chain orders rest = (more : List (List ℕ)) (found : Option SegmentFault) → GoesOnSo chain.kept (chain.bytes ++ rest) more found
+Leads bytes chain orders rest = (more : List (List ℕ)) (found : Option Fault) → GoesOnSo chain.kept (chain.bytes ++ rest) more found
     → GoesOnSo None bytes (orders ++ more) found
 
 pub leads_on : (bytes : List ℕ) (old new : ChainFed) (orders next : List (List ℕ)) (rest behind : List ℕ) (count : ℕ) (order : List ℕ)
@@ -64,13 +64,13 @@ leads_more bytes old new orders rest behind leads fed none = λ more found h.
     leads more found (more_step old new rest fed more found
     (subst (λ (left : List ℕ). GoesOnSo new.kept (new.bytes ++ left) more found) none h))
 
-pub leads_wrong : (bytes : List ℕ) (old : ChainFed) (orders : List (List ℕ)) (rest : List ℕ) (fault : SegmentFault) → Leads bytes old orders rest
+pub leads_wrong : (bytes : List ℕ) (old : ChainFed) (orders : List (List ℕ)) (rest : List ℕ) (fault : Fault) → Leads bytes old orders rest
     → FeedsChain old rest (Wrong fault) → (rest ≡ [] → ⊥) → GoesOnSo None bytes orders (Some fault)
 leads_wrong bytes old orders rest fault leads fed some =
     subst (λ (all : List (List ℕ)). GoesOnSo None bytes all (Some fault)) (append-nil orders)
     (leads [] (Some fault) (wrong_step old rest fault fed some))
 
-pub leads_end : (bytes : List ℕ) (chain : ChainFed) (orders : List (List ℕ)) (rest : List ℕ) (found : Option SegmentFault)
+pub leads_end : (bytes : List ℕ) (chain : ChainFed) (orders : List (List ℕ)) (rest : List ℕ) (found : Option Fault)
     → Leads bytes chain orders rest → rest ≡ [] → EndsWith chain.kept chain.bytes found → GoesOnSo None bytes orders found
 leads_end bytes chain orders rest found leads none ends =
     subst (λ (all : List (List ℕ)). GoesOnSo None bytes all found) (append-nil orders)

@@ -2,21 +2,22 @@
 use Rattle.std.proofs.Common.{◌≡◌, ℕ, List, [], Option, Some, None, is_some, true, false, refl, sym, subst, lit<, inl}
 use Rattle.nr_trace.specs.FirstFault.{HasFaultAs}
 use Rattle.nr_trace.specs.declared.fault.Format.TheVariants.{Truncated}
+use Rattle.nr_trace.specs.declared.refusal.TraceUnit.TheVariants as units
 use Rattle.nr_trace.specs.declared.version.Form.{Form}
-use Rattle.nr_audit.specs.declared.fault.SegmentFault.{SegmentFault}
+use Rattle.nr_trace.specs.declared.fault.Fault.{Fault}
 use Rattle.nr_chain.specs.Fed.{Kept}
 use Rattle.nr_chain.specs.Bytes.{EndsWith, IsFirstNext}
 
 -- no bytes are too few
 pub none_is_short : (form : Form) → HasFaultAs form [] Truncated
-none_is_short form = inl (lit< tt, refl)
+none_is_short form = (units.Magic, 0, inl (lit< tt, refl))
 
 pub ends_well : (kept : Option Kept) (bytes : List ℕ) → is_some kept ≡ true → bytes ≡ [] → EndsWith kept bytes None
 ends_well None bytes some none = absurd (let wrong : false ≡ true = some in cc)
 ends_well (Some kept) bytes some none = subst (λ bytes. EndsWith (Some kept) bytes None) (sym none) refl
 
 -- the first fault of the next segment, where there is a byte or it is the first one
-pub ends_first : (kept : Option Kept) (bytes : List ℕ) (fault : SegmentFault) → (is_some kept ≡ true → bytes ≡ [] → ⊥) → IsFirstNext kept bytes fault
+pub ends_first : (kept : Option Kept) (bytes : List ℕ) (fault : Fault) → (is_some kept ≡ true → bytes ≡ [] → ⊥) → IsFirstNext kept bytes fault
     → EndsWith kept bytes (Some fault)
 ends_first (Some kept) [] fault some first = absurd (some refl refl)
 ends_first _ _ fault some first = first

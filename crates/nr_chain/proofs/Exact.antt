@@ -10,22 +10,19 @@ use Rattle.nr_trace.specs.declared.fault.Format.{Format}
 use Rattle.nr_trace.specs.declared.version.Form.TheVariants as forms
 use Rattle.nr_trace.proofs.LawsOfFormat.{no_fault_of_segment, one_fault}
 use Rattle.nr_audit.specs.Faults.{IsFirstAfter, IsSoundAfter}
-use Rattle.nr_audit.specs.declared.fault.SegmentFault.{SegmentFault}
-use Rattle.nr_audit.specs.declared.fault.SegmentFault.TheVariants.{Start, Within, Stale}
+use Rattle.nr_trace.specs.declared.fault.Fault.{Fault}
 use Rattle.nr_chain.specs.Bytes.{kept_after, layout_before, space_before, BeginsWith, EndsWith, HasFirstNext, IsFirstNext, GoesOnSo}
 use Rattle.nr_chain.specs.Fed.{Kept}
 use Rattle.nr_chain.proofs.OneChain.{begins_some, one_front}
 
 -- the first fault of the next segment is of its format, or of what is spelled
-abbrev FirstOfEither : Option Kept → List ℕ → SegmentFault → Type 0
+abbrev FirstOfEither : Option Kept → List ℕ → Fault → Type 0
 FirstOfEither kept bytes fault =
-    ((own : Format) × (fault ≡ Within (faults.Format own)) × HasSegmentFault (layout_before kept) bytes own) ⊎ HasFirstNext kept bytes fault
+    ((own : Format) × (fault ≡ faults.Format own) × HasSegmentFault (layout_before kept) bytes own) ⊎ HasFirstNext kept bytes fault
 
-first_of_either : (kept : Option Kept) (bytes : List ℕ) (fault : SegmentFault) → IsFirstNext kept bytes fault → FirstOfEither kept bytes fault
-first_of_either kept bytes (Start fault) first = inr first
-first_of_either kept bytes (Within (faults.Format own)) first = inl (own, refl, first)
-first_of_either kept bytes (Within fault) first = inr first
-first_of_either kept bytes (Stale call) first = inr first
+first_of_either : (kept : Option Kept) (bytes : List ℕ) (fault : Fault) → IsFirstNext kept bytes fault → FirstOfEither kept bytes fault
+first_of_either kept bytes (faults.Format own) first = inl (own, refl, first)
+first_of_either kept bytes _ first = inr first
 
 -- what begins with a segment has no fault of the format
 no_fault_in_front : (before : Option Layout) (bytes : List ℕ) (segment : Recording) (rest : List ℕ) (fault : Format) → BeginsWith before bytes segment rest
@@ -34,7 +31,7 @@ no_fault_in_front before bytes segment rest fault begins h =
     no_fault_of_segment before begins.own rest segment fault begins.spelled (subst (λ (b : List ℕ). HasSegmentFault before b fault) begins.is h)
 
 -- a segment that is sound has no first fault
-sound_or_first : (kept : Option Kept) (bytes : List ℕ) (segment : Recording) (rest : List ℕ) (fault : SegmentFault)
+sound_or_first : (kept : Option Kept) (bytes : List ℕ) (segment : Recording) (rest : List ℕ) (fault : Fault)
     → BeginsWith (layout_before kept) bytes segment rest → IsSoundAfter (space_before kept) segment → FirstOfEither kept bytes fault → ⊥
 sound_or_first kept bytes segment rest fault begins sound (inl (own, is, h)) = no_fault_in_front (layout_before kept) bytes segment rest own begins h
 sound_or_first kept bytes segment rest fault begins sound (inr (other, last, starts, first)) =
@@ -42,7 +39,7 @@ sound_or_first kept bytes segment rest fault begins sound (inr (other, last, sta
     sound.faultless fault (subst (λ (r : Recording). IsFirstAfter (space_before kept) r fault) same first).holds
 
 -- a chain doesn't end at a segment that is sound
-pub ends_or_sound : (kept : Option Kept) (bytes : List ℕ) (found : Option SegmentFault) (segment : Recording) (rest : List ℕ) → EndsWith kept bytes found
+pub ends_or_sound : (kept : Option Kept) (bytes : List ℕ) (found : Option Fault) (segment : Recording) (rest : List ℕ) → EndsWith kept bytes found
     → BeginsWith (layout_before kept) bytes segment rest → IsSoundAfter (space_before kept) segment → ⊥
 ends_or_sound None bytes (Some fault) segment rest ends begins sound =
     sound_or_first None bytes segment rest fault begins sound (first_of_either None bytes fault ends)
@@ -51,12 +48,12 @@ ends_or_sound (Some kept) (x ∷ bytes) (Some fault) segment rest ends begins so
     sound_or_first (Some kept) (x ∷ bytes) segment rest fault begins sound (first_of_either (Some kept) (x ∷ bytes) fault ends)
 ends_or_sound _ _ None segment rest ends begins sound = ends
 
-module _ (one_first : (before : Option Space) (segment : Recording) (first second : SegmentFault) → IsFirstAfter before segment first
+module _ (one_first : (before : Option Space) (segment : Recording) (first second : Fault) → IsFirstAfter before segment first
     → IsFirstAfter before segment second → first ≡ second) where
-  one_of_either : (kept : Option Kept) (bytes : List ℕ) (first second : SegmentFault) → FirstOfEither kept bytes first → FirstOfEither kept bytes second
+  one_of_either : (kept : Option Kept) (bytes : List ℕ) (first second : Fault) → FirstOfEither kept bytes first → FirstOfEither kept bytes second
       → first ≡ second
   one_of_either kept bytes first second (inl (own, is, h)) (inl (other, other_is, k)) =
-      is ∙ ap (λ (f : Format). Within (faults.Format f)) (one_fault (forms.Segment (layout_before kept)) bytes own other h k) ∙ sym other_is
+      is ∙ ap (λ (f : Format). faults.Format f) (one_fault (forms.Segment (layout_before kept)) bytes own other h k) ∙ sym other_is
   one_of_either kept bytes first second (inl (own, is, h)) (inr (segment, rest, begins, is_first)) =
       absurd (no_fault_in_front (layout_before kept) bytes segment rest own begins h)
   one_of_either kept bytes first second (inr (segment, rest, begins, is_first)) (inl (own, is, h)) =
@@ -66,11 +63,11 @@ module _ (one_first : (before : Option Space) (segment : Recording) (first secon
       one_first (space_before kept) segment first second is_first
       (subst (λ (r : Recording). IsFirstAfter (space_before kept) r second) same other_first)
 
-  one_next : (kept : Option Kept) (bytes : List ℕ) (first second : SegmentFault) → IsFirstNext kept bytes first → IsFirstNext kept bytes second → first ≡ second
+  one_next : (kept : Option Kept) (bytes : List ℕ) (first second : Fault) → IsFirstNext kept bytes first → IsFirstNext kept bytes second → first ≡ second
   one_next kept bytes first second h k =
       one_of_either kept bytes first second (first_of_either kept bytes first h) (first_of_either kept bytes second k)
 
-  one_end : (kept : Option Kept) (bytes : List ℕ) (first second : Option SegmentFault) → EndsWith kept bytes first → EndsWith kept bytes second
+  one_end : (kept : Option Kept) (bytes : List ℕ) (first second : Option Fault) → EndsWith kept bytes first → EndsWith kept bytes second
       → first ≡ second
   one_end None bytes (Some first) (Some second) h k = ap Some (one_next None bytes first second h k)
   one_end (Some kept) [] first second h k = h ∙ sym k
@@ -78,7 +75,7 @@ module _ (one_first : (before : Option Space) (segment : Recording) (first secon
   one_end _ _ (Some first) None h k = absurd k
   one_end _ _ None second h k = absurd h
 
-  pub found_once : (kept : Option Kept) (bytes : List ℕ) (orders others : List (List ℕ)) (found other : Option SegmentFault)
+  pub found_once : (kept : Option Kept) (bytes : List ℕ) (orders others : List (List ℕ)) (found other : Option Fault)
       → GoesOnSo kept bytes orders found → GoesOnSo kept bytes others other → (orders ≡ others) × (found ≡ other)
   found_once kept bytes [] [] found other h k = (refl, one_end kept bytes found other h k)
   found_once kept bytes [] (order ∷ more) found other h (segment, rest, begins, sound, same, next) =

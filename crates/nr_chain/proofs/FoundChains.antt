@@ -10,7 +10,7 @@ use Rattle.nr_trace.proofs.LawsOfHistories.{history_if_faultless}
 use Rattle.nr_audit.specs.Start.{first_space}
 use Rattle.nr_audit.specs.Faults.{IsSoundAfter}
 use Rattle.nr_audit.specs.Touches.{HasRightTouches}
-use Rattle.nr_audit.specs.declared.fault.SegmentFault.TheVariants.{Within}
+use Rattle.nr_audit.proofs.Judgements.{faultless_of}
 use Rattle.nr_chain.specs.Fed.{Kept}
 use Rattle.nr_chain.specs.Bytes.{kept_after, SpellAll, EndsWith, GoesOnSo}
 use Rattle.nr_chain.specs.Headline.{traces, GoesOnIn, IsRightChain}
@@ -41,7 +41,7 @@ record IsFound (kept : Kept) (bytes : List ℕ) (orders : List (List ℕ)) (segm
 
 -- a segment without a fault
 history_of : (before : Option Space) (segment : Recording) → IsSoundAfter before segment → IsWellFormedHistory segment
-history_of before segment sound = history_if_faultless (first_space before segment) segment (λ fault h. sound.faultless (Within fault) h)
+history_of before segment sound = history_if_faultless (first_space before segment) segment (faultless_of before segment sound.faultless)
 
 found_none : (kept : Kept) (bytes : List ℕ) → EndsWith (Some kept) bytes None → IsFound kept bytes [] []
 found_none kept [] end = record {
@@ -70,7 +70,7 @@ found_behind kept bytes (order ∷ more) is (segment, rest, begins, sound, same,
         ordered = ap (λ orders. order ∷ orders) are.ordered;
         faultless = (
           layout,
-          (λ fault h. sound.faultless (Within fault) h),
+          faultless_of (Some kept.space) segment sound.faultless,
           same,
           subst (λ layout. AreFaultlessFrom (space_behind kept.space own) layout segments) layout are.faultless,
         );
@@ -105,7 +105,7 @@ right_chain bytes (order ∷ more) (segment, rest, begins, sound, same, next) =
     let own_is = (begins_in segment begins.spelled.in_range sound).0 in
     let (segments, are) = found_behind (kept_after None segment) rest more (stays_space segment begins.spelled.in_range start own_is segment.log) next in
     let first : Segment = record { trace = segment; order = order } in
-    let all : AreFaultlessFrom start segment.layout (first ∷ segments) = (refl, (λ fault h. sound.faultless (Within fault) h), same, are.faultless) in
+    let all : AreFaultlessFrom start segment.layout (first ∷ segments) = (refl, faultless_of None segment sound.faultless, same, are.faultless) in
     let right : AreRightFrom start segment.layout (first ∷ segments) = right_all start segment.layout (first ∷ segments) all in
     record {
       first = first;

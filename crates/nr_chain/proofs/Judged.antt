@@ -11,8 +11,7 @@ use Rattle.nr_trace.specs.Feed.{FedSegment, FeedsSegment, IsWhole}
 use Rattle.nr_trace.specs.declared.fault.Format.{Format}
 use Rattle.nr_trace.specs.declared.fault.Format.TheVariants.{Truncated}
 use Rattle.nr_trace.specs.declared.fault.Fault.TheVariants as faults
-use Rattle.nr_audit.specs.declared.fault.SegmentFault.{SegmentFault}
-use Rattle.nr_audit.specs.declared.fault.SegmentFault.TheVariants.{Start, Within, Stale}
+use Rattle.nr_trace.specs.declared.fault.Fault.{Fault}
 use Rattle.nr_chain.specs.Fed.{ChainFed, Kept}
 use Rattle.nr_chain.specs.Bytes.{layout_before, HasFirstNext, IsFirstNext}
 use Rattle.nr_chain.specs.Verdict.{FeedsChain, LastsNext}
@@ -26,11 +25,9 @@ use Rattle.nr_chain.proofs.Pieces.{refused, some_taken, took, too_short}
 use Rattle.std.proofs.lemmas.Result.{IfOk-weaker}
 
 -- the first fault of a segment that is spelled is none of the format
-pub first_next : (kept : Option Kept) (bytes : List ℕ) (fault : SegmentFault) → HasFirstNext kept bytes fault → IsFirstNext kept bytes fault
-first_next kept bytes (Start fault) h = h
-first_next kept bytes (Within (faults.Format fault)) (segment, rest, begins, first) = absurd first.holds
-first_next kept bytes (Within fault) h = h
-first_next kept bytes (Stale call) h = h
+pub first_next : (kept : Option Kept) (bytes : List ℕ) (fault : Fault) → HasFirstNext kept bytes fault → IsFirstNext kept bytes fault
+first_next kept bytes (faults.Format fault) (segment, rest, begins, first) = absurd first.holds
+first_next kept bytes _ h = h
 
 -- the bytes of a piece, of which so many end a segment
 pub cut_so : (bytes piece rest : List ℕ) (count : ℕ) → (bytes ++ piece) ++ rest ≡ (bytes ++ take count piece) ++ (drop count piece ++ rest)
@@ -88,9 +85,9 @@ module _ (last : Option Last) (begun : Bool) (feed new : FedSegment) (self : Cha
 
   -- the bytes with the piece are refused
   pub piece_refused : (fault : Format) → FeedsSegment feed piece new (Err (Refused fault))
-      → LastsNext self.kept (self.bytes ++ piece) (Within (faults.Format fault))
+      → LastsNext self.kept (self.bytes ++ piece) (faults.Format fault)
   piece_refused fault feeds =
-      subst (λ (fed : ChainFed). LastsNext fed.kept (fed.bytes ++ piece) (Within (faults.Format fault))) view
+      subst (λ (fed : ChainFed). LastsNext fed.kept (fed.bytes ++ piece) (faults.Format fault)) view
       (subst (λ (before : Option Layout). (rest : List ℕ) → HasSegmentFault before ((bytes_in feed.pieces ++ piece) ++ rest) fault) old.behind
       (refused feed new piece fault old.taken feeds))
 

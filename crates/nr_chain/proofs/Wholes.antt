@@ -6,6 +6,7 @@ use Rattle.vs_types.specs.Space.{Space}
 use Rattle.vs_types.specs.declared.refusal.Fail.{Fail}
 use Rattle.vs_plain.specs.Plain.{BoundedSpace}
 use Rattle.nr_trace.specs.Recording.{Recording}
+use Rattle.nr_trace.specs.Orders.{recorded_order}
 use Rattle.nr_trace.specs.Spelling.{SpellsSegment}
 use Rattle.nr_trace.specs.Feed.{EndsSegment, Fed, FedSegment, IsWhole}
 use Rattle.nr_trace.specs.Feed.Fed.{Taken, Stopped}
@@ -16,9 +17,8 @@ use Rattle.nr_trace.specs.declared.version.Form.TheVariants as forms
 use Rattle.nr_trace.proofs.LawsOfFormat.{no_fault}
 use Rattle.nr_audit.specs.Verdict.{space_of}
 use Rattle.nr_audit.specs.Faults.{IsFirstAfter, IsSoundAfter}
-use Rattle.nr_audit.specs.Segments.{last_space, pages_before, FitsLayout, IsVerdictAfter}
-use Rattle.nr_audit.specs.declared.fault.SegmentFault.{SegmentFault}
-use Rattle.nr_audit.specs.declared.verdict.SegmentVerdict.TheVariants as verdicts
+use Rattle.nr_audit.specs.Segments.{last_space, pages_before, FitsLayout}
+use Rattle.nr_trace.specs.declared.fault.Fault.{Fault}
 use Rattle.nr_chain.specs.Bytes.{layout_before, space_before}
 use Rattle.nr_chain.specs.declared.chain.Last.{Last}
 use Rattle.nr_chain.specs.declared.chain.Step.TheVariants.{Right, Wrong}
@@ -56,10 +56,11 @@ fits_own layout space own is = record { depth = ap (λ (s : BoundedSpace). s.dep
 pub judged_right : (last : Option Last) (before : Option BoundedSpace) (feed next : FedSegment) (segment : Recording) (layout : Layout) (count : ℕ)
     (order : List ℕ) (space : BoundedSpace) → before ≡ option_map (λ (l : Last). l.space) last
     → feed.before ≡ layout_before (option_map kept_by last) → layout ≡ segment.layout → SpellsSegment feed.before (bytes_in feed.pieces) segment
-    → IsVerdictAfter (pages_before before) segment (verdicts.Right order space) → next ≡ record { before = Some layout; pieces = Taken [] }
+    → IsSoundAfter (pages_before before) segment → order ≡ recorded_order segment
+    → space ≡ space_of segment.layout (last_space (pages_before before) segment) → next ≡ record { before = Some layout; pieces = Taken [] }
     → JudgesWhole (option_map kept_by last) (bytes_in feed.pieces) count (Right count order
     (record { kept = Some (record { layout = layout; space = space.space }); bytes = bytes_in next.pieces }))
-judged_right last before feed next segment layout count order space before_is behind layout_is spelled (sound, order_is, space_is) fresh =
+judged_right last before feed next segment layout count order space before_is behind layout_is spelled sound order_is space_is fresh =
     let pages : pages_before before ≡ space_before (option_map kept_by last) = ap pages_before before_is ∙ same_space last in
     let after : space.space ≡ last_space (space_before (option_map kept_by last)) segment =
     ap (λ (s : BoundedSpace). s.space) space_is ∙ ap (λ (p : Option Space). last_space p segment) pages in
@@ -73,9 +74,9 @@ judged_right last before feed next segment layout count order space before_is be
     )
 
 -- a whole segment that has a fault
-pub judged_wrong : (last : Option Last) (before : Option BoundedSpace) (feed : FedSegment) (segment : Recording) (count : ℕ) (fault : SegmentFault)
+pub judged_wrong : (last : Option Last) (before : Option BoundedSpace) (feed : FedSegment) (segment : Recording) (count : ℕ) (fault : Fault)
     → before ≡ option_map (λ (l : Last). l.space) last → feed.before ≡ layout_before (option_map kept_by last)
-    → SpellsSegment feed.before (bytes_in feed.pieces) segment → IsVerdictAfter (pages_before before) segment (verdicts.Wrong fault)
+    → SpellsSegment feed.before (bytes_in feed.pieces) segment → IsFirstAfter (pages_before before) segment fault
     → JudgesWhole (option_map kept_by last) (bytes_in feed.pieces) count (Wrong fault)
 judged_wrong last before feed segment count fault before_is behind spelled first =
     let pages : pages_before before ≡ space_before (option_map kept_by last) = ap pages_before before_is ∙ same_space last in (
@@ -93,8 +94,8 @@ fits_before last before feed segment before_is behind fits spelled =
     (fits_next last segment.layout fits (subst (λ (b : Option Layout). Follows (forms.Segment b) segment.layout) behind spelled.follows))
 
 -- the space after a whole segment fits the next one
-pub fits_after : (before : Option BoundedSpace) (segment : Recording) (layout : Layout) (order : List ℕ) (space : BoundedSpace)
-    → layout ≡ segment.layout → IsVerdictAfter (pages_before before) segment (verdicts.Right order space) → FitsLayout layout space
-fits_after before segment layout order space layout_is (sound, order_is, space_is) =
+pub fits_after : (before : Option BoundedSpace) (segment : Recording) (layout : Layout) (space : BoundedSpace)
+    → layout ≡ segment.layout → space ≡ space_of segment.layout (last_space (pages_before before) segment) → FitsLayout layout space
+fits_after before segment layout space layout_is space_is =
     subst (λ (l : Layout). FitsLayout l space) (sym layout_is)
     (fits_own segment.layout (last_space (pages_before before) segment) space space_is)

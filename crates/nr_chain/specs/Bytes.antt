@@ -10,8 +10,7 @@ use Rattle.nr_trace.specs.declared.fault.Fault.TheVariants.{Format}
 use Rattle.nr_chain.specs.Fed.{Kept}
 use Rattle.nr_audit.specs.Faults.{IsFirstAfter, IsSoundAfter}
 use Rattle.nr_audit.specs.Segments.{last_space}
-use Rattle.nr_audit.specs.declared.fault.SegmentFault.{SegmentFault}
-use Rattle.nr_audit.specs.declared.fault.SegmentFault.TheVariants.{Within}
+use Rattle.nr_trace.specs.declared.fault.Fault.{Fault}
 
 abbrev pub layout_before : Option Kept → Option Layout
 layout_before kept = option_map (λ last. last.layout) kept
@@ -38,23 +37,23 @@ abbrev pub SpellsChain : List ℕ → Recording → List Recording → Type 0
 SpellsChain bytes first more = SpellAll None bytes (first ∷ more)
 
 -- the next segment is spelled at the front of the bytes, and this is its first fault
-abbrev pub HasFirstNext : Option Kept → List ℕ → SegmentFault → Type 0
+abbrev pub HasFirstNext : Option Kept → List ℕ → Fault → Type 0
 HasFirstNext kept bytes fault =
     (segment : Recording) × (rest : List ℕ) × BeginsWith (layout_before kept) bytes segment rest × IsFirstAfter (space_before kept) segment fault
 
 -- the first fault of the next segment: of its format, or of what is spelled
-abbrev pub IsFirstNext : Option Kept → List ℕ → SegmentFault → Type 0
-IsFirstNext kept bytes (Within (Format fault)) = HasSegmentFault (layout_before kept) bytes fault
+abbrev pub IsFirstNext : Option Kept → List ℕ → Fault → Type 0
+IsFirstNext kept bytes (Format fault) = HasSegmentFault (layout_before kept) bytes fault
 IsFirstNext kept bytes fault = HasFirstNext kept bytes fault
 
 -- how a chain ends at some bytes: well where none is left behind a segment, else with the first fault of the next one
-abbrev pub EndsWith : Option Kept → List ℕ → Option SegmentFault → Type 0
+abbrev pub EndsWith : Option Kept → List ℕ → Option Fault → Type 0
 EndsWith (Some kept) [] found = found ≡ None
 EndsWith kept bytes None = ⊥
 EndsWith kept bytes (Some fault) = IsFirstNext kept bytes fault
 
 -- what is found of bytes from a segment on: so many segments are right, with these orders, and then the chain ends so
-abbrev pub GoesOnSo : Option Kept → List ℕ → List (List ℕ) → Option SegmentFault → Type 0
+abbrev pub GoesOnSo : Option Kept → List ℕ → List (List ℕ) → Option Fault → Type 0
 GoesOnSo kept bytes [] found = EndsWith kept bytes found
 GoesOnSo kept bytes (order ∷ more) found =
     (segment : Recording) × (rest : List ℕ) × BeginsWith (layout_before kept) bytes segment rest × IsSoundAfter (space_before kept) segment

@@ -8,7 +8,7 @@ use Rattle.nr_trace.specs.Spelling.{SpellsSegment}
 use Rattle.nr_trace.specs.declared.fault.Format.TheVariants.{Truncated}
 use Rattle.nr_audit.specs.Faults.{IsSoundAfter}
 use Rattle.nr_audit.specs.Segments.{FitsLayout}
-use Rattle.nr_audit.specs.declared.fault.SegmentFault.{SegmentFault}
+use Rattle.nr_trace.specs.declared.fault.Fault.{Fault}
 use Rattle.nr_chain.specs.Bytes.{kept_after, layout_before, space_before, IsFirstNext, GoesOnSo}
 use Rattle.nr_chain.specs.declared.verdict.ChainVerdict.{ChainVerdict}
 use Rattle.nr_chain.specs.declared.verdict.ChainVerdict.TheVariants.{Yes, No}
@@ -27,7 +27,7 @@ IfYes P (Yes orders) = P orders.items
 IfYes P (No orders fault) = ⊤
 
 -- the bytes so far have the fault as the first one of the next segment, whatever comes after them
-abbrev pub LastsNext : Option Kept → List ℕ → SegmentFault → Type 0
+abbrev pub LastsNext : Option Kept → List ℕ → Fault → Type 0
 LastsNext kept bytes fault = (rest : List ℕ) → IsFirstNext kept (bytes ++ rest) fault
 
 -- the piece is taken, and there are too few bytes; or so many bytes at its front end a segment that is right with its order; or the bytes with it

@@ -1,7 +1,7 @@
 //! Laws of chains as bytes, and of touches. Each function does nothing: its clauses say what holds of all bytes.
 
 ghost use Rattle.std.specs.Prelude.{◌≡◌, ◌++◌, ℕ, List, Option, None};
-ghost use Rattle.nr_audit.specs.declared.fault.SegmentFault.{SegmentFault};
+ghost use Rattle.nr_trace.specs.declared.fault.Fault.{Fault};
 ghost use Rattle.nr_chain.specs.Bytes.{GoesOnSo};
 ghost use Rattle.nr_chain.specs.Fed.{Kept};
 ghost use Rattle.nr_chain.specs.Headline.{IsRightChain};
@@ -16,7 +16,7 @@ pub fn chains_without_a_fault_are_right()
 /// What is found of bytes is one thing: the orders of so many segments, and how the chain ends.
 pub fn one_thing_is_found()
     ensures { (kept : Option Kept) (bytes : List ℕ) (orders others : List (List ℕ))
-        (found other : Option SegmentFault) → GoesOnSo kept bytes orders found
+        (found other : Option Fault) → GoesOnSo kept bytes orders found
         → GoesOnSo kept bytes others other → (orders ≡ others) × (found ≡ other) }
 {}
 

@@ -1,14 +1,18 @@
 //! A chain that comes in pieces: each segment is judged as soon as it is whole.
 
-ghost use Rattle.std.specs.Prelude.{◌≡◌, ◌⊎◌, [], IfOk, IfSome, Some, None, true, false, option_copied, option_map};
+ghost use Rattle.std.specs.Prelude.{◌≡◌, ◌⊎◌, [], IfErr, IfOk, IfSome, OnOk, Some, None, true, false, option_copied, option_map};
 ghost use Rattle.nr_trace.specs.Feed.{IsWhole};
-ghost use Rattle.nr_audit.specs.Segments.{pages_before, FitsLayout, IsVerdictAfter};
+ghost use Rattle.nr_trace.specs.Orders.{recorded_order};
+ghost use Rattle.vs_types.specs.Refusal.{IfRefused};
+ghost use Rattle.nr_audit.specs.Faults.{IsFirstAfter, IsSoundAfter};
+ghost use Rattle.nr_audit.specs.Segments.{last_space, pages_before, FitsLayout};
+ghost use Rattle.nr_audit.specs.Verdict.{space_of};
 ghost use Rattle.nr_chain.specs.Bytes.{layout_before, EndsWith};
 ghost use Rattle.nr_chain.specs.Verdict.{FeedsChain, IsSpaceAfter};
 ghost use Rattle.nr_chain.specs.inside.Between.{bytes_in, kept_by, FitsLast};
 ghost use Rattle.nr_chain.specs.inside.Steps.{JudgesWhole, RefusesWith};
 
-use nr_audit::{Order, SegmentFault, SegmentVerdict, judge_segment};
+use nr_audit::{Order, judge_segment};
 use nr_trace::{Fault, Format, SegmentFeed, Trace, TraceLayout};
 use std::alloc::Global;
 use std::marker::Model;
@@ -61,7 +65,7 @@ pub enum Step {
     /// So many bytes at the front of the piece end a segment, which is right with this order; what is left belongs to the next one.
     Right(usize, Order, Chain),
     /// The segment has this fault, its first: whatever comes after the piece.
-    Wrong(SegmentFault),
+    Wrong(Fault),
 }
 
 impl Chain {
@@ -117,7 +121,7 @@ impl Chain {
     }
 
     /// How the chain ends where no piece comes any more: `None` behind a whole segment, else with the next one truncated.
-    pub fn end(self) -> Option<SegmentFault>
+    pub fn end(self) -> Option<Fault>
         ensures { EndsWith self.kept self.bytes result }
     {
         let Chain {
@@ -143,20 +147,20 @@ fn refused(fail: Fail<Format>) -> Result<Step, Memory>
 {
     match fail {
         Fail::Memory => Err(Memory),
-        Fail::Refused(fault) => Ok(Step::Wrong(SegmentFault::Within(Fault::Format(fault)))),
+        Fail::Refused(fault) => Ok(Step::Wrong(Fault::Format(fault))),
     }
 }
 
 /// How a chain ends, behind a segment or not, where a byte of the next one has come or not.
-fn end_of(is_behind: bool, begun: bool) -> Option<SegmentFault>
+fn end_of(is_behind: bool, begun: bool) -> Option<Fault>
     ensures well { is_behind ≡ true → begun ≡ false → result ≡ None }
     ensures short { (is_behind ≡ true → begun ≡ true)
-        → result ≡ Some (SegmentFault.Within (Fault.Format Format.Truncated)) }
+        → result ≡ Some (Fault.Format Format.Truncated) }
 {
     if is_behind && !begun {
         return None;
     }
-    Some(SegmentFault::Within(Fault::Format(Format::Truncated)))
+    Some(Fault::Format(Format::Truncated))
 }
 
 /// The space after the last segment, if there is one.
@@ -174,9 +178,13 @@ fn judge_last(
     alloc: Global,
     segment: Trace,
     before: Option<PlainSpace>,
-) -> Result<SegmentVerdict, Memory>
+) -> Result<(Order, PlainSpace), Fail<Fault>>
     requires { IfSome before (FitsLayout segment.layout) }
-    ensures { IfOk result (IsVerdictAfter (pages_before before) segment) }
+    ensures sound { OnOk result (IsSoundAfter (pages_before before) segment) }
+    ensures order { IfOk result (λ right. right.0 ≡ recorded_order segment) }
+    ensures space { IfOk result (λ right. right.1
+        ≡ space_of segment.layout (last_space (pages_before before) segment)) }
+    ensures first { IfErr result (IfRefused (IsFirstAfter (pages_before before) segment)) }
 {
     judge_segment(alloc, &segment, before)
 }
@@ -199,8 +207,8 @@ fn judge_whole(
     };
     let layout = segment.layout();
     let before = space_after(last);
-    match judge_last(alloc, segment, before)? {
-        SegmentVerdict::Right(order, space) => {
+    match judge_last(alloc, segment, before) {
+        Ok((order, space)) => {
             let last = Some(Last { layout, space });
             let feed = SegmentFeed::new(alloc, Some(layout));
             let next = Chain {
@@ -210,6 +218,7 @@ fn judge_whole(
             };
             Ok(Step::Right(count, order, next))
         }
-        SegmentVerdict::Wrong(fault) => Ok(Step::Wrong(fault)),
+        Err(Fail::Memory) => Err(Memory),
+        Err(Fail::Refused(fault)) => Ok(Step::Wrong(fault)),
     }
 }

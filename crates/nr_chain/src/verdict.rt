@@ -1,6 +1,7 @@
 //! What an audit of a chain finds.
 
-use nr_audit::{Order, SegmentFault};
+use nr_audit::Order;
+use nr_trace::Fault;
 
 /// What an audit of a chain finds.
 #[derive(Debug, Drop)]
@@ -8,5 +9,5 @@ pub enum ChainVerdict {
     /// All segments are right, with these orders of their calls, one after the other.
     Yes(Vec<Order>),
     /// So many segments are right, with these orders, and the next one has this fault, its first.
-    No(Vec<Order>, SegmentFault),
+    No(Vec<Order>, Fault),
 }

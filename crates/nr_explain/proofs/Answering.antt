@@ -18,8 +18,8 @@ use Rattle.nr_touch.specs.declared.touch.Touch.{Touch}
 use Rattle.nr_audit.specs.Touches.{HasTouch}
 use Rattle.nr_audit.proofs.TouchLists.{touch_answers}
 use Rattle.nr_explain.specs.Facts.{IsCallOf, IsFirstReplyTo, IsReplyOf, asked_address, response}
-use Rattle.nr_explain.specs.declared.evidence.RecordedCall.{RecordedCall}
-use Rattle.nr_explain.specs.declared.evidence.RecordedReply.{RecordedReply}
+use Rattle.nr_explain.specs.declared.trace.evidence.RecordedCall.{RecordedCall}
+use Rattle.nr_explain.specs.declared.trace.evidence.RecordedReply.{RecordedReply}
 
 -- the call at the place
 pub there : (segment : Recording) (place call : ℕ) → place < length segment.log → call ≡ get_or segment.log place 0 → slice_get segment.log place ≡ Some call

@@ -6,7 +6,7 @@ use Rattle.nr_trace.specs.Calls.{Invocation, Response, call_of, reply_of}
 use Rattle.nr_trace.specs.Orders.{floor, known_by}
 use Rattle.nr_explain.specs.Facts.{IsReplyOf, response}
 use Rattle.nr_explain.specs.inside.Searches.{IsBinding, RestsNowhere}
-use Rattle.nr_explain.specs.declared.evidence.RecordedReply.{RecordedReply}
+use Rattle.nr_explain.specs.declared.trace.evidence.RecordedReply.{RecordedReply}
 
 pub reply_there : (trace : Recording) (index : ℕ) (reply : RecordedReply) → IsReplyOf trace reply → reply.event ≡ index
     → reply_of trace index ≡ Some (response reply)

@@ -12,7 +12,7 @@ use Rattle.nr_audit.specs.Served.{asked_by}
 use Rattle.nr_audit.proofs.AnswerFaults.{space_stays}
 use Rattle.nr_explain.specs.inside.Searches.{HasCallAt}
 use Rattle.nr_explain.specs.Facts.{IsCallOf, IsLastChangeFrom, LooksSameFrom, looks_from}
-use Rattle.nr_explain.specs.declared.evidence.PlacedUpdate.{PlacedUpdate}
+use Rattle.nr_explain.specs.declared.trace.evidence.PlacedUpdate.{PlacedUpdate}
 
 same_more : (start : Space) (trace : Recording) (address first last : ℕ) → LooksSameFrom start trace address first last
     → looks_from start trace address last ≡ looks_from start trace address (last + 1) → LooksSameFrom start trace address first (last + 1)

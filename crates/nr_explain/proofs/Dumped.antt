@@ -18,8 +18,8 @@ use Rattle.nr_trace.specs.Faults.{HasDump}
 use Rattle.nr_trace.specs.Recording.{IsThere, Recording}
 use Rattle.nr_explain.specs.Facts.{IsPath}
 use Rattle.nr_explain.specs.inside.Ways.{GoesNowhere, GoesOnTo, HasTwoWays, IsAnotherWay, IsMet}
-use Rattle.nr_explain.specs.declared.evidence.Step.{Step}
-use Rattle.nr_explain.specs.declared.paths.Target.{Target}
+use Rattle.nr_explain.specs.declared.trace.evidence.TableEntry.{TableEntry}
+use Rattle.nr_explain.specs.declared.tables.paths.Target.{Target}
 use Rattle.nr_explain.proofs.Ways.{levels_of_way}
 
 -- the dump of a replica that is read
@@ -42,7 +42,7 @@ read_as trace dumps replica Is dump (other, has, is_there, is) same read =
     (there, subst IsThere one is_there, subst Is one is)
 
 -- a way that was found from the root
-pub record Found (depth : Depth) (dump : Image) (target : Target) (way : List Step) : Type 0 where
+pub record Found (depth : Depth) (dump : Image) (target : Target) (way : List TableEntry) : Type 0 where
   pub end : ℕ
   pub leads : IsPath dump.frames (levels depth) dump.root end target.frame way
   pub met : IsMet dump.frames target end way
@@ -50,15 +50,15 @@ pub record Found (depth : Depth) (dump : Image) (target : Target) (way : List St
   pub few : levels depth ≤ 5
 
 -- what a search found, or that there is none
-abbrev pub IsSought : Image → Target → ℕ → Option (Vec Step) → Type 0
+abbrev pub IsSought : Image → Target → ℕ → Option (Vec TableEntry) → Type 0
 IsSought dump target level found = MatchOption found (GoesNowhere dump.frames target level dump.root [])
     (λ way. GoesOnTo dump.frames target level dump.root [] way.items)
 
-pub found_from : (depth : Depth) (dump : Image) (target : Target) (found : Option (Vec Step)) (way : Vec Step) → found ≡ Some way
+pub found_from : (depth : Depth) (dump : Image) (target : Target) (found : Option (Vec TableEntry)) (way : Vec TableEntry) → found ≡ Some way
     → IsSought dump target (levels depth) found → Found depth dump target way.items
 found_from depth dump target found way is sought =
-    let goes = subst (λ (o : Option (Vec Step)). IsSought dump target (levels depth) o) is sought in
-    let leads = subst (λ (w : List Step). IsPath dump.frames (levels depth) dump.root goes.end target.frame w) (sym goes.goes_on) goes.leads in
+    let goes = subst (λ (o : Option (Vec TableEntry)). IsSought dump target (levels depth) o) is sought in
+    let leads = subst (λ (w : List TableEntry). IsPath dump.frames (levels depth) dump.root goes.end target.frame w) (sym goes.goes_on) goes.leads in
     let three = three_levels depth in
     record {
       end = goes.end;
@@ -75,20 +75,20 @@ shared_is_visited depth dump frame fault =
     reached_is_met (traversal depth dump.frames dump.root) frame
     (subst (λ (ns : List ℕ). Contains ns frame) (sym split.2) (Contains-append_left split.0 (frame ∷ split.1) frame split.3))
 
-abbrev pub without : ℕ → Vec Step → Target
+abbrev pub without : ℕ → Vec TableEntry → Target
 without frame first = record { frame = frame; reserved = None; other = Some first }
 
 -- of two ways one is not the first
-pub some_other : (memory : Memory) (level number frame : ℕ) (first : Vec Step) → HasTwoWays memory level number frame
+pub some_other : (memory : Memory) (level number frame : ℕ) (first : Vec TableEntry) → HasTwoWays memory level number frame
     → GoesNowhere memory (without frame first) level number [] → ⊥
 some_other memory level number frame first two nowhere =
     none two.first_end two.first two.first_leads (λ same.
     none two.second_end two.second two.second_leads (λ also. two.apart (same ∙ sym also))) where
-      none : (end : ℕ) (way : List Step) → IsPath memory level number end frame way → way ≢ first.items → ⊥
+      none : (end : ℕ) (way : List TableEntry) → IsPath memory level number end frame way → way ≢ first.items → ⊥
       none end way leads other =
           nowhere way (record { rest = way; end = end; goes_on = refl; leads = leads; met = record { reserved = tt; other = other } })
 
-pub another_found : (memory : Memory) (level number frame : ℕ) (first : Vec Step) (second : List Step)
+pub another_found : (memory : Memory) (level number frame : ℕ) (first : Vec TableEntry) (second : List TableEntry)
     → GoesOnTo memory (without frame first) level number [] second → IsAnotherWay memory level number frame first.items second
 another_found memory level number frame first second goes =
-    (goes.end, subst (λ (w : List Step). IsPath memory level number goes.end frame w) (sym goes.goes_on) goes.leads, goes.met.other)
+    (goes.end, subst (λ (w : List TableEntry). IsPath memory level number goes.end frame w) (sym goes.goes_on) goes.leads, goes.met.other)

@@ -12,20 +12,21 @@ use Rattle.nr_trace.specs.Orders.{known_by, space_after}
 use Rattle.nr_trace.specs.declared.event.Event.{Event}
 use Rattle.nr_trace.specs.declared.event.Event.TheVariants.{Reply}
 use Rattle.nr_trace.specs.declared.fault.Fault.{Fault}
-use Rattle.nr_trace.specs.declared.fault.Fault.TheVariants.{PrefixPastLog, PrefixShort}
+use Rattle.nr_trace.specs.declared.fault.Fault.TheVariants.{PrefixPastLog, PrefixShort, Stale}
+use Rattle.nr_trace.specs.Faults.{HasFault}
 use Rattle.nr_trace.proofs.LawsOfCalls.{reply_in_event}
 use Rattle.nr_dump.specs.Faults.{HasNoFault, IsFirstOfDump}
 use Rattle.nr_dump.specs.declared.fault.DumpFault.{DumpFault}
 use Rattle.nr_audit.specs.Dumps.{at_replica}
 use Rattle.nr_audit.specs.inside.Passes.{IsDumpFaultAt}
 use Rattle.nr_audit.specs.inside.Prefixes.{AreNeeds, with_known}
-use Rattle.nr_audit.specs.inside.Search.{HasNoneFrom, IsFirstAmongFrom}
+use Rattle.nr_audit.specs.inside.Search.{HasFaultOn, HasNoneFrom, IsFirstAmongFrom}
 use Rattle.nr_audit.proofs.DumpFaults.{none_absent, first_past_log, first_short, none_of_replica, first_of_replica}
 use Rattle.nr_audit.proofs.NeededEntries.{needs_at_start, needs_stay, no_reply_at, needs_after_reply}
 use Rattle.nr_explain.specs.Dumps.{replica_of}
 use Rattle.nr_explain.specs.Facts.{response}
 use Rattle.nr_explain.specs.inside.Searches.{IsFoundOfDump, IsResting, RestsNowhere}
-use Rattle.nr_explain.specs.declared.evidence.ShortPrefix.{ShortPrefix}
+use Rattle.nr_explain.specs.declared.trace.evidence.ShortPrefix.{ShortPrefix}
 
 -- ---- the faults of a dump
 
@@ -37,8 +38,18 @@ own_among : (replica : ℕ) (fault : Fault) → IsDumpFaultAt replica fault → 
 own_among replica (PrefixPastLog at) same = ap Some same
 own_among replica _ same = search rules
 
+-- a trace has a fault of a dump exactly where a search finds it
+searched : (trace : Recording) (fault : Fault) → HasFault trace fault → HasFaultOn no_pages trace fault
+searched trace (Stale call) holds = absurd holds
+searched trace _ holds = holds
+
+has_searched : (trace : Recording) (replica : ℕ) (fault : Fault) → replica_of fault ≡ Some replica → HasFaultOn no_pages trace fault
+    → HasFault trace fault
+has_searched trace replica (Stale call) of holds = absurd (let none : None ≡ Some replica = of in cc)
+has_searched trace replica _ of holds = holds
+
 found_none : (trace : Recording) (replica : ℕ) → HasNoneFrom no_pages (IsDumpFaultAt replica) trace → IsFoundOfDump trace replica None
-found_none trace replica none = λ fault of holds. none fault (among_own replica fault of) holds
+found_none trace replica none = λ fault of holds. none fault (among_own replica fault of) (searched trace fault holds)
 
 found_first : (trace : Recording) (replica : ℕ) (fault : Fault) → IsFirstAmongFrom no_pages (IsDumpFaultAt replica) trace fault
     → IsFoundOfDump trace replica (Some fault)
@@ -47,8 +58,8 @@ found_first trace replica fault first =
       own,
       record {
         of_dump = subst (λ (o : Option ℕ). IsSome o) (sym own) refl;
-        holds = first.holds;
-        none_earlier = λ other same holds. first.none_earlier other (among_own replica other (same ∙ own)) holds;
+        holds = has_searched trace replica fault own first.holds;
+        none_earlier = λ other same holds. first.none_earlier other (among_own replica other (same ∙ own)) (searched trace other holds);
       },
     )
 

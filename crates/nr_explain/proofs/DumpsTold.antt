@@ -1,20 +1,12 @@
 -- What was found of some dumps, and of one more.
-use Rattle.std.proofs.Common.{◌≡◌, ℕ, ◌+◌, true, false, List, [], ◌∷◌, ◌++◌, Option, filter, length, map, refl, sym, ap, ap₂, subst, ◌∙◌, add-one, append-nil}
+use Rattle.std.proofs.Common.{◌≡◌, ℕ, ◌+◌, true, false, List, [], ◌∷◌, ◌++◌, Option, filter, map, refl, sym, ap, ap₂, ◌∙◌, add-one, append-nil}
 use Rattle.std.specs.Prelude.{All}
 use Rattle.std.proofs.lemmas.List.{map-append}
 use Rattle.std.proofs.lemmas.List.Elements.{All-append, All-cons, All-nil, filter-append}
 use Rattle.nr_trace.specs.Recording.{Recording}
-use Rattle.nr_trace.specs.Spelling.{Spells}
 use Rattle.nr_trace.specs.Orders.{below}
-use Rattle.nr_trace.specs.declared.fault.Fault.{Fault}
-use Rattle.nr_explain.specs.Dumps.{AreDumpsOf, AreToldOfDumps, IsToldOfDump, is_other, replica_of, told_replica}
-use Rattle.nr_explain.specs.Evidence.{IsEvidence}
-use Rattle.nr_explain.specs.inside.Explained.{IsExplanationOn}
-use Rattle.nr_explain.specs.declared.evidence.Evidence.{Evidence}
-use Rattle.nr_explain.specs.declared.evidence.Evidence.TheVariants as evidence
-use Rattle.nr_explain.specs.declared.explaining.Explanation.{Explanation}
-use Rattle.nr_explain.specs.declared.explaining.Explanation.TheVariants.{No}
-use Rattle.nr_explain.specs.declared.all_dumps.DumpExplanation.{DumpExplanation}
+use Rattle.nr_explain.specs.Dumps.{IsToldOfDump, is_other, told_replica}
+use Rattle.nr_explain.specs.declared.trace.all_dumps.DumpExplanation.{DumpExplanation}
 
 -- of the replicas below an end, but the own one
 pub record AreToldBelow (trace : Recording) (own : Option ℕ) (end : ℕ) (dumps : List DumpExplanation) : Type 0 where

@@ -1,34 +1,34 @@
 -- What a piece makes of a reader that explains a chain.
-use Rattle.std.proofs.Common.{◌≡◌, ◌<◌, ◌≤◌, ℕ, true, List, [], ◌∷◌, ◌++◌, length, take, drop, append_assoc, Option, Some, is_some}
+use Rattle.std.proofs.Common.{◌≡◌, ◌+◌, ◌<◌, ◌≤◌, ℕ, true, List, [], ◌∷◌, ◌++◌, length, take, drop, append_assoc, Option, Some, is_some}
 use Rattle.std.proofs.Common.{Result, Ok, Err, refl, sym, ap, ◌∙◌, subst}
 use Rattle.std.specs.Prelude.{IfOk, IfSome}
 use Rattle.std.proofs.lemmas.List.{append-nil, take-append-drop}
 use Rattle.vs_types.specs.Config.{Layout}
-use Rattle.vs_types.specs.declared.refusal.Fail.TheVariants.{Refused}
 use Rattle.vs_plain.specs.Plain.{BoundedSpace}
 use Rattle.nr_trace.specs.Recording.{Recording}
 use Rattle.nr_trace.specs.Spelling.{SpellsSegment}
 use Rattle.nr_trace.specs.FirstFault.{HasFaultAs, HasSegmentFault}
-use Rattle.nr_trace.specs.Feed.{FedSegment, FeedsSegment, IsWhole, LastsAs}
-use Rattle.nr_trace.specs.Feed.Fed.{Taken}
+use Rattle.nr_trace.specs.Feed.{EndsSegment, Fed, FedSegment, FeedsSegment, IsRefusedAs, IsWhole}
+use Rattle.nr_trace.specs.Feed.Fed.{Taken, Stopped}
 use Rattle.nr_trace.specs.declared.fault.Format.{Format}
 use Rattle.nr_trace.specs.declared.fault.Format.TheVariants.{Truncated}
 use Rattle.nr_trace.specs.declared.fault.Fault.TheVariants as faults
 use Rattle.nr_trace.specs.declared.version.Form.TheVariants as forms
-use Rattle.nr_audit.specs.declared.fault.SegmentFault.{SegmentFault}
-use Rattle.nr_audit.specs.declared.fault.SegmentFault.TheVariants.{Within}
+use Rattle.nr_trace.specs.declared.fault.Fault.{Fault}
 use Rattle.nr_chain.specs.Bytes.{BeginsWith, EndsWith}
 use Rattle.nr_chain.specs.inside.Between.{bytes_in}
 use Rattle.nr_chain.proofs.Ends.{ends_first, none_is_short}
 use Rattle.nr_chain.proofs.OneChain.{not_empty}
-use Rattle.nr_chain.proofs.Pieces.{Took, refused, some_taken, spelled_whole, took, took_all, too_short}
-use Rattle.nr_explain.specs.Progress.{CameTo, Seen, came_after, kept_in, layout_in, sums_in}
+use Rattle.nr_chain.proofs.Pieces.{Took, some_taken, spelled_whole, took, took_all, too_short}
+use Rattle.nr_explain.specs.Progress.{ChainState, ReaderState, state_after, kept_in, layout_in}
 use Rattle.nr_explain.specs.ChainExplanation.{Explains, GoesOnTo, IsExplanationFrom, IsShownNext, IsShownOf}
-use Rattle.nr_explain.specs.inside.Reading.{all_seen, spaces_of, FitsCame, IsReading}
+use Rattle.nr_explain.specs.inside.Reading.{all_states, spaces_of, FitsProgress, IsReading}
 use Rattle.nr_explain.proofs.Cuts.{cut_so}
-use Rattle.nr_explain.proofs.Walking.{bad_unit_lasts}
+use Rattle.nr_explain.proofs.BadUnits.{bad_unit_lasts, refused_alone}
+use Rattle.nr_trace.specs.FirstFault.{HasRefusalAs, IsRefusedBy}
+use Rattle.nr_trace.specs.declared.refusal.Refusal.{Refusal}
 use Rattle.nr_explain.specs.inside.Steps.{IsRefusalOf, IsWrongOf, JudgedTo, JudgesTo, StepsTo}
-use Rattle.nr_explain.specs.declared.chain.progress.Came.{Came}
+use Rattle.nr_explain.specs.declared.chain.progress.Progress.{Progress}
 use Rattle.nr_explain.specs.declared.chain.evidence.SegmentEvidence.{SegmentEvidence}
 use Rattle.nr_explain.specs.declared.chain.evidence.SegmentEvidence.TheVariants as evidence
 use Rattle.nr_explain.specs.declared.chain.explanation.ChainExplanation.{ChainExplanation}
@@ -41,17 +41,17 @@ use Rattle.std.proofs.lemmas.Result.{IfOk-weaker}
 -- ---- between two pieces
 
 -- of the next segment nothing has come
-pub fresh_reading : (last : Option Came) (before : Option BoundedSpace) (bytes : List ℕ) (feed : FedSegment) → bytes ≡ []
-    → feed ≡ record { before = layout_in (all_seen last); pieces = Taken [] } → IfSome last FitsCame → before ≡ spaces_of last
+pub fresh_reading : (last : Option Progress) (before : Option BoundedSpace) (bytes : List ℕ) (feed : FedSegment) → bytes ≡ []
+    → feed ≡ record { before = layout_in (all_states last); pieces = Taken [] } → IfSome last FitsProgress → before ≡ spaces_of last
     → IsReading last before bytes feed
 fresh_reading last before bytes feed none is fits same =
-    let fresh : FedSegment = record { before = layout_in (all_seen last); pieces = Taken [] } in
+    let fresh : FedSegment = record { before = layout_in (all_states last); pieces = Taken [] } in
     let reading : IsReading last before [] fresh = record {
       taken = refl;
       behind = refl;
       not_whole = λ whole.
-          let there = spelled_whole fresh whole in not_empty (layout_in (all_seen last)) [] there.0 there.1 refl;
-      short = none_is_short (forms.Segment (layout_in (all_seen last)));
+          let there = spelled_whole fresh whole in not_empty (layout_in (all_states last)) [] there.0 there.1 refl;
+      short = none_is_short (forms.Segment (layout_in (all_states last)));
       fits = fits;
       same = same;
     } in
@@ -64,13 +64,13 @@ took_here feed new bytes piece count taken feeds =
 
 -- ---- what is said of a segment
 
-shown_next : (last : Option CameTo) (bytes : List ℕ) (fault : SegmentFault) (shown : SegmentEvidence) → IsShownOf last bytes fault shown
+shown_next : (last : Option ChainState) (bytes : List ℕ) (fault : Fault) (shown : SegmentEvidence) → IsShownOf last bytes fault shown
     → IsShownNext last bytes fault shown
 shown_next last bytes fault (evidence.Format bad) is = absurd is.shows
 shown_next last bytes fault shown is = is
 
 -- a refused segment
-pub refusal_explains : (came : Option CameTo) (bytes : List ℕ) (fault : Format) (explanation : ChainExplanation) → IsRefusalOf came bytes fault explanation
+pub refusal_explains : (came : Option ChainState) (bytes : List ℕ) (fault : Format) (explanation : ChainExplanation) → IsRefusalOf came bytes fault explanation
     → HasSegmentFault (layout_in came) bytes fault → (is_some (kept_in came) ≡ true → bytes ≡ [] → ⊥) → IsExplanationFrom came bytes explanation
 refusal_explains came bytes fault (Yes counts) is has some = absurd is
 refusal_explains came bytes fault (No number found (evidence.Format bad)) (number_is, found_is, fault_is, shows) has some = (
@@ -79,33 +79,27 @@ refusal_explains came bytes fault (No number found (evidence.Format bad)) (numbe
   bytes,
   (refl, refl),
   number_is,
-  subst (λ (f : SegmentFault). EndsWith (kept_in came) bytes (Some f)) (sym found_is)
-      (ends_first (kept_in came) bytes (Within (faults.Format fault)) some has),
-  (found_is ∙ ap (λ (f : Format). Within (faults.Format f)) (sym fault_is), shows),
+  subst (λ (f : Fault). EndsWith (kept_in came) bytes (Some f)) (sym found_is)
+      (ends_first (kept_in came) bytes (faults.Format fault) some has),
+  (found_is ∙ ap (λ (f : Format). faults.Format f) (sym fault_is), shows),
 )
 refusal_explains came bytes fault (No number found shown) is has some = absurd is
 
 -- the same with more bytes behind it
-refusal_lasts : (came : Option CameTo) (bytes rest : List ℕ) (fault : Format) (explanation : ChainExplanation) → IsRefusalOf came bytes fault explanation
-    → LastsAs (forms.Segment (layout_in came)) bytes fault → IsRefusalOf came (bytes ++ rest) fault explanation
-refusal_lasts came bytes rest fault (Yes counts) is lasts = is
-refusal_lasts came bytes rest fault (No number found (evidence.Format bad)) (number_is, found_is, fault_is, shows) lasts = (
-  number_is,
-  found_is,
-  fault_is,
-  (
-    shows.0,
-    bad_unit_lasts (layout_in came) bytes rest bad.unit shows.1 (subst (LastsAs (forms.Segment (layout_in came)) bytes) (sym fault_is) lasts),
-  ),
-)
-refusal_lasts came bytes rest fault (No number found shown) is lasts = is
+refusal_lasts : (came : Option ChainState) (bytes rest : List ℕ) (refusal : Refusal) (fault : Format) (explanation : ChainExplanation)
+    → IsRefusalOf came bytes fault explanation → IsRefusedBy (HasRefusalAs (forms.Segment (layout_in came))) bytes refusal
+    → IsRefusalOf came (bytes ++ rest) fault explanation
+refusal_lasts came bytes rest refusal fault (Yes counts) is given = is
+refusal_lasts came bytes rest refusal fault (No number found (evidence.Format bad)) (number_is, found_is, fault_is, shows) given =
+    (number_is, found_is, fault_is, (shows.0, bad_unit_lasts (forms.Segment (layout_in came)) bytes rest refusal bad.unit given shows.1))
+refusal_lasts came bytes rest refusal fault (No number found shown) is given = is
 
 front_none : (front rest : List ℕ) → front ++ rest ≡ [] → front ≡ []
 front_none [] rest e = refl
 front_none (x ∷ front) rest e = absurd cc
 
 -- a segment that is spelled and has a fault
-pub wrong_explains : (came : Option CameTo) (bytes rest : List ℕ) (segment : Recording) (explanation : ChainExplanation)
+pub wrong_explains : (came : Option ChainState) (bytes rest : List ℕ) (segment : Recording) (explanation : ChainExplanation)
     → SpellsSegment (layout_in came) bytes segment → IsWrongOf came segment explanation → IsExplanationFrom came (bytes ++ rest) explanation
 wrong_explains came bytes rest segment (Yes counts) spelled is = absurd is
 wrong_explains came bytes rest segment (No number fault shown) spelled (number_is, first, shows) =
@@ -121,7 +115,7 @@ wrong_explains came bytes rest segment (No number fault shown) spelled (number_i
     )
 
 -- what is judged of a segment, of its bytes
-pub judged_whole : (came : Option CameTo) (bytes : List ℕ) (segment : Recording) (count : ℕ) (step : Step) → SpellsSegment (layout_in came) bytes segment
+pub judged_whole : (came : Option ChainState) (bytes : List ℕ) (segment : Recording) (count : ℕ) (step : Step) → SpellsSegment (layout_in came) bytes segment
     → JudgedTo came segment (length bytes) count step → JudgesTo came bytes count step
 judged_whole came bytes segment count (More new) spelled is = is
 judged_whole came bytes segment count (Right own new) spelled (same, sound, next) = (same, segment, spelled, sound, next)
@@ -129,8 +123,8 @@ judged_whole came bytes segment count (Wrong explanation) spelled is = λ rest. 
 
 -- ---- one step
 
-judged_step : (came : Option CameTo) (bytes piece : List ℕ) (count : ℕ) (step : Step) → 0 < count → count ≤ length piece
-    → JudgesTo came (bytes ++ take count piece) count step → StepsTo (record { came = came; bytes = bytes }) piece step
+judged_step : (came : Option ChainState) (bytes piece : List ℕ) (count : ℕ) (step : Step) → 0 < count → count ≤ length piece
+    → JudgesTo came (bytes ++ take count piece) count step → StepsTo (record { state = came; bytes = bytes }) piece step
 judged_step came bytes piece count (More new) some within h = absurd h
 judged_step came bytes piece count (Right own new) some within (same, segment, spelled, sound, next) = (
   subst (λ n. 0 < n) (sym same) some,
@@ -138,7 +132,7 @@ judged_step came bytes piece count (Right own new) some within (same, segment, s
   segment,
   subst (λ n. SpellsSegment (layout_in came) (bytes ++ take n piece) segment) (sym same) spelled,
   sound,
-  next ∙ ap (λ (n : ℕ). record { came = Some (came_after came segment (length (bytes ++ take n piece))); bytes = [] }) (sym same),
+  next ∙ ap (λ (n : ℕ). record { state = Some (state_after came segment (length (bytes ++ take n piece))); bytes = [] }) (sym same),
 )
 judged_step came bytes piece count (Wrong explanation) some within h = λ there rest.
     subst (λ (bs : List ℕ). IsExplanationFrom came bs explanation) (sym (cut_so bytes piece rest count)) (h (drop count piece ++ rest))
@@ -147,28 +141,28 @@ none_of_two : (front behind : List ℕ) → front ++ behind ≡ [] → behind �
 none_of_two [] behind e = e
 none_of_two (x ∷ front) behind e = absurd cc
 
-module _ (last : Option Came) (before : Option BoundedSpace) (bytes : List ℕ) (feed new : FedSegment) (self : Seen) (piece : List ℕ)
-    (old : IsReading last before bytes feed) (view : record { came = all_seen last; bytes = bytes } ≡ self) where
+module _ (last : Option Progress) (before : Option BoundedSpace) (bytes : List ℕ) (feed new : FedSegment) (self : ReaderState) (piece : List ℕ)
+    (old : IsReading last before bytes feed) (view : record { state = all_states last; bytes = bytes } ≡ self) where
   -- the segment is whole, and is judged
   pub judged : {E : Type 0} (count : ℕ) (taken : List ℕ) (result : Result Step E) → taken ≡ bytes ++ take count piece → FeedsSegment feed piece new (Ok count)
-      → IsWhole new → IfOk result (JudgesTo (all_seen last) taken count) → IfOk result (StepsTo self piece)
+      → IsWhole new → IfOk result (JudgesTo (all_states last) taken count) → IfOk result (StepsTo self piece)
   judged count taken result same feeds whole h =
       let is = took_here feed new bytes piece count old.taken feeds in
       let some = some_taken feed new piece count (old.taken ∙ ap Taken (sym (ap bytes_in old.taken))) old.not_whole whole (took feed new piece count feeds) in
-      subst (λ (fed : Seen). IfOk result (StepsTo fed piece)) view
-      (IfOk-weaker result (JudgesTo (all_seen last) taken count) (StepsTo (record { came = all_seen last; bytes = bytes }) piece)
-      (λ step h. judged_step (all_seen last) bytes piece count step some is.within
-      (subst (λ (bs : List ℕ). JudgesTo (all_seen last) bs count step) same h)) h)
+      subst (λ (fed : ReaderState). IfOk result (StepsTo fed piece)) view
+      (IfOk-weaker result (JudgesTo (all_states last) taken count) (StepsTo (record { state = all_states last; bytes = bytes }) piece)
+      (λ step h. judged_step (all_states last) bytes piece count step some is.within
+      (subst (λ (bs : List ℕ). JudgesTo (all_states last) bs count step) same h)) h)
 
   -- the piece is taken, and the segment is not whole
   pub more_taken : (count : ℕ) (taken : List ℕ) → taken ≡ bytes ++ take count piece → FeedsSegment feed piece new (Ok count) → (IsWhole new → ⊥)
-      → StepsTo self piece (More (record { came = all_seen last; bytes = taken }))
+      → StepsTo self piece (More (record { state = all_states last; bytes = taken }))
   more_taken count taken same feeds none =
       let is = took_here feed new bytes piece count old.taken feeds in
       let all : taken ≡ bytes ++ piece = same ∙ took_all feed.before bytes piece new count is none in
-      subst (λ (fed : Seen). StepsTo fed piece (More (record { came = all_seen last; bytes = taken }))) view (
-        (λ i. record { came = all_seen last; bytes = all i }),
-        subst (λ (bs : List ℕ). HasSegmentFault (layout_in (all_seen last)) bs Truncated) (sym all)
+      subst (λ (fed : ReaderState). StepsTo fed piece (More (record { state = all_states last; bytes = taken }))) view (
+        (λ i. record { state = all_states last; bytes = all i }),
+        subst (λ (bs : List ℕ). HasSegmentFault (layout_in (all_states last)) bs Truncated) (sym all)
             (subst (λ (before : Option Layout). HasSegmentFault before (bytes ++ piece) Truncated) old.behind
             (too_short feed.before bytes piece new count is none)),
       )
@@ -189,33 +183,40 @@ module _ (last : Option Came) (before : Option BoundedSpace) (bytes : List ℕ) 
       }
 
   -- the bytes with the piece are refused, whatever comes behind it
-  pub piece_lasts : (fault : Format) → FeedsSegment feed piece new (Err (Refused fault))
-      → LastsAs (forms.Segment (layout_in (all_seen last))) (bytes ++ piece) fault
-  piece_lasts fault feeds =
-      subst (λ (bs : List ℕ). LastsAs (forms.Segment (layout_in (all_seen last))) (bs ++ piece) fault) (ap bytes_in old.taken)
-      (subst (λ (before : Option Layout). LastsAs (forms.Segment before) (bytes_in feed.pieces ++ piece) fault) old.behind
-      (refused feed new piece fault (old.taken ∙ ap Taken (sym (ap bytes_in old.taken))) feeds))
+  piece_lasts : (most : ℕ) (refusal : Refusal) → IsRefusedAs (forms.Segment feed.before) (bytes ++ piece) most refusal
+      → IsRefusedBy (HasRefusalAs (forms.Segment (layout_in (all_states last)))) (bytes ++ piece) refusal
+  piece_lasts most refusal given =
+      subst (λ (before : Option Layout). IsRefusedBy (HasRefusalAs (forms.Segment before)) (bytes ++ piece) refusal) old.behind given.refused
 
-  pub piece_has : (fault : Format) (all : List ℕ) → all ≡ bytes ++ piece → FeedsSegment feed piece new (Err (Refused fault))
-      → HasSegmentFault (layout_in (all_seen last)) all fault
-  piece_has fault all is feeds =
-      subst (λ (bs : List ℕ). HasSegmentFault (layout_in (all_seen last)) bs fault) (append-nil (bytes ++ piece) ∙ sym is) (piece_lasts fault feeds [])
+  pub piece_within : (most : ℕ) (refusal : Refusal) (all : List ℕ) → all ≡ bytes ++ piece
+      → IsRefusedAs (forms.Segment feed.before) (bytes ++ piece) most refusal → refusal.left ≤ length all
+  piece_within most refusal all is given = subst (λ (bs : List ℕ). refusal.left ≤ length bs) (sym is) given.refused.within
 
-  pub piece_refused : (fault : Format) (all : List ℕ) (explanation : ChainExplanation) → all ≡ bytes ++ piece
-      → FeedsSegment feed piece new (Err (Refused fault)) → IsRefusalOf (all_seen last) all fault explanation → StepsTo self piece (Wrong explanation)
-  piece_refused fault all explanation is feeds refusal = λ there rest.
-      let lasts = piece_lasts fault feeds in
-      let refusal_here = subst (λ (bs : List ℕ). IsRefusalOf (all_seen last) bs fault explanation) is refusal in
-      subst (λ (fed : Seen). Explains fed (piece ++ rest) explanation) view
-      (subst (λ (bs : List ℕ). IsExplanationFrom (all_seen last) bs explanation) (append_assoc bytes piece rest)
-      (refusal_explains (all_seen last) ((bytes ++ piece) ++ rest) fault explanation
-      (refusal_lasts (all_seen last) (bytes ++ piece) rest fault explanation refusal_here lasts) (lasts rest)
+  pub piece_has : (most : ℕ) (refusal : Refusal) (all : List ℕ) → all ≡ bytes ++ piece
+      → IsRefusedAs (forms.Segment feed.before) (bytes ++ piece) most refusal → HasRefusalAs (forms.Segment (layout_in (all_states last))) all refusal
+  piece_has most refusal all is given =
+      subst (λ (bs : List ℕ). HasRefusalAs (forms.Segment (layout_in (all_states last))) bs refusal) (sym is)
+      (refused_alone (forms.Segment (layout_in (all_states last))) (bytes ++ piece) refusal (piece_lasts most refusal given))
+
+  pub piece_refused : (most : ℕ) (refusal : Refusal) (all : List ℕ) (explanation : ChainExplanation) → all ≡ bytes ++ piece
+      → IsRefusedAs (forms.Segment feed.before) (bytes ++ piece) most refusal → IsRefusalOf (all_states last) all refusal.fault explanation
+      → StepsTo self piece (Wrong explanation)
+  piece_refused most refusal all explanation is given found = λ there rest.
+      let came = all_states last in
+      let fault = refusal.fault in
+      let lasts = piece_lasts most refusal given in
+      let found_here = subst (λ (bs : List ℕ). IsRefusalOf came bs fault explanation) is found in
+      let has : HasSegmentFault (layout_in came) ((bytes ++ piece) ++ rest) fault = (refusal.unit, refusal.left + length rest, lasts.lasts rest) in
+      subst (λ (fed : ReaderState). Explains fed (piece ++ rest) explanation) view
+      (subst (λ (bs : List ℕ). IsExplanationFrom came bs explanation) (append_assoc bytes piece rest)
+      (refusal_explains came ((bytes ++ piece) ++ rest) fault explanation
+      (refusal_lasts came (bytes ++ piece) rest refusal fault explanation found_here lasts) has
       (λ kept none. there (front_none piece rest (none_of_two bytes (piece ++ rest) (sym (append_assoc bytes piece rest) ∙ none))))))
 
 -- ---- a whole piece
 
 -- with more bytes behind them, and with more segments
-pub goes_with : (came last : Option CameTo) (bytes rest more : List ℕ) (segments : List Recording) → GoesOnTo came bytes segments last rest
+pub goes_with : (came last : Option ChainState) (bytes rest more : List ℕ) (segments : List Recording) → GoesOnTo came bytes segments last rest
     → GoesOnTo came (bytes ++ more) segments last (rest ++ more)
 goes_with came last bytes rest more [] (same, is) = (same, ap (λ (l : List ℕ). l ++ more) is)
 goes_with came last bytes rest more (segment ∷ segments) (behind, begins, sound, goes) = (
@@ -226,18 +227,18 @@ goes_with came last bytes rest more (segment ∷ segments) (behind, begins, soun
     spelled = begins.spelled;
   },
   sound,
-  goes_with (Some (came_after came segment (length begins.own))) last behind rest more segments goes,
+  goes_with (Some (state_after came segment (length begins.own))) last behind rest more segments goes,
 )
 
-pub goes_and : (came middle last : Option CameTo) (bytes rest left : List ℕ) (segments more : List Recording) → GoesOnTo came bytes segments middle rest
+pub goes_and : (came middle last : Option ChainState) (bytes rest left : List ℕ) (segments more : List Recording) → GoesOnTo came bytes segments middle rest
     → GoesOnTo middle rest more last left → GoesOnTo came bytes (segments ++ more) last left
 goes_and came middle last bytes rest left [] more (same, is) then =
     subst (λ (bs : List ℕ). GoesOnTo came bs more last left) is
-    (subst (λ (c : Option CameTo). GoesOnTo c rest more last left) same then)
+    (subst (λ (c : Option ChainState). GoesOnTo c rest more last left) same then)
 goes_and came middle last bytes rest left (segment ∷ segments) more (behind, begins, sound, goes) then =
-    (behind, begins, sound, goes_and (Some (came_after came segment (length begins.own))) middle last behind rest left segments more goes then)
+    (behind, begins, sound, goes_and (Some (state_after came segment (length begins.own))) middle last behind rest left segments more goes then)
 
-pub explains_on : (came middle : Option CameTo) (bytes rest : List ℕ) (segments : List Recording) (explanation : ChainExplanation)
+pub explains_on : (came middle : Option ChainState) (bytes rest : List ℕ) (segments : List Recording) (explanation : ChainExplanation)
     → GoesOnTo came bytes segments middle rest → IsExplanationFrom middle rest explanation → IsExplanationFrom came bytes explanation
 explains_on came middle bytes rest segments (Yes counts) goes (more, last, on, same) =
     (segments ++ more, last, goes_and came middle (Some last) bytes rest [] segments more goes on, same)
@@ -245,24 +246,24 @@ explains_on came middle bytes rest segments (No number fault shown) goes (more, 
     (segments ++ more, last, left, goes_and came middle last bytes rest left segments more goes on, number_is, ends, shows)
 
 -- the bytes and the piece are those of right segments, which come to what the reader has, and the rest
-abbrev pub LeadsTo : Seen → List ℕ → Seen → List ℕ → Type 0
-LeadsTo self piece reader rest = (segments : List Recording) × GoesOnTo self.came (self.bytes ++ piece) segments reader.came (reader.bytes ++ rest)
+abbrev pub LeadsTo : ReaderState → List ℕ → ReaderState → List ℕ → Type 0
+LeadsTo self piece reader rest = (segments : List Recording) × GoesOnTo self.state (self.bytes ++ piece) segments reader.state (reader.bytes ++ rest)
 
 -- what explains what comes behind explains that with the piece
-pub explains_behind : (self reader : Seen) (piece rest behind : List ℕ) (explanation : ChainExplanation) → LeadsTo self piece reader rest
+pub explains_behind : (self reader : ReaderState) (piece rest behind : List ℕ) (explanation : ChainExplanation) → LeadsTo self piece reader rest
     → Explains reader (rest ++ behind) explanation → Explains self (piece ++ behind) explanation
 explains_behind self reader piece rest behind explanation (segments, goes) h =
-    subst (λ (bs : List ℕ). IsExplanationFrom self.came bs explanation) (append_assoc self.bytes piece behind)
-    (explains_on self.came reader.came ((self.bytes ++ piece) ++ behind) ((reader.bytes ++ rest) ++ behind) segments explanation
-    (goes_with self.came reader.came (self.bytes ++ piece) (reader.bytes ++ rest) behind segments goes)
-    (subst (λ (bs : List ℕ). IsExplanationFrom reader.came bs explanation) (sym (append_assoc reader.bytes rest behind)) h))
+    subst (λ (bs : List ℕ). IsExplanationFrom self.state bs explanation) (append_assoc self.bytes piece behind)
+    (explains_on self.state reader.state ((self.bytes ++ piece) ++ behind) ((reader.bytes ++ rest) ++ behind) segments explanation
+    (goes_with self.state reader.state (self.bytes ++ piece) (reader.bytes ++ rest) behind segments goes)
+    (subst (λ (bs : List ℕ). IsExplanationFrom reader.state bs explanation) (sym (append_assoc reader.bytes rest behind)) h))
 
 -- a segment more
-one_on : (old new : Seen) (piece : List ℕ) (count : ℕ) → StepsTo old piece (Right count new)
-    → (segments : List Recording) × GoesOnTo old.came (old.bytes ++ piece) segments new.came (new.bytes ++ drop count piece)
+one_on : (old new : ReaderState) (piece : List ℕ) (count : ℕ) → StepsTo old piece (Right count new)
+    → (segments : List Recording) × GoesOnTo old.state (old.bytes ++ piece) segments new.state (new.bytes ++ drop count piece)
 one_on old new piece count (some, within, segment, spelled, sound, is) = (
   segment ∷ [],
-  subst (λ (fed : Seen). GoesOnTo old.came (old.bytes ++ piece) (segment ∷ []) fed.came (fed.bytes ++ drop count piece)) (sym is) (
+  subst (λ (fed : ReaderState). GoesOnTo old.state (old.bytes ++ piece) (segment ∷ []) fed.state (fed.bytes ++ drop count piece)) (sym is) (
     drop count piece,
     record {
       own = old.bytes ++ take count piece;
@@ -274,41 +275,50 @@ one_on old new piece count (some, within, segment, spelled, sound, is) = (
   ),
 )
 
-pub leads_on : (self old new : Seen) (piece rest left : List ℕ) (count : ℕ) → LeadsTo self piece old rest → StepsTo old rest (Right count new)
+pub leads_on : (self old new : ReaderState) (piece rest left : List ℕ) (count : ℕ) → LeadsTo self piece old rest → StepsTo old rest (Right count new)
     → left ≡ drop count rest → LeadsTo self piece new left
 leads_on self old new piece rest left count (segments, goes) step cut =
     let (more, on) = one_on old new rest count step in (
       segments ++ more,
-      subst (λ (bs : List ℕ). GoesOnTo self.came (self.bytes ++ piece) (segments ++ more) new.came (new.bytes ++ bs)) (sym cut)
-          (goes_and self.came old.came new.came (self.bytes ++ piece) (old.bytes ++ rest) (new.bytes ++ drop count rest) segments more goes on),
+      subst (λ (bs : List ℕ). GoesOnTo self.state (self.bytes ++ piece) (segments ++ more) new.state (new.bytes ++ bs)) (sym cut)
+          (goes_and self.state old.state new.state (self.bytes ++ piece) (old.bytes ++ rest) (new.bytes ++ drop count rest) segments more goes on),
     )
 
-pub leads_more : (self old new : Seen) (piece rest : List ℕ) → LeadsTo self piece old rest → StepsTo old rest (More new)
-    → (segments : List Recording) × GoesOnTo self.came (self.bytes ++ piece) segments new.came new.bytes
+pub leads_more : (self old new : ReaderState) (piece rest : List ℕ) → LeadsTo self piece old rest → StepsTo old rest (More new)
+    → (segments : List Recording) × GoesOnTo self.state (self.bytes ++ piece) segments new.state new.bytes
 leads_more self old new piece rest (segments, goes) (is, short) =
-    (segments, subst (λ (fed : Seen). GoesOnTo self.came (self.bytes ++ piece) segments fed.came fed.bytes) (sym is) goes)
+    (segments, subst (λ (fed : ReaderState). GoesOnTo self.state (self.bytes ++ piece) segments fed.state fed.bytes) (sym is) goes)
 
-pub leads_end : (self reader : Seen) (piece rest : List ℕ) → LeadsTo self piece reader rest → rest ≡ []
-    → (segments : List Recording) × GoesOnTo self.came (self.bytes ++ piece) segments reader.came reader.bytes
+pub leads_end : (self reader : ReaderState) (piece rest : List ℕ) → LeadsTo self piece reader rest → rest ≡ []
+    → (segments : List Recording) × GoesOnTo self.state (self.bytes ++ piece) segments reader.state reader.bytes
 leads_end self reader piece rest (segments, goes) none = (
   segments,
-  subst (λ (bs : List ℕ). GoesOnTo self.came (self.bytes ++ piece) segments reader.came bs)
+  subst (λ (bs : List ℕ). GoesOnTo self.state (self.bytes ++ piece) segments reader.state bs)
       (ap (λ (l : List ℕ). reader.bytes ++ l) none ∙ append-nil reader.bytes) goes,
 )
 
-pub short_after : (old new : Seen) (piece : List ℕ) → StepsTo old piece (More new) → HasSegmentFault (layout_in new.came) new.bytes Truncated
+pub short_after : (old new : ReaderState) (piece : List ℕ) → StepsTo old piece (More new) → HasSegmentFault (layout_in new.state) new.bytes Truncated
 short_after old new piece (is, short) =
-    subst (λ (came : Option CameTo). HasSegmentFault (layout_in came) new.bytes Truncated) (sym (ap (λ (fed : Seen). fed.came) is)) short
+    subst (λ (came : Option ChainState). HasSegmentFault (layout_in came) new.bytes Truncated) (sym (ap (λ (fed : ReaderState). fed.state) is)) short
 
-pub short_fresh : (old new : Seen) (piece : List ℕ) (count : ℕ) → StepsTo old piece (Right count new) → HasSegmentFault (layout_in new.came) new.bytes Truncated
+pub short_fresh : (old new : ReaderState) (piece : List ℕ) (count : ℕ) → StepsTo old piece (Right count new) → HasSegmentFault (layout_in new.state) new.bytes Truncated
 short_fresh old new piece count (some, within, segment, spelled, sound, is) =
-    subst (λ (bs : List ℕ). HasSegmentFault (layout_in new.came) bs Truncated) (sym (ap (λ (fed : Seen). fed.bytes) is))
-    (none_is_short (forms.Segment (layout_in new.came)))
+    subst (λ (bs : List ℕ). HasSegmentFault (layout_in new.state) bs Truncated) (sym (ap (λ (fed : ReaderState). fed.bytes) is))
+    (none_is_short (forms.Segment (layout_in new.state)))
 
 -- ---- the end
 
-pub explains_all : (last : Option Came) (bytes : List ℕ) (self : Seen) (explanation : ChainExplanation)
-    → record { came = all_seen last; bytes = bytes } ≡ self → IsExplanationFrom (all_seen last) bytes explanation → Explains self [] explanation
+-- a segment that has come to its end is whole
+ended_of : (before : Option Layout) (pieces : Fed) (bytes : List ℕ) (segment : Recording) → pieces ≡ Taken bytes
+    → EndsSegment (record { before = before; pieces = pieces }) (Ok segment) → IsWhole (record { before = before; pieces = pieces })
+ended_of before (Taken own) bytes segment is ends = (segment, ends)
+ended_of before (Stopped fail) bytes segment is ends = absurd cc
+
+pub ended_whole : (feed : FedSegment) (bytes : List ℕ) (segment : Recording) → feed.pieces ≡ Taken bytes → EndsSegment feed (Ok segment) → IsWhole feed
+ended_whole feed bytes segment is ends = ended_of feed.before feed.pieces bytes segment is ends
+
+pub explains_all : (last : Option Progress) (bytes : List ℕ) (self : ReaderState) (explanation : ChainExplanation)
+    → record { state = all_states last; bytes = bytes } ≡ self → IsExplanationFrom (all_states last) bytes explanation → Explains self [] explanation
 explains_all last bytes self explanation view is =
-    subst (λ (fed : Seen). Explains fed [] explanation) view
-    (subst (λ (bs : List ℕ). IsExplanationFrom (all_seen last) bs explanation) (sym (append-nil bytes)) is)
+    subst (λ (fed : ReaderState). Explains fed [] explanation) view
+    (subst (λ (bs : List ℕ). IsExplanationFrom (all_states last) bs explanation) (sym (append-nil bytes)) is)

@@ -15,7 +15,7 @@ use Rattle.nr_trace.proofs.LawsOfCalls.{behind_its_call, update_from_not_not}
 use Rattle.nr_trace.proofs.LawsOfFaults.{less_from_below}
 use Rattle.nr_explain.specs.Dumps.{IsFirstOfItsDump, replica_of}
 use Rattle.nr_explain.specs.inside.Searches.{IsIdle, IsLastCall, IsOpenBelow}
-use Rattle.nr_explain.specs.declared.evidence.RecordedCall.{RecordedCall}
+use Rattle.nr_explain.specs.declared.trace.evidence.RecordedCall.{RecordedCall}
 
 -- ---- open calls
 

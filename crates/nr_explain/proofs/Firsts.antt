@@ -1,7 +1,6 @@
 -- Which fault of a segment is the first, as the evidence of a trace wants it.
 use Rattle.std.proofs.Common.{◌≡◌, ℕ, ◌<◌, ◌≤◌, inl, inr, Option, Some, None, is_some, true, false, refl, arith, lit<, lit≤}
 use Rattle.std.specs.Prelude.{IsSome}
-use Rattle.std.proofs.lemmas.Bool.{cases_order}
 use Rattle.std.proofs.lemmas.Option.{same_Some}
 use Rattle.vs_types.specs.Space.{Space, no_pages}
 use Rattle.nr_trace.specs.Recording.{Recording}
@@ -12,57 +11,76 @@ use Rattle.nr_trace.specs.declared.fault.Fault.{Fault}
 use Rattle.nr_trace.specs.declared.fault.Fault.TheVariants.{Format, ThreadOpen, NoSuchCall, AnsweredTwice, NotAnUpdate, PlacedTwice, NotPlaced, PastLog}
 use Rattle.nr_trace.specs.declared.fault.Fault.TheVariants.{WrongAnswer, PrefixPastLog, PrefixShort, MissingFrame, SharedFrame, ReservedBit, StrayFrame}
 use Rattle.nr_trace.specs.declared.fault.Fault.TheVariants.{Differs}
-use Rattle.nr_trace.proofs.LawsOfFaults.{IsBelow, below_from_less, earlier_parts, pass}
-use Rattle.nr_audit.specs.Start.{first_space, HasStartFault}
-use Rattle.nr_audit.specs.Faults.{part_of, IsFirstAfter}
-use Rattle.nr_audit.specs.declared.fault.StartFault.{StartFault}
-use Rattle.nr_audit.specs.declared.fault.SegmentFault.TheVariants.{Start, Within, Stale}
-use Rattle.nr_audit.proofs.SegmentOrder.{comes_by_part}
+use Rattle.nr_trace.proofs.LawsOfFaults.{IsBelow, below_from_less, earlier_parts, earlier_pass, number_of, pass}
+use Rattle.nr_audit.specs.Start.{HasStartFault, BeginsRight}
+use Rattle.nr_audit.specs.Faults.{HasFaultAfter, IsFirstAfter}
+use Rattle.nr_trace.specs.declared.fault.Fault.TheVariants.{StartMissing, StartShared, StartReserved, StartStray, StartBeyond, StartDiffers, Stale}
+use Rattle.nr_audit.proofs.Judgements.{of_start}
+use Rattle.nr_audit.proofs.Starts.{start_pass}
 use Rattle.nr_explain.specs.Dumps.{IsFirstOfItsDump, replica_of}
 use Rattle.nr_explain.specs.ChainEvidence.{IsOfItself}
+use Rattle.nr_explain.specs.inside.Starts.{is_within}
 
 -- ---- of a segment and of a trace
 
--- where the first fault is none of the start, nothing is wrong with that
-pub well_within : (before : Option Space) (segment : Recording) (fault : Fault) → IsFirstAfter before segment (Within fault)
-    → (other : StartFault) → HasStartFault before segment other → ⊥
-well_within before segment fault first other h = elim (cases_order (part_of fault) 1) [
-  | inl one ↦ formatless (first_space before segment) segment fault one first.holds
-  | inr more ↦ elim more [
-    | inl none ↦ no_part_below fault none
-    | inr high ↦ first.none_earlier (Start other) h (comes_by_part segment (Start other) (Within fault) (above fault high))
-  ]
-] where
-  formatless : (start : Space) (trace : Recording) (fault : Fault) → part_of fault ≡ 1 → HasFaultFrom start trace fault → ⊥
-  formatless start trace (Format fault) one h = h
-  formatless start trace fault one h = absurd (omega arith)
+-- a fault that a trace may have too has a number below 18, and is of a pass behind the first, if it holds
+pub low_number : (segment : Recording) (fault : Fault) → is_within fault ≡ true → number_of segment fault < 18
+low_number segment (StartMissing number) own = let wrong : false ≡ true = own in cc
+low_number segment (StartShared number) own = let wrong : false ≡ true = own in cc
+low_number segment (StartReserved number index) own = let wrong : false ≡ true = own in cc
+low_number segment (StartStray number) own = let wrong : false ≡ true = own in cc
+low_number segment (StartBeyond base) own = let wrong : false ≡ true = own in cc
+low_number segment (StartDiffers address) own = let wrong : false ≡ true = own in cc
+low_number segment (Stale call) own = let wrong : false ≡ true = own in cc
+low_number segment _ own = lit< tt
 
-  no_part_below : (fault : Fault) → part_of fault < 1 → ⊥
-  no_part_below (Format fault) low = omega arith
-  no_part_below fault low = omega arith
+late_pass : (before : Option Space) (segment : Recording) (fault : Fault) → number_of segment fault < 18 → HasFaultAfter before segment fault → 1 < pass fault
+late_pass before segment (Format fault) low h = absurd h
+late_pass before segment (StartMissing number) low h = absurd (omega arith)
+late_pass before segment (StartShared number) low h = absurd (omega arith)
+late_pass before segment (StartReserved number index) low h = absurd (omega arith)
+late_pass before segment (StartStray number) low h = absurd (omega arith)
+late_pass before segment (StartBeyond base) low h = absurd (omega arith)
+late_pass before segment (StartDiffers address) low h = absurd (omega arith)
+late_pass before segment _ low h = lit< tt
 
-  above : (fault : Fault) → 1 < part_of fault → 2 < part_of fault
-  above (Format fault) high = absurd (omega arith)
-  above fault high = lit< tt
+-- where the first fault is of a later pass than the start, nothing is wrong with that
+well_late : (before : Option Space) (segment : Recording) (fault : Fault) → 1 < pass fault → IsFirstAfter before segment fault → BeginsRight before segment
+well_late before segment fault late first other h =
+    let one = start_pass before segment other h in
+    first.none_earlier other (of_start before segment other h) (earlier_pass segment other fault (omega (arith, one, late)))
 
-pub well_stale : (before : Option Space) (segment : Recording) (call : ℕ) → IsFirstAfter before segment (Stale call)
-    → (other : StartFault) → HasStartFault before segment other → ⊥
-well_stale before segment call first other h =
-    first.none_earlier (Start other) h (comes_by_part segment (Start other) (Stale call) (lit< tt))
+pub well_within : (before : Option Space) (segment : Recording) (fault : Fault) → is_within fault ≡ true → IsFirstAfter before segment fault
+    → BeginsRight before segment
+well_within before segment fault own first =
+    well_late before segment fault (late_pass before segment fault (low_number segment fault own) first.holds) first
+
+pub well_stale : (before : Option Space) (segment : Recording) (call : ℕ) → IsFirstAfter before segment (Stale call) → BeginsRight before segment
+well_stale before segment call first = well_late before segment (Stale call) (lit< tt) first
+
+-- a fault that a trace has not, and that is no stale touch, is one of the start
+pub of_its_start : (before : Option Space) (segment : Recording) (fault : Fault) → is_within fault ≡ false → ((call : ℕ) → fault ≡ Stale call → ⊥)
+    → HasFaultAfter before segment fault → HasStartFault before segment fault
+of_its_start before segment (StartMissing number) other none h = h
+of_its_start before segment (StartShared number) other none h = h
+of_its_start before segment (StartReserved number index) other none h = h
+of_its_start before segment (StartStray number) other none h = h
+of_its_start before segment (StartBeyond base) other none h = h
+of_its_start before segment (StartDiffers address) other none h = h
+of_its_start before segment (Stale call) other none h = absurd (none call refl)
+of_its_start before segment _ other none h = absurd (let wrong : true ≡ false = other in cc)
 
 -- where the first fault is a stale touch, none is of the events, the log or the replies
 pub clean_stale : (before : Option Space) (segment : Recording) (call : ℕ) → IsFirstAfter before segment (Stale call) → HasCleanLog segment
 clean_stale before segment call first = record {
-  no_thread_open = λ index h. none (ThreadOpen index) (lit< tt) h;
-  no_such_call = λ index h. none (NoSuchCall index) (lit< tt) h;
-  none_twice = λ index h. none (AnsweredTwice index) (lit< tt) h;
-  updates_alone = λ place h. none (NotAnUpdate place) (lit< tt) h;
-  placed_once = λ place h. none (PlacedTwice place) (lit< tt) h;
-  all_placed = λ index h. none (NotPlaced index) (lit< tt) h;
-  none_past_log = λ index h. none (PastLog index) (lit< tt) h;
-} where
-  none : (fault : Fault) → part_of fault < 4 → HasFaultFrom (first_space before segment) segment fault → ⊥
-  none fault low h = first.none_earlier (Within fault) h (comes_by_part segment (Within fault) (Stale call) low)
+  no_thread_open = λ index h. first.none_earlier (ThreadOpen index) h refl;
+  no_such_call = λ index h. first.none_earlier (NoSuchCall index) h refl;
+  none_twice = λ index h. first.none_earlier (AnsweredTwice index) h refl;
+  updates_alone = λ place h. first.none_earlier (NotAnUpdate place) h refl;
+  placed_once = λ place h. first.none_earlier (PlacedTwice place) h refl;
+  all_placed = λ index h. first.none_earlier (NotPlaced index) h refl;
+  none_past_log = λ index h. first.none_earlier (PastLog index) h refl;
+}
 
 -- ---- faults that don't depend on the start
 
@@ -73,20 +91,23 @@ from_anywhere start other trace (Differs replica address) own h = absurd own
 from_anywhere start other trace _ own h = h
 
 -- the faults of the events, the log and the replies come before a wrong answer and a dump that differs
-comes_early : (fault : Fault) → IsOfItself fault → replica_of fault ≡ None → pass fault < 6
-comes_early (PrefixPastLog replica) own none = cc
-comes_early (PrefixShort replica) own none = cc
-comes_early (MissingFrame replica number) own none = cc
-comes_early (SharedFrame replica number) own none = cc
-comes_early (ReservedBit replica number index) own none = cc
-comes_early (StrayFrame replica number) own none = cc
-comes_early (WrongAnswer other) own none = absurd own
-comes_early (Differs replica other) own none = absurd own
-comes_early _ own none = omega arith
+comes_early : (start : Space) (trace : Recording) (fault : Fault) → HasFaultFrom start trace fault → IsOfItself fault → replica_of fault ≡ None
+    → pass fault < 6
+comes_early start trace (PrefixPastLog replica) h own none = cc
+comes_early start trace (PrefixShort replica) h own none = cc
+comes_early start trace (MissingFrame replica number) h own none = cc
+comes_early start trace (SharedFrame replica number) h own none = cc
+comes_early start trace (ReservedBit replica number index) h own none = cc
+comes_early start trace (StrayFrame replica number) h own none = cc
+comes_early start trace (WrongAnswer other) h own none = absurd own
+comes_early start trace (Differs replica other) h own none = absurd own
+comes_early start trace (Stale call) h own none = absurd h
+comes_early start trace _ h own none = omega arith
 
-not_before : (trace : Recording) (late fault : Fault) → 6 ≤ pass late → IsOfItself fault → replica_of fault ≡ None → Earlier trace late fault → ⊥
-not_before trace late fault high own none less =
-    let early = comes_early fault own none in
+not_before : (start : Space) (trace : Recording) (late fault : Fault) → 6 ≤ pass late → HasFaultFrom start trace fault → IsOfItself fault
+    → replica_of fault ≡ None → Earlier trace late fault → ⊥
+not_before start trace late fault high holds own none less =
+    let early = comes_early start trace fault holds own none in
     elim (earlier_parts trace late fault less) [
       | inl low ↦ omega arith
       | inr same ↦ elim same [ inl low ↦ omega (arith, low.0) | inr low ↦ omega (arith, low.0) ]
@@ -100,12 +121,12 @@ first_of_calls start trace fault own none first = record {
   none_earlier = λ other h less. first.none_earlier other (back other h less) less;
 } where
   back : (other : Fault) → HasFault trace other → Earlier trace other fault → HasFaultFrom start trace other
-  back (WrongAnswer call) h less = absurd (not_before trace (WrongAnswer call) fault (lit≤ tt) own none less)
-  back (Differs at address) h less = absurd (not_before trace (Differs at address) fault (lit≤ tt) own none less)
+  back (WrongAnswer call) h less = absurd (not_before start trace (WrongAnswer call) fault (lit≤ tt) first.holds own none less)
+  back (Differs at address) h less = absurd (not_before start trace (Differs at address) fault (lit≤ tt) first.holds own none less)
   back _ h less = h
 
 -- a dump that differs comes after the other faults of a dump
-no_later : (at replica n : ℕ) → n < 17 → at ≡ replica → IsBelow 7 at 17 7 replica n → ⊥
+no_later : (at replica n : ℕ) → n < 17 → at ≡ replica → IsBelow 8 at 17 8 replica n → ⊥
 no_later at replica n low same below = elim below [
   | inl less ↦ omega arith
   | inr more ↦ elim more [
@@ -117,17 +138,17 @@ no_later at replica n low same below = elim below [
 differs_last : (trace : Recording) (at address : ℕ) (fault : Fault) → IsOfItself fault → Some at ≡ replica_of fault
     → Earlier trace (Differs at address) fault → ⊥
 differs_last trace at address (PrefixPastLog replica) own same less =
-    no_later at replica 11 (lit< tt) (same_Some at replica same) (below_from_less 7 at 17 7 replica 11 less)
+    no_later at replica 11 (lit< tt) (same_Some at replica same) (below_from_less 8 at 17 8 replica 11 less)
 differs_last trace at address (PrefixShort replica) own same less =
-    no_later at replica 12 (lit< tt) (same_Some at replica same) (below_from_less 7 at 17 7 replica 12 less)
+    no_later at replica 12 (lit< tt) (same_Some at replica same) (below_from_less 8 at 17 8 replica 12 less)
 differs_last trace at address (MissingFrame replica number) own same less =
-    no_later at replica 13 (lit< tt) (same_Some at replica same) (below_from_less 7 at 17 7 replica 13 less)
+    no_later at replica 13 (lit< tt) (same_Some at replica same) (below_from_less 8 at 17 8 replica 13 less)
 differs_last trace at address (SharedFrame replica number) own same less =
-    no_later at replica 14 (lit< tt) (same_Some at replica same) (below_from_less 7 at 17 7 replica 14 less)
+    no_later at replica 14 (lit< tt) (same_Some at replica same) (below_from_less 8 at 17 8 replica 14 less)
 differs_last trace at address (ReservedBit replica number index) own same less =
-    no_later at replica 15 (lit< tt) (same_Some at replica same) (below_from_less 7 at 17 7 replica 15 less)
+    no_later at replica 15 (lit< tt) (same_Some at replica same) (below_from_less 8 at 17 8 replica 15 less)
 differs_last trace at address (StrayFrame replica number) own same less =
-    no_later at replica 16 (lit< tt) (same_Some at replica same) (below_from_less 7 at 17 7 replica 16 less)
+    no_later at replica 16 (lit< tt) (same_Some at replica same) (below_from_less 8 at 17 8 replica 16 less)
 differs_last trace at address (Format fault) own same less = own
 differs_last trace at address (WrongAnswer other) own same less = own
 differs_last trace at address (Differs replica other) own same less = own
@@ -160,5 +181,5 @@ own_from (WrongAnswer call) no_format no_wrong no_difference = no_wrong call ref
 own_from (Differs replica address) no_format no_wrong no_difference = no_difference replica address refl
 own_from _ no_format no_wrong no_difference = tt
 
-pub no_format : (before : Option Space) (segment : Recording) (format : FormatFault) → IsFirstAfter before segment (Within (Format format)) → ⊥
+pub no_format : (before : Option Space) (segment : Recording) (format : FormatFault) → IsFirstAfter before segment (Format format) → ⊥
 no_format before segment format first = first.holds

@@ -6,7 +6,7 @@ use Rattle.nr_trace.specs.Recording.{Recording}
 use Rattle.nr_trace.specs.Calls.{Invocation, call_of}
 use Rattle.nr_explain.specs.Facts.{IsCallOf}
 use Rattle.nr_explain.specs.inside.Searches.{IsIdle, IsLastCall, IsMadeBy}
-use Rattle.nr_explain.specs.declared.evidence.RecordedCall.{RecordedCall}
+use Rattle.nr_explain.specs.declared.trace.evidence.RecordedCall.{RecordedCall}
 
 -- who makes a recorded call
 abbrev pub made_in : RecordedCall → Invocation

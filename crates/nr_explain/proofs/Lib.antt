@@ -12,12 +12,9 @@ pub mod WrongAnswers
 pub mod Explanations
 pub mod TwoWays
 pub mod Counting
-pub mod Leads
-pub mod Shown
 pub mod Bounds
-pub mod Runs
-pub mod FedUnits
-pub mod OneBadUnit
+pub mod BadUnits
+pub mod TwoEnds
 pub mod Walked
 pub mod ReservedBits
 pub mod RightFields
@@ -25,7 +22,6 @@ pub mod BadFields
 pub mod DumpsFound
 pub mod DumpsTold
 pub mod Cuts
-pub mod Walking
 pub mod Firsts
 pub mod Feeding
 pub mod Differing

@@ -6,16 +6,16 @@ use Rattle.vs_walk.specs.Dump.{Image}
 use Rattle.nr_trace.specs.Recording.{Recording}
 use Rattle.nr_audit.specs.Start.{first_space, start_space}
 use Rattle.nr_explain.specs.Progress.{began_with, space_in}
-use Rattle.nr_explain.specs.inside.Reading.{all_seen}
-use Rattle.nr_explain.specs.declared.chain.progress.Came.{Came}
+use Rattle.nr_explain.specs.inside.Reading.{all_states}
+use Rattle.nr_explain.specs.declared.chain.progress.Progress.{Progress}
 
 abbrev pub space_in_it : Option BoundedSpace → Option Space
 space_in_it o = option_map (λ (s : BoundedSpace). s.space) o
 
 -- a chain that begins with this segment begins with the space of its start
-pub begun_start : (last : Option Came) (segment : Recording) (start : Image) (first : Space) → last ≡ None → segment.start ≡ Some start
-    → first ≡ first_space (space_in (all_seen last)) segment → began_with (all_seen last) segment ≡ Some first
+pub begun_start : (last : Option Progress) (segment : Recording) (start : Image) (first : Space) → last ≡ None → segment.start ≡ Some start
+    → first ≡ first_space (space_in (all_states last)) segment → began_with (all_states last) segment ≡ Some first
 begun_start last segment start first none is same =
-    ap (λ (l : Option Came). began_with (all_seen l) segment) none
+    ap (λ (l : Option Progress). began_with (all_states l) segment) none
     ∙ ap (λ (o : Option Image). option_map (λ (s : Image). start_space segment.layout.depth (Some s)) o) is
-    ∙ ap Some (sym (same ∙ ap (λ (l : Option Came). first_space (space_in (all_seen l)) segment) none ∙ ap (start_space segment.layout.depth) is))
+    ∙ ap Some (sym (same ∙ ap (λ (l : Option Progress). first_space (space_in (all_states l)) segment) none ∙ ap (start_space segment.layout.depth) is))

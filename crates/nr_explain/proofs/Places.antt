@@ -1,12 +1,8 @@
 -- What is read of the log, and of a touch.
 use Rattle.std.proofs.Common.{◌≡◌, ℕ, List, Some, get_or, slice_get, sym, subst}
-use Rattle.std.proofs.lemmas.Option.{get_or_from_slice_get, slice_get-get_or, slice_get_within}
-use Rattle.vs_types.specs.Query.{IsQuery}
+use Rattle.std.proofs.lemmas.Option.{slice_get-get_or, slice_get_within}
 use Rattle.vs_types.specs.declared.access.Access as accesses
-use Rattle.vs_types.specs.declared.access.Mode.{Mode}
-use Rattle.vs_types.specs.declared.request.Query.TheVariants.{Access}
-use Rattle.nr_trace.specs.Recording.{IsEvent, IsRecording, Recording}
-use Rattle.nr_trace.specs.declared.event.Event.TheVariants.{Touch}
+use Rattle.nr_trace.specs.Recording.{Recording}
 
 -- the log has at a place what is read there
 pub placed_so : (trace : Recording) (log : List ℕ) (place call : ℕ) → log ≡ trace.log → slice_get trace.log place ≡ Some call

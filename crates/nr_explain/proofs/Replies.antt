@@ -8,7 +8,7 @@ use Rattle.nr_trace.specs.Laws.{HasCleanLog}
 use Rattle.nr_trace.proofs.LawsOfCalls.{answered_stands, answers_from, reply_event, reply_in_event, reply_is_first, reply_behind_call, reply_that_answers}
 use Rattle.nr_explain.specs.Facts.{IsFirstReplyTo, IsReplyOf, response}
 use Rattle.nr_explain.specs.inside.Searches.{IsFirstReply, IsOpenBelow}
-use Rattle.nr_explain.specs.declared.evidence.RecordedReply.{RecordedReply}
+use Rattle.nr_explain.specs.declared.trace.evidence.RecordedReply.{RecordedReply}
 
 -- an answered call has a reply among the events
 pub some_reply : (trace : Recording) (call : ℕ) (reply : Response) → reply_to trace call ≡ Some reply → IsOpenBelow trace call (length trace.events) → ⊥

@@ -20,7 +20,7 @@ use Rattle.vs_walk.proofs.LawsOfTraversals.{shared_reached}
 use Rattle.vs_walk.proofs.LawsOfVisits.{at_word_met, table_met, missing_met, nothing_met, reached_is_met}
 use Rattle.nr_explain.specs.Facts.{IsPath, LeadsOn}
 use Rattle.nr_explain.specs.inside.Ways.{HasTwoWays}
-use Rattle.nr_explain.specs.declared.evidence.Step.{Step}
+use Rattle.nr_explain.specs.declared.trace.evidence.TableEntry.{TableEntry}
 use Rattle.nr_explain.proofs.Searches.{entry_of}
 use Rattle.nr_explain.proofs.Ways.{lower, page_by, table_way}
 
@@ -120,8 +120,8 @@ at_words f v (word ∷ words) from h = by_parts f v word words from (λ there. a
 
 -- ---- ways by their first entries
 
-record BeginsBy (memory : Memory) (level number target : ℕ) (step : Step) : Type 0 where
-  rest : List Step
+record BeginsBy (memory : Memory) (level number target : ℕ) (step : TableEntry) : Type 0 where
+  rest : List TableEntry
   end : ℕ
   leads : IsPath memory level number end target (step ∷ rest)
 
@@ -177,7 +177,7 @@ twice_below : (depth : Depth) (memory : Memory) (level : ℕ) (table : ReachedTa
 twice_below depth memory level table words index target entry.Absent two is within says met = absurd met
 twice_below depth memory level table words index target (entry.Table number own) two is within says met =
     let below = two (record { number = number; start = table.start + index * entry_bytes (suc level); rights = intersection table.rights own }) met in
-    let step : Step = entry_of (suc level) table.number words index in
+    let step : TableEntry = entry_of (suc level) table.number words index in
     let on : LeadsOn memory step number = record { words = words; own = own; there = is; within = within; read = refl; leads = says } in
     record {
       first = step ∷ below.first;

@@ -3,27 +3,27 @@ use Rattle.std.proofs.Common.{◌≡◌, ℕ, suc, ◌+◌, ◌-◌, ◌^◌, �
 use Rattle.std.proofs.lemmas.List.{length-map}
 use Rattle.nr_trace.specs.Recording.{Recording}
 use Rattle.nr_trace.specs.Orders.{recorded_order}
-use Rattle.nr_audit.specs.declared.fault.SegmentFault.{SegmentFault}
+use Rattle.nr_trace.specs.declared.fault.Fault.{Fault}
 use Rattle.nr_chain.specs.Bytes.{EndsWith, GoesOnSo}
-use Rattle.nr_explain.specs.Progress.{CameTo, came_after, kept_in, sums_in}
+use Rattle.nr_explain.specs.Progress.{ChainState, state_after, kept_in, sums_in}
 use Rattle.nr_explain.specs.ChainExplanation.{GoesOnTo}
 
 abbrev pub orders_in : List Recording → List (List ℕ)
 orders_in segments = map recorded_order segments
 
 -- right segments, and then the chain ends so
-pub goes_on_so : (came last : Option CameTo) (bytes rest : List ℕ) (segments : List Recording) (found : Option SegmentFault)
+pub goes_on_so : (came last : Option ChainState) (bytes rest : List ℕ) (segments : List Recording) (found : Option Fault)
     → GoesOnTo came bytes segments last rest → EndsWith (kept_in last) rest found → GoesOnSo (kept_in came) bytes (orders_in segments) found
 goes_on_so came last bytes rest [] found (same, left) ends =
     subst (λ (bs : List ℕ). EndsWith (kept_in came) bs found) left
-    (subst (λ (l : Option CameTo). EndsWith (kept_in l) rest found) same ends)
+    (subst (λ (l : Option ChainState). EndsWith (kept_in l) rest found) same ends)
 goes_on_so came last bytes rest (segment ∷ more) found (behind, begins, sound, goes) ends = (
   segment,
   behind,
   begins,
   sound,
   refl,
-  goes_on_so (Some (came_after came segment (length begins.own))) last behind rest more found goes ends,
+  goes_on_so (Some (state_after came segment (length begins.own))) last behind rest more found goes ends,
 )
 
 counted_more : (most a n : ℕ) → min (min (a + 1) most + n) most ≡ min (a + (n + 1)) most
@@ -33,12 +33,12 @@ count_bound : (most a : ℕ) → a ≤ most → a ≡ min (a + 0) most
 count_bound most a le = omega arith
 
 -- how many they are
-counted : (came last : Option CameTo) (bytes rest : List ℕ) (segments : List Recording) → (sums_in came).segments ≤ 2 ^ 64 - 1
+counted : (came last : Option ChainState) (bytes rest : List ℕ) (segments : List Recording) → (sums_in came).segments ≤ 2 ^ 64 - 1
     → GoesOnTo came bytes segments last rest → (sums_in last).segments ≡ min ((sums_in came).segments + length segments) (2 ^ 64 - 1)
 counted came last bytes rest [] le (same, left) =
-    ap (λ (l : Option CameTo). (sums_in l).segments) same ∙ count_bound (2 ^ 64 - 1) (sums_in came).segments le
+    ap (λ (l : Option ChainState). (sums_in l).segments) same ∙ count_bound (2 ^ 64 - 1) (sums_in came).segments le
 counted came last bytes rest (segment ∷ more) le (behind, begins, sound, goes) =
-    counted (Some (came_after came segment (length begins.own))) last behind rest more
+    counted (Some (state_after came segment (length begins.own))) last behind rest more
     (few (2 ^ 64 - 1) (sums_in came).segments) goes
     ∙ counted_more (2 ^ 64 - 1) (sums_in came).segments (length more)
     ∙ ap (λ (n : ℕ). min ((sums_in came).segments + n) (2 ^ 64 - 1)) (suc_more (length more)) where
@@ -48,7 +48,7 @@ counted came last bytes rest (segment ∷ more) le (behind, begins, sound, goes)
       suc_more : (n : ℕ) → n + 1 ≡ suc n
       suc_more n = omega arith
 
-pub counted_all : (last : Option CameTo) (bytes rest : List ℕ) (segments : List Recording) → GoesOnTo None bytes segments last rest
+pub counted_all : (last : Option ChainState) (bytes rest : List ℕ) (segments : List Recording) → GoesOnTo None bytes segments last rest
     → (sums_in last).segments ≡ min (length (orders_in segments)) (2 ^ 64 - 1)
 counted_all last bytes rest segments goes =
     counted None last bytes rest segments (omega arith) goes

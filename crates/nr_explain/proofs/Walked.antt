@@ -8,7 +8,7 @@ use Rattle.vs_types.specs.declared.entry.Meaning.TheVariants as entry
 use Rattle.vs_types.specs.declared.page.Rights.{Rights}
 use Rattle.vs_walk.specs.Memory.{Memory}
 use Rattle.nr_explain.specs.Facts.{behind, entries_read, entry_for, of_frame}
-use Rattle.nr_explain.specs.declared.evidence.Step.{Step}
+use Rattle.nr_explain.specs.declared.trace.evidence.TableEntry.{TableEntry}
 use Rattle.nr_explain.proofs.Ways.{lower}
 
 pub read_nowhere : (memory : Memory) (level number address : ℕ) → level ≡ 0 → entries_read memory level number address ≡ []
@@ -17,7 +17,7 @@ read_nowhere memory zero number address is = refl
 read_nowhere memory (suc level) number address is = absurd (omega arith)
 
 -- what is read of the words of a frame
-abbrev from_words : Memory → ℕ → ℕ → ℕ → List ℕ → List Step
+abbrev from_words : Memory → ℕ → ℕ → ℕ → List ℕ → List TableEntry
 from_words memory below number address words =
     entry_for (suc below) number address words
     ∷ behind (λ next. entries_read memory below next address) (meaning (suc below) (slice_index words (index_at (suc below) address)))
@@ -32,7 +32,7 @@ read_found : (memory : Memory) (below number address : ℕ) (words : List ℕ) �
 unfolding entries_read
 read_found memory below number address words is = ap (of_frame (from_words memory below number address)) is
 
-abbrev pub step_at : ℕ → ℕ → ℕ → ℕ → Step
+abbrev pub step_at : ℕ → ℕ → ℕ → ℕ → TableEntry
 step_at level number index word = record { level = level; frame = number; index = index; word = word }
 
 -- at an entry, by its word as it was read
@@ -50,24 +50,24 @@ read_at memory (suc below) number index word address words found some is place r
     subst (λ b. Reads index word found b) (lower below) by_meaning
 
 -- nothing is read behind an entry that leads to no table
-nothing_behind : (below : ℕ → List Step) (found : Meaning) → ((next : ℕ) (own : Rights) → found ≡ entry.Table next own → ⊥) → behind below found ≡ []
+nothing_behind : (below : ℕ → List TableEntry) (found : Meaning) → ((next : ℕ) (own : Rights) → found ≡ entry.Table next own → ⊥) → behind below found ≡ []
 nothing_behind below (entry.Table next own) none = absurd (none next own refl)
 nothing_behind below _ none = refl
 
-pub read_last : (memory : Memory) (level number index word address : ℕ) (words : List ℕ) (found : Meaning) (read : List Step) → 0 < level
+pub read_last : (memory : Memory) (level number index word address : ℕ) (words : List ℕ) (found : Meaning) (read : List TableEntry) → 0 < level
     → finite.get memory number ≡ Some words → index ≡ index_at level address → word ≡ slice_index words index → found ≡ meaning level word
     → ((next : ℕ) (own : Rights) → found ≡ entry.Table next own → ⊥)
     → read ++ step_at level number index word ∷ [] ≡ read ++ entries_read memory level number address
 read_last memory level number index word address words found read some is place at means none =
-    ap (λ (l : List Step). read ++ l) (sym (read_at memory level number index word address words found some is place at means
-    ∙ ap (λ (l : List Step). step_at level number index word ∷ l) (nothing_behind (λ next. entries_read memory (level - 1) next address) found none)))
+    ap (λ (l : List TableEntry). read ++ l) (sym (read_at memory level number index word address words found some is place at means
+    ∙ ap (λ (l : List TableEntry). step_at level number index word ∷ l) (nothing_behind (λ next. entries_read memory (level - 1) next address) found none)))
 
-pub read_more : (memory : Memory) (level number index word address next : ℕ) (own : Rights) (words : List ℕ) (found : Meaning) (read more : List Step)
+pub read_more : (memory : Memory) (level number index word address next : ℕ) (own : Rights) (words : List ℕ) (found : Meaning) (read more : List TableEntry)
     → 0 < level
     → finite.get memory number ≡ Some words → index ≡ index_at level address → word ≡ slice_index words index → found ≡ meaning level word
     → found ≡ entry.Table next own → more ≡ (read ++ step_at level number index word ∷ []) ++ entries_read memory (level - 1) next address
     → more ≡ read ++ entries_read memory level number address
 read_more memory level number index word address next own words found read more some is place at means table goes =
     goes ∙ append_assoc read (step_at level number index word ∷ []) (entries_read memory (level - 1) next address)
-    ∙ ap (λ (l : List Step). read ++ l) (sym (read_at memory level number index word address words found some is place at means
+    ∙ ap (λ (l : List TableEntry). read ++ l) (sym (read_at memory level number index word address words found some is place at means
     ∙ ap (λ (f : Meaning). step_at level number index word ∷ behind (λ next. entries_read memory (level - 1) next address) f) table))

@@ -21,7 +21,7 @@ use Rattle.vs_walk.proofs.LawsOfVisits.{at_word_met, table_met, missing_met, not
 use Rattle.vs_walk.proofs.TranslatedBits.{no_table_below}
 use Rattle.nr_explain.specs.Facts.{IsPath, LeadsOn}
 use Rattle.nr_explain.specs.inside.Ways.{IsReservedAt}
-use Rattle.nr_explain.specs.declared.evidence.Step.{Step}
+use Rattle.nr_explain.specs.declared.trace.evidence.TableEntry.{TableEntry}
 
 -- what is visited at the frame of a table of this level
 abbrev pub IsVisitedAt : Memory → ℕ → ℕ → Visit → Type 0
@@ -31,7 +31,7 @@ IsVisitedAt memory level number (OfReservedBit frame index) = (frame ≡ number)
 
 -- a way from the frame of a table of this level to where the visit is
 pub record HasWay (memory : Memory) (level number : ℕ) (visit : Visit) : Type 0 where
-  pub way : List Step
+  pub way : List TableEntry
   pub end : ℕ
   pub frame : ℕ
   pub leads : IsPath memory level number end frame way
@@ -51,7 +51,7 @@ pub lower : (level : ℕ) → level ≡ suc level - 1
 lower level = omega arith
 
 -- a visit below an entry that leads on
-pub further : (memory : Memory) (level number next : ℕ) (visit : Visit) (step : Step) → step.level ≡ suc level → step.frame ≡ number → LeadsOn memory step next
+pub further : (memory : Memory) (level number next : ℕ) (visit : Visit) (step : TableEntry) → step.level ≡ suc level → step.frame ≡ number → LeadsOn memory step next
     → HasWay memory level next visit → HasWay memory (suc level) number visit
 further memory level number next visit step at of leads below = record {
   way = step ∷ below.way;
@@ -89,7 +89,7 @@ entry_way depth memory level table words index (entry.Leaf phys own) visit lower
     (λ later. absurd (not_in_nil visit later))
     (Contains-cases (OfLeaf (page_by depth (suc level) table index phys own)) [] visit met)
 entry_way depth memory level table words index (entry.Table number own) visit lower is within says met =
-    let step : Step = record { level = suc level; frame = table.number; index = index; word = get_or words index 0 } in
+    let step : TableEntry = record { level = suc level; frame = table.number; index = index; word = get_or words index 0 } in
     further memory level table.number number visit step refl refl
     (record { words = words; own = own; there = is; within = within; read = refl; leads = says })
     (lower (record { number = number; start = table.start + index * entry_bytes (suc level); rights = intersection table.rights own }) met)
@@ -117,14 +117,14 @@ table_way depth memory (suc level) table visit met =
 
 -- a frame that is visited is at the end of a way from the root
 pub way_to_frame : (depth : Depth) (memory : Memory) (root number : ℕ) → Contains (traversal depth memory root) (OfFrame number)
-    → (way : List Step) × ((end : ℕ) × IsPath memory (levels depth) root end number way)
+    → (way : List TableEntry) × ((end : ℕ) × IsPath memory (levels depth) root end number way)
 way_to_frame depth memory root number met =
     let has = table_way depth memory (levels depth) (record { number = root; start = 0; rights = all_rights }) (OfFrame number) met in
     (has.way, (has.end, subst (λ n. IsPath memory (levels depth) root has.end n has.way) (sym has.visited) has.leads))
 
 -- and so does the table of a word with a reserved bit set
 pub way_to_reserved : (depth : Depth) (memory : Memory) (root number index : ℕ) → Contains (traversal depth memory root) (OfReservedBit number index)
-    → (way : List Step) × ((end : ℕ) × IsPath memory (levels depth) root end number way × IsReservedAt memory end number index)
+    → (way : List TableEntry) × ((end : ℕ) × IsPath memory (levels depth) root end number way × IsReservedAt memory end number index)
 way_to_reserved depth memory root number index met =
     let has = table_way depth memory (levels depth) (record { number = root; start = 0; rights = all_rights }) (OfReservedBit number index) met in (
       has.way,
@@ -142,7 +142,7 @@ leads_above (suc zero) word number own some is = absurd (no_table_below word num
 leads_above (suc (suc level)) word number own some is = omega arith
 
 -- each step of a way goes one level down
-pub levels_of_way : (memory : Memory) (level number end target : ℕ) (way : List Step) → 1 ≤ level → IsPath memory level number end target way
+pub levels_of_way : (memory : Memory) (level number end target : ℕ) (way : List TableEntry) → 1 ≤ level → IsPath memory level number end target way
     → (1 ≤ end) × (end + length way ≡ level)
 levels_of_way memory level number end target [] some is = (omega (arith, is.0), omega (arith, is.0))
 levels_of_way memory level number end target (step ∷ way) some is =

@@ -13,9 +13,9 @@ use Rattle.nr_trace.proofs.LawsOfFaults.{clean_before_answers}
 use Rattle.nr_trace.proofs.LawsOfOrder.{space_before}
 use Rattle.nr_explain.specs.Evidence.{IsOtherAnswerFrom}
 use Rattle.nr_explain.specs.Facts.{IsCallOf, IsLastChangeFrom, IsReplyOf, address_about, response}
-use Rattle.nr_explain.specs.declared.evidence.PlacedUpdate.{PlacedUpdate}
-use Rattle.nr_explain.specs.declared.evidence.RecordedCall.{RecordedCall}
-use Rattle.nr_explain.specs.declared.evidence.RecordedReply.{RecordedReply}
+use Rattle.nr_explain.specs.declared.trace.evidence.PlacedUpdate.{PlacedUpdate}
+use Rattle.nr_explain.specs.declared.trace.evidence.RecordedCall.{RecordedCall}
+use Rattle.nr_explain.specs.declared.trace.evidence.RecordedReply.{RecordedReply}
 use Rattle.nr_explain.proofs.Lasts.{made_in}
 use Rattle.nr_explain.proofs.Replies.{first_to}
 

@@ -1,6 +1,5 @@
 -- What each kind of evidence says of a segment: which fault it shows, and its facts, each one of the segment, or of the space before it.
-use Rattle.std.specs.Prelude.{◌≡◌, ◌≢◌, ◌↔◌, ℕ, ◌+◌, ◌<◌, ◌≤◌, ◌⊎◌, List, All, AllPairs, Contains, Option, Some, None, ⊤}
-use Rattle.std.specs.FinMap as finite
+use Rattle.std.specs.Prelude.{◌≡◌, ◌≢◌, ◌↔◌, ℕ, ◌+◌, ◌<◌, ◌≤◌, ◌⊎◌, List, All, AllPairs, Contains, Option, Some, ⊤}
 use Rattle.vs_types.specs.Depth.{levels, IsCanonical}
 use Rattle.vs_types.specs.Page.{bytes_of}
 use Rattle.vs_types.specs.Space.{Space}
@@ -19,37 +18,18 @@ use Rattle.nr_trace.specs.declared.fault.Fault.TheVariants as faults
 use Rattle.nr_touch.specs.Touches.{IsAllowedPrefix}
 use Rattle.nr_touch.specs.declared.touch.Touch.{Touch}
 use Rattle.nr_audit.specs.Touches.{HasTouch}
-use Rattle.nr_audit.specs.declared.fault.SegmentFault.{SegmentFault}
-use Rattle.nr_audit.specs.declared.fault.SegmentFault.TheVariants as segments
-use Rattle.nr_audit.specs.declared.fault.StartFault.TheVariants as starts
-use Rattle.nr_explain.specs.Evidence.{IsDifferenceFrom, IsEvidence, IsOtherAnswerFrom, IsRootPath, StepsLeadTo}
-use Rattle.nr_explain.specs.Facts.{IsCallOf, IsReplyOf, asked_address, entries_read, looks_from, HasReservedWord, IsReservedBit}
+use Rattle.nr_explain.specs.Evidence.{IsDifferenceFrom, IsEvidence, IsMissingTable, IsOtherAnswerFrom, IsReservedEntry, IsSharedTable}
+use Rattle.nr_explain.specs.Facts.{IsCallOf, IsReplyOf, asked_address, entries_read, looks_from}
 use Rattle.nr_explain.specs.ChainFacts.{IsChangedAt, IsOrigin}
+use Rattle.nr_explain.specs.declared.trace.evidence.Owner.TheVariants as owners
 use Rattle.nr_explain.specs.declared.chain.evidence.Moment.{Moment}
 use Rattle.nr_explain.specs.declared.chain.evidence.StaleTouch.{StaleTouch}
-use Rattle.nr_explain.specs.declared.chain.evidence.StartMissing.{StartMissing}
-use Rattle.nr_explain.specs.declared.chain.evidence.StartShared.{StartShared}
-use Rattle.nr_explain.specs.declared.chain.evidence.StartReserved.{StartReserved}
 use Rattle.nr_explain.specs.declared.chain.evidence.StartBeyond.{StartBeyond}
 use Rattle.nr_explain.specs.declared.chain.evidence.StartDiffers.{StartDiffers}
 use Rattle.nr_explain.specs.declared.chain.evidence.SegmentEvidence.{SegmentEvidence}
 use Rattle.nr_explain.specs.declared.chain.evidence.SegmentEvidence.TheVariants as evidence
 
 -- ---- starts
-
--- the entries lead to a frame that the start lacks
-abbrev pub IsStartMissing : Depth → Image → StartMissing → Type 0
-IsStartMissing depth start wrong = (finite.get start.frames wrong.frame ≡ None) × StepsLeadTo depth start wrong.frame wrong.path.items
-
--- the entries lead to the frame, and so do others
-abbrev pub IsStartShared : Depth → Image → StartShared → Type 0
-IsStartShared depth start wrong = StepsLeadTo depth start wrong.frame wrong.first.items
-    × StepsLeadTo depth start wrong.frame wrong.second.items × (wrong.second.items ≢ wrong.first.items)
-
--- the entries lead to a table, and the word that it has at an index has a reserved bit set, at its level: this one
-abbrev pub IsStartReserved : Depth → Image → StartReserved → Type 0
-IsStartReserved depth start wrong = IsRootPath depth start wrong.entry.level wrong.entry.frame wrong.path.items
-    × HasReservedWord start.frames wrong.entry × IsReservedBit wrong.entry.level wrong.entry.word wrong.bit
 
 -- the tables lead to the page, which ends above the physical addresses that a page may have; the walk of its base reads these entries
 pub record IsStartBeyond (depth : Depth) (start : Image) (wrong : StartBeyond) : Type 0 where
@@ -101,30 +81,31 @@ IsOfItself fault = ⊤
 
 -- the evidence shows the fault of a segment that begins with this space, in a chain that begins with that one, where its first segment has a
 -- start; and what it says is so. What shows a fault of the format is said of bytes
-abbrev pub IsShown : Option Space → Option Space → Space → Recording → SegmentFault → SegmentEvidence → Type 0
+abbrev pub IsShown : Option Space → Option Space → Space → Recording → Fault → SegmentEvidence → Type 0
 IsShown began before first segment fault (evidence.Format bad) = ⊥
-IsShown began before first segment fault (evidence.Within shown) =
-    (own : Fault) × (fault ≡ segments.Within own) × IsOfItself own × IsEvidence segment own shown
+IsShown began before first segment fault (evidence.Within shown) = IsOfItself fault × IsEvidence segment fault shown
 IsShown began before first segment fault (evidence.WrongAnswer wrong origin) =
-    (fault ≡ segments.Within (faults.WrongAnswer wrong.call.event)) × IsOtherAnswerFrom first segment wrong
+    (fault ≡ faults.WrongAnswer wrong.call.event) × IsOtherAnswerFrom first segment wrong
     × IsOrigin began first wrong.address origin
 IsShown began before first segment fault (evidence.Differs wrong origin) =
-    (fault ≡ segments.Within (faults.Differs wrong.replica wrong.address)) × HasDump segment wrong.replica (IsDifferenceFrom first segment wrong)
+    (fault ≡ faults.Differs wrong.replica wrong.address) × HasDump segment wrong.replica (IsDifferenceFrom first segment wrong)
     × IsOrigin began first wrong.address origin
 IsShown began before first segment fault (evidence.StartMissing wrong) =
-    (fault ≡ segments.Start (starts.Missing wrong.frame)) × HasStart segment (λ start. IsStartMissing segment.layout.depth start wrong)
+    (wrong.owner ≡ owners.Start) × (fault ≡ faults.StartMissing wrong.frame)
+    × HasStart segment (λ start. IsMissingTable segment.layout.depth start wrong)
 IsShown began before first segment fault (evidence.StartShared wrong) =
-    (fault ≡ segments.Start (starts.Shared wrong.frame)) × HasStart segment (λ start. IsStartShared segment.layout.depth start wrong)
+    (wrong.owner ≡ owners.Start) × (fault ≡ faults.StartShared wrong.frame)
+    × HasStart segment (λ start. IsSharedTable segment.layout.depth start wrong)
 IsShown began before first segment fault (evidence.StartReserved wrong) =
-    (fault ≡ segments.Start (starts.Reserved wrong.entry.frame wrong.entry.index))
-    × HasStart segment (λ start. IsStartReserved segment.layout.depth start wrong)
+    (wrong.owner ≡ owners.Start) × (fault ≡ faults.StartReserved wrong.entry.frame wrong.entry.index)
+    × HasStart segment (λ start. IsReservedEntry segment.layout.depth start wrong)
 IsShown began before first segment fault (evidence.StartStray frame) =
-    (fault ≡ segments.Start (starts.Stray frame))
+    (fault ≡ faults.StartStray frame)
     × HasStart segment (λ start. IsStray segment.layout.depth start.frames start.root frame)
 IsShown began before first segment fault (evidence.StartBeyond wrong) =
-    (fault ≡ segments.Start (starts.Beyond wrong.page.base)) × HasStart segment (λ start. IsStartBeyond segment.layout.depth start wrong)
+    (fault ≡ faults.StartBeyond wrong.page.base) × HasStart segment (λ start. IsStartBeyond segment.layout.depth start wrong)
 IsShown began before first segment fault (evidence.StartDiffers wrong) =
-    (fault ≡ segments.Start (starts.Differs wrong.address))
+    (fault ≡ faults.StartDiffers wrong.address)
     × HasStart segment (λ start. (space : Space) × (before ≡ Some space) × IsStartDiffers began segment.layout.depth start space wrong)
 IsShown began before first segment fault (evidence.Stale stale) =
-    (fault ≡ segments.Stale stale.call.event) × IsStaleTouch first segment stale
+    (fault ≡ faults.Stale stale.call.event) × IsStaleTouch first segment stale

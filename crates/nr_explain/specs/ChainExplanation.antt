@@ -6,37 +6,37 @@ use Rattle.nr_trace.specs.declared.fault.Format.TheVariants.{Truncated}
 use Rattle.nr_trace.specs.FirstFault.{HasSegmentFault}
 use Rattle.nr_audit.specs.Faults.{IsFirstAfter, IsSoundAfter}
 use Rattle.nr_audit.specs.Start.{first_space}
-use Rattle.nr_audit.specs.declared.fault.SegmentFault.{SegmentFault}
-use Rattle.nr_audit.specs.declared.fault.SegmentFault.TheVariants as segments
+use Rattle.nr_trace.specs.declared.fault.Fault.{Fault}
 use Rattle.nr_chain.specs.Bytes.{BeginsWith, EndsWith}
-use Rattle.nr_explain.specs.Progress.{CameTo, Seen, began_with, came_after, counts_of, kept_in, layout_in, space_in, sums_in}
+use Rattle.nr_explain.specs.Progress.{ChainState, ReaderState, began_with, state_after, counts_of, kept_in, layout_in, space_in, sums_in}
 use Rattle.nr_explain.specs.ChainEvidence.{IsShown}
-use Rattle.nr_explain.specs.ChainUnits.{IsBadUnit}
+use Rattle.nr_trace.specs.declared.version.Form.TheVariants as forms
+use Rattle.nr_explain.specs.Units.{IsBadUnitAs}
 use Rattle.nr_explain.specs.declared.chain.evidence.BadSegment.{BadSegment}
 use Rattle.nr_explain.specs.declared.chain.evidence.SegmentEvidence.{SegmentEvidence}
 use Rattle.nr_explain.specs.declared.chain.evidence.SegmentEvidence.TheVariants as evidence
 use Rattle.nr_explain.specs.declared.chain.explanation.ChainExplanation.{ChainExplanation}
 use Rattle.nr_explain.specs.declared.chain.explanation.ChainExplanation.TheVariants.{Yes, No}
-use Rattle.nr_explain.specs.declared.chain.reader.Fed.{Fed}
-use Rattle.nr_explain.specs.declared.chain.reader.Fed.TheVariants.{More, Found}
+use Rattle.nr_explain.specs.declared.chain.reader.ReaderStep.{ReaderStep}
+use Rattle.nr_explain.specs.declared.chain.reader.ReaderStep.TheVariants.{More, Found}
 
 -- the bytes are those of these right segments, which come to the last, and then others
-abbrev pub GoesOnTo : Option CameTo → List ℕ → List Recording → Option CameTo → List ℕ → Type 0
+abbrev pub GoesOnTo : Option ChainState → List ℕ → List Recording → Option ChainState → List ℕ → Type 0
 GoesOnTo came bytes [] last rest = (last ≡ came) × (rest ≡ bytes)
 GoesOnTo came bytes (segment ∷ more) last rest =
     (behind : List ℕ) × (begins : BeginsWith (layout_in came) bytes segment behind) × IsSoundAfter (space_in came) segment
-    × GoesOnTo (Some (came_after came segment (length begins.own))) behind more last rest
+    × GoesOnTo (Some (state_after came segment (length begins.own))) behind more last rest
 
 -- the unit shows the fault of the format that the next segment has, which begins behind so many bytes
-abbrev pub IsBadSegment : Option CameTo → List ℕ → BadSegment → Type 0
-IsBadSegment last bytes bad = (bad.begins ≡ (sums_in last).bytes) × IsBadUnit (layout_in last) bytes bad.unit
+abbrev pub IsBadSegment : Option ChainState → List ℕ → BadSegment → Type 0
+IsBadSegment last bytes bad = (bad.begins ≡ (sums_in last).bytes) × IsBadUnitAs (forms.Segment (layout_in last)) bytes bad.unit
 
 -- the evidence shows the fault of a segment that comes next
-abbrev pub IsShownBehind : Option CameTo → Recording → SegmentFault → SegmentEvidence → Type 0
+abbrev pub IsShownBehind : Option ChainState → Recording → Fault → SegmentEvidence → Type 0
 IsShownBehind last segment fault shown = IsShown (began_with last segment) (space_in last) (first_space (space_in last) segment) segment fault shown
 
 -- the segment at the front of the bytes has the fault as its first, and this shows it
-pub record IsShownOf (last : Option CameTo) (bytes : List ℕ) (fault : SegmentFault) (shown : SegmentEvidence) : Type 0 where
+pub record IsShownOf (last : Option ChainState) (bytes : List ℕ) (fault : Fault) (shown : SegmentEvidence) : Type 0 where
   pub segment : Recording
   pub behind : List ℕ
   pub begins : BeginsWith (layout_in last) bytes segment behind
@@ -44,21 +44,21 @@ pub record IsShownOf (last : Option CameTo) (bytes : List ℕ) (fault : SegmentF
   pub shows : IsShownBehind last segment fault shown
 
 -- what shows the first fault of the next segment: of its format, or of what is spelled
-abbrev pub IsShownNext : Option CameTo → List ℕ → SegmentFault → SegmentEvidence → Type 0
-IsShownNext last bytes fault (evidence.Format bad) = (fault ≡ segments.Within (faults.Format bad.unit.fault)) × IsBadSegment last bytes bad
+abbrev pub IsShownNext : Option ChainState → List ℕ → Fault → SegmentEvidence → Type 0
+IsShownNext last bytes fault (evidence.Format bad) = (fault ≡ faults.Format bad.unit.fault) × IsBadSegment last bytes bad
 IsShownNext last bytes fault shown = IsShownOf last bytes fault shown
 
 -- all segments are right, and the chain ends behind the last; or these are, and the next one has the fault, as the bytes end or before that
-abbrev pub IsExplanationFrom : Option CameTo → List ℕ → ChainExplanation → Type 0
+abbrev pub IsExplanationFrom : Option ChainState → List ℕ → ChainExplanation → Type 0
 IsExplanationFrom came bytes (Yes counts) =
-    (segments : List Recording) × (last : CameTo) × GoesOnTo came bytes segments (Some last) [] × (counts ≡ counts_of last)
+    (segments : List Recording) × (last : ChainState) × GoesOnTo came bytes segments (Some last) [] × (counts ≡ counts_of last)
 IsExplanationFrom came bytes (No number fault shown) =
-    (segments : List Recording) × (last : Option CameTo) × (rest : List ℕ) × GoesOnTo came bytes segments last rest
+    (segments : List Recording) × (last : Option ChainState) × (rest : List ℕ) × GoesOnTo came bytes segments last rest
     × (number ≡ (sums_in last).segments) × EndsWith (kept_in last) rest (Some fault) × IsShownNext last rest fault shown
 
 -- the same of what a reader has seen and what comes behind that
-abbrev pub Explains : Seen → List ℕ → ChainExplanation → Type 0
-Explains seen rest explanation = IsExplanationFrom seen.came (seen.bytes ++ rest) explanation
+abbrev pub Explains : ReaderState → List ℕ → ChainExplanation → Type 0
+Explains seen rest explanation = IsExplanationFrom seen.state (seen.bytes ++ rest) explanation
 
 -- of the bytes of a chain
 abbrev pub IsExplanationOfChain : List ℕ → ChainExplanation → Type 0
@@ -66,8 +66,8 @@ IsExplanationOfChain bytes explanation = IsExplanationFrom None bytes explanatio
 
 -- the piece is taken: with it the bytes are those of right segments, which come to what is kept, and then too few for one more, where there is
 -- a piece; or this explains the chain, whatever comes behind the piece
-abbrev pub FeedsReader : Seen → List ℕ → Fed → Type 0
+abbrev pub FeedsReader : ReaderState → List ℕ → ReaderStep → Type 0
 FeedsReader old piece (More new) =
-    ((segments : List Recording) × GoesOnTo old.came (old.bytes ++ piece) segments new.came new.bytes)
-    × ((piece ≡ [] → ⊥) → HasSegmentFault (layout_in new.came) new.bytes Truncated)
+    ((segments : List Recording) × GoesOnTo old.state (old.bytes ++ piece) segments new.state new.bytes)
+    × ((piece ≡ [] → ⊥) → HasSegmentFault (layout_in new.state) new.bytes Truncated)
 FeedsReader old piece (Found explanation) = (rest : List ℕ) → Explains old (piece ++ rest) explanation

@@ -8,12 +8,12 @@ use Rattle.nr_trace.specs.declared.fault.Fault.{Fault}
 use Rattle.nr_trace.specs.declared.fault.Fault.TheVariants.{PrefixPastLog, PrefixShort, MissingFrame, SharedFrame, ReservedBit, StrayFrame, Differs}
 use Rattle.nr_explain.specs.Evidence.{IsEvidence}
 use Rattle.nr_explain.specs.Explanation.{IsExplanationOf}
-use Rattle.nr_explain.specs.declared.evidence.Evidence.TheVariants as evidence
-use Rattle.nr_explain.specs.declared.explaining.Explanation.{Explanation}
-use Rattle.nr_explain.specs.declared.explaining.Explanation.TheVariants.{Yes, No}
-use Rattle.nr_explain.specs.declared.all_dumps.DumpExplanation.{DumpExplanation}
-use Rattle.nr_explain.specs.declared.all_dumps.DumpExplanation.TheVariants.{Sound, Faulty}
-use Rattle.nr_explain.specs.declared.all_dumps.FullExplanation.{FullExplanation}
+use Rattle.nr_explain.specs.declared.trace.evidence.Evidence.TheVariants as evidence
+use Rattle.nr_explain.specs.declared.trace.explaining.Explanation.{Explanation}
+use Rattle.nr_explain.specs.declared.trace.explaining.Explanation.TheVariants.{Yes, No}
+use Rattle.nr_explain.specs.declared.trace.all_dumps.DumpExplanation.{DumpExplanation}
+use Rattle.nr_explain.specs.declared.trace.all_dumps.DumpExplanation.TheVariants.{Sound, Faulty}
+use Rattle.nr_explain.specs.declared.trace.all_dumps.FullExplanation.{FullExplanation}
 
 -- the replica whose dump the fault is of, where it is one of a dump
 abbrev pub replica_of : Fault → Option ℕ

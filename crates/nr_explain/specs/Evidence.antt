@@ -15,25 +15,26 @@ use Rattle.nr_trace.specs.declared.fault.Fault.{Fault}
 use Rattle.nr_trace.specs.declared.fault.Fault.TheVariants as faults
 use Rattle.nr_explain.specs.Facts.{IsCallOf, IsReplyOf, IsFirstReplyTo, response, entries_read, looks_from, IsLastChangeFrom, address_about, IsPath}
 use Rattle.nr_explain.specs.Facts.{HasReservedWord, IsReservedBit}
-use Rattle.nr_explain.specs.declared.evidence.Step.{Step}
-use Rattle.nr_explain.specs.declared.evidence.OpenCalls.{OpenCalls}
-use Rattle.nr_explain.specs.declared.evidence.StrayReply.{StrayReply}
-use Rattle.nr_explain.specs.declared.evidence.TwoReplies.{TwoReplies}
-use Rattle.nr_explain.specs.declared.evidence.NoUpdate.{NoUpdate}
-use Rattle.nr_explain.specs.declared.evidence.TwoPlaces.{TwoPlaces}
-use Rattle.nr_explain.specs.declared.evidence.Misplaced.{Misplaced}
-use Rattle.nr_explain.specs.declared.evidence.PastEnd.{PastEnd}
-use Rattle.nr_explain.specs.declared.evidence.EarlyCall.{EarlyCall}
-use Rattle.nr_explain.specs.declared.evidence.OtherAnswer.{OtherAnswer}
-use Rattle.nr_explain.specs.declared.evidence.LongPrefix.{LongPrefix}
-use Rattle.nr_explain.specs.declared.evidence.ShortPrefix.{ShortPrefix}
-use Rattle.nr_explain.specs.declared.evidence.MissingTable.{MissingTable}
-use Rattle.nr_explain.specs.declared.evidence.SharedTable.{SharedTable}
-use Rattle.nr_explain.specs.declared.evidence.ReservedEntry.{ReservedEntry}
-use Rattle.nr_explain.specs.declared.evidence.StrayTable.{StrayTable}
-use Rattle.nr_explain.specs.declared.evidence.Difference.{Difference}
-use Rattle.nr_explain.specs.declared.evidence.Evidence.{Evidence}
-use Rattle.nr_explain.specs.declared.evidence.Evidence.TheVariants as evidence
+use Rattle.nr_explain.specs.declared.trace.evidence.TableEntry.{TableEntry}
+use Rattle.nr_explain.specs.declared.trace.evidence.OpenCalls.{OpenCalls}
+use Rattle.nr_explain.specs.declared.trace.evidence.StrayReply.{StrayReply}
+use Rattle.nr_explain.specs.declared.trace.evidence.TwoReplies.{TwoReplies}
+use Rattle.nr_explain.specs.declared.trace.evidence.NoUpdate.{NoUpdate}
+use Rattle.nr_explain.specs.declared.trace.evidence.TwoPlaces.{TwoPlaces}
+use Rattle.nr_explain.specs.declared.trace.evidence.Misplaced.{Misplaced}
+use Rattle.nr_explain.specs.declared.trace.evidence.PastEnd.{PastEnd}
+use Rattle.nr_explain.specs.declared.trace.evidence.EarlyCall.{EarlyCall}
+use Rattle.nr_explain.specs.declared.trace.evidence.OtherAnswer.{OtherAnswer}
+use Rattle.nr_explain.specs.declared.trace.evidence.LongPrefix.{LongPrefix}
+use Rattle.nr_explain.specs.declared.trace.evidence.ShortPrefix.{ShortPrefix}
+use Rattle.nr_explain.specs.declared.trace.evidence.MissingTable.{MissingTable}
+use Rattle.nr_explain.specs.declared.trace.evidence.Owner.TheVariants.{Dump}
+use Rattle.nr_explain.specs.declared.trace.evidence.SharedTable.{SharedTable}
+use Rattle.nr_explain.specs.declared.trace.evidence.ReservedEntry.{ReservedEntry}
+use Rattle.nr_explain.specs.declared.trace.evidence.StrayTable.{StrayTable}
+use Rattle.nr_explain.specs.declared.trace.evidence.Difference.{Difference}
+use Rattle.nr_explain.specs.declared.trace.evidence.Evidence.{Evidence}
+use Rattle.nr_explain.specs.declared.trace.evidence.Evidence.TheVariants as evidence
 
 -- two calls of one thread, and no reply to the first comes before the second
 pub record AreOpen (trace : Recording) (calls : OpenCalls) : Type 0 where
@@ -145,29 +146,26 @@ pub record IsShortPrefix (trace : Recording) (wrong : ShortPrefix) : Type 0 wher
       → call_of trace reply.call ≡ Some made → made.replica ≡ wrong.replica → known_by trace reply ≤ wrong.applied
 
 -- the steps lead from the root of a dump to the frame, as a table of this level
-abbrev pub IsRootPath : Depth → Image → ℕ → ℕ → List Step → Type 0
+abbrev pub IsRootPath : Depth → Image → ℕ → ℕ → List TableEntry → Type 0
 IsRootPath depth dump level frame steps = IsPath dump.frames (levels depth) dump.root level frame steps
 
 -- the same as a table of some level
-abbrev pub StepsLeadTo : Depth → Image → ℕ → List Step → Type 0
+abbrev pub StepsLeadTo : Depth → Image → ℕ → List TableEntry → Type 0
 StepsLeadTo depth dump frame steps = (level : ℕ) × IsRootPath depth dump level frame steps
 
--- the entries lead to a frame that the dump lacks
-abbrev pub IsMissingTable : Recording → MissingTable → Type 0
-IsMissingTable trace wrong = HasDump trace wrong.replica (λ dump.
-    (finite.get dump.frames wrong.frame ≡ None) × StepsLeadTo trace.layout.depth dump wrong.frame wrong.path.items)
+-- the entries lead to a frame that is lacking
+abbrev pub IsMissingTable : Depth → Image → MissingTable → Type 0
+IsMissingTable depth image wrong = (finite.get image.frames wrong.frame ≡ None) × StepsLeadTo depth image wrong.frame wrong.path.items
 
 -- the entries lead to the frame, and so do others
-abbrev pub IsSharedTable : Recording → SharedTable → Type 0
-IsSharedTable trace wrong = HasDump trace wrong.replica (λ dump.
-    StepsLeadTo trace.layout.depth dump wrong.frame wrong.first.items
-    × StepsLeadTo trace.layout.depth dump wrong.frame wrong.second.items × (wrong.second.items ≢ wrong.first.items))
+abbrev pub IsSharedTable : Depth → Image → SharedTable → Type 0
+IsSharedTable depth image wrong = StepsLeadTo depth image wrong.frame wrong.first.items
+    × StepsLeadTo depth image wrong.frame wrong.second.items × (wrong.second.items ≢ wrong.first.items)
 
 -- the entries lead to a table, and the word that it has at an index has a reserved bit set, at its level: this one
-abbrev pub IsReservedEntry : Recording → ReservedEntry → Type 0
-IsReservedEntry trace wrong = HasDump trace wrong.replica (λ dump.
-    IsRootPath trace.layout.depth dump wrong.entry.level wrong.entry.frame wrong.path.items × HasReservedWord dump.frames wrong.entry
-    × IsReservedBit wrong.entry.level wrong.entry.word wrong.bit)
+abbrev pub IsReservedEntry : Depth → Image → ReservedEntry → Type 0
+IsReservedEntry depth image wrong = IsRootPath depth image wrong.entry.level wrong.entry.frame wrong.path.items
+    × HasReservedWord image.frames wrong.entry × IsReservedBit wrong.entry.level wrong.entry.word wrong.bit
 
 -- the tables do not lead to the frame
 abbrev pub IsStrayTable : Recording → StrayTable → Type 0
@@ -200,10 +198,13 @@ IsEvidence trace fault (evidence.Early early) = (fault ≡ faults.Early early.ca
 IsEvidence trace fault (evidence.WrongAnswer wrong) = (fault ≡ faults.WrongAnswer wrong.call.event) × IsOtherAnswer trace wrong
 IsEvidence trace fault (evidence.PrefixPastLog wrong) = (fault ≡ faults.PrefixPastLog wrong.replica) × IsLongPrefix trace wrong
 IsEvidence trace fault (evidence.PrefixShort wrong) = (fault ≡ faults.PrefixShort wrong.replica) × IsShortPrefix trace wrong
-IsEvidence trace fault (evidence.MissingFrame wrong) = (fault ≡ faults.MissingFrame wrong.replica wrong.frame) × IsMissingTable trace wrong
-IsEvidence trace fault (evidence.SharedFrame wrong) = (fault ≡ faults.SharedFrame wrong.replica wrong.frame) × IsSharedTable trace wrong
-IsEvidence trace fault (evidence.ReservedBit wrong) =
-    (fault ≡ faults.ReservedBit wrong.replica wrong.entry.frame wrong.entry.index) × IsReservedEntry trace wrong
+IsEvidence trace fault (evidence.MissingFrame wrong) = (replica : ℕ) × (wrong.owner ≡ Dump replica)
+    × (fault ≡ faults.MissingFrame replica wrong.frame) × HasDump trace replica (λ dump. IsMissingTable trace.layout.depth dump wrong)
+IsEvidence trace fault (evidence.SharedFrame wrong) = (replica : ℕ) × (wrong.owner ≡ Dump replica)
+    × (fault ≡ faults.SharedFrame replica wrong.frame) × HasDump trace replica (λ dump. IsSharedTable trace.layout.depth dump wrong)
+IsEvidence trace fault (evidence.ReservedBit wrong) = (replica : ℕ) × (wrong.owner ≡ Dump replica)
+    × (fault ≡ faults.ReservedBit replica wrong.entry.frame wrong.entry.index)
+    × HasDump trace replica (λ dump. IsReservedEntry trace.layout.depth dump wrong)
 IsEvidence trace fault (evidence.StrayFrame wrong) = (fault ≡ faults.StrayFrame wrong.replica wrong.frame) × IsStrayTable trace wrong
 IsEvidence trace fault (evidence.Differs wrong) =
     (fault ≡ faults.Differs wrong.replica wrong.address) × HasDump trace wrong.replica (IsDifference trace wrong)

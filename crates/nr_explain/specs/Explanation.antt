@@ -9,11 +9,11 @@ use Rattle.nr_audit.specs.declared.verdict.Verdict.TheVariants as verdicts
 use Rattle.nr_explain.specs.Counts.{IsCountOf}
 use Rattle.nr_explain.specs.Units.{IsBadUnit}
 use Rattle.nr_explain.specs.Evidence.{IsEvidence}
-use Rattle.nr_explain.specs.declared.counts.Counts.{Counts}
-use Rattle.nr_explain.specs.declared.evidence.Evidence.{Evidence}
-use Rattle.nr_explain.specs.declared.evidence.Evidence.TheVariants as evidence
-use Rattle.nr_explain.specs.declared.explaining.Explanation.{Explanation}
-use Rattle.nr_explain.specs.declared.explaining.Explanation.TheVariants.{Yes, No}
+use Rattle.nr_explain.specs.declared.trace.counts.Counts.{Counts}
+use Rattle.nr_explain.specs.declared.trace.evidence.Evidence.{Evidence}
+use Rattle.nr_explain.specs.declared.trace.evidence.Evidence.TheVariants as evidence
+use Rattle.nr_explain.specs.declared.trace.explaining.Explanation.{Explanation}
+use Rattle.nr_explain.specs.declared.trace.explaining.Explanation.TheVariants.{Yes, No}
 
 -- the evidence is the bad unit of the bytes, or evidence of the trace that they spell
 abbrev pub IsEvidenceOf : List ℕ → Fault → Evidence → Type 0

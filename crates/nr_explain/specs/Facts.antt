@@ -19,10 +19,10 @@ use Rattle.vs_walk.specs.Memory.{Memory}
 use Rattle.nr_trace.specs.Recording.{Recording}
 use Rattle.nr_trace.specs.Calls.{Answers, call_of, Response, reply_of}
 use Rattle.nr_trace.specs.Orders.{space_from}
-use Rattle.nr_explain.specs.declared.evidence.RecordedCall.{RecordedCall}
-use Rattle.nr_explain.specs.declared.evidence.RecordedReply.{RecordedReply}
-use Rattle.nr_explain.specs.declared.evidence.PlacedUpdate.{PlacedUpdate}
-use Rattle.nr_explain.specs.declared.evidence.Step.{Step}
+use Rattle.nr_explain.specs.declared.trace.evidence.RecordedCall.{RecordedCall}
+use Rattle.nr_explain.specs.declared.trace.evidence.RecordedReply.{RecordedReply}
+use Rattle.nr_explain.specs.declared.trace.evidence.PlacedUpdate.{PlacedUpdate}
+use Rattle.nr_explain.specs.declared.trace.evidence.TableEntry.{TableEntry}
 
 -- the event is this call
 abbrev pub IsCallOf : Recording → RecordedCall → Type 0
@@ -73,7 +73,7 @@ address_about request (answers.Inside base) = base
 address_about request _ = asked_address request
 
 -- the word of the step is in its frame, and leads as an entry of its level to the other frame
-pub record LeadsOn (memory : Memory) (step : Step) (next : ℕ) : Type 0 where
+pub record LeadsOn (memory : Memory) (step : TableEntry) (next : ℕ) : Type 0 where
   pub words : List ℕ
   pub own : Rights
   pub there : finite.get memory step.frame ≡ Some words
@@ -83,28 +83,28 @@ pub record LeadsOn (memory : Memory) (step : Step) (next : ℕ) : Type 0 where
 
 -- from the frame of a table of one level the steps lead to the frame of a table of another, each from where the one before
 -- it leads to
-abbrev pub IsPath : Memory → ℕ → ℕ → ℕ → ℕ → List Step → Type 0
+abbrev pub IsPath : Memory → ℕ → ℕ → ℕ → ℕ → List TableEntry → Type 0
 IsPath memory level number end target [] = (level ≡ end) × (number ≡ target)
 IsPath memory level number end target (step ∷ steps) =
     (step.level ≡ level) × (step.frame ≡ number) × ((next : ℕ) × LeadsOn memory step next × IsPath memory (level - 1) next end target steps)
 
 -- what is read behind an entry: more where it leads on to a table
-abbrev pub behind : (ℕ → List Step) → Meaning → List Step
+abbrev pub behind : (ℕ → List TableEntry) → Meaning → List TableEntry
 behind below (entry.Table next own) = below next
 behind below _ = []
 
 -- what is read of a frame: nothing where the memory lacks it
-abbrev pub of_frame : (List ℕ → List Step) → Option (List ℕ) → List Step
+abbrev pub of_frame : (List ℕ → List TableEntry) → Option (List ℕ) → List TableEntry
 of_frame read None = []
 of_frame read (Some words) = read words
 
 -- the entry for an address among the words of a table
-abbrev pub entry_for : ℕ → ℕ → ℕ → List ℕ → Step
+abbrev pub entry_for : ℕ → ℕ → ℕ → List ℕ → TableEntry
 entry_for level number address words =
     record { level = level; frame = number; index = index_at level address; word = slice_index words (index_at level address) }
 
 -- the entries that the walk of an address reads from the frame of this number on, the table of a level
-unfoldable pub entries_read : Memory → ℕ → ℕ → ℕ → List Step
+unfoldable pub entries_read : Memory → ℕ → ℕ → ℕ → List TableEntry
 entries_read memory zero number address = []
 entries_read memory (suc level) number address =
     of_frame (λ words.
@@ -113,7 +113,7 @@ entries_read memory (suc level) number address =
     (finite.get memory number)
 
 -- the word of the step is in its frame, and has a reserved bit set as an entry of its level
-pub record HasReservedWord (memory : Memory) (step : Step) : Type 0 where
+pub record HasReservedWord (memory : Memory) (step : TableEntry) : Type 0 where
   pub words : List ℕ
   pub there : finite.get memory step.frame ≡ Some words
   pub within : step.index < length words

@@ -7,7 +7,6 @@ pub mod Counts
 pub mod Explanation
 pub mod Progress
 pub mod ChainFacts
-pub mod ChainUnits
 pub mod ChainEvidence
 pub mod ChainExplanation
 pub mod inside

@@ -16,23 +16,23 @@ use Rattle.nr_explain.specs.declared.chain.explanation.ChainCounts.{ChainCounts}
 
 -- what is kept of the last segment; the space with which the chain begins, where its first segment has a start; and how much the
 -- segments so far have
-pub record CameTo : Type 0 where
+pub record ChainState : Type 0 where
   pub kept : Kept
   pub began : Option Space
   pub sums : Sums
 
 -- what they have come to, if there are any, and the bytes of the next segment so far
-pub record Seen : Type 0 where
-  pub came : Option CameTo
+pub record ReaderState : Type 0 where
+  pub state : Option ChainState
   pub bytes : List ℕ
 
-abbrev pub kept_in : Option CameTo → Option Kept
+abbrev pub kept_in : Option ChainState → Option Kept
 kept_in came = option_map (λ last. last.kept) came
 
-abbrev pub layout_in : Option CameTo → Option Layout
+abbrev pub layout_in : Option ChainState → Option Layout
 layout_in came = layout_before (kept_in came)
 
-abbrev pub space_in : Option CameTo → Option Space
+abbrev pub space_in : Option ChainState → Option Space
 space_in came = space_before (kept_in came)
 
 -- ---- how much there is
@@ -52,7 +52,7 @@ is_there dump = nat_lt 0 (finite.len dump.frames)
 abbrev pub nothing_yet : Sums
 nothing_yet = record { segments = 0; calls = 0; updates = 0; reads = 0; touches = 0; dumps = 0; bytes = 0 }
 
-abbrev pub sums_in : Option CameTo → Sums
+abbrev pub sums_in : Option ChainState → Sums
 sums_in None = nothing_yet
 sums_in (Some last) = last.sums
 
@@ -71,19 +71,19 @@ sums_after sums segment bytes = record {
 -- ---- one segment more
 
 -- the space with which the chain begins, where its first segment has a start, as this segment comes next
-abbrev pub began_with : Option CameTo → Recording → Option Space
+abbrev pub began_with : Option ChainState → Recording → Option Space
 began_with None segment = option_map (λ start. start_space segment.layout.depth (Some start)) segment.start
 began_with (Some last) segment = last.began
 
-abbrev pub came_after : Option CameTo → Recording → ℕ → CameTo
-came_after came segment bytes = record {
+abbrev pub state_after : Option ChainState → Recording → ℕ → ChainState
+state_after came segment bytes = record {
   kept = kept_after (kept_in came) segment;
   began = began_with came segment;
   sums = sums_after (sums_in came) segment bytes;
 }
 
 -- how much a chain has whose segments have come to this
-abbrev pub counts_of : CameTo → ChainCounts
+abbrev pub counts_of : ChainState → ChainCounts
 counts_of last = record {
   segments = last.sums.segments;
   calls = last.sums.calls;

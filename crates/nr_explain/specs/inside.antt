@@ -1,11 +1,10 @@
 -- What the searches of this crate find. Of these public clauses cite `Ways` alone.
 pub mod Explained
-pub mod UnitsFed
+pub mod Ends
 pub mod Searches
 pub mod Ways
 pub mod Itself
 pub mod Reading
 pub mod Starts
 pub mod Steps
-pub mod Walked
 pub mod Windows

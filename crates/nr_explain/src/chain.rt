@@ -1,7 +1,6 @@
 //! What shows the first fault of a chain: facts of the segment that has it, over the space with which that begins.
 
 pub(crate) mod answers;
-pub(crate) mod bad_unit;
 pub(crate) mod differences;
 pub(crate) mod evidence;
 pub(crate) mod explaining;

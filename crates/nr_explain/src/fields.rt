@@ -58,7 +58,7 @@ pub struct BadField {
 // ---- numbers
 
 /// The byte at an index, or 0 behind the end.
-pub(crate) fn number_8(bytes: &[u8], at: usize) -> u8
+fn number_8(bytes: &[u8], at: usize) -> u8
     ensures { result ≡ number_8 bytes.now at }
 {
     match bytes.get(at) {
@@ -74,7 +74,7 @@ fn number_16(bytes: &[u8], at: usize) -> u16
     u16::from_be_bytes([number_8(bytes, at), number_8(bytes, at + 1)])
 }
 
-pub(crate) fn number_32(bytes: &[u8], at: usize) -> u32
+fn number_32(bytes: &[u8], at: usize) -> u32
     requires { at < 32 }
     ensures { result ≡ number_32 bytes.now at }
 {
@@ -103,7 +103,7 @@ fn number_64(bytes: &[u8], at: usize) -> u64
 }
 
 /// Whether a header is that of a segment.
-pub(crate) fn is_segment(header: &[u8]) -> bool
+fn is_segment(header: &[u8]) -> bool
     ensures { result ≡ is_segment header.now }
 {
     number_8(header, 3) == b'S'

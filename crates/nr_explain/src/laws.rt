@@ -10,7 +10,7 @@ ghost use Rattle.nr_trace.specs.declared.version.Version.{Version};
 ghost use Rattle.nr_explain.specs.Fields.{event_fault};
 ghost use Rattle.nr_explain.specs.Units.{IsBadUnit};
 ghost use Rattle.nr_explain.specs.declared.units.BadUnit.{BadUnit};
-ghost use Rattle.nr_audit.specs.declared.fault.SegmentFault.{SegmentFault};
+ghost use Rattle.nr_trace.specs.declared.fault.Fault.{Fault};
 ghost use Rattle.nr_chain.specs.Bytes.{GoesOnSo};
 ghost use Rattle.nr_explain.specs.ChainExplanation.{IsExplanationOfChain};
 ghost use Rattle.nr_explain.specs.declared.chain.evidence.SegmentEvidence.{SegmentEvidence};
@@ -32,7 +32,7 @@ pub fn one_bad_unit()
         → IsBadUnit bytes second → first.field ≡ second.field }
 {}
 
-/// Where no field of 24 bytes is wrong, they spell an event of a trace, or of a segment, with this header: what is refused has such a
+/// If no field of 24 bytes is wrong, they spell an event of a trace, or of a segment, with this header. So what is refused has such a
 /// field.
 pub fn refused_events_have_a_bad_field()
     ensures { (version : Version) (numbers : Counts) (header behind unit : List ℕ)
@@ -47,7 +47,7 @@ pub fn refused_events_have_a_bad_field()
 pub fn explanations_are_verdicts()
     ensures yes { (bytes : List ℕ) (counts : ChainCounts) → IsExplanationOfChain bytes (Yes counts)
         → (orders : List (List ℕ)) × GoesOnSo None bytes orders None }
-    ensures no { (bytes : List ℕ) (number : ℕ) (fault : SegmentFault) (shown : SegmentEvidence)
+    ensures no { (bytes : List ℕ) (number : ℕ) (fault : Fault) (shown : SegmentEvidence)
         → IsExplanationOfChain bytes (No number fault shown)
         → (orders : List (List ℕ)) × GoesOnSo None bytes orders (Some fault)
         × (number ≡ min (length orders) (2 ^ 64 - 1)) }

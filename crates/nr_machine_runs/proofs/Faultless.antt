@@ -13,7 +13,7 @@ use Rattle.nr_trace.specs.Laws.{IsFaultless}
 use Rattle.nr_trace.specs.Orders.{FitsOrder, IsLegalOrder, recorded_order}
 use Rattle.nr_trace.specs.Recording.{IsThere, Recording}
 use Rattle.nr_trace.specs.declared.fault.Fault.{Fault}
-use Rattle.nr_trace.specs.declared.fault.Fault.TheVariants.{Format, ThreadOpen, NoSuchCall, AnsweredTwice, NotAnUpdate, PlacedTwice, NotPlaced, PastLog, Early}
+use Rattle.nr_trace.specs.declared.fault.Fault.TheVariants.{ThreadOpen, NoSuchCall, AnsweredTwice, NotAnUpdate, PlacedTwice, NotPlaced, PastLog, Early}
 use Rattle.nr_trace.specs.declared.fault.Fault.TheVariants.{WrongAnswer, PrefixPastLog, PrefixShort, MissingFrame, SharedFrame, ReservedBit, StrayFrame}
 use Rattle.nr_trace.specs.declared.fault.Fault.TheVariants.{Differs}
 use Rattle.nr_trace.specs.declared.version.Version.{Version}
@@ -170,7 +170,6 @@ new_noted layout means = record {
 -- of a recording of such a state
 faultless : (state : State) (version : Version) (dumps : List Image) → IsReached state → AreDumps state dumps
     → IsFaultless (recording state version dumps)
-faultless state version dumps reached are (Format fault) h = h
 faultless state version dumps reached are (ThreadOpen index) h = (clean_log state version dumps reached).no_thread_open index h
 faultless state version dumps reached are (NoSuchCall index) h = (clean_log state version dumps reached).no_such_call index h
 faultless state version dumps reached are (AnsweredTwice index) h = (clean_log state version dumps reached).none_twice index h
@@ -187,6 +186,7 @@ faultless state version dumps reached are (SharedFrame r number) h = none_in_wal
 faultless state version dumps reached are (ReservedBit r number index) h = none_in_walk state dumps r _ are h
 faultless state version dumps reached are (StrayFrame r number) h = none_stray state version dumps r number are h
 faultless state version dumps reached are (Differs r address) h = none_differs state version dumps r address reached are h
+faultless state version dumps reached are _ h = h
 
 pub none_of_runs : (trace : Recording) → IsRecordingOfRun trace → IsFaultless trace
 none_of_runs trace is =

@@ -9,15 +9,16 @@ use Rattle.std.proofs.lemmas.List.Elements.{All-nil}
 use Rattle.vs_walk.specs.Dump.{Image}
 use Rattle.vs_types.specs.Frame.{IsFrame}
 use Rattle.nr_trace.specs.Recording.{IsImage}
-use Rattle.nr_trace.specs.Spelling.{dump, dump_head, frame_number, frames}
+use Rattle.nr_trace.specs.Spelling.{dump_head, frame_number, frames}
 use Rattle.nr_trace.specs.inside.Reading.{SpellsHead}
 use Rattle.nr_trace.specs.declared.fields.DumpHead.{DumpHead}
-use Rattle.nr_trace.specs.FirstFault.{AtFrames, AtDumps, AtLog, AtStart, IsDumpHead}
+use Rattle.nr_trace.specs.FirstFault.{AtFrames, AtDumps, AtLog, AtStart, IsDumpHead, and_then, of_dump, of_start, refusal_at}
 use Rattle.vs_types.specs.Config.{Layout}
 use Rattle.nr_trace.specs.inside.Progress.{HasRead, AreInRange, IsOwner, IsReady, BehindDumps, Ahead}
 use Rattle.nr_trace.specs.inside.Progress.{front_with, header_units, opened_spelling, said, whole_of, whole_spelling}
-use Rattle.nr_trace.specs.declared.fault.Format.{Format}
-use Rattle.nr_trace.specs.declared.fault.Format.TheVariants.{BadCount, BadFrame, BadStart}
+use Rattle.nr_trace.specs.declared.refusal.Refusal.{Refusal}
+use Rattle.nr_trace.specs.declared.refusal.TraceUnit.TheVariants as units
+use Rattle.nr_trace.specs.declared.fault.Format.TheVariants.{BadCount}
 use Rattle.nr_trace.specs.declared.reading.reader.Parts.{Parts}
 use Rattle.nr_trace.specs.declared.reading.reader.Reader.{Reader}
 use Rattle.nr_trace.specs.declared.reading.reader.Reader.TheVariants.{Dumps, Frame, Root}
@@ -30,33 +31,39 @@ use Rattle.nr_trace.proofs.LawsOfUnits.{few_of, few_of_start}
 use Rattle.nr_trace.proofs.Units.{refused, passed, goes_on}
 use Rattle.nr_trace.proofs.Frames.{frame_bytes, no_frame}
 
-dump_passed : (version : Version) (replica dumps index behind left : ℕ) (head : DumpHead) (unit rest : List ℕ) (fault : Format) → index ≡ 0
+dump_passed : (version : Version) (replica dumps index behind left : ℕ) (head : DumpHead) (unit rest : List ℕ) (fault : Refusal) → index ≡ 0
     → behind ≡ replica + 1
     → left + 1 ≡ dumps → IsDumpHead version head → unit ≡ dump_head head
-    → AtFrames (BadFrame replica) index head.frames None (AtDumps version behind left) rest fault → AtDumps version replica dumps (unit ++ rest) fault
+    → AtFrames (of_dump replica) index head.frames None (AtDumps version behind left) rest fault → AtDumps version replica dumps (unit ++ rest) fault
 unfolding AtDumps
 dump_passed version replica zero index behind left head unit rest fault first next one_less fits is h = absurd (omega arith)
 dump_passed version replica (suc dumps) index behind left head unit rest fault first next one_less fits is h =
     let same : left ≡ dumps = omega arith in
-    passed 16 (Some BadCount) (IsDumpHead version) dump_head
-    (λ head. AtFrames (BadFrame replica) 0 head.frames None (AtDumps version (replica + 1) dumps)) fault unit rest head fits is
-    (subst (λ (n : ℕ). AtFrames (BadFrame replica) 0 head.frames None (AtDumps version (replica + 1) n) rest fault) same
-    (subst (λ (n : ℕ). AtFrames (BadFrame replica) 0 head.frames None (AtDumps version n left) rest fault) next
-    (subst (λ (n : ℕ). AtFrames (BadFrame replica) n head.frames None (AtDumps version behind left) rest fault) first h)))
+    passed 16 (units.DumpHead replica) (Some BadCount) (IsDumpHead version) dump_head
+    (λ head. AtFrames (of_dump replica) 0 head.frames None (AtDumps version (replica + 1) dumps)) fault unit rest head fits is
+    (subst (λ (n : ℕ). AtFrames (of_dump replica) 0 head.frames None (AtDumps version (replica + 1) n) rest fault) same
+    (subst (λ (n : ℕ). AtFrames (of_dump replica) 0 head.frames None (AtDumps version n left) rest fault) next
+    (subst (λ (n : ℕ). AtFrames (of_dump replica) n head.frames None (AtDumps version behind left) rest fault) first h)))
 
 dump_refused : (version : Version) (replica dumps : ℕ) (unit rest : List ℕ) → 1 ≤ dumps → length unit ≡ 16
-    → ((head : DumpHead) → IsDumpHead version head → unit ≢ dump_head head) → AtDumps version replica dumps (unit ++ rest) BadCount
+    → ((head : DumpHead) → IsDumpHead version head → unit ≢ dump_head head)
+    → AtDumps version replica dumps (unit ++ rest) (and_then rest (refusal_at (units.DumpHead replica) unit BadCount))
 unfolding AtDumps
 dump_refused version replica zero unit rest some whole none = absurd (omega arith)
 dump_refused version replica (suc dumps) unit rest some whole none =
-    refused 16 (Some BadCount) (IsDumpHead version) dump_head
-    (λ head. AtFrames (BadFrame replica) 0 head.frames None (AtDumps version (replica + 1) dumps)) BadCount unit rest whole refl none
+    refused 16 (units.DumpHead replica) BadCount (IsDumpHead version) dump_head
+    (λ head. AtFrames (of_dump replica) 0 head.frames None (AtDumps version (replica + 1) dumps))
+    unit rest (refusal_at (units.DumpHead replica) unit BadCount) refl whole none
 
-pub head_refused : (parts : Parts) (unit rest : List ℕ) → length parts.dumps.items < parts.layout.replicas → length unit ≡ 16
-    → ((head : DumpHead) → SpellsHead parts.version unit head → ⊥) → Ahead (Dumps parts) (unit ++ rest) BadCount
-head_refused parts unit rest one_left whole none =
-    dump_refused parts.version (length parts.dumps.items + 0) (parts.layout.replicas - (length parts.dumps.items + 0)) unit rest (omega (arith, one_left)) whole
-    (λ head fits e. none head (record { in_range = fits; spelled = e }))
+pub head_refused : (parts : Parts) (unit rest : List ℕ) (refusal : Refusal) → length parts.dumps.items < parts.layout.replicas → length unit ≡ 16
+    → ((head : DumpHead) → SpellsHead parts.version unit head → ⊥) → refusal ≡ refusal_at (units.DumpHead (length parts.dumps.items)) unit BadCount
+    → Ahead (Dumps parts) (unit ++ rest) (and_then rest refusal)
+head_refused parts unit rest refusal one_left whole none is =
+    let here : length parts.dumps.items + 0 ≡ length parts.dumps.items = omega arith in
+    subst (λ (r : Refusal). Ahead (Dumps parts) (unit ++ rest) (and_then rest r))
+    (ap (λ (n : ℕ). refusal_at (units.DumpHead n) unit BadCount) here ∙ sym is)
+    (dump_refused parts.version (length parts.dumps.items + 0) (parts.layout.replicas - (length parts.dumps.items + 0)) unit rest (omega (arith, one_left)) whole
+    (λ head fits e. none head (record { in_range = fits; spelled = e })))
 
 no_entries : finite.entries (finite.empty {X = List ℕ} {R = nat_cmp}) ≡ []
 no_entries = nil_from_length (finite.entries (finite.empty {X = List ℕ} {R = nat_cmp})) (sym (finite.len-entries (finite.empty {X = List ℕ} {R = nat_cmp}))
@@ -103,9 +110,9 @@ none_spelled parts owner head =
     ∙ append-nil (front_with parts owner (first_image head) head.frames)
 
 -- what is ahead of the head of a dump
-head_faults : (parts : Parts) (head : DumpHead) (unit rest : List ℕ) (fault : Format) → length parts.dumps.items < parts.layout.replicas
+head_faults : (parts : Parts) (head : DumpHead) (unit rest : List ℕ) (fault : Refusal) → length parts.dumps.items < parts.layout.replicas
     → SpellsHead parts.version unit head
-    → AtFrames (BadFrame (length parts.dumps.items)) 0 head.frames None (BehindDumps parts 1) rest fault
+    → AtFrames (of_dump (length parts.dumps.items)) 0 head.frames None (BehindDumps parts 1) rest fault
     → Ahead (Dumps parts) (unit ++ rest) fault
 head_faults parts head unit rest fault one_left spells h =
     let replica = length parts.dumps.items in
@@ -127,7 +134,7 @@ head_taken parts head image unit begins in_range one_left spells some =
           (omega (arith, spells.in_range.few_frames, few_of parts.version));
       bytes_are = none_spelled parts owners.Replica head ∙ ap (λ (l : List ℕ). whole_spelling parts ++ l) (sym spells.spelled);
       faults = λ rest fault h. head_faults parts head unit rest fault one_left spells
-          (subst (λ (n : ℕ). AtFrames (BadFrame (length parts.dumps.items)) n head.frames None (BehindDumps parts 1) rest fault) no_frames h);
+          (subst (λ (n : ℕ). AtFrames (of_dump (length parts.dumps.items)) n head.frames None (BehindDumps parts 1) rest fault) no_frames h);
     } in
     subst (λ (d : Image). HasRead parts.form (said (Dumps parts) ++ unit) (λ rest fault. Ahead (Dumps parts) (unit ++ rest) fault)
     (Frame parts (record { dump = d; left = head.frames; owner = owners.Replica }) None)) (sym begins) made
@@ -156,7 +163,7 @@ head_whole parts head image unit reader begins one_left spells none has =
     (ap (λ (n : ℕ). opened_spelling parts (record { dump = first_image head; left = n; owner = owners.Replica })) (sym none)
     ∙ none_spelled parts owners.Replica head ∙ ap (λ (l : List ℕ). whole_spelling parts ++ l) (sym spells.spelled))
     (λ rest fault h. head_faults parts head unit rest fault one_left spells
-    (no_frame (BadFrame (length parts.dumps.items)) 0 head.frames None (BehindDumps parts 1) rest fault none h))
+    (no_frame (of_dump (length parts.dumps.items)) 0 head.frames None (BehindDumps parts 1) rest fault none h))
 
 -- the root of a start
 pub root_taken : (parts : Parts) (numbers : Counts) (image : Image) (root : ℕ) (unit : List ℕ)
@@ -169,7 +176,7 @@ root_taken parts numbers image root unit begins ready fits is =
     let head : DumpHead = record { applied = 0; frames = numbers.start; root = root } in
     let given = ready.2 in
     let layout = ready.3 in
-    let behind = AtLog parts.version parts.layout numbers.places numbers.events in
+    let behind = AtLog parts.version parts.layout 0 numbers.places numbers.events in
     let made : HasRead parts.form (said (Root parts numbers) ++ unit) (λ rest fault. Ahead (Root parts numbers) (unit ++ rest) fault)
     (Frame parts (record { dump = first_image head; left = numbers.start; owner = owner }) None) = record {
       form_is = refl;
@@ -180,12 +187,12 @@ root_taken parts numbers image root unit begins ready fits is =
           ++ frame_number root) (sym layout)
           ∙ ap (λ (l : List ℕ). header_units numbers parts ++ l) (sym is);
       faults = λ rest fault h. root_passed numbers.start behind root unit rest fault ready.4 fits is
-          (subst (λ (n : ℕ). AtFrames BadStart n numbers.start None behind rest fault) no_frames h);
+          (subst (λ (n : ℕ). AtFrames of_start n numbers.start None behind rest fault) no_frames h);
     } in
     subst (λ (d : Image). HasRead parts.form (said (Root parts numbers) ++ unit) (λ rest fault. Ahead (Root parts numbers) (unit ++ rest) fault)
     (Frame parts (record { dump = d; left = numbers.start; owner = owner }) None)) (sym begins) made where
-      root_passed : (frames : ℕ) (Behind : List ℕ → Format → Type 0) (root : ℕ) (unit rest : List ℕ) (fault : Format) → 1 ≤ frames → root < 2 ^ 64
-          → unit ≡ frame_number root → AtFrames BadStart 0 frames None Behind rest fault → AtStart frames Behind (unit ++ rest) fault
+      root_passed : (frames : ℕ) (Behind : List ℕ → Refusal → Type 0) (root : ℕ) (unit rest : List ℕ) (fault : Refusal) → 1 ≤ frames → root < 2 ^ 64
+          → unit ≡ frame_number root → AtFrames of_start 0 frames None Behind rest fault → AtStart frames Behind (unit ++ rest) fault
       root_passed zero Behind root unit rest fault some fits is h = absurd (omega arith)
       root_passed (suc frames) Behind root unit rest fault some fits is h =
-          passed 8 None (λ root. root < 2 ^ 64) frame_number (λ _. AtFrames BadStart 0 (suc frames) None Behind) fault unit rest root fits is h
+          passed 8 units.StartRoot None (λ root. root < 2 ^ 64) frame_number (λ _. AtFrames of_start 0 (suc frames) None Behind) fault unit rest root fits is h

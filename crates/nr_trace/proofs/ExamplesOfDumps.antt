@@ -31,7 +31,7 @@ use Rattle.nr_trace.specs.Examples.{empty_dump, missing_frame, shared_frame, res
 use Rattle.nr_trace.specs.Faults.{HasFault, HasDump}
 use Rattle.nr_trace.specs.Laws.{IsFaultless}
 use Rattle.nr_trace.specs.Orders.{FitsOrder, space_after}
-use Rattle.nr_trace.specs.declared.fault.Fault.TheVariants.{Format, ThreadOpen, NoSuchCall, AnsweredTwice, NotAnUpdate, PlacedTwice, NotPlaced, PastLog, Early}
+use Rattle.nr_trace.specs.declared.fault.Fault.TheVariants.{ThreadOpen, NoSuchCall, AnsweredTwice, NotAnUpdate, PlacedTwice, NotPlaced, PastLog, Early}
 use Rattle.nr_trace.specs.declared.fault.Fault.TheVariants.{WrongAnswer, PrefixPastLog, PrefixShort, MissingFrame, SharedFrame, ReservedBit, StrayFrame}
 use Rattle.nr_trace.specs.declared.fault.Fault.TheVariants.{Differs}
 
@@ -152,7 +152,6 @@ no_stray number h = h.0.1 (subst (λ (ns : List ℕ). Contains ns number) (sym (
     (subst (λ (n : ℕ). Contains (1 ∷ []) n) (sym (frame_at number h.0.0)) (Contains-head {X = ℕ} 1 [])))
 
 pub faultless : IsFaultless nothing_recorded
-faultless (Format fault) h = h
 faultless (ThreadOpen index) h = no_call index h.made h.is_made
 faultless (NoSuchCall index) h = no_reply index h.0 h.1
 faultless (AnsweredTwice index) h = no_reply index h.0 h.1
@@ -173,6 +172,7 @@ faultless (Differs replica address) (dump, is, there, differs) = differs_not (on
   differs_not : dump ≡ empty_dump → TranslatesOtherwise Four dump.frames dump.root (space_after nothing_recorded (take dump.applied [])) address → ⊥
   differs_not e h = let same = subst (λ (d : Image). TranslatesOtherwise Four d.frames d.root (space_after nothing_recorded (take d.applied [])) address) e h in
       same.1 (nowhere address same.0)
+faultless _ h = h
 
 pub fits : FitsOrder nothing_recorded [] 0 empty_dump
 fits = record {

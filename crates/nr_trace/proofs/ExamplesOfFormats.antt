@@ -8,23 +8,25 @@ use Rattle.nr_trace.specs.declared.version.Form.TheVariants as forms
 use Rattle.nr_trace.specs.Versions.{IsVersionOf}
 use Rattle.nr_trace.specs.Spelling.{spelling, version_word, Spells}
 use Rattle.nr_trace.specs.FirstFault.{HasFormatFault}
+use Rattle.nr_trace.specs.declared.refusal.TraceUnit.TheVariants as units
 use Rattle.nr_trace.specs.declared.fault.Format.TheVariants.{Truncated, BadMagic, BadVersion, Trailing}
 use Rattle.nr_trace.proofs.ExamplesOfRanges.{spelled}
 use Rattle.nr_trace.proofs.ExamplesOfSpelling.{whole}
 use Rattle.nr_trace.proofs.LawsOfFronts.{front_is_truncated, trailing_after}
 
 pub nothing : HasFormatFault [] Truncated
-nothing = inl (omega arith, refl)
+nothing = (units.Magic, 0, inl (omega arith, refl))
 
 pub magic : HasFormatFault (0x4e ∷ 0x52 ∷ 0x56 ∷ 0x58 ∷ []) BadMagic
-magic = inr (inl (omega arith, refl, λ value fits e. let last : 88 ≡ 84 = ap (λ (bytes : List ℕ). get_or bytes 3 0) e in omega arith))
+magic =
+    (units.Magic, 4, inr (inl (omega arith, refl, λ value fits e. let last : 88 ≡ 84 = ap (λ (bytes : List ℕ). get_or bytes 3 0) e in omega arith)))
 
 no_version : (value : Version) → IsVersionOf forms.Trace value → 0 ∷ 3 ∷ [] ≢ version_word value
 no_version Segment fits e = absurd fits
 no_version _ fits e = cc
 
 pub version : HasFormatFault (0x4e ∷ 0x52 ∷ 0x56 ∷ 0x54 ∷ 0 ∷ 3 ∷ []) BadVersion
-version = inr (inr (tt, 0 ∷ 3 ∷ [], tt, refl, inr (inl (omega arith, refl, no_version))))
+version = (units.Version, 2, inr (inr (tt, 0 ∷ 3 ∷ [], tt, refl, inr (inl (omega arith, refl, no_version)))))
 
 rest_there : drop 16551 (spelling map_then_resolve) ≢ []
 rest_there e =

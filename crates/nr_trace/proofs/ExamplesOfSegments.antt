@@ -1,5 +1,5 @@
 -- A segment with a touch: its ranges and its bytes.
-use Rattle.std.proofs.Common.{◌≡◌, ℕ, zero, suc, ◌<◌, ◌≤◌, ◌^◌, List, [], length, get_or, map, All, None, Some, inl, inr, refl, ap, sym, subst, ◌∙◌, arith}
+use Rattle.std.proofs.Common.{◌≡◌, ℕ, zero, suc, ◌<◌, ◌≤◌, ◌^◌, List, [], drop, length, get_or, map, All, None, Some, inl, inr, refl, ap, sym, subst, ◌∙◌, arith}
 use Rattle.std.proofs.Common.{lit<, lit≤}
 use Rattle.std.specs.FinMap as finite
 use Rattle.std.specs.Ordering.{nat_cmp}
@@ -18,6 +18,7 @@ use Rattle.nr_trace.specs.Versions.{Follows}
 use Rattle.nr_trace.specs.declared.version.Version.TheVariants.{Segment}
 use Rattle.nr_trace.specs.declared.version.Form.TheVariants as forms
 use Rattle.nr_trace.specs.declared.fault.Fault.TheVariants.{PastLog}
+use Rattle.nr_trace.specs.declared.refusal.TraceUnit.TheVariants as units
 use Rattle.nr_trace.specs.declared.fault.Format.TheVariants.{BadChain, BadMagic}
 
 no_entries : finite.entries no_dump.frames ≡ []
@@ -80,28 +81,33 @@ laid_otherwise e =
     cc
 
 pub otherwise : HasSegmentFault (Some map_then_resolve.layout) map_then_touch_bytes BadChain
-otherwise = inr (inr (
-  tt,
-  _,
-  tt,
-  refl,
+otherwise = (
+  units.SegmentCounts,
+  length (drop 6 map_then_touch_bytes),
   inr (inr (
-    Segment,
+    tt,
     _,
     tt,
     refl,
     inr (inr (
-      record { layout = map_then_touch.layout; places = 1; events = 4; start = 0 },
+      Segment,
       _,
-      record { layout = layout_fits; depth = tt; few_places = lit≤ tt; few_events = lit≤ tt; few_start = lit≤ tt },
+      tt,
       refl,
-      inl (laid_otherwise, refl),
+      inr (inr (
+        record { layout = map_then_touch.layout; places = 1; events = 4; start = 0 },
+        _,
+        record { layout = layout_fits; depth = tt; few_places = lit≤ tt; few_events = lit≤ tt; few_start = lit≤ tt },
+        refl,
+        inl (laid_otherwise, refl),
+      )),
     )),
   )),
-))
+)
 
 pub no_trace : HasFormatFault map_then_touch_bytes BadMagic
-no_trace = inr (inl (lit≤ tt, refl, λ value fits e. let last : 83 ≡ 84 = ap (λ (bytes : List ℕ). get_or bytes 3 0) e in omega arith))
+no_trace =
+    (units.Magic, length map_then_touch_bytes, inr (inl (lit≤ tt, refl, λ value fits e. let last : 83 ≡ 84 = ap (λ (bytes : List ℕ). get_or bytes 3 0) e in omega arith)))
 
 pub within : HasFault map_then_touch (PastLog 3) → ⊥
 within (reply, is, (read, past)) = no_read (subst (IsRead map_then_touch) (ap (λ (r : Response). r.call) (sym (same_Some _ reply is))) read) where

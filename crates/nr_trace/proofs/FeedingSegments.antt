@@ -1,6 +1,6 @@
 -- A feed of a segment.
 use Rattle.std.proofs.Common.{◌≡◌, ◌↔◌, ◌⊎◌, inl, inr, ℕ, Bool, true, false, List, ◌++◌, Option, Some, None, Result, Ok, Err, is_none, is_some, not, refl, sym}
-use Rattle.std.proofs.Common.{ap, subst, ◌∙◌}
+use Rattle.std.proofs.Common.{ap, length, subst, ◌∙◌}
 use Rattle.std.proofs.Common.{Vec, Global}
 use Rattle.std.specs.Prelude.{IsTrue}
 use Rattle.std.proofs.lemmas.List.{append-nil}
@@ -10,11 +10,11 @@ use Rattle.vs_types.specs.declared.refusal.Fail.{Fail}
 use Rattle.nr_trace.specs.Recording.{Recording}
 use Rattle.nr_trace.specs.Spelling.{SpellsAs}
 use Rattle.nr_trace.specs.FirstFault.{HasFaultAs}
-use Rattle.nr_trace.specs.Feed.{FedSegment, EndsSegment, FeedsSegment, IsWhole, LastsAs}
+use Rattle.nr_trace.specs.Feed.{FedSegment, EndsSegment, FeedsSegment, IsRefusedAs, IsWhole, LastsAs, fault_alone, fault_of}
 use Rattle.nr_trace.specs.Feed.Fed.{Taken}
 use Rattle.nr_trace.specs.inside.Progress.{form_of, said, unit_bytes}
 use Rattle.nr_trace.specs.inside.Feeding.{AreFewer, HasTaken, IsAtEnd, IsFeeding, fed}
-use Rattle.nr_trace.specs.declared.fault.Format.{Format}
+use Rattle.nr_trace.specs.declared.refusal.Refusal.{Refusal}
 use Rattle.nr_trace.specs.declared.fault.Format.TheVariants.{Truncated}
 use Rattle.nr_trace.specs.declared.version.Form.{Form}
 use Rattle.nr_trace.specs.declared.version.Form.TheVariants as forms
@@ -22,8 +22,8 @@ use Rattle.nr_trace.specs.declared.reading.reader.Reader.{Reader}
 use Rattle.nr_trace.specs.declared.reading.feed.State.{State}
 use Rattle.nr_trace.specs.declared.reading.feed.State.TheVariants.{Open, Stopped}
 use Rattle.nr_trace.proofs.LawsOfFormat.{no_fault}
-use Rattle.nr_trace.proofs.Whole.{ready_to_end, too_short}
-use Rattle.nr_trace.proofs.Feeding.{IsEnded, ends_as, fewer_than, goes_on}
+use Rattle.nr_trace.proofs.Whole.{ready_to_end}
+use Rattle.nr_trace.proofs.Feeding.{IsEnded, ends_as, fault_lasts, fewer_than, goes_on, truncated}
 
 -- what contracts see of a feed in this state
 abbrev pub seen : Option Layout → State → FedSegment
@@ -49,8 +49,8 @@ at_end before (Stopped fail) feeding is = absurd is
 short_of : (form : Form) (len : ℕ) (reader : Reader) (begun : Vec ℕ Global) → IsFeeding form (Open reader begun) → unit_bytes reader ≡ Some len
     → HasFaultAs form (said reader ++ begun.items) Truncated
 short_of form len reader begun feeding is =
-    let short = too_short reader len begun.items feeding.1.ready is (fewer_than (unit_bytes reader) len begun.items is feeding.2) in
-    subst (λ (f : Form). HasFaultAs f (said reader ++ begun.items) Truncated) feeding.0 (feeding.1.faults begun.items Truncated short)
+    subst (λ (f : Form). HasFaultAs f (said reader ++ begun.items) Truncated) feeding.0
+    (truncated reader len begun.items feeding.1 is (fewer_than (unit_bytes reader) len begun.items is feeding.2))
 
 not_at_end : (form : Form) (o : Option ℕ) (reader : Reader) (begun : Vec ℕ Global) → IsFeeding form (Open reader begun) → unit_bytes reader ≡ o
     → (segment : Recording) → SpellsAs form (said reader ++ begun.items) segment → is_none o ≡ true
@@ -116,29 +116,35 @@ segment_taken self before old next reader begun piece count view feeding is take
       ),
     )
 
-pub segment_refused : (self : FedSegment) (before : Option Layout) (old : State) (reader : Reader) (begun : Vec ℕ Global) (piece : List ℕ) (fail : Fail Format)
-    → seen before old ≡ self → IsFeeding (forms.Segment before) old → old ≡ Open reader begun
-    → IfRefused (LastsAs (form_of reader) (said reader ++ begun.items ++ piece)) fail
-    → FeedsSegment self piece (seen before (Stopped fail)) (Err fail)
+pub segment_refused : (self : FedSegment) (before : Option Layout) (old : State) (reader : Reader) (begun : Vec ℕ Global) (piece : List ℕ)
+    (fail : Fail Refusal) → seen before old ≡ self → IsFeeding (forms.Segment before) old → old ≡ Open reader begun
+    → IfRefused (IsRefusedAs (form_of reader) (said reader ++ begun.items ++ piece) (length (begun.items ++ piece))) fail
+    → FeedsSegment self piece (seen before (Stopped fail)) (Err (fault_of fail))
 segment_refused self before old reader begun piece fail view feeding is why =
     let here : IsFeeding (forms.Segment before) (Open reader begun) = subst (IsFeeding (forms.Segment before)) is feeding in
-    subst (λ f. FeedsSegment f piece (seen before (Stopped fail)) (Err fail)) (ap (seen before) (sym is) ∙ view)
-    (refl, (refl, subst (λ (f : Form). IfRefused (LastsAs f (said reader ++ begun.items ++ piece)) fail) here.0 why))
+    subst (λ f. FeedsSegment f piece (seen before (Stopped fail)) (Err (fault_of fail))) (ap (seen before) (sym is) ∙ view) (
+      refl,
+      (
+        refl,
+        subst (λ (f : Form). IfRefused (LastsAs f (said reader ++ begun.items ++ piece)) (fault_of fail)) here.0
+            (fault_lasts (form_of reader) (said reader ++ begun.items ++ piece) (length (begun.items ++ piece)) fail why),
+      ),
+    )
 
-pub segment_still_refused : (self : FedSegment) (before : Option Layout) (old : State) (piece : List ℕ) (fail : Fail Format) → seen before old ≡ self
-    → old ≡ Stopped fail → FeedsSegment self piece (seen before (Stopped fail)) (Err fail)
+pub segment_still_refused : (self : FedSegment) (before : Option Layout) (old : State) (piece : List ℕ) (fail : Fail Refusal) → seen before old ≡ self
+    → old ≡ Stopped fail → FeedsSegment self piece (seen before (Stopped fail)) (Err (fault_of fail))
 segment_still_refused self before old piece fail view is =
-    subst (λ f. FeedsSegment f piece (seen before (Stopped fail)) (Err fail)) (ap (seen before) (sym is) ∙ view) (refl, (refl, refl))
+    subst (λ f. FeedsSegment f piece (seen before (Stopped fail)) (Err (fault_of fail))) (ap (seen before) (sym is) ∙ view) (refl, (refl, refl))
 
 -- ---- the end
 
 pub segment_ends : (self : FedSegment) (before : Option Layout) (state : State) (reader : Reader) (begun : Vec ℕ Global)
-    (result : Result Recording (Fail Format)) → seen before state ≡ self → IsFeeding (forms.Segment before) state → state ≡ Open reader begun
-    → IsEnded reader result → EndsSegment self result
+    (result : Result Recording (Fail Refusal)) → seen before state ≡ self → IsFeeding (forms.Segment before) state → state ≡ Open reader begun
+    → IsEnded reader begun.items result → EndsSegment self (fault_alone result)
 segment_ends self before state reader begun result view feeding is h =
-    subst (λ f. EndsSegment f result) (ap (seen before) (sym is) ∙ view)
+    subst (λ f. EndsSegment f (fault_alone result)) (ap (seen before) (sym is) ∙ view)
     (ends_as (forms.Segment before) reader begun result (subst (IsFeeding (forms.Segment before)) is feeding) h)
 
-pub segment_ended_refused : (self : FedSegment) (before : Option Layout) (state : State) (fail : Fail Format) → seen before state ≡ self
-    → state ≡ Stopped fail → EndsSegment self (Err fail)
-segment_ended_refused self before state fail view is = subst (λ f. EndsSegment f (Err fail)) (ap (seen before) (sym is) ∙ view) refl
+pub segment_ended_refused : (self : FedSegment) (before : Option Layout) (state : State) (fail : Fail Refusal) → seen before state ≡ self
+    → state ≡ Stopped fail → EndsSegment self (fault_alone (Err fail))
+segment_ended_refused self before state fail view is = subst (λ f. EndsSegment f (fault_alone (Err fail))) (ap (seen before) (sym is) ∙ view) refl

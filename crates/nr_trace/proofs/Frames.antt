@@ -16,13 +16,13 @@ use Rattle.nr_trace.specs.Versions.{least_frames, most_frames}
 use Rattle.nr_trace.specs.Recording.{IsImage, start_frames}
 use Rattle.nr_trace.specs.Spelling.{dump, dump_head, event, frame_number, frame_words, frames, log_word, start_units}
 use Rattle.nr_trace.specs.inside.Reading.{HasWords}
-use Rattle.nr_trace.specs.FirstFault.{AtUnit, AtFrames, AtDumps, AtLog, AtStart, IsNext}
+use Rattle.nr_trace.specs.FirstFault.{AtUnit, AtFrames, AtDumps, AtLog, AtStart, IsNext, OfFrames, and_then, refusal_at}
 use Rattle.vs_types.specs.Config.{Layout}
 use Rattle.nr_trace.specs.inside.Progress.{HasRead, AreInRange, IsEmpty, IsOpened, IsOwner, IsReady, AreBelow, BehindDumps, BehindFrames, Belongs, AtWords}
 use Rattle.nr_trace.specs.inside.Progress.{Ahead}
-use Rattle.nr_trace.specs.inside.Progress.{front_with, header_units, numbers_of, opened_spelling, own_fault, parts_spelling, said, whole_of, whole_spelling}
+use Rattle.nr_trace.specs.inside.Progress.{front_with, header_units, numbers_of, opened_spelling, frames_of, parts_spelling, said, whole_of, whole_spelling}
 use Rattle.nr_trace.specs.inside.Progress.{begun, opened_of, frame_begun, words_begun}
-use Rattle.nr_trace.specs.declared.fault.Format.{Format}
+use Rattle.nr_trace.specs.declared.refusal.Refusal.{Refusal}
 use Rattle.nr_trace.specs.declared.reading.reader.Parts.{Parts}
 use Rattle.nr_trace.specs.declared.reading.reader.Opened.{Opened}
 use Rattle.nr_trace.specs.declared.reading.reader.OpenFrame.{OpenFrame}
@@ -51,29 +51,29 @@ values_more memory k v above =
 
 -- ---- the number of a frame
 
-pub number_passed : (own : ℕ → Format) (index frames : ℕ) (last : Option ℕ) (Behind : List ℕ → Format → Type 0)
-    (number : ℕ) (unit rest : List ℕ) (fault : Format)
+pub number_passed : (own : OfFrames) (index frames : ℕ) (last : Option ℕ) (Behind : List ℕ → Refusal → Type 0)
+    (number : ℕ) (unit rest : List ℕ) (fault : Refusal)
     → 1 ≤ frames → IsNext last number → unit ≡ frame_number number
-    → AtUnit 4096 None IsFrame frame_words (λ words. AtFrames own (index + 1) (frames - 1) (Some number) Behind) rest fault
+    → AtUnit 4096 (own.words index) None IsFrame frame_words (λ words. AtFrames own (index + 1) (frames - 1) (Some number) Behind) rest fault
     → AtFrames own index frames last Behind (unit ++ rest) fault
 unfolding AtFrames
 number_passed own index zero last Behind number unit rest fault some next is h = absurd (omega arith)
 number_passed own index (suc frames) last Behind number unit rest fault some next is h =
     let down : suc frames - 1 ≡ frames = omega arith in
-    passed 8 (Some (own index)) (IsNext last) frame_number
-    (λ n. AtUnit 4096 None IsFrame frame_words (λ words. AtFrames own (index + 1) frames (Some n) Behind)) fault unit rest number next is
-    (subst (λ (n : ℕ). AtUnit 4096 None IsFrame frame_words (λ words. AtFrames own (index + 1) n (Some number) Behind) rest fault) down h)
+    passed 8 (own.number index) (Some (own.fault index)) (IsNext last) frame_number
+    (λ n. AtUnit 4096 (own.words index) None IsFrame frame_words (λ words. AtFrames own (index + 1) frames (Some n) Behind)) fault unit rest number next is
+    (subst (λ (n : ℕ). AtUnit 4096 (own.words index) None IsFrame frame_words (λ words. AtFrames own (index + 1) n (Some number) Behind) rest fault) down h)
 
-pub number_refused : (own : ℕ → Format) (index frames : ℕ) (last : Option ℕ) (Behind : List ℕ → Format → Type 0) (unit rest : List ℕ)
+pub number_refused : (own : OfFrames) (index frames : ℕ) (last : Option ℕ) (Behind : List ℕ → Refusal → Type 0) (unit rest : List ℕ)
     → 1 ≤ frames → length unit ≡ 8
     → ((number : ℕ) → IsNext last number → unit ≢ frame_number number)
-    → AtFrames own index frames last Behind (unit ++ rest) (own index)
+    → AtFrames own index frames last Behind (unit ++ rest) (and_then rest (refusal_at (own.number index) unit (own.fault index)))
 unfolding AtFrames
 number_refused own index zero last Behind unit rest some whole none = absurd (omega arith)
 number_refused own index (suc frames) last Behind unit rest some whole none =
-    refused 8 (Some (own index)) (IsNext last) frame_number
-    (λ n. AtUnit 4096 None IsFrame frame_words (λ words. AtFrames own (index + 1) frames (Some n) Behind))
-    (own index) unit rest whole refl none
+    refused 8 (own.number index) (own.fault index) (IsNext last) frame_number
+    (λ n. AtUnit 4096 (own.words index) None IsFrame frame_words (λ words. AtFrames own (index + 1) frames (Some n) Behind))
+    unit rest (refusal_at (own.number index) unit (own.fault index)) refl whole none
 
 pub number_taken : (parts : Parts) (opened : Opened) (last : Option ℕ) (number : ℕ) (unit : List ℕ) → IsOpened parts opened
     → ((n : ℕ) → IsNext last n → AreBelow opened n) → IsNext last number → unit ≡ frame_number number
@@ -81,9 +81,9 @@ pub number_taken : (parts : Parts) (opened : Opened) (last : Option ℕ) (number
     (Words parts (begun opened number))
 number_taken parts opened last number unit is_opened below next is = record {
   form_is = refl;
-  ready = (is_opened, next.in_range, below number next, All-nil (λ word. word < 2 ^ 64), omega arith);
+  ready = (is_opened, next.in_range, below number next, All-nil (λ word. word < 2 ^ 64), omega arith, refl);
   bytes_are = append-nil (frame_begun parts (begun opened number)) ∙ ap (λ (l : List ℕ). said (Frame parts opened last) ++ l) (sym is);
-  faults = λ rest fault h. number_passed (own_fault parts opened.owner) (finite.len opened.dump.frames) opened.left last
+  faults = λ rest fault h. number_passed (frames_of parts opened.owner) (finite.len opened.dump.frames) opened.left last
       (BehindFrames parts opened.owner) number unit rest fault is_opened.some_left next is h;
 }
 
@@ -137,17 +137,17 @@ grown_spelled parts frame some above =
     ∙ sym (append_assoc (opened_spelling parts (opened_of frame)) (frame_number number) (frame_words words))
 
 -- the frame goes after the others, whatever the reader does then
-words_faults : (parts : Parts) (frame : OpenFrame) (rest : List ℕ) (fault : Format) → AreBelow (opened_of frame) frame.dump.number
+words_faults : (parts : Parts) (frame : OpenFrame) (rest : List ℕ) (fault : Refusal) → AreBelow (opened_of frame) frame.dump.number
     → IsFrame frame.dump.coming
-    → AtFrames (own_fault parts frame.owner) (finite.len (grown frame).dump.frames) (frame.left - 1) (Some frame.dump.number)
+    → AtFrames (frames_of parts frame.owner) (finite.len (grown frame).dump.frames) (frame.left - 1) (Some frame.dump.number)
     (BehindFrames parts frame.owner) rest fault
     → AtWords parts frame (words_begun frame ++ rest) fault
 words_faults parts frame rest fault above are h =
     let memory = frame.dump.dump.frames in
-    passed 4096 None IsFrame frame_words
-    (λ _. AtFrames (own_fault parts frame.owner) (finite.len memory + 1) (frame.left - 1) (Some frame.dump.number) (BehindFrames parts frame.owner)) fault
+    passed 4096 ((frames_of parts frame.owner).words (finite.len memory)) None IsFrame frame_words
+    (λ _. AtFrames (frames_of parts frame.owner) (finite.len memory + 1) (frame.left - 1) (Some frame.dump.number) (BehindFrames parts frame.owner)) fault
     (words_begun frame) rest frame.dump.coming are refl
-    (subst (λ (n : ℕ). AtFrames (own_fault parts frame.owner) n (frame.left - 1) (Some frame.dump.number) (BehindFrames parts frame.owner) rest fault)
+    (subst (λ (n : ℕ). AtFrames (frames_of parts frame.owner) n (frame.left - 1) (Some frame.dump.number) (BehindFrames parts frame.owner) rest fault)
     (count_push memory frame.dump.number frame.dump.coming above) h)
 
 grown_numbers : (frame : OpenFrame) → All (λ n. n < 2 ^ 40) (finite.keys frame.dump.dump.frames) → frame.dump.number < 2 ^ 40
@@ -197,7 +197,7 @@ frame_taken parts frame is_opened fits above are more = record {
   faults = λ rest fault h. words_faults parts frame rest fault above are h;
 }
 
-pub no_frame : (own : ℕ → Format) (index frames : ℕ) (last : Option ℕ) (Behind : List ℕ → Format → Type 0) (rest : List ℕ) (fault : Format)
+pub no_frame : (own : OfFrames) (index frames : ℕ) (last : Option ℕ) (Behind : List ℕ → Refusal → Type 0) (rest : List ℕ) (fault : Refusal)
     → frames ≡ 0 → Behind rest fault → AtFrames own index frames last Behind rest fault
 unfolding AtFrames
 no_frame own index frames last Behind rest fault none h = subst (λ (n : ℕ). AtFrames own index n last Behind rest fault) (sym none) h
@@ -248,7 +248,7 @@ module _ (parts : Parts) (frame : OpenFrame) (is_opened : IsOpened parts (opened
       (ap (λ (n : ℕ). front_with parts frame.owner image (finite.len image.frames + n) ++ flat_map frame_bytes (finite.entries image.frames)) (sym none)
       ∙ grown_spelled parts frame is_opened.some_left above)
       (λ rest fault h. words_faults parts frame rest fault above are
-      (no_frame (own_fault parts frame.owner) (finite.len image.frames) (frame.left - 1) (Some frame.dump.number) (BehindFrames parts frame.owner)
+      (no_frame (frames_of parts frame.owner) (finite.len image.frames) (frame.left - 1) (Some frame.dump.number) (BehindFrames parts frame.owner)
       rest fault none h))
 
 -- a dump goes after the others
@@ -299,12 +299,12 @@ nothing_behind front log recorded dumps no_log no_events no_dumps =
 -- a start without frames is none
 pub no_start : (parts : Parts) (numbers : Counts) (reader : Reader) → IsEmpty parts → numbers.layout ≡ parts.layout → numbers.start ≡ 0
     → HasRead parts.form (parts_spelling (length parts.log.items + numbers.places) numbers.events parts)
-    (AtLog parts.version parts.layout numbers.places numbers.events) reader
-    → HasRead parts.form (header_units numbers parts) (AtStart numbers.start (AtLog parts.version parts.layout numbers.places numbers.events)) reader
+    (AtLog parts.version parts.layout (length parts.log.items) numbers.places numbers.events) reader
+    → HasRead parts.form (header_units numbers parts) (AtStart numbers.start (AtLog parts.version parts.layout 0 numbers.places numbers.events)) reader
 no_start parts numbers reader empty layout none has =
     let places = length parts.log.items + numbers.places in
     let all : places ≡ numbers.places = omega (arith, ap length empty.no_log) in
-    let Behind : List ℕ → Format → Type 0 = AtLog parts.version parts.layout numbers.places numbers.events in
+    let Behind : List ℕ → Refusal → Type 0 = AtLog parts.version parts.layout 0 numbers.places numbers.events in
     goes_on parts.form reader _ _ _ _ has
     (nothing_behind (front_of parts places numbers.events) parts.log.items parts.events.items parts.dumps.items empty.no_log empty.no_events empty.no_dumps
     ∙ ap (λ (s : Option Image). header_units (numbers_of (start_frames s) places numbers.events parts) parts ++ start_units s) empty.no_start
@@ -312,17 +312,22 @@ no_start parts numbers reader empty layout none has =
     ∙ ap (λ (n : ℕ). header_units (numbers_of 0 n numbers.events parts) parts) all
     ∙ ap (λ (n : ℕ). header_units (numbers_of n numbers.places numbers.events parts) parts) (sym none)
     ∙ ap (λ (l : Layout). header_units (record { layout = l; places = numbers.places; events = numbers.events; start = numbers.start }) parts) (sym layout))
-    (λ rest fault h. subst (λ (n : ℕ). AtStart n Behind rest fault) (sym none) h)
+    (λ rest fault h. subst (λ (n : ℕ). AtStart n Behind rest fault) (sym none)
+    (subst (λ (n : ℕ). AtLog parts.version parts.layout n numbers.places numbers.events rest fault) (ap length empty.no_log) h))
 
 -- ---- some words of a frame
 
 -- the frame with the words of a run after those that had come
 abbrev pub filled : OpenFrame → OpenImage → OpenFrame
-filled frame dump =
-    record { dump = record { dump = frame.dump.dump; number = frame.dump.number; coming = dump.coming }; left = frame.left; owner = frame.owner }
+filled frame dump = record {
+  dump = record { dump = frame.dump.dump; number = frame.dump.number; coming = dump.coming };
+  index = frame.index;
+  left = frame.left;
+  owner = frame.owner;
+}
 
 -- what is ahead of some words is ahead of the frame that they go into
-run_faults : (parts : Parts) (frame : OpenFrame) (dump : OpenImage) (run rest : List ℕ) (fault : Format) → HasWords frame.dump run dump
+run_faults : (parts : Parts) (frame : OpenFrame) (dump : OpenImage) (run rest : List ℕ) (fault : Refusal) → HasWords frame.dump run dump
     → AtWords parts (filled frame dump) (words_begun (filled frame dump) ++ rest) fault → Ahead (Words parts frame) (run ++ rest) fault
 run_faults parts frame dump run rest fault has h =
     subst (λ (l : List ℕ). AtWords parts frame l fault)
@@ -336,28 +341,28 @@ run_said parts frame dump run has =
 
 -- words are left
 pub run_taken : (parts : Parts) (frame next : OpenFrame) (run : List ℕ) → IsReady (Words parts frame) → HasWords frame.dump run next.dump
-    → next.left ≡ frame.left → next.owner ≡ frame.owner → length next.dump.coming < 512
+    → next.index ≡ frame.index → next.left ≡ frame.left → next.owner ≡ frame.owner → length next.dump.coming < 512
     → HasRead parts.form (said (Words parts frame) ++ run) (λ rest fault. Ahead (Words parts frame) (run ++ rest) fault) (Words parts next)
-run_taken parts frame next run ready has same own few =
+run_taken parts frame next run ready has at_index same own few =
     let made : HasRead parts.form (said (Words parts frame) ++ run) (λ rest fault. Ahead (Words parts frame) (run ++ rest) fault)
     (Words parts (filled frame next.dump)) =
     record {
       form_is = refl;
-      ready = (ready.0, ready.1, ready.2, has.fit ready.3, few);
+      ready = (ready.0, ready.1, ready.2, has.fit ready.3, few, ready.5);
       bytes_are = run_said parts frame next.dump run has;
       faults = λ rest fault h. run_faults parts frame next.dump run rest fault has h;
     } in
     subst (λ (f : OpenFrame). HasRead parts.form (said (Words parts frame) ++ run)
     (λ rest fault. Ahead (Words parts frame) (run ++ rest) fault) (Words parts f))
-    (λ i. record { dump = (sym has.same) i; left = (sym same) i; owner = (sym own) i }) made
+    (λ i. record { dump = (sym has.same) i; index = (sym at_index) i; left = (sym same) i; owner = (sym own) i }) made
 
 -- no word is left
-pub words_taken : (parts : Parts) (frame next : OpenFrame) (run : List ℕ) (reader : Reader) → HasWords frame.dump run next.dump → next.left ≡ frame.left
-    → next.owner ≡ frame.owner → HasRead parts.form (frame_begun parts next ++ words_begun next)
+pub words_taken : (parts : Parts) (frame next : OpenFrame) (run : List ℕ) (reader : Reader) → HasWords frame.dump run next.dump
+    → next.index ≡ frame.index → next.left ≡ frame.left → next.owner ≡ frame.owner → HasRead parts.form (frame_begun parts next ++ words_begun next)
     (λ rest fault. AtWords parts next (words_begun next ++ rest) fault) reader
     → HasRead parts.form (said (Words parts frame) ++ run) (λ rest fault. Ahead (Words parts frame) (run ++ rest) fault) reader
-words_taken parts frame next run reader has same own read =
-    let is : next ≡ filled frame next.dump = λ i. record { dump = has.same i; left = same i; owner = own i } in
+words_taken parts frame next run reader has at_index same own read =
+    let is : next ≡ filled frame next.dump = λ i. record { dump = has.same i; index = at_index i; left = same i; owner = own i } in
     let read_so : HasRead parts.form (frame_begun parts frame ++ words_begun (filled frame next.dump))
     (λ rest fault. AtWords parts (filled frame next.dump) (words_begun (filled frame next.dump) ++ rest) fault) reader =
     subst (λ (f : OpenFrame). HasRead parts.form (frame_begun parts f ++ words_begun f) (λ rest fault. AtWords parts f (words_begun f ++ rest) fault) reader) is

@@ -10,10 +10,13 @@ use Rattle.vs_types.specs.Frame.{IsFrame}
 use Rattle.nr_trace.specs.Recording.{Recording, IsImage, IsEvent}
 use Rattle.nr_trace.specs.Versions.{Follows, IsVersionOf}
 use Rattle.nr_trace.specs.Spelling.{version_word, counts, dump_head, Spells, log_word, event, dump, frame_number, frame_words}
-use Rattle.nr_trace.specs.FirstFault.{AtUnit, IsCounts, IsDumpHead, IsNext, AtFrames, AtDumps, AtEvents, AtLayout, AtLog, AtStart, HasFaultAs, HasFormatFault}
-use Rattle.nr_trace.specs.FirstFault.{HasSegmentFault, counts_bytes, magic_of}
+use Rattle.nr_trace.specs.FirstFault.{AtUnit, IsCounts, IsDumpHead, IsNext, AtFrames, AtDumps, AtEvents, AtLayout, AtLog, AtStart, HasFormatFault, HasRefusalAs}
+use Rattle.nr_trace.specs.FirstFault.{HasSegmentFault, OfFrames, counts_bytes, counts_unit, magic_of, of_dump, of_start, own_at, refusal_at, refusal_of_counts}
 use Rattle.nr_trace.specs.declared.fault.Format.{Format}
-use Rattle.nr_trace.specs.declared.fault.Format.TheVariants.{Truncated, BadMagic, BadVersion, BadCount, BadChain, BadStart, BadEvent, BadFrame, Trailing}
+use Rattle.nr_trace.specs.declared.refusal.Refusal.{Refusal}
+use Rattle.nr_trace.specs.declared.refusal.TraceUnit.{TraceUnit}
+use Rattle.nr_trace.specs.declared.refusal.TraceUnit.TheVariants as units
+use Rattle.nr_trace.specs.declared.fault.Format.TheVariants.{Truncated, BadMagic, BadVersion, BadCount, BadChain, BadEvent, Trailing}
 use Rattle.nr_trace.specs.declared.version.Version.{Version}
 use Rattle.nr_trace.specs.declared.version.Form.{Form}
 use Rattle.nr_trace.specs.declared.version.Form.TheVariants as forms
@@ -29,13 +32,17 @@ use Rattle.nr_trace.proofs.Known.{Known, below, same_layout}
 use Rattle.nr_trace.proofs.UnitsOfBytes.{IsTold, AreBytes, magic_told, version_told, counts_told, event_told, head_told, number_told, place_told, word_told}
 use Rattle.nr_trace.proofs.UnitsOfBytes.{words_told}
 
--- the property holds of the rest, or the rest has another fault by the relation than `Trailing`
-abbrev Either : (List ℕ → Type 0) → (List ℕ → Format → Type 0) → List ℕ → Type 0
-Either Then Behind rest = Then rest ⊎ ((fault : Format) × (fault ≢ Trailing) × Behind rest fault)
+-- the property holds of the rest, or the rest is refused by the relation for another fault than `Trailing`
+abbrev Either : (List ℕ → Type 0) → (List ℕ → Refusal → Type 0) → List ℕ → Type 0
+Either Then Behind rest = Then rest ⊎ ((refusal : Refusal) × (refusal.fault ≢ Trailing) × Behind rest refusal)
 
--- the same of all bytes, and of whatever has the fault `Trailing` by the relation
-abbrev AlwaysEither : (List ℕ → Type 0) → (List ℕ → Format → Type 0) → Type 0
-AlwaysEither Then Behind = (rest : List ℕ) → AreBytes rest ⊎ Behind rest Trailing → Either Then Behind rest
+-- the rest has the fault `Trailing` by the relation
+abbrev IsTrailing : (List ℕ → Refusal → Type 0) → List ℕ → Type 0
+IsTrailing Behind rest = (refusal : Refusal) × (refusal.fault ≡ Trailing) × Behind rest refusal
+
+-- the same of all bytes, and of whatever has that fault
+abbrev AlwaysEither : (List ℕ → Type 0) → (List ℕ → Refusal → Type 0) → Type 0
+AlwaysEither Then Behind = (rest : List ℕ) → AreBytes rest ⊎ IsTrailing Behind rest → Either Then Behind rest
 
 either_as : {P Q F : Type 0} → (P → Q) → P ⊎ F → Q ⊎ F
 either_as there (inl p) = inl (there p)
@@ -57,52 +64,57 @@ judged {fault = fault} told unit all long = elim (told unit) [ inl some ↦ inl 
 abbrev HasUnit : {A : Type 0} → (A → Type 0) → (A → List ℕ) → (A → List ℕ → Type 0) → List ℕ → Type 0
 HasUnit {A} Fits spelled Then rest = (value : A) × (more : List ℕ) × Fits value × (rest ≡ spelled value ++ more) × Then value more
 
-at_unit : {A : Type 0} (bytes : ℕ) (own : Option Format) (Fits : A → Type 0) (spelled : A → List ℕ) (Behind : A → List ℕ → Format → Type 0)
+at_unit : {A : Type 0} (bytes : ℕ) (named : TraceUnit) (own : Option Format) (Fits : A → Type 0) (spelled : A → List ℕ) (Behind : A → List ℕ → Refusal → Type 0)
     (Then : A → List ℕ → Type 0) → own ≢ Some Trailing → IsJudged bytes own Fits spelled
     → ((value : A) → Fits value → AlwaysEither (Then value) (Behind value))
-    → AlwaysEither (HasUnit Fits spelled Then) (AtUnit bytes own Fits spelled Behind)
-at_unit {A} bytes own Fits spelled Behind Then other judged on rest from = by_source from where
+    → AlwaysEither (HasUnit Fits spelled Then) (AtUnit bytes named own Fits spelled Behind)
+at_unit {A} bytes named own Fits spelled Behind Then other judged on rest from = by_source from where
   Result : Type 0
-  Result = Either (HasUnit Fits spelled Then) (AtUnit bytes own Fits spelled Behind) rest
+  Result = Either (HasUnit Fits spelled Then) (AtUnit bytes named own Fits spelled Behind) rest
 
   by_rest : (value : A) (more : List ℕ) → Fits value → rest ≡ spelled value ++ more → Either (Then value) (Behind value) more → Result
   by_rest value more fits is (inl then) = inl (value, more, fits, is, then)
-  by_rest value more fits is (inr (fault, another, h)) = inr (fault, another, inr (inr (value, more, fits, is, h)))
+  by_rest value more fits is (inr (refusal, another, h)) = inr (refusal, another, inr (inr (value, more, fits, is, h)))
 
   by_judgement : AreBytes rest → bytes ≤ length rest → ((value : A) × Fits value × (take bytes rest ≡ spelled value))
       ⊎ ((fault : Format) × (own ≡ Some fault) × ((value : A) → Fits value → take bytes rest ≢ spelled value)) → Result
   by_judgement all enough (inl (value, fits, is)) =
       by_rest value (drop bytes rest) fits (sym (take-append-drop bytes rest) ∙ ap (λ (l : List ℕ). l ++ drop bytes rest) is)
       (on value fits (drop bytes rest) (inl (All-drop (λ byte. byte < 256) bytes rest all)))
-  by_judgement all enough (inr (fault, is, none)) = inr (fault, (λ e. other (is ∙ ap Some e)), inr (inl (enough, is, none)))
+  by_judgement all enough (inr (fault, is, none)) =
+      inr (refusal_at named rest fault, (λ e. other (is ∙ ap Some e)), inr (inl (enough, ap (own_at named rest) is, none)))
 
   by_length : AreBytes rest → Known (length rest < bytes) → Result
-  by_length all (inl short) = inr (Truncated, (λ e. absurd cc), inl (short, refl))
+  by_length all (inl short) = inr (refusal_at named rest Truncated, (λ e. absurd cc), inl (short, refl))
   by_length all (inr long) =
       let enough : bytes ≤ length rest = omega arith in
       by_judgement all enough (judged (take bytes rest) (All-take (λ byte. byte < 256) bytes rest all) (length-take-le bytes rest enough))
 
-  by_source : AreBytes rest ⊎ AtUnit bytes own Fits spelled Behind rest Trailing → Result
+  own_trailing : (own : Option Format) (refusal : Refusal) → own_at named rest own ≡ Some refusal → refusal.fault ≡ Trailing → own ≡ Some Trailing
+  own_trailing None refusal is e = absurd cc
+  own_trailing (Some fault) refusal is e = ap Some (ap (λ (r : Refusal). r.fault) (same_Some (refusal_at named rest fault) refusal is) ∙ e)
+
+  by_source : AreBytes rest ⊎ IsTrailing (AtUnit bytes named own Fits spelled Behind) rest → Result
   by_source (inl all) = by_length all (below (length rest) bytes)
-  by_source (inr (inl short)) = let e : Trailing ≡ Truncated = short.1 in absurd cc
-  by_source (inr (inr (inl refused))) = absurd (other refused.1)
-  by_source (inr (inr (inr (value, more, fits, is, h)))) = by_rest value more fits is (on value fits more (inr h))
+  by_source (inr (refusal, trailing, inl short)) = let e : Trailing ≡ Truncated = sym trailing ∙ ap (λ (r : Refusal). r.fault) short.1 in absurd cc
+  by_source (inr (refusal, trailing, inr (inl refused))) = absurd (other (own_trailing own refusal refused.1 trailing))
+  by_source (inr (refusal, trailing, inr (inr (value, more, fits, is, h)))) = by_rest value more fits is (on value fits more (inr (refusal, trailing, h)))
 
 -- ---- the rest, from the end
 
-frames_or_fault : (own : ℕ → Format) → ((index : ℕ) → own index ≢ Trailing)
-    → (index frames : ℕ) (before : Option ℕ) (Behind : List ℕ → Format → Type 0) (Then : List ℕ → Type 0)
+frames_or_fault : (own : OfFrames) → ((index : ℕ) → own.fault index ≢ Trailing)
+    → (index frames : ℕ) (before : Option ℕ) (Behind : List ℕ → Refusal → Type 0) (Then : List ℕ → Type 0)
     → AlwaysEither Then Behind → AlwaysEither (HasUnits (FramesFit before) frame frames Then) (AtFrames own index frames before Behind)
 unfolding AtFrames
 frames_or_fault own other index zero before Behind Then on rest from = either_as (no_unit (FramesFit before) frame Then rest (tt, tt)) (on rest from)
 frames_or_fault own other index (suc frames) before Behind Then on rest from =
     either_as (λ (number, middle, next, is, (words, behind, fits, also, has)).
     one_frame before frames Then number words rest middle behind next fits is also has)
-    (at_unit 8 (Some (own index)) (IsNext before) frame_number
-    (λ number. AtUnit 4096 None IsFrame frame_words (λ words. AtFrames own (index + 1) frames (Some number) Behind))
+    (at_unit 8 (own.number index) (Some (own.fault index)) (IsNext before) frame_number
+    (λ number. AtUnit 4096 (own.words index) None IsFrame frame_words (λ words. AtFrames own (index + 1) frames (Some number) Behind))
     (λ number. HasUnit IsFrame frame_words (λ words. HasUnits (FramesFit (Some number)) frame frames Then))
-    (λ e. other index (same_Some (own index) Trailing e)) (judged (number_told before))
-    (λ number next. at_unit 4096 None IsFrame frame_words (λ words. AtFrames own (index + 1) frames (Some number) Behind)
+    (λ e. other index (same_Some (own.fault index) Trailing e)) (judged (number_told before))
+    (λ number next. at_unit 4096 (own.words index) None IsFrame frame_words (λ words. AtFrames own (index + 1) frames (Some number) Behind)
     (λ words. HasUnits (FramesFit (Some number)) frame frames Then) (λ e. absurd cc) (λ unit bytes long. inl (words_told unit bytes long))
     (λ words fits. frames_or_fault own other (index + 1) frames (Some number) Behind Then on)) rest from)
 
@@ -111,9 +123,9 @@ unfolding AtDumps
 dumps_or_fault version replica zero rest from = inl (no_unit (AllByRecursion (IsImage version)) dump (λ _. ⊤) rest tt tt)
 dumps_or_fault version replica (suc dumps) rest from =
     either_as (λ (head, behind, fits, is, has). one_dump version dumps head rest behind fits is has)
-    (at_unit 16 (Some BadCount) (IsDumpHead version) dump_head (λ head. AtFrames (BadFrame replica) 0 head.frames None (AtDumps version (replica + 1) dumps))
+    (at_unit 16 (units.DumpHead replica) (Some BadCount) (IsDumpHead version) dump_head (λ head. AtFrames (of_dump replica) 0 head.frames None (AtDumps version (replica + 1) dumps))
     (λ head. HasUnits (FramesFit None) frame head.frames (HasDumps version dumps)) (λ e. absurd cc) (judged (head_told version))
-    (λ head fits. frames_or_fault (BadFrame replica) (λ index e. absurd cc) 0 head.frames None (AtDumps version (replica + 1) dumps) (HasDumps version dumps)
+    (λ head fits. frames_or_fault (of_dump replica) (λ index e. absurd cc) 0 head.frames None (AtDumps version (replica + 1) dumps) (HasDumps version dumps)
     (dumps_or_fault version (replica + 1) dumps)) rest from)
 
 events_or_fault : (version : Version) (layout : Layout) → IsWide layout → (index events : ℕ)
@@ -126,73 +138,73 @@ events_or_fault version layout l index (suc events) rest from =
     either_as (λ (one, behind, fits, is, has).
     one_unit (AllByRecursion (IsEvent version layout)) (AllByRecursion (IsEvent version layout)) event events
     (HasDumps version layout.replicas) one rest behind (λ es others. (fits, others)) is has)
-    (at_unit 24 (Some (BadEvent index)) (IsEvent version layout) event (λ _. AtEvents version layout (index + 1) events)
+    (at_unit 24 (units.Event index) (Some (BadEvent index)) (IsEvent version layout) event (λ _. AtEvents version layout (index + 1) events)
     (λ _. HasEvents version layout events) (λ e. absurd cc) (judged (event_told version layout l))
     (λ _ _. events_or_fault version layout l (index + 1) events) rest from)
 
-log_or_fault : (version : Version) (layout : Layout) → IsWide layout → (places events : ℕ)
-    → AlwaysEither (HasLog version layout places events) (AtLog version layout places events)
+log_or_fault : (version : Version) (layout : Layout) → IsWide layout → (place places events : ℕ)
+    → AlwaysEither (HasLog version layout places events) (AtLog version layout place places events)
 unfolding AtLog
-log_or_fault version layout l zero events rest from =
+log_or_fault version layout l place zero events rest from =
     either_as (no_unit (AllByRecursion (λ call. call < 2 ^ 32)) log_word (HasEvents version layout events) rest tt)
     (events_or_fault version layout l 0 events rest from)
-log_or_fault version layout l (suc places) events rest from =
+log_or_fault version layout l place (suc places) events rest from =
     either_as (λ (call, behind, fits, is, has).
     one_unit (AllByRecursion (λ call. call < 2 ^ 32)) (AllByRecursion (λ call. call < 2 ^ 32)) log_word places
     (HasEvents version layout events) call rest behind (λ calls others. (fits, others)) is has)
-    (at_unit 4 None (λ call. call < 2 ^ 32) log_word (λ _. AtLog version layout places events)
+    (at_unit 4 (units.Place place) None (λ call. call < 2 ^ 32) log_word (λ _. AtLog version layout (place + 1) places events)
     (λ _. HasLog version layout places events) (λ e. absurd cc) (λ unit bytes long. inl (place_told unit bytes long))
-    (λ _ _. log_or_fault version layout l places events) rest from)
+    (λ _ _. log_or_fault version layout l (place + 1) places events) rest from)
 
 start_or_fault : (version : Version) (numbers : Counts) (n : ℕ) → AlwaysEither (HasLog version numbers.layout numbers.places numbers.events)
-    (AtLog version numbers.layout numbers.places numbers.events) → numbers.start ≡ n
-    → AlwaysEither (HasStart version numbers n) (AtStart n (AtLog version numbers.layout numbers.places numbers.events))
+    (AtLog version numbers.layout 0 numbers.places numbers.events) → numbers.start ≡ n
+    → AlwaysEither (HasStart version numbers n) (AtStart n (AtLog version numbers.layout 0 numbers.places numbers.events))
 start_or_fault version numbers zero on is rest from = on rest from
 start_or_fault version numbers (suc n) on is rest from =
-    let behind = AtLog version numbers.layout numbers.places numbers.events in
+    let behind = AtLog version numbers.layout 0 numbers.places numbers.events in
     let log = HasLog version numbers.layout numbers.places numbers.events in
     either_as (λ (root, middle, fits, is_rest, has).
     let there : HasFrames version numbers middle = subst (λ (k : ℕ). HasUnits (FramesFit None) frame k log middle) (sym is) has in
     record { root = root; fits = fits; behind = middle; parts = is_rest; frames = there })
-    (at_unit 8 None (λ root. root < 2 ^ 64) frame_number (λ _. AtFrames BadStart 0 (suc n) None behind)
+    (at_unit 8 units.StartRoot None (λ root. root < 2 ^ 64) frame_number (λ _. AtFrames of_start 0 (suc n) None behind)
     (λ _. HasUnits (FramesFit None) frame (suc n) log) (λ e. absurd cc) (λ unit bytes long. inl (word_told unit bytes long))
-    (λ root fits. frames_or_fault BadStart (λ index e. absurd cc) 0 (suc n) None behind log on) rest from)
+    (λ root fits. frames_or_fault of_start (λ index e. absurd cc) 0 (suc n) None behind log on) rest from)
 
 follows_known : (form : Form) (layout : Layout) → Known (Follows form layout)
 follows_known (forms.Segment (Some before)) layout = same_layout before layout
 follows_known _ layout = inl tt
 
-layout_or_fault : (form : Form) (layout : Layout) (Behind : List ℕ → Format → Type 0) (Then : List ℕ → Type 0) → AlwaysEither Then Behind
-    → AlwaysEither (λ rest. Follows form layout × Then rest) (AtLayout form layout Behind)
-layout_or_fault form layout Behind Then on rest from = by_known (follows_known form layout) where
-  by_rest : Follows form layout → Either Then Behind rest → Either (λ rest. Follows form layout × Then rest) (AtLayout form layout Behind) rest
+layout_or_fault : (form : Form) (version : Version) (layout : Layout) (Behind : List ℕ → Refusal → Type 0) (Then : List ℕ → Type 0) → AlwaysEither Then Behind
+    → AlwaysEither (λ rest. Follows form layout × Then rest) (AtLayout form version layout Behind)
+layout_or_fault form version layout Behind Then on rest from = by_known (follows_known form layout) where
+  by_rest : Follows form layout → Either Then Behind rest → Either (λ rest. Follows form layout × Then rest) (AtLayout form version layout Behind) rest
   by_rest follows (inl then) = inl (follows, then)
-  by_rest follows (inr (fault, another, h)) = inr (fault, another, inr (follows, h))
+  by_rest follows (inr (refusal, another, h)) = inr (refusal, another, inr (follows, h))
 
-  by_source : Follows form layout → AreBytes rest ⊎ AtLayout form layout Behind rest Trailing
-      → Either (λ rest. Follows form layout × Then rest) (AtLayout form layout Behind) rest
+  by_source : Follows form layout → AreBytes rest ⊎ IsTrailing (AtLayout form version layout Behind) rest
+      → Either (λ rest. Follows form layout × Then rest) (AtLayout form version layout Behind) rest
   by_source follows (inl all) = by_rest follows (on rest (inl all))
-  by_source follows (inr (inl other)) = absurd (other.0 follows)
-  by_source follows (inr (inr h)) = by_rest follows (on rest (inr h.1))
+  by_source follows (inr (refusal, trailing, inl other)) = absurd (other.0 follows)
+  by_source follows (inr (refusal, trailing, inr h)) = by_rest follows (on rest (inr (refusal, trailing, h.1)))
 
-  by_known : Known (Follows form layout) → Either (λ rest. Follows form layout × Then rest) (AtLayout form layout Behind) rest
+  by_known : Known (Follows form layout) → Either (λ rest. Follows form layout × Then rest) (AtLayout form version layout Behind) rest
   by_known (inl follows) = by_source follows from
-  by_known (inr other) = inr (BadChain, (λ e. absurd cc), inl (other, refl))
+  by_known (inr other) = inr (refusal_of_counts version rest BadChain, (λ e. absurd cc), inl (other, refl))
 
 -- ---- all bytes
 
-front_or_fault : (form : Form) → AlwaysEither (HasFront form) (HasFaultAs form)
+front_or_fault : (form : Form) → AlwaysEither (HasFront form) (HasRefusalAs form)
 front_or_fault form bytes from =
     either_as (λ (_, middle, _, is_bytes, (version, behind, of, is_middle, (numbers, rest, fits, is_behind, has))).
     one_front form version numbers bytes middle behind rest of has.0 fits is_bytes is_middle is_behind has.1)
-    (at_unit {A = Unit {0}} 4 (Some BadMagic) (λ _. ⊤) (λ _. magic_of form) (λ _. BehindMagic form)
+    (at_unit {A = Unit {0}} 4 units.Magic (Some BadMagic) (λ _. ⊤) (λ _. magic_of form) (λ _. BehindMagic form)
     (λ _. HasUnit (IsVersionOf form) version_word HasCounts) (λ e. absurd cc) (judged (magic_told form))
-    (λ _ _. at_unit 2 (Some BadVersion) (IsVersionOf form) version_word (BehindVersion form) HasCounts (λ e. absurd cc) (judged (version_told form))
-    (λ version _. at_unit (counts_bytes version) (Some BadCount) (IsCounts version) (counts version) (BehindCounts form version)
+    (λ _ _. at_unit 2 units.Version (Some BadVersion) (IsVersionOf form) version_word (BehindVersion form) HasCounts (λ e. absurd cc) (judged (version_told form))
+    (λ version _. at_unit (counts_bytes version) (counts_unit version) (Some BadCount) (IsCounts version) (counts version) (BehindCounts form version)
     (λ numbers rest. Follows form numbers.layout × HasStart version numbers numbers.start rest)
     (λ e. absurd cc) (judged (counts_told version))
-    (λ numbers fits. layout_or_fault form numbers.layout _ _ (start_or_fault version numbers numbers.start
-    (log_or_fault version numbers.layout (is_wide version numbers.layout fits.layout) numbers.places numbers.events) refl)))) bytes from) where
+    (λ numbers fits. layout_or_fault form version numbers.layout _ _ (start_or_fault version numbers numbers.start
+    (log_or_fault version numbers.layout (is_wide version numbers.layout fits.layout) 0 numbers.places numbers.events) refl)))) bytes from) where
       HasCounts : Version → List ℕ → Type 0
       HasCounts version =
           HasUnit (IsCounts version) (counts version) (λ numbers rest. Follows form numbers.layout × HasStart version numbers numbers.start rest)
@@ -207,27 +219,28 @@ by_end bytes front (byte ∷ more) trace is spells =
 
 pub spelled_or_fault : (bytes : List ℕ) → AreBytes bytes → ((trace : Recording) × Spells bytes trace) ⊎ ((fault : Format) × HasFormatFault bytes fault)
 spelled_or_fault bytes all = by_trace (front_or_fault forms.Trace bytes (inl all)) where
-  by_trace : Either (HasFront forms.Trace) HasFormatFault bytes → ((trace : Recording) × Spells bytes trace) ⊎ ((fault : Format) × HasFormatFault bytes fault)
+  by_trace : Either (HasFront forms.Trace) (HasRefusalAs forms.Trace) bytes → ((trace : Recording) × Spells bytes trace) ⊎ ((fault : Format) × HasFormatFault bytes fault)
   by_trace (inl (front, more, trace, is, spells)) = elim (by_end bytes front more trace is spells) [ inl whole ↦ inl whole | inr on ↦ inr (Trailing, on.1) ]
-  by_trace (inr (fault, another, h)) = inr (fault, h)
+  by_trace (inr (refusal, another, h)) = inr (refusal.fault, (refusal.unit, refusal.left, h))
 
 pub trailing_has_trace : (bytes : List ℕ) → HasFormatFault bytes Trailing
     → (front : List ℕ) × (more : List ℕ) × (trace : Recording) × (bytes ≡ front ++ more) × (more ≢ []) × Spells front trace
-trailing_has_trace bytes h = by_trace (front_or_fault forms.Trace bytes (inr h)) where
-  by_trace : Either (HasFront forms.Trace) HasFormatFault bytes
-      → (front : List ℕ) × (more : List ℕ) × (trace : Recording) × (bytes ≡ front ++ more) × (more ≢ []) × Spells front trace
-  by_trace (inl (front, more, trace, is, spells)) =
-      elim (by_end bytes front more trace is spells) [
-        | inl whole ↦ absurd (no_fault forms.Trace bytes whole.0 Trailing whole.1 h)
-        | inr on ↦ (front, more, trace, is, on.0, spells)
-      ]
-  by_trace (inr (fault, another, k)) = absurd (another (one_fault forms.Trace bytes fault Trailing k h))
+trailing_has_trace bytes h =
+    by_trace (front_or_fault forms.Trace bytes (inr (record { fault = Trailing; unit = h.0; left = h.1 }, refl, h.2))) where
+      by_trace : Either (HasFront forms.Trace) (HasRefusalAs forms.Trace) bytes
+          → (front : List ℕ) × (more : List ℕ) × (trace : Recording) × (bytes ≡ front ++ more) × (more ≢ []) × Spells front trace
+      by_trace (inl (front, more, trace, is, spells)) =
+          elim (by_end bytes front more trace is spells) [
+            | inl whole ↦ absurd (no_fault forms.Trace bytes whole.0 Trailing whole.1 h)
+            | inr on ↦ (front, more, trace, is, on.0, spells)
+          ]
+      by_trace (inr (refusal, another, k)) = absurd (another (one_fault forms.Trace bytes refusal.fault Trailing (refusal.unit, refusal.left, k) h))
 
 -- any bytes have a front that spells a segment, or a fault of one
 pub segment_or_fault : (before : Option Layout) (bytes : List ℕ) → AreBytes bytes
     → HasFront (forms.Segment before) bytes ⊎ ((fault : Format) × HasSegmentFault before bytes fault)
 segment_or_fault before bytes all = by_front (front_or_fault (forms.Segment before) bytes (inl all)) where
-  by_front : Either (HasFront (forms.Segment before)) (HasFaultAs (forms.Segment before)) bytes
+  by_front : Either (HasFront (forms.Segment before)) (HasRefusalAs (forms.Segment before)) bytes
       → HasFront (forms.Segment before) bytes ⊎ ((fault : Format) × HasSegmentFault before bytes fault)
   by_front (inl front) = inl front
-  by_front (inr (fault, another, h)) = inr (fault, h)
+  by_front (inr (refusal, another, h)) = inr (refusal.fault, (refusal.unit, refusal.left, h))

@@ -25,6 +25,7 @@ use Rattle.nr_trace.specs.declared.fault.Fault.{Fault}
 use Rattle.nr_trace.specs.declared.fault.Fault.TheVariants.{Format, ThreadOpen, NoSuchCall, AnsweredTwice, NotAnUpdate, PlacedTwice, NotPlaced, PastLog, Early}
 use Rattle.nr_trace.specs.declared.fault.Fault.TheVariants.{WrongAnswer, PrefixPastLog, PrefixShort, MissingFrame, SharedFrame, ReservedBit, StrayFrame}
 use Rattle.nr_trace.specs.declared.fault.Fault.TheVariants.{Differs}
+use Rattle.nr_trace.specs.declared.fault.Fault.TheVariants.{StartMissing, StartShared, StartReserved, StartStray, StartBeyond, StartDiffers, Stale}
 use Rattle.nr_trace.proofs.LawsOfLists.{In, earlier_member, member_before, in_from_Contains, Contains-from_in, same_place}
 use Rattle.nr_trace.proofs.LawsOfCalls.{answered_stands, call_within, is_some_from, ordered_from_made, reply_below}
 use Rattle.nr_trace.proofs.LawsOfOrder.{standing_is_member}
@@ -61,6 +62,13 @@ reserved_same m n i j e = (cc, cc)
 pub same_rank : (start : Space) (trace : Recording) (f g : Fault) → HasRank trace f → HasRank trace g → HasFaultFrom start trace f → HasFaultFrom start trace g
     → rank trace f ≡ rank trace g → f ≡ g
 same_rank start trace (Format f) g a b h k e = absurd h
+same_rank start trace (StartMissing n) g a b h k e = absurd h
+same_rank start trace (StartShared n) g a b h k e = absurd h
+same_rank start trace (StartReserved n i) g a b h k e = absurd h
+same_rank start trace (StartStray n) g a b h k e = absurd h
+same_rank start trace (StartBeyond n) g a b h k e = absurd h
+same_rank start trace (StartDiffers n) g a b h k e = absurd h
+same_rank start trace (Stale n) g a b h k e = absurd h
 same_rank start trace (ThreadOpen i) (ThreadOpen j) a b h k e = ap ThreadOpen (ap second e)
 same_rank start trace (NoSuchCall i) (NoSuchCall j) a b h k e = ap NoSuchCall (ap second e)
 same_rank start trace (AnsweredTwice i) (AnsweredTwice j) a b h k e = ap AnsweredTwice (ap second e)
@@ -118,6 +126,12 @@ less_from_below a b c x y z h = grind (arith, nat_tests)
 -- the three numbers of a rank: the pass, the index in it, and the fault's own number
 abbrev pub pass : Fault → ℕ
 pass (Format fault) = 1
+pass (StartMissing number) = 1
+pass (StartShared number) = 1
+pass (StartReserved number index) = 1
+pass (StartStray number) = 1
+pass (StartBeyond base) = 1
+pass (StartDiffers address) = 1
 pass (ThreadOpen index) = 2
 pass (NoSuchCall index) = 2
 pass (AnsweredTwice index) = 2
@@ -127,7 +141,8 @@ pass (NotPlaced index) = 4
 pass (PastLog index) = 4
 pass (Early call) = 5
 pass (WrongAnswer call) = 6
-pass _ = 7
+pass (Stale call) = 7
+pass _ = 8
 
 abbrev pub index_of : Recording → Fault → ℕ
 index_of trace fault = get_or (rank trace fault) 1 0
@@ -152,6 +167,11 @@ rank_is trace _ = refl
 pub earlier_parts : (trace : Recording) (f g : Fault) → Earlier trace f g
     → IsBelow (pass f) (index_of trace f) (number_of trace f) (pass g) (index_of trace g) (number_of trace g)
 earlier_parts trace f g e = below_from_less _ _ _ _ _ _ (ap₂ (slice_cmp nat_cmp) (sym (rank_is trace f)) (sym (rank_is trace g)) ∙ e)
+
+-- a fault of an earlier pass is earlier
+pub earlier_pass : (trace : Recording) (f g : Fault) → pass f < pass g → Earlier trace f g
+earlier_pass trace f g lt = ap₂ (slice_cmp nat_cmp) (rank_is trace f) (rank_is trace g) ∙ less_from_below (pass f) (index_of trace f) (number_of trace f) (pass g)
+    (index_of trace g) (number_of trace g) (inl lt)
 
 -- ---- the indexes of what holds
 

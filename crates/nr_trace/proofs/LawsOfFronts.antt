@@ -15,10 +15,13 @@ use Rattle.nr_trace.specs.Spelling.{version_word, counts, counts_of, dump_head, 
 use Rattle.nr_trace.specs.Spelling.{event}
 use Rattle.nr_trace.specs.Spelling.{dump}
 use Rattle.nr_trace.specs.Spelling.{frame_number, frame_words}
-use Rattle.nr_trace.specs.FirstFault.{AtUnit, AtEnd, IsCounts, IsDumpHead, IsNext, AtFrames, AtDumps, AtEvents, AtLog, AtStart, HasFaultAs, HasFormatFault}
-use Rattle.nr_trace.specs.FirstFault.{counts_bytes, magic_of}
+use Rattle.nr_trace.specs.FirstFault.{AtUnit, AtEnd, IsCounts, IsDumpHead, IsNext, AtFrames, AtDumps, AtEvents, AtLog, AtStart, HasFaultAs, HasFormatFault, OfFrames}
+use Rattle.nr_trace.specs.FirstFault.{counts_bytes, counts_unit, magic_of, of_dump, of_start, refusal_at}
 use Rattle.nr_trace.specs.declared.fault.Format.{Format}
-use Rattle.nr_trace.specs.declared.fault.Format.TheVariants.{Truncated, BadMagic, BadVersion, BadCount, BadEvent, BadFrame, BadStart, Trailing}
+use Rattle.nr_trace.specs.declared.refusal.Refusal.{Refusal}
+use Rattle.nr_trace.specs.declared.refusal.TraceUnit.{TraceUnit}
+use Rattle.nr_trace.specs.declared.refusal.TraceUnit.TheVariants as units
+use Rattle.nr_trace.specs.declared.fault.Format.TheVariants.{Truncated, BadMagic, BadVersion, BadCount, BadEvent, Trailing}
 use Rattle.nr_trace.specs.declared.event.Event.{Event}
 use Rattle.nr_trace.specs.declared.version.Version.{Version}
 use Rattle.nr_trace.specs.declared.version.Version.TheVariants.{Segment}
@@ -29,119 +32,126 @@ use Rattle.nr_trace.proofs.LawsOfSpelling.{counted, magic_is, one_recording, spe
 use Rattle.nr_trace.proofs.LawsOfUnits.{length-counts, length-frame_words, length-event}
 use Rattle.nr_trace.proofs.LawsOfFormat.{RisesFrom, rising_from_none, BehindCounts, BehindVersion, BehindMagic, length-magic, no_fault}
 
+-- a unit has the fault by the relation
+abbrev IsFaulty : (List ℕ → Refusal → Type 0) → List ℕ → Format → Type 0
+IsFaulty Behind rest fault = (unit : TraceUnit) × (left : ℕ) × Behind rest (record { fault = fault; unit = unit; left = left })
+
 -- bytes go along with those of a spelling: of a unit they have too few, or all of it; and at the end they have the fault
 record GoesAlong (form : Form) (Beside : List ℕ → List ℕ → Type 0) (fault : Format) : Type 0 where
   pub unit : (front behind rest : List ℕ) → Beside rest (front ++ behind)
       → ((length rest < length front) × (fault ≡ Truncated)) ⊎ ((more : List ℕ) × (rest ≡ front ++ more) × Beside more behind)
-  pub end : (version : Version) (rest : List ℕ) → IsVersionOf form version → Beside rest [] → AtEnd version rest fault
+  pub end : (version : Version) (rest : List ℕ) → IsVersionOf form version → Beside rest [] → IsFaulty (AtEnd version) rest fault
 
 module _ {form : Form} {Beside : List ℕ → List ℕ → Type 0} {fault : Format} (along : GoesAlong form Beside fault) where
-  at_unit : {A : Type 0} (bytes : ℕ) (own : Option Format) (Fits : A → Type 0) (spelled : A → List ℕ) (Behind : A → List ℕ → Format → Type 0)
-      (v : A) (behind rest : List ℕ) → Fits v → length (spelled v) ≡ bytes → ((more : List ℕ) → Beside more behind → Behind v more fault)
-      → Beside rest (spelled v ++ behind) → AtUnit bytes own Fits spelled Behind rest fault
-  at_unit bytes own Fits spelled Behind v behind rest fits long then h =
-      elim (along.unit (spelled v) behind rest h) [
-        | inl short ↦ inl (subst (λ (n : ℕ). length rest < n) long short.0, short.1)
-        | inr on ↦ inr (inr (v, on.0, fits, on.1, then on.0 on.2))
-      ]
+  at_unit : {A : Type 0} (bytes : ℕ) (named : TraceUnit) (own : Option Format) (Fits : A → Type 0) (spelled : A → List ℕ) (Behind : A → List ℕ → Refusal → Type 0)
+      (v : A) (behind rest : List ℕ) → Fits v → length (spelled v) ≡ bytes → ((more : List ℕ) → Beside more behind → IsFaulty (Behind v) more fault)
+      → Beside rest (spelled v ++ behind) → IsFaulty (AtUnit bytes named own Fits spelled Behind) rest fault
+  at_unit {A} bytes named own Fits spelled Behind v behind rest fits long then h = by_front (along.unit (spelled v) behind rest h) where
+    by_rest : (more : List ℕ) → rest ≡ spelled v ++ more → IsFaulty (Behind v) more fault → IsFaulty (AtUnit bytes named own Fits spelled Behind) rest fault
+    by_rest more is (unit, left, behind) = (unit, left, inr (inr (v, more, fits, is, behind)))
 
-  at_frames : (own : ℕ → Format) (index : ℕ) (frames : List Frame) (before : Option ℕ) (Behind : List ℕ → Format → Type 0) (behind rest : List ℕ)
-      → AllByRecursion FrameFits frames → RisesFrom before frames → ((more : List ℕ) → Beside more behind → Behind more fault)
-      → Beside rest (flat_map frame frames ++ behind) → AtFrames own index (length frames) before Behind rest fault
+    by_front : ((length rest < length (spelled v)) × (fault ≡ Truncated)) ⊎ ((more : List ℕ) × (rest ≡ spelled v ++ more) × Beside more behind)
+        → IsFaulty (AtUnit bytes named own Fits spelled Behind) rest fault
+    by_front (inl short) = (named, length rest, inl (subst (λ (n : ℕ). length rest < n) long short.0, ap (refusal_at named rest) short.1))
+    by_front (inr (more, is, beside)) = by_rest more is (then more beside)
+
+  at_frames : (own : OfFrames) (index : ℕ) (frames : List Frame) (before : Option ℕ) (Behind : List ℕ → Refusal → Type 0) (behind rest : List ℕ)
+      → AllByRecursion FrameFits frames → RisesFrom before frames → ((more : List ℕ) → Beside more behind → IsFaulty Behind more fault)
+      → Beside rest (flat_map frame frames ++ behind) → IsFaulty (AtFrames own index (length frames) before Behind) rest fault
   unfolding AtFrames
   at_frames own index [] before Behind behind rest fit rise then h = then rest h
   at_frames own index (f ∷ fs) before Behind behind rest fit rise then h =
-      at_unit 8 (Some (own index)) (IsNext before) frame_number
-      (λ number. AtUnit 4096 None IsFrame frame_words (λ words. AtFrames own (index + 1) (length fs) (Some number) Behind))
+      at_unit 8 (own.number index) (Some (own.fault index)) (IsNext before) frame_number
+      (λ number. AtUnit 4096 (own.words index) None IsFrame frame_words (λ words. AtFrames own (index + 1) (length fs) (Some number) Behind))
       f.0 (frame_words f.1 ++ (flat_map frame fs ++ behind)) rest (record { rises = rise.0; in_range = fit.0.0 }) refl
-      (λ more. at_unit 4096 None IsFrame frame_words (λ words. AtFrames own (index + 1) (length fs) (Some f.0) Behind)
+      (λ more. at_unit 4096 (own.words index) None IsFrame frame_words (λ words. AtFrames own (index + 1) (length fs) (Some f.0) Behind)
       f.1 (flat_map frame fs ++ behind) more fit.0.1 (length-frame_words f.1 fit.0.1)
       (λ less. at_frames own (index + 1) fs (Some f.0) Behind behind less fit.1 rise.1 then))
       (subst (Beside rest) (append_assoc (frame f) (flat_map frame fs) behind
       ∙ append_assoc (frame_number f.0) (frame_words f.1) (flat_map frame fs ++ behind)) h)
 
   at_dumps : (version : Version) → IsVersionOf form version → (replica : ℕ) (images : List Image) (rest : List ℕ) → AllByRecursion (IsImage version) images
-      → Beside rest (flat_map dump images) → AtDumps version replica (length images) rest fault
+      → Beside rest (flat_map dump images) → IsFaulty (AtDumps version replica (length images)) rest fault
   unfolding AtDumps
   at_dumps version of replica [] rest fit h = along.end version rest of h
   at_dumps version of replica (image ∷ images) rest fit h =
-      at_unit 16 (Some BadCount) (IsDumpHead version) dump_head
-      (λ head. AtFrames (BadFrame replica) 0 head.frames None (AtDumps version (replica + 1) (length images)))
+      at_unit 16 (units.DumpHead replica) (Some BadCount) (IsDumpHead version) dump_head
+      (λ head. AtFrames (of_dump replica) 0 head.frames None (AtDumps version (replica + 1) (length images)))
       (head_of image) (frames_of image ++ flat_map dump images) rest (head_fits version image fit.0) refl
-      (λ more g. subst (λ (n : ℕ). AtFrames (BadFrame replica) 0 n None (AtDumps version (replica + 1) (length images)) more fault)
+      (λ more g. subst (λ (n : ℕ). IsFaulty (AtFrames (of_dump replica) 0 n None (AtDumps version (replica + 1) (length images))) more fault)
       (sym (finite.len-entries image.frames))
-      (at_frames (BadFrame replica) 0 (finite.entries image.frames) None (AtDumps version (replica + 1) (length images)) (flat_map dump images) more
+      (at_frames (of_dump replica) 0 (finite.entries image.frames) None (AtDumps version (replica + 1) (length images)) (flat_map dump images) more
       (image_frames_fit version image fit.0) (rising_from_none (finite.entries image.frames) (finite.entries_sorted image.frames))
       (λ less. at_dumps version of (replica + 1) images less fit.1) g))
       (subst (Beside rest) (append_assoc (dump_head (head_of image)) (frames_of image) (flat_map dump images)) h)
 
   at_events : (version : Version) → IsVersionOf form version → (layout : Layout) (index : ℕ) (es : List Event) (images : List Image) (rest : List ℕ)
       → AllByRecursion (IsEvent version layout) es → AllByRecursion (IsImage version) images → length images ≡ layout.replicas
-      → Beside rest (flat_map event es ++ flat_map dump images) → AtEvents version layout index (length es) rest fault
+      → Beside rest (flat_map event es ++ flat_map dump images) → IsFaulty (AtEvents version layout index (length es)) rest fault
   unfolding AtEvents
   at_events version of layout index [] images rest fit images_fit each h =
-      subst (λ (n : ℕ). AtDumps version 0 n rest fault) each (at_dumps version of 0 images rest images_fit h)
+      subst (λ (n : ℕ). IsFaulty (AtDumps version 0 n) rest fault) each (at_dumps version of 0 images rest images_fit h)
   at_events version of layout index (e ∷ es) images rest fit images_fit each h =
-      at_unit 24 (Some (BadEvent index)) (IsEvent version layout) event (λ _. AtEvents version layout (index + 1) (length es))
+      at_unit 24 (units.Event index) (Some (BadEvent index)) (IsEvent version layout) event (λ _. AtEvents version layout (index + 1) (length es))
       e (flat_map event es ++ flat_map dump images) rest fit.0 (length-event e)
       (λ more. at_events version of layout (index + 1) es images more fit.1 images_fit each)
       (subst (Beside rest) (append_assoc (event e) (flat_map event es) (flat_map dump images)) h)
 
-  at_log : (version : Version) → IsVersionOf form version → (layout : Layout) (calls : List ℕ) (es : List Event) (images : List Image) (rest : List ℕ)
+  at_log : (version : Version) → IsVersionOf form version → (layout : Layout) (place : ℕ) (calls : List ℕ) (es : List Event) (images : List Image) (rest : List ℕ)
       → AllByRecursion (λ call. call < 2 ^ 32) calls → AllByRecursion (IsEvent version layout) es → AllByRecursion (IsImage version) images
       → length images ≡ layout.replicas → Beside rest (flat_map log_word calls ++ (flat_map event es ++ flat_map dump images))
-      → AtLog version layout (length calls) (length es) rest fault
+      → IsFaulty (AtLog version layout place (length calls) (length es)) rest fault
   unfolding AtLog
-  at_log version of layout [] es images rest fit events_fit images_fit each h = at_events version of layout 0 es images rest events_fit images_fit each h
-  at_log version of layout (call ∷ calls) es images rest fit events_fit images_fit each h =
-      at_unit 4 None (λ call. call < 2 ^ 32) log_word (λ _. AtLog version layout (length calls) (length es))
+  at_log version of layout place [] es images rest fit events_fit images_fit each h = at_events version of layout 0 es images rest events_fit images_fit each h
+  at_log version of layout place (call ∷ calls) es images rest fit events_fit images_fit each h =
+      at_unit 4 (units.Place place) None (λ call. call < 2 ^ 32) log_word (λ _. AtLog version layout (place + 1) (length calls) (length es))
       call (flat_map log_word calls ++ (flat_map event es ++ flat_map dump images)) rest fit.0 refl
-      (λ more. at_log version of layout calls es images more fit.1 events_fit images_fit each)
+      (λ more. at_log version of layout (place + 1) calls es images more fit.1 events_fit images_fit each)
       (subst (Beside rest) (append_assoc (log_word call) (flat_map log_word calls) (flat_map event es ++ flat_map dump images)) h)
 
-  at_start : (start : Option Image) (Behind : List ℕ → Format → Type 0) (behind rest : List ℕ) → IfSome start IsStart
-      → ((more : List ℕ) → Beside more behind → Behind more fault) → Beside rest (start_units start ++ behind)
-      → AtStart (start_frames start) Behind rest fault
+  at_start : (start : Option Image) (Behind : List ℕ → Refusal → Type 0) (behind rest : List ℕ) → IfSome start IsStart
+      → ((more : List ℕ) → Beside more behind → IsFaulty Behind more fault) → Beside rest (start_units start ++ behind)
+      → IsFaulty (AtStart (start_frames start) Behind) rest fault
   at_start None Behind behind rest fit then h = then rest h
   at_start (Some start) Behind behind rest fit then h =
       by_count (finite.len start.frames) refl fit.some_frame where
-        by_count : (n : ℕ) → finite.len start.frames ≡ n → 1 ≤ n → AtStart n Behind rest fault
+        by_count : (n : ℕ) → finite.len start.frames ≡ n → 1 ≤ n → IsFaulty (AtStart n Behind) rest fault
         by_count zero count some = absurd (omega arith)
         by_count (suc n) count some =
-            at_unit 8 None (λ root. root < 2 ^ 64) frame_number (λ _. AtFrames BadStart 0 (suc n) None Behind) start.root (frames_of start ++ behind) rest
+            at_unit 8 units.StartRoot None (λ root. root < 2 ^ 64) frame_number (λ _. AtFrames of_start 0 (suc n) None Behind) start.root (frames_of start ++ behind) rest
             fit.image.root refl
-            (λ more g. subst (λ (k : ℕ). AtFrames BadStart 0 k None Behind more fault) (sym (finite.len-entries start.frames) ∙ count)
-            (at_frames BadStart 0 (finite.entries start.frames) None Behind behind more (image_frames_fit Segment start fit.image)
+            (λ more g. subst (λ (k : ℕ). IsFaulty (AtFrames of_start 0 k None Behind) more fault) (sym (finite.len-entries start.frames) ∙ count)
+            (at_frames of_start 0 (finite.entries start.frames) None Behind behind more (image_frames_fit Segment start fit.image)
             (rising_from_none (finite.entries start.frames) (finite.entries_sorted start.frames)) then g))
             (subst (Beside rest) (append_assoc (frame_number start.root) (frames_of start) behind) h)
 
   at_counts : (trace : Recording) → IsVersionOf form trace.version → Follows form trace.layout → IsRecording trace → (rest : List ℕ)
-      → Beside rest (numbered trace) → BehindVersion form trace.version rest fault
+      → Beside rest (numbered trace) → IsFaulty (BehindVersion form trace.version) rest fault
   at_counts trace of follows h rest =
-      at_unit (counts_bytes trace.version) (Some BadCount) (IsCounts trace.version) (counts trace.version) (BehindCounts form trace.version)
+      at_unit (counts_bytes trace.version) (counts_unit trace.version) (Some BadCount) (IsCounts trace.version) (counts trace.version) (BehindCounts form trace.version)
       (counts_of trace) (counted trace) rest (counts_fit trace h) (length-counts trace.version (counts_of trace))
-      (λ more g. inr (
-        follows,
-        at_start trace.start (AtLog trace.version trace.layout (length trace.log) (length trace.events))
-            (logs trace ++ (events trace ++ dumps trace)) more h.start
-            (λ less. at_log trace.version of trace.layout trace.log trace.events trace.dumps less (recursion_from_All _ _ h.log)
-            (recursion_from_All (IsEvent trace.version trace.layout) trace.events h.events) (recursion_from_All _ _ h.dumps) h.one_dump_each) g,
-      ))
+      (λ more g. follows_then more (at_start trace.start (AtLog trace.version trace.layout 0 (length trace.log) (length trace.events))
+      (logs trace ++ (events trace ++ dumps trace)) more h.start
+      (λ less. at_log trace.version of trace.layout 0 trace.log trace.events trace.dumps less (recursion_from_All _ _ h.log)
+      (recursion_from_All (IsEvent trace.version trace.layout) trace.events h.events) (recursion_from_All _ _ h.dumps) h.one_dump_each) g)) where
+        follows_then : (more : List ℕ) → IsFaulty (AtStart (start_frames trace.start) (AtLog trace.version trace.layout 0 (length trace.log) (length trace.events))) more fault
+            → IsFaulty (BehindCounts form trace.version (counts_of trace)) more fault
+        follows_then more (unit, left, behind) = (unit, left, inr (follows, behind))
 
   -- what goes along with the spelling of a trace, or a segment, has the fault
   beside_a_spelling : (bytes : List ℕ) (trace : Recording) → IsVersionOf form trace.version → Follows form trace.layout → IsRecording trace
       → Beside bytes (spelling trace) → HasFaultAs form bytes fault
   beside_a_spelling bytes trace of follows h beside =
-      at_unit {A = Unit {0}} 4 (Some BadMagic) (λ _. ⊤) (λ _. magic_of form) (λ _. BehindMagic form) tt (versioned trace) bytes tt (length-magic form)
-      (λ more. at_unit 2 (Some BadVersion) (IsVersionOf form) version_word (BehindVersion form) trace.version (numbered trace) more of refl
+      at_unit {A = Unit {0}} 4 units.Magic (Some BadMagic) (λ _. ⊤) (λ _. magic_of form) (λ _. BehindMagic form) tt (versioned trace) bytes tt (length-magic form)
+      (λ more. at_unit 2 units.Version (Some BadVersion) (IsVersionOf form) version_word (BehindVersion form) trace.version (numbered trace) more of refl
       (at_counts trace of follows h))
       (subst (Beside bytes) (spelling_is trace ∙ ap (λ (l : List ℕ). l ++ versioned trace) (magic_is form trace.version of)) beside)
 
 -- ---- more after a spelling
 
-pub trailing : (version : Version) (rest : List ℕ) → IsVersionOf forms.Trace version → rest ≢ [] → AtEnd version rest Trailing
+pub trailing : (version : Version) (rest : List ℕ) → IsVersionOf forms.Trace version → rest ≢ [] → IsFaulty (AtEnd version) rest Trailing
 trailing Segment rest of some = absurd of
-trailing _ rest of some = (some, refl)
+trailing _ rest of some = (units.Behind, length rest, (some, refl))
 
 goes_past : (more : List ℕ) → more ≢ [] → GoesAlong forms.Trace (λ rest whole. rest ≡ whole ++ more) Trailing
 goes_past more some = record {

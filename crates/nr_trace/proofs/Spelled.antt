@@ -10,7 +10,7 @@ use Rattle.nr_trace.specs.Spelling.{log_word, event, dump, start_units}
 use Rattle.nr_trace.specs.FirstFault.{AtLog, AtEvents, AtDumps}
 use Rattle.nr_trace.specs.inside.Progress.{HasRead, AreInRange, header_units, numbers_of, parts_spelling}
 use Rattle.nr_trace.specs.declared.event.Event.{Event}
-use Rattle.nr_trace.specs.declared.fault.Format.{Format}
+use Rattle.nr_trace.specs.declared.refusal.Refusal.{Refusal}
 use Rattle.nr_trace.specs.declared.reading.reader.Parts.{Parts}
 use Rattle.nr_trace.specs.declared.reading.reader.Reader.TheVariants.{Dumps}
 use Rattle.nr_trace.specs.declared.version.Version.{Version}
@@ -55,13 +55,13 @@ pub more_dump : (front log : List ℕ) (recorded : List Event) (dumps : List Ima
 more_dump front log recorded dumps one = sym (flat_map_more dump (front ++ flat_map log_word log ++ flat_map event recorded) dumps one)
 
 -- no place is left
-pub no_place : (version : Version) (layout : Layout) (places events : ℕ) (rest : List ℕ) (fault : Format) → places ≡ 0
-    → AtEvents version layout 0 events rest fault → AtLog version layout places events rest fault
+pub no_place : (version : Version) (layout : Layout) (place places events : ℕ) (rest : List ℕ) (fault : Refusal) → places ≡ 0
+    → AtEvents version layout 0 events rest fault → AtLog version layout place places events rest fault
 unfolding AtLog
-no_place version layout places events rest fault none h = subst (λ n. AtLog version layout n events rest fault) (sym none) h
+no_place version layout place places events rest fault none h = subst (λ n. AtLog version layout place n events rest fault) (sym none) h
 
 -- no event is left
-no_event : (version : Version) (layout : Layout) (index events : ℕ) (rest : List ℕ) (fault : Format) → events ≡ 0 → AtDumps version 0 layout.replicas rest fault
+no_event : (version : Version) (layout : Layout) (index events : ℕ) (rest : List ℕ) (fault : Refusal) → events ≡ 0 → AtDumps version 0 layout.replicas rest fault
     → AtEvents version layout index events rest fault
 unfolding AtEvents
 no_event version layout index events rest fault none h = subst (λ n. AtEvents version layout index n rest fault) (sym none) h

@@ -1,5 +1,5 @@
 -- A reader that has taken places of the log, or events.
-use Rattle.std.proofs.Common.{◌≡◌, ℕ, suc, ◌+◌, ◌*◌, ◌-◌, ◌^◌, ◌<◌, ◌≤◌, List, [], ◌∷◌, ◌++◌, length, All, refl, sym, ap, subst, ◌∙◌, arith, append_assoc}
+use Rattle.std.proofs.Common.{◌≡◌, ℕ, suc, ◌+◌, ◌*◌, ◌-◌, ◌^◌, ◌<◌, ◌≤◌, List, [], ◌∷◌, ◌++◌, length, All, refl, sym, ap, subst, subst₂, ◌∙◌, arith, append_assoc}
 use Rattle.std.specs.Global.{Vec}
 use Rattle.std.specs.List.{flat_map}
 use Rattle.std.proofs.lemmas.List.{append-nil, nil_from_length, length-append, flat_map_more}
@@ -12,12 +12,13 @@ use Rattle.vs_types.specs.Config.{Layout}
 use Rattle.vs_types.specs.declared.limits.TheConstants.{LOG_PLACES, CALLS}
 use Rattle.vs_walk.specs.Dump.{Image}
 use Rattle.nr_trace.specs.Spelling.{log_word, event}
-use Rattle.nr_trace.specs.FirstFault.{AtLog, AtEvents}
+use Rattle.nr_trace.specs.FirstFault.{AtLog, AtEvents, IsRefusedBy, and_then, refusal_at, unit_size}
 use Rattle.nr_trace.specs.inside.Reading.{ArePlaced, AreRecorded, IsBadEvent, SpellsEvent}
-use Rattle.nr_trace.specs.inside.Progress.{HasRead, IsFault, AreInRange}
+use Rattle.nr_trace.specs.inside.Progress.{HasRead, AreInRange}
 use Rattle.nr_trace.specs.Recording.{IsEvent}
 use Rattle.nr_trace.specs.declared.event.Event.{Event}
-use Rattle.nr_trace.specs.declared.fault.Format.{Format}
+use Rattle.nr_trace.specs.declared.refusal.Refusal.{Refusal}
+use Rattle.nr_trace.specs.declared.refusal.TraceUnit.TheVariants as units
 use Rattle.nr_trace.specs.declared.fault.Format.TheVariants.{BadEvent}
 use Rattle.nr_trace.specs.declared.reading.reader.Parts.{Parts}
 use Rattle.nr_trace.specs.declared.reading.reader.Reader.{Reader}
@@ -36,19 +37,24 @@ only_front unit front rest e whole =
 -- ---- places of the log
 
 -- what is ahead of some places
-places_passed : (version : Version) (layout : Layout) (places events : ℕ) (calls rest : List ℕ) (fault : Format) → length calls ≤ places
+places_passed : (version : Version) (layout : Layout) (place places events : ℕ) (calls rest : List ℕ) (fault : Refusal) → length calls ≤ places
     → All (λ call. call < 2 ^ 32) calls
-    → AtLog version layout (places - length calls) events rest fault → AtLog version layout places events (flat_map log_word calls ++ rest) fault
-places_passed version layout places events [] rest fault few fit h =
-    subst (λ (n : ℕ). AtLog version layout n events rest fault) (let all : places - 0 ≡ places = omega arith in all) h
-places_passed version layout places events (call ∷ calls) rest fault few fit h =
+    → AtLog version layout (place + length calls) (places - length calls) events rest fault
+    → AtLog version layout place places events (flat_map log_word calls ++ rest) fault
+places_passed version layout place places events [] rest fault few fit h =
+    let all : places - 0 ≡ places = omega arith in
+    let here : place + 0 ≡ place = omega arith in
+    subst (λ (n : ℕ). AtLog version layout place n events rest fault) all (subst (λ (p : ℕ). AtLog version layout p (places - 0) events rest fault) here h)
+places_passed version layout place places events (call ∷ calls) rest fault few fit h =
     let fewer : places - suc (length calls) ≡ places - 1 - length calls = omega arith in
-    subst (λ (l : List ℕ). AtLog version layout places events l fault)
+    let further : place + suc (length calls) ≡ place + 1 + length calls = omega arith in
+    subst (λ (l : List ℕ). AtLog version layout place places events l fault)
     (sym (ap (λ (l : List ℕ). l ++ rest) (flat_map-cons log_word call calls) ∙ append_assoc (log_word call) (flat_map log_word calls) rest))
-    (place_passed version layout places events call (log_word call) (flat_map log_word calls ++ rest) fault (omega (arith, few))
+    (place_passed version layout place places events call (log_word call) (flat_map log_word calls ++ rest) fault (omega (arith, few))
     (All-head (λ call. call < 2 ^ 32) call calls fit) refl
-    (places_passed version layout (places - 1) events calls rest fault (omega (arith, few)) (All-tail (λ call. call < 2 ^ 32) call calls fit)
-    (subst (λ (n : ℕ). AtLog version layout n events rest fault) fewer h)))
+    (places_passed version layout (place + 1) (places - 1) events calls rest fault (omega (arith, few)) (All-tail (λ call. call < 2 ^ 32) call calls fit)
+    (subst (λ (n : ℕ). AtLog version layout (place + 1 + length calls) n events rest fault) fewer
+    (subst (λ (p : ℕ). AtLog version layout p (places - suc (length calls)) events rest fault) further h))))
 
 length-places : (calls : List ℕ) → length (flat_map log_word calls) ≡ 4 * length calls
 length-places calls = length_of_units log_word 4 (λ n. refl) calls
@@ -60,20 +66,22 @@ as_many_places before run after count placed all = omega (arith, all, ap length 
 pub places_taken : (form : Form) (version : Version) (layout : Layout) (front : ℕ → List ℕ) (places events : ℕ) (log more : List ℕ)
     (recorded : List Event) (dumps : List Image) (run : List ℕ) (count : ℕ) (reader : Reader)
     → count ≤ places → length run ≡ 4 * count → recorded ≡ [] → dumps ≡ [] → ArePlaced log run more
-    → HasRead form (spelling_of (front (length more + (places - count))) more recorded dumps) (AtLog version layout (places - count) events) reader
+    → HasRead form (spelling_of (front (length more + (places - count))) more recorded dumps) (AtLog version layout (length more) (places - count) events) reader
     → HasRead form (spelling_of (front (length log + places)) log recorded dumps ++ run)
-    (λ rest fault. AtLog version layout places events (run ++ rest) fault) reader
+    (λ rest fault. AtLog version layout (length log) places events (run ++ rest) fault) reader
 places_taken form version layout front places events log more recorded dumps run count reader few all no_events no_dumps placed has =
     let as_many = as_many_places log run more count placed all in
+    let further : length more ≡ length log + length placed.calls = ap length placed.added ∙ length-append log placed.calls in
     let long : length more + (places - count) ≡ length log + places = omega (arith, few, ap length placed.added, length-append log placed.calls, as_many) in
     goes_on form reader _ _ _ _ has
     (ap (λ (n : ℕ). spelling_of (front n) more recorded dumps) long
     ∙ ap (λ (l : List ℕ). spelling_of (front (length log + places)) l recorded dumps) placed.added
     ∙ more_places (front (length log + places)) log placed.calls recorded dumps no_events no_dumps
     ∙ ap (λ (l : List ℕ). spelling_of (front (length log + places)) log recorded dumps ++ l) (sym placed.spelled))
-    (λ rest fault h. subst (λ (l : List ℕ). AtLog version layout places events (l ++ rest) fault) (sym placed.spelled)
-    (places_passed version layout places events placed.calls rest fault (omega (arith, few, as_many)) placed.fit
-    (subst (λ (n : ℕ). AtLog version layout (places - n) events rest fault) (sym as_many) h)))
+    (λ rest fault h. subst (λ (l : List ℕ). AtLog version layout (length log) places events (l ++ rest) fault) (sym placed.spelled)
+    (places_passed version layout (length log) places events placed.calls rest fault (omega (arith, few, as_many)) placed.fit
+    (subst (λ (n : ℕ). AtLog version layout (length log + length placed.calls) (places - n) events rest fault) (sym as_many)
+    (subst (λ (p : ℕ). AtLog version layout p (places - count) events rest fault) further h))))
 
 pub places_in_range : (parts : Parts) (held : Vec ℕ) (run : List ℕ) (count : ℕ) → AreInRange parts → ArePlaced parts.log.items run held.items
     → length run ≡ 4 * count → length parts.log.items + count ≤ LOG_PLACES → AreInRange (record parts { log = held })
@@ -120,7 +128,7 @@ all_placed before bytes after k rest placing le =
 -- ---- events
 
 -- what is ahead of some events
-events_passed : (version : Version) (layout : Layout) (index events : ℕ) (recorded : List Event) (rest : List ℕ) (fault : Format) → length recorded ≤ events
+events_passed : (version : Version) (layout : Layout) (index events : ℕ) (recorded : List Event) (rest : List ℕ) (fault : Refusal) → length recorded ≤ events
     → All (IsEvent version layout) recorded
     → AtEvents version layout (index + length recorded) (events - length recorded) rest fault
     → AtEvents version layout index events (flat_map event recorded ++ rest) fault
@@ -193,35 +201,34 @@ events_in_range parts held run count in_range are all few = record {
   dumps = in_range.dumps;
 }
 
--- the first event that is none is a fault of the bytes ahead
-pub events_refused : (version : Version) (layout : Layout) (index events count : ℕ) (run : List ℕ) (fail : Fail Format) → count ≤ events
+-- the first event that is none refuses the bytes ahead
+pub events_refused : (version : Version) (layout : Layout) (index events count : ℕ) (run : List ℕ) (fail : Fail Refusal) → count ≤ events
     → length run ≡ 24 * count → IfRefused (IsBadEvent version layout index run) fail
-    → IsFault (λ rest fault. AtEvents version layout index events (run ++ rest) fault) fail
+    → IfRefused (IsRefusedBy (AtEvents version layout index events) run) fail
 events_refused version layout index events count run Memory few all bad = tt
-events_refused version layout index events count run (Refused fault) few all bad = λ (rest : List ℕ).
+events_refused version layout index events count run (Refused refusal) few all bad =
     let front = flat_map event bad.recorded in
+    let unit = bad.unit in
+    let behind = bad.behind in
+    let here = index + length bad.recorded in
+    let long = length-append front (unit ++ behind) in
     let some : length bad.recorded + 1 ≤ events =
-    omega (
-      arith,
-      few,
-      all,
-      ap length bad.parts,
-      length-append front (bad.unit ++ bad.behind),
-      length-append bad.unit bad.behind,
-      bad.whole,
-      length-events bad.recorded,
-    ) in
-    let there : AtEvents version layout (index + length bad.recorded) (events - length bad.recorded) (bad.unit ++ (bad.behind ++ rest))
-    (BadEvent (index + length bad.recorded)) =
-    event_refused version layout (index + length bad.recorded) (events - length bad.recorded) bad.unit (bad.behind ++ rest) (omega (arith, some))
-    bad.whole bad.none in
-    let cut : run ++ rest ≡ front ++ (bad.unit ++ (bad.behind ++ rest)) =
-    ap (λ (l : List ℕ). l ++ rest) bad.parts ∙ append_assoc front (bad.unit ++ bad.behind) rest
-    ∙ ap (λ (l : List ℕ). front ++ l) (append_assoc bad.unit bad.behind rest) in
-    subst (λ f. AtEvents version layout index events (run ++ rest) f) (sym bad.first)
-    (subst (λ (l : List ℕ). AtEvents version layout index events l (BadEvent (index + length bad.recorded))) (sym cut)
-    (events_passed version layout index events bad.recorded (bad.unit ++ (bad.behind ++ rest)) (BadEvent (index + length bad.recorded))
-    (omega (arith, some)) bad.fit there))
+    omega (arith, few, all, ap length bad.parts, long, length-append unit behind, bad.whole, length-events bad.recorded) in
+    let cut : (rest : List ℕ) → run ++ rest ≡ front ++ (unit ++ (behind ++ rest)) = λ rest.
+    ap (λ (l : List ℕ). l ++ rest) bad.parts ∙ append_assoc front (unit ++ behind) rest ∙ ap (λ (l : List ℕ). front ++ l) (append_assoc unit behind rest) in
+    let same : (rest : List ℕ) → and_then (behind ++ rest) (refusal_at (units.Event here) unit (BadEvent here)) ≡ and_then rest refusal = λ rest.
+    ap (λ (n : ℕ). let refusal : Refusal = record { fault = BadEvent here; unit = units.Event here; left = n } in refusal)
+    (let all_left : length unit + length (behind ++ rest) ≡ length (unit ++ behind) + length rest =
+    omega (arith, length-append behind rest, length-append unit behind) in all_left)
+    ∙ ap (and_then rest) (sym bad.first) in
+    record {
+      within = omega (arith, ap (λ (r : Refusal). r.left) bad.first, ap length bad.parts, long);
+      whole = subst (λ (r : Refusal). unit_size r.unit ≤ r.left) (sym bad.first)
+          (let whole : 24 ≤ length (unit ++ behind) = omega (arith, bad.whole, length-append unit behind) in whole);
+      lasts = λ rest. subst₂ (λ (l : List ℕ) (r : Refusal). AtEvents version layout index events l r) (sym (cut rest)) (same rest)
+          (events_passed version layout index events bad.recorded (unit ++ (behind ++ rest)) _ (omega (arith, some)) bad.fit
+          (event_refused version layout here (events - length bad.recorded) unit (behind ++ rest) (omega (arith, some)) bad.whole bad.none));
+    }
 
 -- some units are taken, and this is left
 pub record AreRecording (version : Version) (layout : Layout) (before : List Event) (bytes : List ℕ) (after : List Event) (k : ℕ) (rest : List ℕ)
@@ -261,10 +268,10 @@ recorded_fit version layout before bytes after k rest n are all few =
     )
 
 pub none_spelled : (version : Version) (layout : Layout) (before : List Event) (bytes : List ℕ) (after : List Event) (k : ℕ) (rest unit behind : List ℕ)
-    (index : ℕ) → AreRecording version layout before bytes after k rest → rest ≡ unit ++ behind → length unit ≡ 24
-    → ((one : Event) → SpellsEvent version layout unit one → ⊥) → index ≡ length after
-    → IsBadEvent version layout (length before) bytes (BadEvent index)
-none_spelled version layout before bytes after k rest unit behind index are e whole none is = record {
+    (index : ℕ) (refusal : Refusal) → AreRecording version layout before bytes after k rest → rest ≡ unit ++ behind → length unit ≡ 24
+    → ((one : Event) → SpellsEvent version layout unit one → ⊥) → index ≡ length after → refusal ≡ refusal_at (units.Event index) rest (BadEvent index)
+    → IsBadEvent version layout (length before) bytes refusal
+none_spelled version layout before bytes after k rest unit behind index refusal are e whole none is refused = record {
   recorded = are.recorded;
   unit = unit;
   behind = behind;
@@ -272,5 +279,6 @@ none_spelled version layout before bytes after k rest unit behind index are e wh
   parts = are.parts ∙ ap (λ (l : List ℕ). flat_map event are.recorded ++ l) e;
   whole = whole;
   none = λ one fits spelled. none one (record { in_range = fits; spelled = spelled });
-  first = ap BadEvent (is ∙ ap length are.added ∙ length-append before are.recorded);
+  first = refused ∙ ap (λ (l : List ℕ). refusal_at (units.Event index) l (BadEvent index)) e
+      ∙ ap (λ (n : ℕ). refusal_at (units.Event n) (unit ++ behind) (BadEvent n)) (is ∙ ap length are.added ∙ length-append before are.recorded);
 }

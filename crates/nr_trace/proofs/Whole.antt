@@ -1,6 +1,6 @@
 -- A reader where bytes are missing, or come after the end.
 use Rattle.std.proofs.Common.{◌≡◌, ◌≢◌, ℕ, zero, suc, ◌+◌, ◌*◌, ◌-◌, ◌<◌, ◌≤◌, Bool, true, false, List, [], length, Option, Some, None, refl, sym}
-use Rattle.std.proofs.Common.{subst, arith, inl}
+use Rattle.std.proofs.Common.{ap, subst, arith, inl, ◌++◌}
 use Rattle.std.specs.Prelude.{nat_lt, if◌then◌else◌, MatchOption}
 use Rattle.std.proofs.lemmas.Bool.{ltb-true, ltb-false}
 use Rattle.std.proofs.Math.Nat.{mul-le-mul_left}
@@ -10,16 +10,17 @@ use Rattle.vs_types.specs.Config.{Layout}
 use Rattle.nr_trace.specs.Recording.{Recording}
 use Rattle.nr_trace.specs.Spelling.{SpellsAs}
 use Rattle.nr_trace.specs.Versions.{IsVersionOf}
-use Rattle.nr_trace.specs.FirstFault.{AtEnd, AtFrames, AtDumps, AtEvents, AtLog, AtStart, counts_bytes}
-use Rattle.nr_trace.specs.inside.Progress.{form_of, own_fault, unit_bytes, said, whole_spelling, words_begun, Ahead, AreInRange, AreUnits, IsReady, IsRun}
-use Rattle.nr_trace.specs.declared.fault.Format.{Format}
+use Rattle.nr_trace.specs.FirstFault.{AtEnd, AtFrames, AtDumps, AtEvents, AtLog, AtStart, OfFrames, counts_bytes, refusal_at}
+use Rattle.nr_trace.specs.inside.Progress.{cut_off, form_of, frame_begun, frames_of, unit_bytes, said, whole_spelling, words_begun, Ahead, AreInRange, AreUnits, IsReady, IsRun}
+use Rattle.nr_trace.specs.declared.refusal.Refusal.{Refusal}
+use Rattle.nr_trace.specs.declared.refusal.TraceUnit.TheVariants as units
 use Rattle.nr_trace.specs.declared.fault.Format.TheVariants.{Truncated, Trailing}
 use Rattle.nr_trace.specs.declared.reading.reader.OpenFrame.{OpenFrame}
 use Rattle.nr_trace.specs.declared.reading.reader.Parts.{Parts}
 use Rattle.nr_trace.specs.declared.reading.reader.Reader.{Reader}
 use Rattle.nr_trace.specs.declared.reading.reader.Reader.TheVariants.{Magic, Version, Header, Root, Log, Events, Dumps, Frame, Words}
 use Rattle.nr_trace.specs.declared.version.Version as versions
-use Rattle.nr_trace.specs.declared.version.Version.TheVariants.{V1, Segment}
+use Rattle.nr_trace.specs.declared.version.Version.TheVariants.{V1, V2, Segment}
 use Rattle.nr_trace.specs.declared.version.Form.{Form}
 use Rattle.nr_trace.specs.declared.version.Form.TheVariants as forms
 use Rattle.nr_trace.proofs.LawsOfUnits.{length_of_units}
@@ -37,68 +38,77 @@ not_chosen : (b : Bool) (m : ℕ) → (if b then Some m else None) ≡ None → 
 not_chosen true m e = absurd cc
 not_chosen false m e = refl
 
-short_log : (version : versions.Version) (layout : Layout) (places events : ℕ) (rest : List ℕ) → 1 ≤ places → length rest < 4
-    → AtLog version layout places events rest Truncated
+short_log : (version : versions.Version) (layout : Layout) (place places events : ℕ) (rest : List ℕ) → 1 ≤ places → length rest < 4
+    → AtLog version layout place places events rest (refusal_at (units.Place place) rest Truncated)
 unfolding AtLog
-short_log version layout zero events rest some short = absurd (omega arith)
-short_log version layout (suc places) events rest some short = inl (short, refl)
+short_log version layout place zero events rest some short = absurd (omega arith)
+short_log version layout place (suc places) events rest some short = inl (short, refl)
 
 short_event : (version : versions.Version) (layout : Layout) (index events : ℕ) (rest : List ℕ) → 1 ≤ events → length rest < 24
-    → AtEvents version layout index events rest Truncated
+    → AtEvents version layout index events rest (refusal_at (units.Event index) rest Truncated)
 unfolding AtEvents
 short_event version layout index zero rest some short = absurd (omega arith)
 short_event version layout index (suc events) rest some short = inl (short, refl)
 
-short_head : (version : versions.Version) (replica dumps : ℕ) (rest : List ℕ) → 1 ≤ dumps → length rest < 16 → AtDumps version replica dumps rest Truncated
+short_head : (version : versions.Version) (replica dumps : ℕ) (rest : List ℕ) → 1 ≤ dumps → length rest < 16
+    → AtDumps version replica dumps rest (refusal_at (units.DumpHead replica) rest Truncated)
 unfolding AtDumps
 short_head version replica zero rest some short = absurd (omega arith)
 short_head version replica (suc dumps) rest some short = inl (short, refl)
 
-short_frame : (own : ℕ → Format) (index frames : ℕ) (last : Option ℕ) (Behind : List ℕ → Format → Type 0) (rest : List ℕ) → 1 ≤ frames → length rest < 8
-    → AtFrames own index frames last Behind rest Truncated
+short_frame : (own : OfFrames) (index frames : ℕ) (last : Option ℕ) (Behind : List ℕ → Refusal → Type 0) (rest : List ℕ) → 1 ≤ frames → length rest < 8
+    → AtFrames own index frames last Behind rest (refusal_at (own.number index) rest Truncated)
 unfolding AtFrames
 short_frame own index zero last Behind rest some short = absurd (omega arith)
 short_frame own index (suc frames) last Behind rest some short = inl (short, refl)
 
-short_start : (frames : ℕ) (Behind : List ℕ → Format → Type 0) (rest : List ℕ) → 1 ≤ frames → length rest < 8 → AtStart frames Behind rest Truncated
+short_start : (frames : ℕ) (Behind : List ℕ → Refusal → Type 0) (rest : List ℕ) → 1 ≤ frames → length rest < 8
+    → AtStart frames Behind rest (refusal_at units.StartRoot rest Truncated)
 short_start zero Behind rest some short = absurd (omega arith)
 short_start (suc frames) Behind rest some short = inl (short, refl)
 
-length_begun : (frame : OpenFrame) → length (words_begun frame) ≡ 8 * length frame.dump.coming
+pub length_begun : (frame : OpenFrame) → length (words_begun frame) ≡ 8 * length frame.dump.coming
 length_begun frame = length_of_units (to_be_bytes w64) 8 (λ n. refl) frame.dump.coming
 
-pub too_short : (reader : Reader) (len : ℕ) (rest : List ℕ) → IsReady reader → unit_bytes reader ≡ Some len → length rest < len → Ahead reader rest Truncated
+pub too_short : (reader : Reader) (len : ℕ) (rest : List ℕ) → IsReady reader → unit_bytes reader ≡ Some len → length rest < len
+    → Ahead reader rest (cut_off reader rest)
 too_short (Magic alloc form) len rest ready is short = inl (omega (arith, some_is 4 len is), refl)
 too_short (Version alloc form) len rest ready is short = inl (omega (arith, some_is 2 len is), refl)
 too_short (Header alloc form version) len rest ready is short = inl (omega (arith, some_is (counts_bytes version) len is), refl)
 too_short (Root parts numbers) len rest ready is short = short_start numbers.start _ rest ready.4 (omega (arith, some_is 8 len is))
-too_short (Log parts places events) len rest ready is short = short_log parts.version parts.layout places events rest ready.1 (omega (arith, some_is 4 len is))
+too_short (Log parts places events) len rest ready is short = short_log parts.version parts.layout (length parts.log.items) places events rest ready.1 (omega (arith, some_is 4 len is))
 too_short (Events parts events) len rest ready is short =
     short_event parts.version parts.layout (length parts.events.items) events rest ready.1 (omega (arith, some_is 24 len is))
 too_short (Dumps parts) len rest ready is short =
     let given = chosen (nat_lt (length parts.dumps.items) parts.layout.replicas) 16 len is in
     let one_left : length parts.dumps.items < parts.layout.replicas = ltb-true _ _ given.0 in
-    short_head parts.version (length parts.dumps.items + 0) (parts.layout.replicas - (length parts.dumps.items + 0)) rest (omega arith) (omega (arith, given.1))
+    let here : length parts.dumps.items + 0 ≡ length parts.dumps.items = omega arith in
+    subst (λ (n : ℕ). Ahead (Dumps parts) rest (refusal_at (units.DumpHead n) rest Truncated)) here
+    (short_head parts.version (length parts.dumps.items + 0) (parts.layout.replicas - (length parts.dumps.items + 0)) rest (omega arith)
+    (omega (arith, given.1)))
 too_short (Frame parts opened last) len rest ready is short =
-    short_frame (own_fault parts opened.owner) _ opened.left last _ rest ready.0.some_left (omega (arith, some_is 8 len is))
+    short_frame (frames_of parts opened.owner) _ opened.left last _ rest ready.0.some_left (omega (arith, some_is 8 len is))
 too_short (Words parts frame) len rest ready is short =
-    inl (omega (arith, some_is 8 len is, ready.4, length-append (words_begun frame) rest, length_begun frame), refl)
+    inl (
+      omega (arith, some_is 8 len is, ready.4, length-append (words_begun frame) rest, length_begun frame),
+      ap (λ (n : ℕ). refusal_at ((frames_of parts frame.owner).words n) (words_begun frame ++ rest) Truncated) ready.5,
+    )
 
 -- ---- no unit is left
 
 behind_end : (form : Form) (version : versions.Version) (rest : List ℕ) → form ≡ forms.Trace → IsVersionOf form version → rest ≢ []
-    → AtEnd version rest Trailing
+    → AtEnd version rest (refusal_at units.Behind rest Trailing)
 behind_end form Segment rest is of more = absurd (subst (λ (f : Form). IsVersionOf f Segment) is of)
 behind_end form _ rest is of more = (more, refl)
 
-at_end : (version : versions.Version) (replica dumps : ℕ) (rest : List ℕ) → dumps ≡ 0 → AtEnd version rest Trailing
-    → AtDumps version replica dumps rest Trailing
+at_end : (version : versions.Version) (replica dumps : ℕ) (rest : List ℕ) → dumps ≡ 0
+    → AtEnd version rest (refusal_at units.Behind rest Trailing) → AtDumps version replica dumps rest (refusal_at units.Behind rest Trailing)
 unfolding AtDumps
-at_end version replica dumps rest none end = subst (λ (n : ℕ). AtDumps version replica n rest Trailing) (sym none) end
+at_end version replica dumps rest none end = subst (λ (n : ℕ). AtDumps version replica n rest (refusal_at units.Behind rest Trailing)) (sym none) end
 
 -- a trace has nothing behind its end
 pub too_long : (reader : Reader) (rest : List ℕ) → IsReady reader → form_of reader ≡ forms.Trace → unit_bytes reader ≡ None → rest ≢ []
-    → Ahead reader rest Trailing
+    → Ahead reader rest (refusal_at units.Behind rest Trailing)
 too_long (Dumps parts) rest ready form_is is more =
     let all : parts.layout.replicas ≤ length parts.dumps.items = ltb-false _ _ (not_chosen (nat_lt (length parts.dumps.items) parts.layout.replicas) 16 is) in
     at_end parts.version (length parts.dumps.items + 0) (parts.layout.replicas - (length parts.dumps.items + 0)) rest (omega arith)
@@ -190,6 +200,38 @@ pub alone : (reader : Reader) (have : ℕ) (next : Option ℕ) → IsReady reade
     → MatchOption next (unit_bytes reader ≡ None) (λ len. IsRun reader len × (have < len → unit_bytes reader ≡ Some len))
 alone reader have None ready is = sym is
 alone reader have (Some len) ready is = (one_unit reader len ready (sym is), λ _. sym is)
+
+-- a unit that comes next has few bytes, and what is cut off is in the bytes that have come
+most_count : (version : versions.Version) → counts_bytes version ≤ 18
+most_count V1 = omega arith
+most_count V2 = omega arith
+most_count Segment = omega arith
+
+pub most_bytes : (reader : Reader) (len : ℕ) → unit_bytes reader ≡ Some len → len ≤ 24
+most_bytes (Magic alloc form) len is = omega (arith, some_is 4 len is)
+most_bytes (Version alloc form) len is = omega (arith, some_is 2 len is)
+most_bytes (Header alloc form version) len is = omega (arith, some_is (counts_bytes version) len is, most_count version)
+most_bytes (Log parts places events) len is = omega (arith, some_is 4 len is)
+most_bytes (Events parts events) len is = omega (arith, some_is 24 len is)
+most_bytes (Dumps parts) len is = omega (arith, (chosen (nat_lt (length parts.dumps.items) parts.layout.replicas) 16 len is).1)
+most_bytes _ len is = omega (arith, some_is 8 len is)
+
+pub few_cut_off : (reader : Reader) (len : ℕ) (begun : List ℕ) → IsReady reader → unit_bytes reader ≡ Some len → length begun < len
+    → (cut_off reader begun).left < 4096
+few_cut_off (Words parts frame) len begun ready is short =
+    omega (arith, ready.4, length_begun frame, length-append (words_begun frame) begun, some_is 8 len is, short)
+few_cut_off reader len begun ready is short = omega (arith, short, most_bytes reader len is)
+
+pub cut_off_within : (reader : Reader) (begun : List ℕ) → (cut_off reader begun).left ≤ length (said reader ++ begun)
+cut_off_within (Words parts frame) begun =
+    let before = frame_begun parts frame in
+    omega (
+      arith,
+      length-append (words_begun frame) begun,
+      length-append (before ++ words_begun frame) begun,
+      length-append before (words_begun frame),
+    )
+cut_off_within reader begun = omega (arith, length-append (said reader) begun)
 
 -- a run has a byte
 units_some : (unit most bytes : ℕ) → 1 ≤ unit → AreUnits unit most bytes → 1 ≤ bytes

@@ -15,6 +15,7 @@ use Rattle.nr_trace.specs.declared.fault.Fault.{Fault}
 use Rattle.nr_trace.specs.declared.fault.Fault.TheVariants.{Format, ThreadOpen, NoSuchCall, AnsweredTwice, NotAnUpdate, PlacedTwice, NotPlaced, PastLog, Early}
 use Rattle.nr_trace.specs.declared.fault.Fault.TheVariants.{WrongAnswer, PrefixPastLog, PrefixShort, MissingFrame, SharedFrame, ReservedBit, StrayFrame}
 use Rattle.nr_trace.specs.declared.fault.Fault.TheVariants.{Differs}
+use Rattle.nr_trace.specs.declared.fault.Fault.TheVariants.{StartMissing, StartShared, StartReserved, StartStray, StartBeyond, StartDiffers, Stale}
 
 -- the event is a call of a thread that has an earlier call with no reply before the event
 pub record OpensTwice (trace : Recording) (index : ℕ) : Type 0 where
@@ -64,7 +65,7 @@ pub record RestsOnMore (trace : Recording) (replica : ℕ) (dump : Image) : Type
 abbrev pub HasDump : Recording → ℕ → (Image → Type 0) → Type 0
 HasDump trace replica P = (dump : Image) × (slice_get trace.dumps replica ≡ Some dump) × IsThere dump × P dump
 
--- what each fault but that of the format says of a trace, from a start on
+-- what each fault but that of the format says of a trace, from a space on; a trace by itself has no start, and no touch that is stale
 abbrev pub HasFaultFrom : Space → Recording → Fault → Type 0
 HasFaultFrom start trace (Format fault) = ⊥
 HasFaultFrom start trace (ThreadOpen index) = OpensTwice trace index
@@ -84,14 +85,22 @@ HasFaultFrom start trace (ReservedBit replica number index) = HasDump trace repl
 HasFaultFrom start trace (StrayFrame replica number) = HasDump trace replica (λ dump. HasStrayFrame trace.layout.depth dump number)
 HasFaultFrom start trace (Differs replica address) =
     HasDump trace replica (λ dump. HasDifference trace.layout.depth dump (space_from start trace (take dump.applied trace.log)) address)
+HasFaultFrom start trace fault = ⊥
 
 -- the same from no pages on
 abbrev pub HasFault : Recording → Fault → Type 0
 HasFault trace fault = HasFaultFrom no_pages trace fault
 
--- where a fault is: its pass, then its index in that pass, then its number. Answers are compared in the recorded order
+-- where a fault is: its pass, then its index in that pass, then its number. A start is looked at behind the format, and touches behind the
+-- answers, which are compared in the recorded order
 abbrev pub rank : Recording → Fault → List ℕ
 rank trace (Format fault) = 1 ∷ 0 ∷ 1 ∷ []
+rank trace (StartMissing number) = 1 ∷ 1 ∷ 18 ∷ []
+rank trace (StartShared number) = 1 ∷ 1 ∷ 19 ∷ []
+rank trace (StartReserved number index) = 1 ∷ 1 ∷ 20 ∷ []
+rank trace (StartStray number) = 1 ∷ 2 ∷ 21 ∷ []
+rank trace (StartBeyond base) = 1 ∷ 3 ∷ 22 ∷ []
+rank trace (StartDiffers address) = 1 ∷ 4 ∷ 23 ∷ []
 rank trace (ThreadOpen index) = 2 ∷ index ∷ 2 ∷ []
 rank trace (NoSuchCall index) = 2 ∷ index ∷ 3 ∷ []
 rank trace (AnsweredTwice index) = 2 ∷ index ∷ 4 ∷ []
@@ -101,13 +110,14 @@ rank trace (NotPlaced index) = 4 ∷ index ∷ 7 ∷ []
 rank trace (PastLog index) = 4 ∷ index ∷ 8 ∷ []
 rank trace (Early call) = 5 ∷ call ∷ 9 ∷ []
 rank trace (WrongAnswer call) = 6 ∷ length (before call (recorded_order trace)) ∷ 10 ∷ []
-rank trace (PrefixPastLog replica) = 7 ∷ replica ∷ 11 ∷ []
-rank trace (PrefixShort replica) = 7 ∷ replica ∷ 12 ∷ []
-rank trace (MissingFrame replica number) = 7 ∷ replica ∷ 13 ∷ []
-rank trace (SharedFrame replica number) = 7 ∷ replica ∷ 14 ∷ []
-rank trace (ReservedBit replica number index) = 7 ∷ replica ∷ 15 ∷ []
-rank trace (StrayFrame replica number) = 7 ∷ replica ∷ 16 ∷ []
-rank trace (Differs replica address) = 7 ∷ replica ∷ 17 ∷ []
+rank trace (Stale call) = 7 ∷ call ∷ 24 ∷ []
+rank trace (PrefixPastLog replica) = 8 ∷ replica ∷ 11 ∷ []
+rank trace (PrefixShort replica) = 8 ∷ replica ∷ 12 ∷ []
+rank trace (MissingFrame replica number) = 8 ∷ replica ∷ 13 ∷ []
+rank trace (SharedFrame replica number) = 8 ∷ replica ∷ 14 ∷ []
+rank trace (ReservedBit replica number index) = 8 ∷ replica ∷ 15 ∷ []
+rank trace (StrayFrame replica number) = 8 ∷ replica ∷ 16 ∷ []
+rank trace (Differs replica address) = 8 ∷ replica ∷ 17 ∷ []
 
 abbrev pub Earlier : Recording → Fault → Fault → Type 0
 Earlier trace first second = slice_cmp nat_cmp (rank trace first) (rank trace second) ≡ Less

@@ -1,13 +1,14 @@
 -- A trace or a segment that comes in pieces: what a feed has come to, and what a piece and the end make of it.
-use Rattle.std.specs.Prelude.{◌≡◌, ◌<◌, ◌≤◌, ◌⊎◌, ◌++◌, ℕ, List, [], ◌∷◌, length, take, Option, Result, Ok, Err, MatchResult}
+use Rattle.std.specs.Prelude.{◌≡◌, ◌<◌, ◌≤◌, ◌⊎◌, ◌++◌, ℕ, List, [], ◌∷◌, length, take, Option, Result, Ok, Err, IfErr, MatchResult}
 use Rattle.vs_types.specs.Config.{Layout}
 use Rattle.vs_types.specs.Refusal.{IfRefused}
 use Rattle.vs_types.specs.declared.refusal.Fail.{Fail}
-use Rattle.vs_types.specs.declared.refusal.Fail.TheVariants.{Refused}
+use Rattle.vs_types.specs.declared.refusal.Fail.TheVariants.{Memory, Refused}
 use Rattle.nr_trace.specs.Recording.{Recording}
 use Rattle.nr_trace.specs.Spelling.{Spells, SpellsAs}
-use Rattle.nr_trace.specs.FirstFault.{HasFaultAs, HasFormatFault}
+use Rattle.nr_trace.specs.FirstFault.{HasFaultAs, HasFormatFault, HasRefusalAs, IsRefusedBy}
 use Rattle.nr_trace.specs.declared.fault.Format.{Format}
+use Rattle.nr_trace.specs.declared.refusal.Refusal.{Refusal}
 use Rattle.nr_trace.specs.declared.version.Form.{Form}
 use Rattle.nr_trace.specs.declared.version.Form.TheVariants as forms
 use Rattle.nr_trace.specs.declared.fault.Format.TheVariants.{Truncated}
@@ -16,6 +17,26 @@ use Rattle.nr_trace.specs.declared.fault.Format.TheVariants.{Truncated}
 pub data Fed : Type 0 where
   Taken : List ℕ → Fed
   Stopped : Fail Format → Fed
+
+-- the fault of a refusal, and an answer that says no more of it
+abbrev pub fault_of : Fail Refusal → Fail Format
+fault_of Memory = Memory
+fault_of (Refused refusal) = Refused refusal.fault
+
+abbrev pub fault_alone : {A : Type 0} → Result A (Fail Refusal) → Result A (Fail Format)
+fault_alone (Ok value) = Ok value
+fault_alone (Err fail) = Err (fault_of fail)
+
+-- as bytes of this form they are refused so, whatever comes after them, at a unit that begins in so many last bytes
+pub record IsRefusedAs (form : Form) (bytes : List ℕ) (last : ℕ) (refusal : Refusal) : Type 0 where
+  pub near : refusal.left ≤ last
+  pub refused : IsRefusedBy (HasRefusalAs form) bytes refusal
+
+-- where no more comes, bytes of this form are refused so, at a unit of which so many have come
+pub record IsCutOff (form : Form) (bytes : List ℕ) (refusal : Refusal) : Type 0 where
+  pub within : refusal.left ≤ length bytes
+  pub few : refusal.left < 4096
+  pub refused : HasRefusalAs form bytes refusal
 
 -- as bytes of this form they have the fault, whatever comes after them
 abbrev pub LastsAs : Form → List ℕ → Format → Type 0
@@ -50,6 +71,10 @@ FeedsAll old (piece ∷ more) new = (next : Fed) × (result : Result (Unit {0}) 
 -- what a reading of the bytes may give: a trace that they spell, a fault that they have, or out of memory
 abbrev pub Reads : List ℕ → Result Recording (Fail Format) → Type 0
 Reads bytes result = MatchResult result (Spells bytes) (IfRefused (HasFormatFault bytes))
+
+-- where no more comes, the bytes are refused so
+abbrev pub EndsRefused : Form → Fed → Result Recording (Fail Refusal) → Type 0
+EndsRefused form fed result = (bytes : List ℕ) → fed ≡ Taken bytes → IfErr result (IfRefused (IsCutOff form bytes))
 
 -- what a feed of a segment has come to, where the segment before has this layout
 pub record FedSegment : Type 0 where

@@ -127,7 +127,7 @@ pub fn one_fault_of_each_dump()
     ensures differs { HasFault unmapped_page (Differs 0 0) }
 {}
 
-/// Where nothing is recorded and the page table is empty, no fault holds, and the dump fits the order without calls.
+/// If nothing is recorded and the page table is empty, no fault holds, and the dump fits the order without calls.
 pub fn nothing_recorded_is_faultless()
     ensures faultless { IsFaultless nothing_recorded }
     ensures order { recorded_order nothing_recorded ≡ [] }

@@ -23,7 +23,8 @@ pub enum Format {
     Trailing,
 }
 
-/// What is wrong with a recorded run. Calls and events are named by index, places by number, frames by number.
+/// What is wrong with a recorded run, a trace or a segment. Calls and events are named by index, places by number, frames by number, and
+/// words by index in their frame. The number of a fault is its place here, from 1 on; only a segment has those from `StartMissing` on.
 #[derive(Clone, Copy, Debug, PartialEq, Eq)]
 pub enum Fault {
     /// The bytes spell no trace.
@@ -60,4 +61,18 @@ pub enum Fault {
     StrayFrame(u8, u64),
     /// The replica's dump translates this address, the least such one, not as the space does.
     Differs(u8, u64),
+    /// The tables of the start lead to this frame, which the start does not have.
+    StartMissing(u64),
+    /// The tables of the start lead to this frame twice.
+    StartShared(u64),
+    /// In the start the word of this frame at this index, from 0 to 511, has a reserved bit set.
+    StartReserved(u64, u16),
+    /// The tables do not lead to this frame of the start, the least such one.
+    StartStray(u64),
+    /// The page of the start at this base, the least such one, ends above the physical addresses that a page may have.
+    StartBeyond(u64),
+    /// The start translates this canonical address, the least such one, otherwise than the space after the segment before.
+    StartDiffers(u64),
+    /// This touch, the first such one, is answered as its address was at no moment that was still allowed.
+    Stale(u32),
 }

@@ -12,7 +12,7 @@ ghost use Rattle.vs_types.specs.Step.{step};
 ghost use Rattle.vs_types.specs.declared.op.Action.{Action};
 ghost use Rattle.nr_trace.specs.Calls.{operation_of, reply_of, reply_to, IsOrdered, IsWellFormedHistory, Response};
 ghost use Rattle.vs_types.specs.Config.{Layout};
-ghost use Rattle.nr_trace.specs.FirstFault.{HasFormatFault, HasSegmentFault};
+ghost use Rattle.nr_trace.specs.FirstFault.{HasFormatFault, HasRefusalAs, HasSegmentFault};
 ghost use Rattle.nr_trace.specs.Feed.{Ends, Fed, FeedsAll, Reads};
 ghost use Rattle.nr_trace.specs.Feed.Fed.{Taken};
 ghost use Rattle.nr_trace.specs.Faults.{Earlier, HasFault, HasFaultFrom, IsFirstFrom, IsFirstOf, StandsAfter};
@@ -23,6 +23,8 @@ ghost use Rattle.nr_trace.specs.Spelling.{Spells, SpellsSegment};
 ghost use Rattle.nr_trace.specs.declared.fault.Fault.{Fault};
 ghost use Rattle.nr_trace.specs.declared.fault.Fault.TheVariants.{AnsweredTwice, Early, NoSuchCall, ThreadOpen, WrongAnswer};
 ghost use Rattle.nr_trace.specs.declared.fault.Format.{Format};
+ghost use Rattle.nr_trace.specs.declared.refusal.Refusal.{Refusal};
+ghost use Rattle.nr_trace.specs.declared.version.Form.{Form};
 ghost use Rattle.nr_trace.specs.declared.fault.Format.TheVariants.{Trailing, Truncated};
 
 /// Bytes spell at most one trace.
@@ -41,6 +43,12 @@ pub fn no_longer_trace()
 pub fn one_format_fault()
     ensures { (bytes : List ℕ) (first second : Format) → HasFormatFault bytes first
         → HasFormatFault bytes second → first ≡ second }
+{}
+
+/// Bytes are refused in one way at most, as a trace or as a segment: with one fault, at one unit, which begins at one byte.
+pub fn one_refusal()
+    ensures { (form : Form) (bytes : List ℕ) (first second : Refusal) → HasRefusalAs form bytes first
+        → HasRefusalAs form bytes second → first ≡ second }
 {}
 
 /// Bytes that spell a trace have no fault of the format.
@@ -75,7 +83,7 @@ pub fn recorded_order_is_serial()
         → IsSerialFrom start trace (recorded_order trace) }
 {}
 
-/// Where moreover no call comes too early, the recorded order is legal.
+/// If no call comes too early either, the recorded order is legal.
 pub fn recorded_order_is_legal()
     ensures { (start : Space) (trace : Recording) → HasCleanLog trace
         → ((call : ℕ) → HasFault trace (Early call) → ⊥)
@@ -102,7 +110,7 @@ pub fn one_first_fault_of_bytes()
         → IsFirstOf bytes second → first ≡ second }
 {}
 
-/// Where no fault holds of a recording from a start on, its history is well formed, the recorded order is legal, and each
+/// If no fault holds of a recording from a start on, its history is well formed, the recorded order is legal, and each
 /// dump that is there fits it.
 pub fn faultless_recordings_have_an_order()
     ensures history { (start : Space) (trace : Recording) → IsFaultlessFrom start trace
@@ -171,7 +179,7 @@ pub fn trailing_bytes_follow_a_trace()
         × (more ≢ []) × Spells front trace) }
 {}
 
-/// Where bytes spell a trace, each front of them that lacks some has the fault `Truncated`.
+/// If bytes spell a trace, each front of them that lacks some has the fault `Truncated`.
 pub fn fronts_of_a_spelling_are_truncated()
     ensures { (front more : List ℕ) (trace : Recording) → Spells (front ++ more) trace → more ≢ []
         → HasFormatFault front Truncated }
@@ -207,7 +215,7 @@ pub fn no_fault_of_a_segment()
         → SpellsSegment before bytes segment → HasSegmentFault before (bytes ++ more) fault → ⊥ }
 {}
 
-/// Where bytes spell a segment, each front of them that lacks some has the fault `Truncated`.
+/// If bytes spell a segment, each front of them that lacks some has the fault `Truncated`.
 pub fn fronts_of_a_segment_are_truncated()
     ensures { (before : Option Layout) (front more : List ℕ) (segment : Recording)
         → SpellsSegment before (front ++ more) segment → more ≢ []

@@ -48,8 +48,7 @@ fn try_run<T: FilesByName + Threads + Wait + Sync, R: Read + Drop, W: Write, E: 
     }
 }
 
-/// The whole program over what its words ask for and its three ends: gives the exit status. Allocates what its command does, and the line
-/// of a refusal.
+/// The whole program over what its words ask for and its three ends: gives the exit status.
 pub fn run<T: FilesByName + Threads + Wait + Sync, R: Read + Drop, W: Write, E: Write>(
     rt: &T,
     alloc: Global,

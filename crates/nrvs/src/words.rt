@@ -110,7 +110,7 @@ fn read_words<'a>(alloc: Global, words: &'a [String]) -> Result<Command<'a>, Err
     read_matches(alloc, &mut line, &matches)
 }
 
-/// The same, where the words are known. Allocates what clap reads them with.
+/// The same, if the words are known.
 ///
 /// # Errors
 ///

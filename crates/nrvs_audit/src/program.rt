@@ -33,8 +33,7 @@ fn try_run<F: FilesByName, R: Read + Drop, W: Write, E: Write>(
     }
 }
 
-/// The whole program over what its words ask for and its three ends: gives the exit status. Allocates what its command does, and the line
-/// of a refusal.
+/// The whole program over what its words ask for and its three ends: gives the exit status.
 pub fn run<F: FilesByName, R: Read + Drop, W: Write, E: Write>(
     files: &F,
     alloc: Global,

@@ -12,7 +12,7 @@ use Rattle.nrvs_audit_c.specs.declared.finding.Finding.{Finding}
 abbrev pub with_index : ℕ → ℕ → Finding
 with_index fault index = record { fault = fault; format = 0; index = index; replica = 0; number = 0; calls = 0 }
 
--- a fault of a dump
+-- a fault of a dump, or of a start
 abbrev pub with_dump : ℕ → ℕ → ℕ → ℕ → Finding
 with_dump fault replica number word = record { fault = fault; format = 0; index = word; replica = replica; number = number; calls = 0 }
 
@@ -50,6 +50,13 @@ fault_numbers (faults.SharedFrame replica number) = with_dump 14 replica number 
 fault_numbers (faults.ReservedBit replica number word) = with_dump 15 replica number word
 fault_numbers (faults.StrayFrame replica number) = with_dump 16 replica number 0
 fault_numbers (faults.Differs replica address) = with_dump 17 replica address 0
+fault_numbers (faults.StartMissing number) = with_dump 18 0 number 0
+fault_numbers (faults.StartShared number) = with_dump 19 0 number 0
+fault_numbers (faults.StartReserved number word) = with_dump 20 0 number word
+fault_numbers (faults.StartStray number) = with_dump 21 0 number 0
+fault_numbers (faults.StartBeyond base) = with_dump 22 0 base 0
+fault_numbers (faults.StartDiffers address) = with_dump 23 0 address 0
+fault_numbers (faults.Stale call) = with_index 24 call
 
 -- of yes how many calls the order has; of no the numbers of the fault
 abbrev pub finding_of : Verdict → Finding

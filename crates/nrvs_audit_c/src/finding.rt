@@ -62,6 +62,13 @@ impl Finding {
             }
             Fault::StrayFrame(replica, number) => Finding::with_dump(16, replica, number, 0),
             Fault::Differs(replica, address) => Finding::with_dump(17, replica, address, 0),
+            Fault::StartMissing(number) => Finding::with_dump(18, 0, number, 0),
+            Fault::StartShared(number) => Finding::with_dump(19, 0, number, 0),
+            Fault::StartReserved(number, word) => Finding::with_dump(20, 0, number, word),
+            Fault::StartStray(number) => Finding::with_dump(21, 0, number, 0),
+            Fault::StartBeyond(base) => Finding::with_dump(22, 0, base, 0),
+            Fault::StartDiffers(address) => Finding::with_dump(23, 0, address, 0),
+            Fault::Stale(call) => Finding::with_index(24, call),
         }
     }
 

@@ -13,8 +13,7 @@ use Rattle.nr_trace.specs.declared.fault.Format.{Format}
 use Rattle.nr_trace.specs.declared.fault.Format.TheVariants.{Truncated}
 use Rattle.nr_audit.specs.Faults.{IsFirstAfter, IsSoundAfter}
 use Rattle.nr_audit.specs.Start.{first_space}
-use Rattle.nr_audit.specs.declared.fault.SegmentFault.{SegmentFault}
-use Rattle.nr_audit.specs.declared.fault.SegmentFault.TheVariants.{Within}
+use Rattle.nr_trace.specs.declared.fault.Fault.{Fault}
 use Rattle.nr_chain.specs.Bytes.{BeginsWith}
 use Rattle.audit_readers.specs.Answers.{IsReadOf}
 use Rattle.audit_texts.specs.Listing.{pages_text}
@@ -48,9 +47,9 @@ pub record SaysStart (as_ranges : Bool) (segment : Recording) (text : List ℕ) 
 
 abbrev pub SaysOfFirst : Bool → Recording → List ℕ → ℕ → Type 0
 SaysOfFirst as_ranges segment text status = SaysStart as_ranges segment text status
-    ⊎ ((fault : SegmentFault) × IsFirstAfter None segment fault × SaysFault 0 fault text status)
+    ⊎ ((fault : Fault) × IsFirstAfter None segment fault × SaysFault 0 fault text status)
 
 -- and of one that can't be read: the fault of the format
 abbrev pub SaysUnread : Fail Format → List ℕ → ℕ → Type 0
-SaysUnread (Refused fault) text status = SaysFault 0 (Within (faults.Format fault)) text status
+SaysUnread (Refused fault) text status = SaysFault 0 (faults.Format fault) text status
 SaysUnread Memory text status = ⊥

@@ -2,7 +2,7 @@
 use Rattle.std.specs.Prelude.{◌≡◌, ◌⊎◌, ℕ, Bool, List, [], length, Option, Some, None, ⊤}
 use Rattle.std.specs.Io.KnownBytes.{Appends, Consumes, IsAtEnd}
 use Rattle.vs_types.specs.Space.{pages, IsSpace}
-use Rattle.nr_audit.specs.declared.fault.SegmentFault.{SegmentFault}
+use Rattle.nr_trace.specs.declared.fault.Fault.{Fault}
 use Rattle.nr_chain.specs.Fed.{ChainFed, Kept}
 use Rattle.nr_chain.specs.Bytes.{EndsWith}
 use Rattle.nr_chain.specs.Verdict.{LastsNext}
@@ -42,11 +42,11 @@ pub record SaysPages (as_ranges : Bool) (chain : ChainFed) (text : List ℕ) (st
   pub status_is : status ≡ 0
 
 -- the text is that of the fault of the segment of this number
-pub record SaysFault (count : ℕ) (fault : SegmentFault) (text : List ℕ) (status : ℕ) : Type 0 where
+pub record SaysFault (count : ℕ) (fault : Fault) (text : List ℕ) (status : ℕ) : Type 0 where
   pub text_is : text ≡ end_lines count (Some fault)
   pub status_is : status ≡ 1
 
 abbrev pub SaysEnd : Bool → Judged → List ℕ → ℕ → Type 0
 SaysEnd as_ranges (Ended chain count) text status = SaysPages as_ranges chain text status
-    ⊎ ((fault : SegmentFault) × EndsWith chain.kept chain.bytes (Some fault) × SaysFault count fault text status)
+    ⊎ ((fault : Fault) × EndsWith chain.kept chain.bytes (Some fault) × SaysFault count fault text status)
 SaysEnd as_ranges (Faulty count fault) text status = SaysFault count fault text status

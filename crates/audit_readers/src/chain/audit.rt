@@ -14,8 +14,9 @@ use crate::ends::{BLOCK, read_block, write_text};
 use crate::fault::ProgFault;
 use crate::source::Source;
 use audit_texts::{end_lines, segment_lines};
-use nr_audit::{Order, SegmentFault};
+use nr_audit::Order;
 use nr_chain::{Chain, Step};
+use nr_trace::Fault;
 use std::alloc::Global;
 use std::io::Write;
 
@@ -28,7 +29,7 @@ enum Taken {
     /// The chain goes on, and so many of its segments are right so far.
     More(Chain, u64),
     /// So many segments are right, and the next one has this fault, its first.
-    Wrong(u64, SegmentFault),
+    Wrong(u64, Fault),
 }
 
 /// Writes the lines of the segment of this number, which is right; none where it is quiet.
@@ -57,7 +58,7 @@ fn write_end<W: Write>(
     alloc: Global,
     writer: &mut W,
     number: u64,
-    found: Option<SegmentFault>,
+    found: Option<Fault>,
 ) -> Result<u8, ProgFault>
     ensures ok { IfOk result (λ status. (status ≡ chain_status found)
         × Appends (W.contents writer.old) (W.contents writer.new) (end_lines number found)) }
@@ -115,7 +116,7 @@ pub(crate) enum Judged {
     /// The input has ended, and so many segments are right.
     Ended(Chain, u64),
     /// So many segments are right, and the next one has this fault, its first.
-    Faulty(u64, SegmentFault),
+    Faulty(u64, Fault),
 }
 
 /// Reads blocks and feeds each, to the end of the input or to the first fault, and writes the lines of right segments.

@@ -4,7 +4,9 @@ ghost use Rattle.std.specs.Prelude.{◌≡◌, ◌-◌, ◌^◌, IfErr, IfOk, le
 ghost use Rattle.audit_readers.specs.Answers.{WritesReport};
 ghost use Rattle.audit_readers.specs.Ends.{RefusesUnreadable};
 ghost use Rattle.audit_readers.specs.Refusals.{IsEndFault, WritesAnswersAlone};
+ghost use Rattle.audit_texts.specs.Text.{fault_text};
 ghost use Rattle.audit_readers.specs.ChainAudit.{HasReadFewOfChain};
+ghost use Rattle.audit_texts.specs.ChainText.{end_lines};
 ghost use Rattle.audit_texts.specs.ChainExplained.{chain_explanation_status, told_chain, IsChainExplained};
 ghost use Rattle.audit_readers.specs.inside.Explaining.{HasExplained};
 
@@ -14,7 +16,7 @@ use crate::fault::ProgFault;
 use crate::report::Report;
 use crate::source::Source;
 use audit_texts::told_chain;
-use nr_explain::{ChainExplanation, ChainReader, Fed};
+use nr_explain::{ChainExplanation, ChainReader, ReaderStep};
 use std::alloc::{AllocError, Global};
 use std::io::Write;
 
@@ -65,11 +67,11 @@ fn explain_blocks<R: Source>(
             return Ok(found);
         }
         match chain.feed(&block[..count])? {
-            Fed::More(next) => {
+            ReaderStep::More(next) => {
                 chain = next;
                 room -= 1;
             }
-            Fed::Found(found) => return Ok(found),
+            ReaderStep::Found(found) => return Ok(found),
         }
     }
     Err(ProgFault::CannotRead)

@@ -24,7 +24,7 @@ use crate::fault::ProgFault;
 use crate::report::Report;
 use crate::source::Source;
 use audit_texts::{dump_text, end_lines, space_text};
-use nr_audit::{SegmentFault, SegmentVerdict, judge_segment};
+use nr_audit::judge_segment;
 use nr_chain::Chain;
 use nr_trace::{Fault, Format, SegmentFeed, Trace};
 use std::alloc::Global;
@@ -32,7 +32,7 @@ use std::io::{self, Write};
 use vs_types::{Fail, Memory};
 
 /// What is said of a chain whose segment of this number is the first with a fault.
-fn fault_report(alloc: Global, number: u64, fault: SegmentFault) -> Result<Report, Memory>
+fn fault_report(alloc: Global, number: u64, fault: Fault) -> Result<Report, Memory>
     ensures { IfOk result
         (λ report. SaysFault number fault (string_bytes report.text) report.status) }
 {
@@ -113,13 +113,13 @@ fn first_report(alloc: Global, segment: &Trace, as_ranges: bool) -> Result<Repor
     ensures { IfOk result (λ report.
         SaysOfFirst as_ranges segment.now (string_bytes report.text) report.status) }
 {
-    let verdict = judge_segment(alloc, segment, None)?;
-    match verdict {
-        SegmentVerdict::Right(_order, _space) => {
+    match judge_segment(alloc, segment, None) {
+        Ok(_) => {
             let text = start_text(alloc, segment, as_ranges)?;
             Ok(Report { text, status: 0 })
         }
-        SegmentVerdict::Wrong(fault) => fault_report(alloc, 0, fault),
+        Err(Fail::Memory) => Err(Memory),
+        Err(Fail::Refused(fault)) => fault_report(alloc, 0, fault),
     }
 }
 
@@ -128,9 +128,7 @@ fn unread_report(alloc: Global, fail: Fail<Format>) -> Result<Report, Memory>
     ensures { IfOk result (λ report. SaysUnread fail (string_bytes report.text) report.status) }
 {
     match fail {
-        Fail::Refused(fault) => {
-            fault_report(alloc, 0, SegmentFault::Within(Fault::Format(fault)))
-        }
+        Fail::Refused(fault) => fault_report(alloc, 0, Fault::Format(fault)),
         Fail::Memory => Err(Memory),
     }
 }
@@ -151,10 +149,10 @@ fn start_report(
     }
 }
 
-/// Reads the first segment of a chain, judges it, and writes the pages of its start by rising base: a line for each, or, as ranges, one
-/// for all that follow one another with one size and the same rights, virtually and physically; nothing where it has no start. The
-/// status is 0. Where the segment has a fault, it writes the last lines of an audit in place of the pages, and the status is 1. It reads
-/// in blocks of 4,096 bytes, and none behind that with which the segment is whole or has a fault of the format.
+/// Reads the first segment of a chain, judges it, and writes the pages of its start by rising base, with status 0. It writes a line for
+/// each page, or, as ranges, one for all that follow one another with one size and the same rights, virtually and physically. It writes
+/// nothing if there is no start. If the segment has a fault, it writes the last lines of an audit in place of the pages, and the status
+/// is 1. It reads in blocks of 4,096 bytes, and none behind that with which the segment is whole or has a fault of the format.
 ///
 /// It allocates what the segment says, what its judgement takes, and the lines. Where it gives no answer, nothing was written but where
 /// that failed.

@@ -6,23 +6,20 @@ ghost use Rattle.audit_texts.specs.Parts.{put_all, says_of};
 ghost use Rattle.audit_texts.specs.ChainEvidence.{allowed_parts, allowed_says, bad_segment_parts, begin_parts, change_parts};
 ghost use Rattle.audit_texts.specs.ChainEvidence.{difference_parts, looks_of, moment_data, moment_line, origin_parts, origin_says};
 ghost use Rattle.audit_texts.specs.ChainEvidence.{other_answer_parts, segment_evidence_data, segment_evidence_text, segment_parts};
-ghost use Rattle.audit_texts.specs.ChainEvidence.{start_beyond_parts, start_differs_parts, start_missing_parts};
-ghost use Rattle.audit_texts.specs.ChainEvidence.{start_reserved_parts, start_shared_parts, start_stray_parts, window_parts, with_looks};
+ghost use Rattle.audit_texts.specs.ChainEvidence.{start_beyond_parts, start_differs_parts};
+ghost use Rattle.audit_texts.specs.ChainEvidence.{start_stray_parts, window_parts, with_looks};
 
 use crate::answer::answer_text;
-use crate::evidence::put_evidence;
+use crate::evidence::{put_evidence, put_missing, put_reserved, put_shared};
 use crate::fact_json::Members;
 use crate::output::Output;
 use crate::parts::{Part, Says};
-use crate::shared::{
-    put_answer, put_look, put_missing_frame, put_read, put_reserved_entry, put_shared_frame,
-    put_stray_frame, put_unlike,
-};
+use crate::shared::{put_answer, put_look, put_read, put_stray_frame, put_unlike};
 use nr_explain::{
     BadSegment, Difference, Moment, Origin, OtherAnswer, PlacedUpdate, SegmentEvidence, StaleTouch,
-    StartBeyond, StartDiffers, StartMissing, StartReserved, StartShared, TraceUnit,
+    StartBeyond, StartDiffers,
 };
-use nr_trace::Format;
+use nr_trace::{Format, TraceUnit};
 use serde_json::{Map, Value, put};
 use std::alloc::{AllocError, Global};
 use vs_walk::Walk;
@@ -177,58 +174,6 @@ fn put_bad_segment<O: Output>(
     put_allowed(out, alloc, unit.fault)
 }
 
-#[tactic(auto, unfolding(crate::specs::ChainEvidence::start_missing_parts))]
-fn put_start_missing<O: Output>(
-    out: &mut O,
-    alloc: Global,
-    wrong: &StartMissing,
-) -> Result<(), AllocError>
-    ensures { OnOk result (O.held out.new
-        ≡ put_all (start_missing_parts wrong.now) (O.held out.old)) }
-{
-    let end = ", which the start doesn't have\n";
-    put_missing_frame(
-        out,
-        alloc,
-        "StartMissing",
-        wrong.path.as_slice(),
-        wrong.frame,
-        end,
-    )
-}
-
-#[tactic(auto, unfolding(crate::specs::ChainEvidence::start_shared_parts))]
-fn put_start_shared<O: Output>(
-    out: &mut O,
-    alloc: Global,
-    wrong: &StartShared,
-) -> Result<(), AllocError>
-    ensures { OnOk result (O.held out.new
-        ≡ put_all (start_shared_parts wrong.now) (O.held out.old)) }
-{
-    let (first, second) = (wrong.first.as_slice(), wrong.second.as_slice());
-    put_shared_frame(out, alloc, "StartShared", first, second, wrong.frame)
-}
-
-#[tactic(auto, unfolding(crate::specs::ChainEvidence::start_reserved_parts))]
-fn put_start_reserved<O: Output>(
-    out: &mut O,
-    alloc: Global,
-    wrong: &StartReserved,
-) -> Result<(), AllocError>
-    ensures { OnOk result (O.held out.new
-        ≡ put_all (start_reserved_parts wrong.now) (O.held out.old)) }
-{
-    put_reserved_entry(
-        out,
-        alloc,
-        "StartReserved",
-        wrong.path.as_slice(),
-        wrong.entry,
-        wrong.bit,
-    )
-}
-
 #[tactic(auto, unfolding(crate::specs::ChainEvidence::start_stray_parts))]
 fn put_start_stray<O: Output>(out: &mut O, alloc: Global, frame: u64) -> Result<(), AllocError>
     ensures { OnOk result (O.held out.new ≡ put_all (start_stray_parts frame) (O.held out.old)) }
@@ -320,9 +265,9 @@ fn put_segment<O: Output>(
             out, alloc, *wrong, *origin,
         ),
         SegmentEvidence::Differs(wrong, origin) => put_difference(out, alloc, wrong, *origin),
-        SegmentEvidence::StartMissing(wrong) => put_start_missing(out, alloc, wrong),
-        SegmentEvidence::StartShared(wrong) => put_start_shared(out, alloc, wrong),
-        SegmentEvidence::StartReserved(wrong) => put_start_reserved(out, alloc, wrong),
+        SegmentEvidence::StartMissing(wrong) => put_missing(out, alloc, wrong),
+        SegmentEvidence::StartShared(wrong) => put_shared(out, alloc, wrong),
+        SegmentEvidence::StartReserved(wrong) => put_reserved(out, alloc, wrong),
         SegmentEvidence::StartStray(frame) => put_start_stray(out, alloc, *frame),
         SegmentEvidence::StartBeyond(wrong) => put_start_beyond(out, alloc, wrong),
         SegmentEvidence::StartDiffers(wrong) => put_start_differs(out, alloc, wrong),

@@ -3,17 +3,19 @@
 ghost use Rattle.std.specs.Prelude.{◌≡◌, ◌++◌, IfOk, OnOk, codes, string_bytes};
 ghost use Rattle.serde_json.specs.Data.{object, put as with_member, string};
 ghost use Rattle.serde_json.specs.View.{members_view, view};
-ghost use Rattle.audit_texts.specs.ChainText.{segment_fault_text};
+ghost use Rattle.audit_texts.specs.Text.{fault_text};
+ghost use Rattle.audit_texts.specs.ChainText.{end_lines};
 ghost use Rattle.audit_texts.specs.ChainExplained.{chain_explanation_data, chain_explanation_json};
 ghost use Rattle.audit_texts.specs.ChainExplained.{chain_explanation_text, shown_text, told_chain};
 
 use crate::chain::counts::{chain_counts_lines, chain_counts_value};
 use crate::chain::evidence::{segment_evidence_text, segment_evidence_value};
 use crate::chain::sentence::segment_sentence;
-use crate::chain::text::{end_lines, segment_fault_text};
+use crate::chain::text::end_lines;
 use crate::fact_json::Members;
-use nr_audit::SegmentFault;
+use crate::text::fault_text;
 use nr_explain::{ChainCounts, ChainExplanation, SegmentEvidence};
+use nr_trace::Fault;
 use serde_json::{Map, Value, put};
 use std::alloc::{AllocError, Global};
 
@@ -40,7 +42,7 @@ fn push_shown(alloc: Global, text: &mut String, shown: &SegmentEvidence) -> Resu
 fn wrong_text(
     alloc: Global,
     number: u64,
-    fault: SegmentFault,
+    fault: Fault,
     shown: &SegmentEvidence,
 ) -> Result<String, AllocError>
     ensures { IfOk result (λ text. string_bytes text
@@ -78,12 +80,12 @@ fn right_value(alloc: Global, counts: ChainCounts) -> Result<Value, AllocError>
 }
 
 /// Puts the line of a fault.
-fn put_fault(members: &mut Members, alloc: Global, fault: SegmentFault) -> Result<(), AllocError>
+fn put_fault(members: &mut Members, alloc: Global, fault: Fault) -> Result<(), AllocError>
     ensures { OnOk result (members_view members.new.entries
-        ≡ with_member (codes "verdict") (string (codes "no " ++ segment_fault_text fault))
+        ≡ with_member (codes "verdict") (string (codes "no " ++ fault_text fault))
         (members_view members.old.entries)) }
 {
-    let name = segment_fault_text(alloc, fault)?;
+    let name = fault_text(alloc, fault)?;
     let verdict = format!(in alloc; "no {name}")?;
     put(members, alloc, "verdict", Value::String(verdict))
 }
@@ -91,7 +93,7 @@ fn put_fault(members: &mut Members, alloc: Global, fault: SegmentFault) -> Resul
 fn wrong_value(
     alloc: Global,
     number: u64,
-    fault: SegmentFault,
+    fault: Fault,
     shown: &SegmentEvidence,
 ) -> Result<Value, AllocError>
     ensures { IfOk result (λ value. view value

@@ -3,18 +3,17 @@
 ghost use Rattle.std.specs.Prelude.{◌≡◌, IfOk, string_bytes};
 ghost use Rattle.vs_text.specs.Words.{hexadecimal};
 ghost use Rattle.audit_texts.specs.ChainSentence.{bad_segment_sentence, segment_reason, segment_sentence, stale_sentence};
-ghost use Rattle.audit_texts.specs.ChainSentence.{start_beyond_sentence, start_differs_sentence, start_entry_text, start_leads_text};
-ghost use Rattle.audit_texts.specs.ChainSentence.{start_missing_sentence, start_reserved_sentence, start_shared_sentence};
+ghost use Rattle.audit_texts.specs.ChainSentence.{start_beyond_sentence, start_differs_sentence};
 ghost use Rattle.audit_texts.specs.ChainSentence.{start_stray_sentence, window_text};
 
 use crate::answer::answer_text;
-use crate::sentence::{difference_sentence, other_answer_sentence, reason_text, sentence_text};
+use crate::sentence::{
+    difference_sentence, missing_sentence, other_answer_sentence, reason_text, reserved_sentence,
+    sentence_text, shared_sentence,
+};
 use crate::text::walk_words;
 use crate::units::bytes_text;
-use nr_explain::{
-    BadUnit, SegmentEvidence, StaleTouch, StartBeyond, StartDiffers, StartMissing, StartReserved,
-    StartShared, Step,
-};
+use nr_explain::{BadUnit, SegmentEvidence, StaleTouch, StartBeyond, StartDiffers};
 use nr_trace::Format;
 use std::alloc::{AllocError, Global};
 
@@ -44,49 +43,6 @@ fn bad_segment_sentence(alloc: Global, bad: &BadUnit) -> Result<String, AllocErr
 {
     let reason = segment_reason(alloc, bad, bad.fault)?;
     format!(in alloc; "These bytes are no segment: {reason}.")
-}
-
-/// What leads to a frame of a start, by the entries on the way from the root.
-#[tactic(auto, unfolding(crate::specs::ChainSentence::start_leads_text))]
-fn start_leads_text(way: &[Step]) -> &'static str
-    ensures { result.now ≡ start_leads_text way.now }
-{
-    if way.is_empty() {
-        return "The root of the start is";
-    }
-    "An entry of the tables of the start leads to"
-}
-
-fn start_missing_sentence(alloc: Global, wrong: &StartMissing) -> Result<String, AllocError>
-    ensures { IfOk result (λ text. string_bytes text ≡ start_missing_sentence wrong.now) }
-{
-    let leads = start_leads_text(wrong.path.as_slice());
-    let frame = wrong.frame;
-    format!(in alloc; "{leads} frame 0x{frame:x}, which the start doesn't have.")
-}
-
-fn start_shared_sentence(alloc: Global, wrong: &StartShared) -> Result<String, AllocError>
-    ensures { IfOk result (λ text. string_bytes text ≡ start_shared_sentence wrong.now) }
-{
-    let frame = wrong.frame;
-    format!(in alloc;
-        "The tables of the start reach frame 0x{frame:x} twice: a change on one way is seen on the other."
-    )
-}
-
-/// Which entry of the start it is.
-fn start_entry_text(alloc: Global, index: u16, frame: u64) -> Result<String, AllocError>
-    ensures { IfOk result (λ text. string_bytes text ≡ start_entry_text index frame) }
-{
-    format!(in alloc; "Entry {index} of frame 0x{frame:x} of the start")
-}
-
-fn start_reserved_sentence(alloc: Global, wrong: &StartReserved) -> Result<String, AllocError>
-    ensures { IfOk result (λ text. string_bytes text ≡ start_reserved_sentence wrong.now) }
-{
-    let entry = start_entry_text(alloc, wrong.entry.index, wrong.entry.frame)?;
-    let bit = wrong.bit;
-    format!(in alloc; "{entry} has the reserved bit {bit} set: a processor faults there.")
 }
 
 fn start_stray_sentence(alloc: Global, frame: u64) -> Result<String, AllocError>
@@ -147,9 +103,9 @@ pub(crate) fn segment_sentence(alloc: Global, shown: &SegmentEvidence) -> Result
         SegmentEvidence::Within(evidence) => sentence_text(alloc, evidence),
         SegmentEvidence::WrongAnswer(wrong, _) => other_answer_sentence(alloc, *wrong),
         SegmentEvidence::Differs(wrong, _) => difference_sentence(alloc, wrong),
-        SegmentEvidence::StartMissing(wrong) => start_missing_sentence(alloc, wrong),
-        SegmentEvidence::StartShared(wrong) => start_shared_sentence(alloc, wrong),
-        SegmentEvidence::StartReserved(wrong) => start_reserved_sentence(alloc, wrong),
+        SegmentEvidence::StartMissing(wrong) => missing_sentence(alloc, wrong),
+        SegmentEvidence::StartShared(wrong) => shared_sentence(alloc, wrong),
+        SegmentEvidence::StartReserved(wrong) => reserved_sentence(alloc, wrong),
         SegmentEvidence::StartStray(frame) => start_stray_sentence(alloc, *frame),
         SegmentEvidence::StartBeyond(wrong) => start_beyond_sentence(alloc, wrong),
         SegmentEvidence::StartDiffers(wrong) => start_differs_sentence(alloc, wrong),

@@ -1,44 +1,11 @@
 //! What is printed of the segments of a chain.
 
 ghost use Rattle.std.specs.Prelude.{◌≡◌, ◌++◌, IfOk, string_bytes};
-ghost use Rattle.audit_texts.specs.ChainText.{end_lines, segment_fault_text, segment_lines, start_fault_text};
+ghost use Rattle.audit_texts.specs.ChainText.{end_lines, segment_lines};
 
 use crate::text::{fault_text, yes_text};
-use nr_audit::{SegmentFault, StartFault};
+use nr_trace::Fault;
 use std::alloc::{AllocError, Global};
-
-/// The number of a fault of a start, its name, and its numbers.
-#[tactic(auto, unfolding(crate::specs::ChainText::start_fault_text))]
-fn start_fault_text(alloc: Global, fault: StartFault) -> Result<String, AllocError>
-    ensures { IfOk result (λ text. string_bytes text ≡ start_fault_text fault) }
-{
-    match fault {
-        StartFault::Missing(number) => format!(in alloc; "18 StartMissing {number}"),
-        StartFault::Shared(number) => format!(in alloc; "19 StartShared {number}"),
-        StartFault::Reserved(number, index) => {
-            format!(in alloc; "20 StartReserved {number} {index}")
-        }
-        StartFault::Stray(number) => format!(in alloc; "21 StartStray {number}"),
-        StartFault::Beyond(base) => format!(in alloc; "22 StartBeyond 0x{base:x}"),
-        StartFault::Differs(address) => format!(in alloc; "23 StartDiffers 0x{address:x}"),
-    }
-}
-
-/// The number of a fault of a segment, its name, and its numbers. Allocates the text.
-///
-/// # Errors
-///
-/// Out of memory.
-#[tactic(auto, unfolding(crate::specs::ChainText::segment_fault_text))]
-pub fn segment_fault_text(alloc: Global, fault: SegmentFault) -> Result<String, AllocError>
-    ensures { IfOk result (λ text. string_bytes text ≡ segment_fault_text fault) }
-{
-    match fault {
-        SegmentFault::Start(fault) => start_fault_text(alloc, fault),
-        SegmentFault::Within(fault) => fault_text(alloc, fault),
-        SegmentFault::Stale(call) => format!(in alloc; "24 Stale {call}"),
-    }
-}
 
 /// The lines of the segment of this number, which is right with this order of its calls. Allocates the text.
 ///
@@ -53,10 +20,10 @@ pub fn segment_lines(alloc: Global, number: u64, order: &[u32]) -> Result<String
 }
 
 /// The lines of the segment of this number, which is the first with a fault.
-fn wrong_lines(alloc: Global, number: u64, fault: SegmentFault) -> Result<String, AllocError>
+fn wrong_lines(alloc: Global, number: u64, fault: Fault) -> Result<String, AllocError>
     ensures { IfOk result (λ text. string_bytes text ≡ end_lines number (Some fault)) }
 {
-    let name = segment_fault_text(alloc, fault)?;
+    let name = fault_text(alloc, fault)?;
     format!(in alloc; "segment {number}\nno {name}\n")
 }
 
@@ -65,11 +32,7 @@ fn wrong_lines(alloc: Global, number: u64, fault: SegmentFault) -> Result<String
 /// # Errors
 ///
 /// Out of memory.
-pub fn end_lines(
-    alloc: Global,
-    number: u64,
-    found: Option<SegmentFault>,
-) -> Result<String, AllocError>
+pub fn end_lines(alloc: Global, number: u64, found: Option<Fault>) -> Result<String, AllocError>
     ensures { IfOk result (λ text. string_bytes text ≡ end_lines number found) }
 {
     match found {

@@ -1,5 +1,5 @@
 -- What is found of a start, and the touches of a segment as a list. No public clause cites this file.
-use Rattle.std.specs.Prelude.{◌≡◌, ℕ, ◌+◌, ◌<◌, ◌≤◌, List, length, slice_get, slice_index_or, Option, Some, None, All, Contains, IsTrue}
+use Rattle.std.specs.Prelude.{◌≡◌, ℕ, ◌+◌, ◌<◌, ◌≤◌, List, slice_get, Option, Some, None, All, Contains, IsTrue}
 use Rattle.std.specs.List.{AllPairs}
 use Rattle.vs_types.specs.Page.{bytes_of, covers, IsPage}
 use Rattle.vs_types.specs.Space.{Space}
@@ -10,21 +10,32 @@ use Rattle.vs_walk.specs.Differences.{IsStray}
 use Rattle.vs_walk.specs.Dump.{Image}
 use Rattle.vs_walk.specs.Traversal.{walk_fault}
 use Rattle.nr_trace.specs.Recording.{Recording}
-use Rattle.nr_trace.specs.Calls.{Answers, IsTouch}
+use Rattle.nr_trace.specs.Calls.{IsTouch}
 use Rattle.nr_trace.specs.declared.event.Event.{Event}
 use Rattle.nr_trace.specs.declared.event.Event.TheVariants as events
 use Rattle.nr_touch.specs.declared.touch.Touch.{Touch}
-use Rattle.nr_audit.specs.Start.{HoldsOfStart, rank_in_start}
+use Rattle.nr_trace.specs.declared.fault.Fault.{Fault}
+use Rattle.nr_trace.specs.declared.fault.Fault.TheVariants.{StartMissing, StartShared, StartReserved, StartStray, StartBeyond, StartDiffers}
+use Rattle.nr_audit.specs.Start.{HoldsOfStart}
 use Rattle.nr_audit.specs.Touches.{HasTouch, IsStale}
-use Rattle.nr_audit.specs.declared.fault.StartFault.{StartFault}
+
+-- the first fault of the traversal comes first, then a stray frame, then a page beyond, then an address that differs
+abbrev pub rank_in_start : Fault → ℕ
+rank_in_start (StartMissing number) = 1
+rank_in_start (StartShared number) = 1
+rank_in_start (StartReserved number index) = 1
+rank_in_start (StartStray number) = 2
+rank_in_start (StartBeyond base) = 3
+rank_in_start (StartDiffers address) = 4
+rank_in_start fault = 0
 
 -- the fault holds of the start, and no earlier one does
-pub record IsFirstOfStart (depth : Depth) (before : Option Space) (start : Image) (fault : StartFault) : Type 0 where
+pub record IsFirstOfStart (depth : Depth) (before : Option Space) (start : Image) (fault : Fault) : Type 0 where
   pub holds : HoldsOfStart depth before start fault
-  pub none_earlier : (other : StartFault) → HoldsOfStart depth before start other → rank_in_start other < rank_in_start fault → ⊥
+  pub none_earlier : (other : Fault) → HoldsOfStart depth before start other → rank_in_start other < rank_in_start fault → ⊥
 
 -- whichever space comes before
-abbrev pub IsFirstOfAny : Depth → Image → StartFault → Type 0
+abbrev pub IsFirstOfAny : Depth → Image → Fault → Type 0
 IsFirstOfAny depth start fault = (before : Option Space) → IsFirstOfStart depth before start fault
 
 -- the tables lead to no frame that is missing and to none twice, no word of them has a reserved bit set, and they lead to each frame
@@ -33,7 +44,7 @@ pub record HasRightTables (depth : Depth) (start : Image) : Type 0 where
   pub none_stray : (number : ℕ) → IsStray depth start.frames start.root number → ⊥
 
 abbrev pub HasNoStartFault : Depth → Option Space → Image → Type 0
-HasNoStartFault depth before start = (fault : StartFault) → HoldsOfStart depth before start fault → ⊥
+HasNoStartFault depth before start = (fault : Fault) → HoldsOfStart depth before start fault → ⊥
 
 -- well-formed pages by rising base, no two of which cover one address
 pub record AreApart (depth : Depth) (pages : List Page) : Type 0 where
@@ -68,15 +79,15 @@ pub record AreTouchesBelow (segment : Recording) (end : ℕ) (touches : List Tou
   pub all : (touch : Touch) → HasTouch segment touch → touch.made < end → (index : ℕ) × (slice_get touches index ≡ Some touch)
   pub rising : AllPairs (λ first second. first.made < second.made) touches
 
+-- the answered touch that is made at an event, if there is one
+abbrev pub IsTouchAt : Recording → ℕ → Option Touch → Type 0
+IsTouchAt segment made None = (touch : Touch) → HasTouch segment touch → touch.made ≡ made → ⊥
+IsTouchAt segment made (Some touch) =
+    HasTouch segment touch × (touch.made ≡ made) × ((other : Touch) → HasTouch segment other → other.made ≡ made → other ≡ touch)
+
 -- an event is a touch
 abbrev pub HasSomeTouch : Recording → Type 0
 HasSomeTouch segment = (call : ℕ) × IsTouch segment call
-
--- by call number the event below an end that is the reply to it
-pub record AreRepliesBelow (segment : Recording) (end : ℕ) (replies : List (Option ℕ)) : Type 0 where
-  pub as_many : length replies ≡ length segment.events
-  pub each : (call index : ℕ) → slice_index_or replies call None ≡ Some index → (index < end) × Answers segment index call
-  pub all : (call index : ℕ) → index < end → Answers segment index call → slice_index_or replies call None ≡ Some index
 
 -- the touch of this number is stale, and none of a lower number is
 pub record IsFirstStale (start : Space) (segment : Recording) (call : ℕ) : Type 0 where

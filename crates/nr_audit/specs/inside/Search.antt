@@ -2,14 +2,28 @@
 use Rattle.std.specs.Prelude.{ℕ, ◌<◌, Option, Some, None}
 use Rattle.vs_types.specs.Space.{Space, no_pages}
 use Rattle.nr_trace.specs.Recording.{Recording}
-use Rattle.nr_trace.specs.Faults.{HasFaultFrom, IsFirstFrom, Earlier}
+use Rattle.nr_trace.specs.Faults.{HasFaultFrom, Earlier}
 use Rattle.nr_trace.specs.declared.fault.Fault.{Fault}
-use Rattle.nr_trace.specs.declared.fault.Fault.TheVariants.{Early}
+use Rattle.nr_trace.specs.declared.fault.Fault.TheVariants.{Early, Stale}
+use Rattle.nr_audit.specs.Touches.{IsStale}
 use Rattle.nr_audit.specs.inside.Passes.{IsFloorFault, IsFloorFaultAt}
+
+-- what each fault behind the start says of a trace or a segment that begins with this space
+abbrev pub HasFaultOn : Space → Recording → Fault → Type 0
+HasFaultOn start trace (Stale call) = IsStale start trace call
+HasFaultOn start trace fault = HasFaultFrom start trace fault
+
+abbrev pub HasNoFaultOn : Space → Recording → Type 0
+HasNoFaultOn start trace = (fault : Fault) → HasFaultOn start trace fault → ⊥
+
+-- the fault holds, and no earlier one does
+pub record IsFirstOn (start : Space) (trace : Recording) (fault : Fault) : Type 0 where
+  pub holds : HasFaultOn start trace fault
+  pub none_earlier : (other : Fault) → HasFaultOn start trace other → Earlier trace other fault → ⊥
 
 -- none of these faults holds of the trace from a start on
 abbrev pub HasNoneFrom : Space → (Fault → Type 0) → Recording → Type 0
-HasNoneFrom start Among trace = (fault : Fault) → Among fault → HasFaultFrom start trace fault → ⊥
+HasNoneFrom start Among trace = (fault : Fault) → Among fault → HasFaultOn start trace fault → ⊥
 
 abbrev pub HasNone : (Fault → Type 0) → Recording → Type 0
 HasNone Among trace = HasNoneFrom no_pages Among trace
@@ -17,15 +31,15 @@ HasNone Among trace = HasNoneFrom no_pages Among trace
 -- the fault is one of these and holds of the trace from a start on, and no earlier one of these does
 pub record IsFirstAmongFrom (start : Space) (Among : Fault → Type 0) (trace : Recording) (fault : Fault) : Type 0 where
   pub is_among : Among fault
-  pub holds : HasFaultFrom start trace fault
-  pub none_earlier : (other : Fault) → Among other → HasFaultFrom start trace other → Earlier trace other fault → ⊥
+  pub holds : HasFaultOn start trace fault
+  pub none_earlier : (other : Fault) → Among other → HasFaultOn start trace other → Earlier trace other fault → ⊥
 
 abbrev pub IsFirstAmong : (Fault → Type 0) → Recording → Fault → Type 0
 IsFirstAmong Among trace fault = IsFirstAmongFrom no_pages Among trace fault
 
 -- the fault is the first from each start on
 abbrev pub IsFirstFromAny : Recording → Fault → Type 0
-IsFirstFromAny trace fault = (start : Space) → IsFirstFrom start trace fault
+IsFirstFromAny trace fault = (start : Space) → IsFirstOn start trace fault
 
 -- the first call that comes too early, or none below an index
 abbrev pub FindsEarly : Recording → ℕ → Option ℕ → Type 0

@@ -7,7 +7,6 @@ use Rattle.nr_trace.specs.Orders.{recorded_order}
 use Rattle.nr_trace.specs.Spelling.{SpellsSegment}
 use Rattle.nr_trace.specs.declared.fault.Format.{Format}
 use Rattle.nr_trace.specs.declared.fault.Fault.TheVariants as faults
-use Rattle.nr_audit.specs.declared.fault.SegmentFault.TheVariants.{Within}
 use Rattle.nr_audit.specs.Faults.{IsFirstAfter, IsSoundAfter}
 use Rattle.nr_chain.specs.Bytes.{kept_after, layout_before, space_before}
 use Rattle.nr_chain.specs.Fed.{Kept}
@@ -26,4 +25,4 @@ JudgesWhole kept bytes count (Wrong fault) =
 -- the bytes are refused so, or memory is
 abbrev pub RefusesWith : Fail Format → Step → Type 0
 RefusesWith Memory step = ⊥
-RefusesWith (Refused fault) step = step ≡ Wrong (Within (faults.Format fault))
+RefusesWith (Refused fault) step = step ≡ Wrong (faults.Format fault)

@@ -6,7 +6,7 @@ use Rattle.nr_trace.specs.Faults.{IsFirstOf}
 use Rattle.nr_trace.specs.Laws.{HasCleanLog, IsFaultless}
 use Rattle.nr_trace.specs.Spelling.{Spells}
 use Rattle.nr_trace.specs.declared.fault.Fault.{Fault}
-use Rattle.nr_trace.specs.declared.fault.Fault.TheVariants.{Format, ThreadOpen, NoSuchCall, AnsweredTwice, NotAnUpdate, PlacedTwice, NotPlaced, PastLog, Early}
+use Rattle.nr_trace.specs.declared.fault.Fault.TheVariants.{ThreadOpen, NoSuchCall, AnsweredTwice, NotAnUpdate, PlacedTwice, NotPlaced, PastLog, Early}
 use Rattle.nr_trace.specs.declared.fault.Fault.TheVariants.{WrongAnswer, PrefixPastLog, PrefixShort, MissingFrame, SharedFrame, ReservedBit, StrayFrame}
 use Rattle.nr_trace.specs.declared.fault.Fault.TheVariants.{Differs}
 use Rattle.nr_trace.specs.declared.version.Version.{Version}
@@ -24,7 +24,6 @@ use Rattle.nr_core.proofs.reached.Runs.{reached_by_steps}
 -- of a recording of a reached state
 faultless : (state : State) (version : Version) (dumps : List Image) → IsReached state → AreDumps state dumps
     → IsFaultless (recording state version dumps)
-faultless state version dumps reached are (Format fault) h = h
 faultless state version dumps reached are (ThreadOpen index) h = (clean_log state version dumps reached).no_thread_open index h
 faultless state version dumps reached are (NoSuchCall index) h = (clean_log state version dumps reached).no_such_call index h
 faultless state version dumps reached are (AnsweredTwice index) h = (clean_log state version dumps reached).none_twice index h
@@ -41,6 +40,7 @@ faultless state version dumps reached are (SharedFrame r number) h = none_in_wal
 faultless state version dumps reached are (ReservedBit r number index) h = none_in_walk state dumps r _ are h
 faultless state version dumps reached are (StrayFrame r number) h = none_stray state version dumps r number are h
 faultless state version dumps reached are (Differs r address) h = none_differs state version dumps r address reached are h
+faultless state version dumps reached are _ h = h
 
 -- ---- of a state that steps reach
 

@@ -4,8 +4,8 @@ use Rattle.nr_audit.specs.Verdict.{IsVerdictOn}
 use Rattle.nr_audit.specs.declared.verdict.Verdict.TheVariants as verdicts
 use Rattle.nr_explain.specs.Counts.{IsCountOf}
 use Rattle.nr_explain.specs.Evidence.{IsEvidence}
-use Rattle.nr_explain.specs.declared.explaining.Explanation.{Explanation}
-use Rattle.nr_explain.specs.declared.explaining.Explanation.TheVariants.{Yes, No}
+use Rattle.nr_explain.specs.declared.trace.explaining.Explanation.{Explanation}
+use Rattle.nr_explain.specs.declared.trace.explaining.Explanation.TheVariants.{Yes, No}
 
 -- the verdict on the trace; how much it has, or evidence of its first fault
 abbrev pub IsExplanationOn : Recording → Explanation → Type 0

@@ -6,9 +6,9 @@ use Rattle.nr_trace.specs.Orders.{floor, known_by}
 use Rattle.nr_trace.specs.declared.fault.Fault.{Fault}
 use Rattle.nr_explain.specs.Dumps.{HasSoundDump, IsFirstOfItsDump, replica_of}
 use Rattle.nr_explain.specs.Facts.{IsCallOf, IsReplyOf, response}
-use Rattle.nr_explain.specs.declared.evidence.RecordedCall.{RecordedCall}
-use Rattle.nr_explain.specs.declared.evidence.RecordedReply.{RecordedReply}
-use Rattle.nr_explain.specs.declared.evidence.ShortPrefix.{ShortPrefix}
+use Rattle.nr_explain.specs.declared.trace.evidence.RecordedCall.{RecordedCall}
+use Rattle.nr_explain.specs.declared.trace.evidence.RecordedReply.{RecordedReply}
+use Rattle.nr_explain.specs.declared.trace.evidence.ShortPrefix.{ShortPrefix}
 
 -- the event is a reply
 abbrev pub IsReply : Recording → ℕ → Type 0

@@ -6,11 +6,11 @@ ghost use Rattle.nr_trace.specs.declared.fault.Fault.TheVariants.{WrongAnswer};
 ghost use Rattle.nr_audit.specs.Verdict.{space_of};
 ghost use Rattle.nr_explain.specs.Evidence.{IsOtherAnswerFrom};
 
-use crate::answers::address_about;
-use crate::evidence::OtherAnswer;
-use crate::lookup::call_at;
-use crate::replay::{answer_after, last_look};
-use crate::searching::reply_to;
+use crate::calls::answers::address_about;
+use crate::search::events::call_at;
+use crate::search::replies::reply_to;
+use crate::search::spaces::{answer_after, last_look};
+use crate::trace::evidence::OtherAnswer;
 use nr_audit::copy;
 use nr_trace::Trace;
 use std::alloc::Global;

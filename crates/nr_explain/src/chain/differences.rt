@@ -6,7 +6,7 @@ ghost use Rattle.nr_trace.specs.declared.fault.Fault.TheVariants.{Differs};
 ghost use Rattle.nr_audit.specs.Verdict.{space_of};
 ghost use Rattle.nr_explain.specs.Evidence.{IsDifferenceFrom};
 
-use crate::evidence::Difference;
+use crate::trace::evidence::Difference;
 use nr_audit::copy;
 use nr_trace::Trace;
 use std::alloc::Global;
@@ -30,5 +30,5 @@ pub(crate) fn difference(
         HasDump segment.now wrong.replica (IsDifferenceFrom first.now.space segment.now wrong)) }
 {
     let space = copy(alloc, segment.layout().tables(), first)?;
-    crate::dumps::difference(alloc, segment, space, replica, address)
+    crate::tables::dumps::difference(alloc, segment, space, replica, address)
 }

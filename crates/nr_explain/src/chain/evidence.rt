@@ -3,12 +3,15 @@
 ghost use Rattle.std.specs.Prelude.{◌≡◌};
 ghost use Rattle.nr_explain.specs.Progress.{sum_up};
 
-use crate::evidence::{Difference, Evidence, OtherAnswer, RecordedCall, RecordedReply, Step};
+use crate::trace::evidence::{
+    Difference, Evidence, MissingTable, OtherAnswer, RecordedCall, RecordedReply, ReservedEntry,
+    SharedTable, TableEntry,
+};
 use crate::units::BadUnit;
 use vs_types::{Answer, Page};
 use vs_walk::Walk;
 
-/// Where the look of an address comes from as a segment begins.
+/// What gave an address its look as a segment begins.
 #[derive(Clone, Copy, Debug, PartialEq, Eq)]
 pub enum Origin {
     /// The address is not mapped, and the chain begins with no pages.
@@ -37,40 +40,12 @@ impl BadSegment {
     }
 }
 
-/// A frame to which the tables of a start lead, and which it lacks.
-#[derive(Debug, Drop)]
-pub struct StartMissing {
-    pub frame: u64,
-    /// The entries that lead there from the root.
-    pub path: Vec<Step>,
-}
-
-/// A frame to which the tables of a start lead twice.
-#[derive(Debug, Drop)]
-pub struct StartShared {
-    pub frame: u64,
-    /// The entries that lead there from the root, first.
-    pub first: Vec<Step>,
-    /// Other entries that lead there.
-    pub second: Vec<Step>,
-}
-
-/// An entry of a start with a reserved bit set.
-#[derive(Debug, Drop)]
-pub struct StartReserved {
-    /// The entries that lead to its table from the root.
-    pub path: Vec<Step>,
-    pub entry: Step,
-    /// A bit of its word that is set and reserved.
-    pub bit: u8,
-}
-
 /// A page of a start that ends above the physical addresses that a page may have.
 #[derive(Debug, Drop)]
 pub struct StartBeyond {
     pub page: Page,
     /// The entries that the walk of its base reads.
-    pub path: Vec<Step>,
+    pub path: Vec<TableEntry>,
 }
 
 /// An address that a start translates not as the space before its segment does.
@@ -80,7 +55,7 @@ pub struct StartDiffers {
     /// How the start translates the address.
     pub found: Walk,
     /// The entries that are read on the way.
-    pub path: Vec<Step>,
+    pub path: Vec<TableEntry>,
     /// How the address looks in the space after the segment before.
     pub wanted: Answer,
     pub origin: Origin,
@@ -119,9 +94,9 @@ pub enum SegmentEvidence {
     WrongAnswer(OtherAnswer, Origin),
     /// A dump that translates an address otherwise, likewise.
     Differs(Difference, Origin),
-    StartMissing(StartMissing),
-    StartShared(StartShared),
-    StartReserved(StartReserved),
+    StartMissing(MissingTable),
+    StartShared(SharedTable),
+    StartReserved(ReservedEntry),
     /// The frame of a start to which its tables do not lead.
     StartStray(u64),
     StartBeyond(StartBeyond),

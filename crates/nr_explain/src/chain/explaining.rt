@@ -1,28 +1,27 @@
 //! What shows the first fault of a segment.
 
-ghost use Rattle.std.specs.Prelude.{◌≡◌, IfOk, IfSome, is_some};
+ghost use Rattle.std.specs.Prelude.{◌≡◌, IfOk, IfSome, is_some, true};
 ghost use Rattle.vs_types.specs.Space.{Space};
 ghost use Rattle.nr_trace.specs.Faults.{IsFirstFrom};
 ghost use Rattle.nr_audit.specs.Faults.{IsFirstAfter};
-ghost use Rattle.nr_audit.specs.declared.fault.SegmentFault.TheVariants as segments;
 ghost use Rattle.nr_explain.specs.Progress.{space_in};
 ghost use Rattle.nr_explain.specs.Dumps.{replica_of};
 ghost use Rattle.nr_explain.specs.ChainEvidence.{IsOfItself};
 ghost use Rattle.nr_explain.specs.inside.Itself.{IsShownByItself};
 ghost use Rattle.nr_explain.specs.ChainExplanation.{IsShownBehind};
-ghost use Rattle.nr_explain.specs.inside.Reading.{all_seen, FitsSegment};
+ghost use Rattle.nr_explain.specs.inside.Reading.{all_states, FitsSegment};
+ghost use Rattle.nr_explain.specs.inside.Starts.{is_within};
 
 use crate::chain::answers::other_answer;
 use crate::chain::differences::difference;
 use crate::chain::evidence::SegmentEvidence;
 use crate::chain::origins::origin_of;
-use crate::chain::progress::Came;
+use crate::chain::progress::Progress;
 use crate::chain::spaces::begin;
 use crate::chain::starts::explain_start;
 use crate::chain::touches::stale_touch;
-use crate::dumps::explain_dump;
-use crate::explaining::explain;
-use nr_audit::SegmentFault;
+use crate::tables::dumps::explain_dump;
+use crate::trace::explaining::explain;
 use nr_trace::{Fault, Trace};
 use std::alloc::Global;
 use vs_types::Memory;
@@ -30,15 +29,15 @@ use vs_types::Memory;
 /// A wrong answer, and where the look of its address comes from.
 fn explain_answer(
     alloc: Global,
-    last: &Option<Came>,
+    last: &Option<Progress>,
     segment: &Trace,
     call: u32,
 ) -> Result<SegmentEvidence, Memory>
     requires fits { IfSome last.now (FitsSegment segment.now) }
-    requires first { IsFirstAfter (space_in (all_seen last.now)) segment.now
-        (segments.Within (Fault.WrongAnswer call)) }
-    ensures { IfOk result (IsShownBehind (all_seen last.now) segment.now
-        (segments.Within (Fault.WrongAnswer call))) }
+    requires first { IsFirstAfter (space_in (all_states last.now)) segment.now
+        (Fault.WrongAnswer call) }
+    ensures { IfOk result (IsShownBehind (all_states last.now) segment.now
+        (Fault.WrongAnswer call)) }
 {
     let first = begin(alloc, last, segment)?;
     let wrong = other_answer(alloc, segment, &first, call)?;
@@ -49,16 +48,16 @@ fn explain_answer(
 /// A dump that translates an address otherwise, and where the look of that address comes from.
 fn explain_difference(
     alloc: Global,
-    last: &Option<Came>,
+    last: &Option<Progress>,
     segment: &Trace,
     replica: u8,
     address: u64,
 ) -> Result<SegmentEvidence, Memory>
     requires fits { IfSome last.now (FitsSegment segment.now) }
-    requires first { IsFirstAfter (space_in (all_seen last.now)) segment.now
-        (segments.Within (Fault.Differs replica address)) }
-    ensures { IfOk result (IsShownBehind (all_seen last.now) segment.now
-        (segments.Within (Fault.Differs replica address))) }
+    requires first { IsFirstAfter (space_in (all_states last.now)) segment.now
+        (Fault.Differs replica address) }
+    ensures { IfOk result (IsShownBehind (all_states last.now) segment.now
+        (Fault.Differs replica address)) }
 {
     let first = begin(alloc, last, segment)?;
     let wrong = difference(alloc, segment, &first, replica, address)?;
@@ -82,6 +81,22 @@ fn is_of_dump(fault: Fault) -> bool
     )
 }
 
+/// Whether a fault is one that a trace may have too.
+fn is_within(fault: Fault) -> bool
+    ensures { result ≡ is_within fault }
+{
+    !matches!(
+        fault,
+        Fault::StartMissing(_)
+            | Fault::StartShared(_)
+            | Fault::StartReserved(..)
+            | Fault::StartStray(_)
+            | Fault::StartBeyond(_)
+            | Fault::StartDiffers(_)
+            | Fault::Stale(_)
+    )
+}
+
 /// What shows the first fault of a segment, where that doesn't depend on the space with which it begins.
 fn explain_itself(alloc: Global, segment: &Trace, fault: Fault) -> Result<SegmentEvidence, Memory>
     requires own { IsOfItself fault }
@@ -97,15 +112,14 @@ fn explain_itself(alloc: Global, segment: &Trace, fault: Fault) -> Result<Segmen
 /// What shows the first fault of a segment, which is one that a trace may have too.
 fn explain_within(
     alloc: Global,
-    last: &Option<Came>,
+    last: &Option<Progress>,
     segment: &Trace,
     fault: Fault,
 ) -> Result<SegmentEvidence, Memory>
     requires fits { IfSome last.now (FitsSegment segment.now) }
-    requires first { IsFirstAfter (space_in (all_seen last.now)) segment.now
-        (segments.Within fault) }
-    ensures { IfOk result
-        (IsShownBehind (all_seen last.now) segment.now (segments.Within fault)) }
+    requires own { is_within fault ≡ true }
+    requires first { IsFirstAfter (space_in (all_states last.now)) segment.now fault }
+    ensures { IfOk result (IsShownBehind (all_states last.now) segment.now fault) }
 {
     match fault {
         Fault::Format(_) => unreachable!(),
@@ -120,13 +134,13 @@ fn explain_within(
 /// A stale touch, and how its address looked at the moments from which it may be answered.
 fn explain_touch(
     alloc: Global,
-    last: &Option<Came>,
+    last: &Option<Progress>,
     segment: &Trace,
     call: u32,
 ) -> Result<SegmentEvidence, Memory>
     requires fits { IfSome last.now (FitsSegment segment.now) }
-    requires first { IsFirstAfter (space_in (all_seen last.now)) segment.now (segments.Stale call) }
-    ensures { IfOk result (IsShownBehind (all_seen last.now) segment.now (segments.Stale call)) }
+    requires first { IsFirstAfter (space_in (all_states last.now)) segment.now (Fault.Stale call) }
+    ensures { IfOk result (IsShownBehind (all_states last.now) segment.now (Fault.Stale call)) }
 {
     let first = begin(alloc, last, segment)?;
     Ok(SegmentEvidence::Stale(stale_touch(alloc, segment, &first, call)?))
@@ -136,17 +150,19 @@ fn explain_touch(
 /// of the space before it, or of that with which the chain begins. Allocates memory for a space or two, and for what is shown.
 pub(crate) fn explain_segment(
     alloc: Global,
-    last: &Option<Came>,
+    last: &Option<Progress>,
     segment: &Trace,
-    fault: SegmentFault,
+    fault: Fault,
 ) -> Result<SegmentEvidence, Memory>
     requires fits { IfSome last.now (FitsSegment segment.now) }
-    requires first { IsFirstAfter (space_in (all_seen last.now)) segment.now fault }
-    ensures { IfOk result (IsShownBehind (all_seen last.now) segment.now fault) }
+    requires first { IsFirstAfter (space_in (all_states last.now)) segment.now fault }
+    ensures { IfOk result (IsShownBehind (all_states last.now) segment.now fault) }
 {
+    if is_within(fault) {
+        return explain_within(alloc, last, segment, fault);
+    }
     match fault {
-        SegmentFault::Start(fault) => explain_start(alloc, last, segment, fault),
-        SegmentFault::Within(fault) => explain_within(alloc, last, segment, fault),
-        SegmentFault::Stale(call) => explain_touch(alloc, last, segment, call),
+        Fault::Stale(call) => explain_touch(alloc, last, segment, call),
+        _ => explain_start(alloc, last, segment, fault),
     }
 }

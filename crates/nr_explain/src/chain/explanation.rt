@@ -1,7 +1,7 @@
 //! What is said of a whole chain, or of a part of it.
 
 use crate::chain::evidence::SegmentEvidence;
-use nr_audit::SegmentFault;
+use nr_trace::Fault;
 
 /// How much a right chain has. A number above 2^64 - 1 is given as that.
 #[derive(Clone, Copy, Debug, PartialEq, Eq)]
@@ -25,5 +25,5 @@ pub enum ChainExplanation {
     /// All segments are right, and the chain has so much.
     Yes(ChainCounts),
     /// So many segments are right, and the next one has this fault, its first, which this shows.
-    No(u64, SegmentFault, SegmentEvidence),
+    No(u64, Fault, SegmentEvidence),
 }

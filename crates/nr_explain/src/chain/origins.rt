@@ -4,10 +4,10 @@ ghost use Rattle.std.specs.Prelude.{◌≡◌, ◌↔◌, IsTrue, option_map};
 ghost use Rattle.nr_audit.specs.Start.{first_space};
 ghost use Rattle.nr_explain.specs.Progress.{began_with, space_in};
 ghost use Rattle.nr_explain.specs.ChainFacts.{IsOrigin};
-ghost use Rattle.nr_explain.specs.inside.Reading.{all_seen};
+ghost use Rattle.nr_explain.specs.inside.Reading.{all_states};
 
 use crate::chain::evidence::Origin;
-use crate::chain::progress::Came;
+use crate::chain::progress::Progress;
 use nr_trace::Trace;
 use vs_plain::PlainSpace;
 use vs_types::Answer;
@@ -43,13 +43,13 @@ pub(crate) fn origin_from(began: &Option<PlainSpace>, now: &PlainSpace, address:
 
 /// The same of the space with which a segment begins.
 pub(crate) fn origin_of(
-    last: &Option<Came>,
+    last: &Option<Progress>,
     segment: &Trace,
     first: &PlainSpace,
     address: u64,
 ) -> Origin
-    requires { first.now.space ≡ first_space (space_in (all_seen last.now)) segment.now }
-    ensures { IsOrigin (began_with (all_seen last.now) segment.now) first.now.space address result }
+    requires { first.now.space ≡ first_space (space_in (all_states last.now)) segment.now }
+    ensures { IsOrigin (began_with (all_states last.now) segment.now) first.now.space address result }
 {
     match last {
         Some(came) => origin_from(&came.began, first, address),

@@ -4,9 +4,9 @@ ghost use Rattle.std.specs.Prelude.{◌≡◌, ◌<◌, IfOk, IfSome, None, coun
 ghost use Rattle.nr_trace.specs.Orders.{recorded_order};
 ghost use Rattle.nr_audit.specs.Verdict.{space_of};
 ghost use Rattle.nr_audit.specs.Segments.{last_space};
-ghost use Rattle.nr_explain.specs.Progress.{began_with, came_after, counts_of, is_there, is_touch, nothing_yet, sums_after, sums_in};
+ghost use Rattle.nr_explain.specs.Progress.{began_with, state_after, counts_of, is_there, is_touch, nothing_yet, sums_after, sums_in};
 ghost use Rattle.nr_explain.specs.Progress.{space_in};
-ghost use Rattle.nr_explain.specs.inside.Reading.{all_seen, seen_of, BeginsWell, FitsSegment};
+ghost use Rattle.nr_explain.specs.inside.Reading.{all_states, state_of, BeginsWell, FitsSegment};
 
 use crate::chain::explanation::ChainCounts;
 use crate::chain::spaces::{follow, start_space};
@@ -47,7 +47,7 @@ impl Sums {
 
 /// What the last segment has come to, and the chain with it.
 #[derive(Drop)]
-pub(crate) struct Came {
+pub(crate) struct Progress {
     pub(crate) layout: TraceLayout,
     /// The space after the whole log of the last segment.
     pub(crate) space: PlainSpace,
@@ -57,8 +57,8 @@ pub(crate) struct Came {
 }
 
 /// How much the segments so far have.
-pub(crate) fn sums_of(last: &Option<Came>) -> Sums
-    ensures { result ≡ sums_in (all_seen last.now) }
+pub(crate) fn sums_of(last: &Option<Progress>) -> Sums
+    ensures { result ≡ sums_in (all_states last.now) }
 {
     match last {
         Some(came) => came.sums,
@@ -116,17 +116,17 @@ fn sums_after(sums: Sums, segment: &Trace, order: &Order, size: usize) -> Sums
 /// may be that, and nothing is wrong with it.
 fn spaces_after(
     alloc: Global,
-    last: Option<Came>,
+    last: Option<Progress>,
     segment: &Trace,
     after: &PlainSpace,
 ) -> Result<(PlainSpace, Option<PlainSpace>), Memory>
     requires fits { IfSome last (FitsSegment segment.now) }
     requires well { BeginsWell last segment.now }
     requires after { after.now
-        ≡ space_of segment.now.layout (last_space (space_in (all_seen last)) segment.now) }
+        ≡ space_of segment.now.layout (last_space (space_in (all_states last)) segment.now) }
     ensures space { IfOk result (λ spaces. spaces.0 ≡ after.now) }
     ensures began { IfOk result (λ spaces.
-        option_map (λ space. space.space) spaces.1 ≡ began_with (all_seen last) segment.now) }
+        option_map (λ space. space.space) spaces.1 ≡ began_with (all_states last) segment.now) }
 {
     match last {
         Some(came) => {
@@ -145,26 +145,26 @@ fn spaces_after(
 /// allocates two spaces where the segment is the first, else memory for the pages that its log maps.
 pub(crate) fn go_on(
     alloc: Global,
-    last: Option<Came>,
+    last: Option<Progress>,
     segment: &Trace,
     order: &Order,
     after: &PlainSpace,
     size: usize,
-) -> Result<Came, Memory>
+) -> Result<Progress, Memory>
     requires fits { IfSome last (FitsSegment segment.now) }
     requires well { BeginsWell last segment.now }
     requires order { order.now ≡ recorded_order segment.now }
     requires after { after.now
-        ≡ space_of segment.now.layout (last_space (space_in (all_seen last)) segment.now) }
+        ≡ space_of segment.now.layout (last_space (space_in (all_states last)) segment.now) }
     ensures seen { IfOk result (λ came.
-        seen_of came ≡ came_after (all_seen last) segment.now size) }
+        state_of came ≡ state_after (all_states last) segment.now size) }
     ensures layout { IfOk result (λ came. came.layout ≡ segment.now.layout) }
     ensures space { IfOk result (λ came. came.space ≡ after.now) }
 {
     let sums = sums_after(sums_of(&last), segment, order, size);
     let layout = segment.layout();
     let (space, began) = spaces_after(alloc, last, segment, after)?;
-    Ok(Came {
+    Ok(Progress {
         layout,
         space,
         began,
@@ -173,8 +173,8 @@ pub(crate) fn go_on(
 }
 
 /// How much a chain has whose segments have come to this. Allocates memory for a list of the pages.
-pub(crate) fn counts_of(came: &Came) -> Result<ChainCounts, Memory>
-    ensures { IfOk result (λ counts. counts ≡ counts_of (seen_of came.now)) }
+pub(crate) fn counts_of(came: &Progress) -> Result<ChainCounts, Memory>
+    ensures { IfOk result (λ counts. counts ≡ counts_of (state_of came.now)) }
 {
     let sums = came.sums;
     let pages = came.space.pages()?;

@@ -7,14 +7,14 @@ ghost use Rattle.nr_trace.specs.FirstFault.{HasFaultAs};
 ghost use Rattle.nr_trace.specs.Versions.{Follows};
 ghost use Rattle.nr_explain.specs.Progress.{layout_in};
 ghost use Rattle.nr_explain.specs.ChainExplanation.{Explains, FeedsReader};
-ghost use Rattle.nr_explain.specs.inside.Reading.{all_seen, spaces_of, FitsCame, FitsSegment};
+ghost use Rattle.nr_explain.specs.inside.Reading.{all_states, spaces_of, FitsProgress, FitsSegment};
 ghost use Rattle.nr_explain.specs.inside.Steps.{JudgedTo, JudgesTo, StepsTo};
 
 use crate::chain::explaining::explain_segment;
 use crate::chain::explanation::ChainExplanation;
-use crate::chain::progress::{Came, go_on, sums_of};
-use crate::chain::refusing::{ended, refusal};
-use nr_audit::{SegmentVerdict, judge_segment};
+use crate::chain::progress::{Progress, go_on, sums_of};
+use crate::chain::refusing::{ended, refused};
+use nr_audit::judge_segment;
 use nr_trace::{SegmentFeed, Trace};
 use std::alloc::Global;
 use std::marker::Model;
@@ -27,7 +27,7 @@ use vs_types::{Fail, Memory};
 #[derive(Drop)]
 pub struct ChainReader {
     alloc: Global,
-    last: Option<Came>,
+    last: Option<Progress>,
     /// The space after the segment before, once more: the judge takes it, and changes it up to the first fault.
     before: Option<PlainSpace>,
     /// The bytes of the next segment so far.
@@ -40,21 +40,21 @@ impl Model for ChainReader {
     ghost use Rattle.std.specs.FinMap as finite;
     ghost use Rattle.std.specs.Ordering.{nat_cmp};
     ghost use Rattle.vs_types.specs.contracts.page.Page as page_contract;
-    ghost use Rattle.nr_explain.specs.Progress.{Seen};
-    ghost use Rattle.nr_explain.specs.inside.Reading.{all_seen, IsReading};
+    ghost use Rattle.nr_explain.specs.Progress.{ReaderState};
+    ghost use Rattle.nr_explain.specs.inside.Reading.{all_states, IsReading};
 
-    ghost Value = { Seen };
+    ghost Value = { ReaderState };
 
     ghost coded = { Prim.hlevel (codes, finite.code {R = nat_cmp} coded_ℕ page_contract.the_row.coded) };
 
-    ghost view = { λ r. record { came = all_seen r.last; bytes = r.bytes.items } };
+    ghost view = { λ r. record { state = all_states r.last; bytes = r.bytes.items } };
 
     ghost invariant = { λ r. IsReading r.last r.before r.bytes.items r.feed };
 }
 
 /// What a piece makes of a reader.
 #[derive(Drop)]
-pub enum Fed {
+pub enum ReaderStep {
     /// The piece is taken, and no fault is found yet.
     More(ChainReader),
     /// A segment has a fault, its first, whatever comes after the piece.
@@ -73,11 +73,11 @@ enum Step {
 }
 
 impl ChainReader {
-    ghost use Rattle.nr_explain.specs.Progress.{Seen};
+    ghost use Rattle.nr_explain.specs.Progress.{ReaderState};
 
     /// A reader of which nothing has come yet. It allocates no memory.
     pub fn new(alloc: Global) -> ChainReader
-        ensures { let nothing : Seen = record { came = None; bytes = [] } in result ≡ nothing }
+        ensures { let nothing : ReaderState = record { state = None; bytes = [] } in result ≡ nothing }
     {
         ChainReader {
             alloc,
@@ -99,7 +99,7 @@ impl ChainReader {
             mut bytes,
             mut feed,
         } = self;
-        match feed.feed(piece) {
+        match feed.feed_or_refuse(piece) {
             Ok(count) => {
                 bytes.extend_from_slice(&piece[..count])?;
                 if feed.is_whole() {
@@ -115,38 +115,37 @@ impl ChainReader {
                 Ok(Step::More(next))
             }
             Err(Fail::Memory) => Err(Memory),
-            Err(Fail::Refused(fault)) => {
+            Err(Fail::Refused(refusal)) => {
                 bytes.extend_from_slice(piece)?;
-                let found = refusal(alloc, &last, &bytes, fault)?;
+                let found = refused(alloc, &last, bytes, refusal)?;
                 Ok(Step::Wrong(found))
             }
         }
     }
 
     /// Takes the next piece, with all segments that are whole with it; each of them is judged, and the first wrong one explained. It
-    /// allocates the bytes of a segment and what they say, what its judgement takes, the pages that its log maps, and what shows a fault;
-    /// where that is one of the format, what the segment says once more. With the first segment it allocates three spaces, with any other
-    /// right one none: the log is served on two of them.
+    /// allocates the bytes of a segment and what they say, what its judgement takes, the pages that its log maps, and what shows a fault.
+    /// With the first segment it allocates three spaces, with any other right one none: the log is served on two of them.
     ///
     /// # Errors
     ///
     /// `Memory` where a growth of memory was refused.
-    pub fn feed(self, piece: &[u8]) -> Result<Fed, Memory>
+    pub fn feed(self, piece: &[u8]) -> Result<ReaderStep, Memory>
         ensures { IfOk result (FeedsReader self piece.now) }
     {
         let mut reader = self;
         let mut rest = piece;
         'segments: while !rest.is_empty() {
             match reader.step(rest)? {
-                Step::More(next) => return Ok(Fed::More(next)),
+                Step::More(next) => return Ok(ReaderStep::More(next)),
                 Step::Right(count, next) => {
                     reader = next;
                     rest = &rest[count..];
                 }
-                Step::Wrong(found) => return Ok(Fed::Found(found)),
+                Step::Wrong(found) => return Ok(ReaderStep::Found(found)),
             }
         }
-        Ok(Fed::More(reader))
+        Ok(ReaderStep::More(reader))
     }
 
     /// What is found of the chain where no piece comes any more: how much it has, where it ends behind a whole segment and all are
@@ -163,16 +162,16 @@ impl ChainReader {
             last,
             before: _,
             bytes,
-            feed: _,
+            feed,
         } = self;
-        ended(alloc, &last, &bytes)
+        ended(alloc, &last, bytes, feed)
     }
 }
 
 /// Judges the segment that is whole, which these bytes spell.
 fn judge_whole(
     alloc: Global,
-    last: Option<Came>,
+    last: Option<Progress>,
     before: Option<PlainSpace>,
     bytes: &[u8],
     feed: SegmentFeed,
@@ -180,10 +179,10 @@ fn judge_whole(
 ) -> Result<Step, Memory>
     requires whole { IsWhole feed }
     requires taken { feed.pieces ≡ Taken bytes.now }
-    requires behind { feed.before ≡ layout_in (all_seen last) }
-    requires fits { IfSome last FitsCame }
+    requires behind { feed.before ≡ layout_in (all_states last) }
+    requires fits { IfSome last FitsProgress }
     requires same { before ≡ spaces_of last }
-    ensures { IfOk result (JudgesTo (all_seen last) bytes.now count) }
+    ensures { IfOk result (JudgesTo (all_states last) bytes.now count) }
 {
     let segment = match feed.end() {
         Ok(segment) => segment,
@@ -195,7 +194,7 @@ fn judge_whole(
 /// Judges the segment that comes next, which has so many bytes, and explains it where it is wrong.
 fn judge_next(
     alloc: Global,
-    last: Option<Came>,
+    last: Option<Progress>,
     before: Option<PlainSpace>,
     segment: &Trace,
     size: usize,
@@ -203,10 +202,10 @@ fn judge_next(
 ) -> Result<Step, Memory>
     requires fits { IfSome last (FitsSegment segment.now) }
     requires same { before ≡ spaces_of last }
-    ensures { IfOk result (JudgedTo (all_seen last) segment.now size count) }
+    ensures { IfOk result (JudgedTo (all_states last) segment.now size count) }
 {
-    match judge_segment(alloc, segment, before)? {
-        SegmentVerdict::Right(order, space) => {
+    match judge_segment(alloc, segment, before) {
+        Ok((order, space)) => {
             let came = go_on(alloc, last, segment, &order, &space, size)?;
             let feed = SegmentFeed::new(alloc, Some(came.layout));
             let next = ChainReader {
@@ -218,7 +217,8 @@ fn judge_next(
             };
             Ok(Step::Right(count, next))
         }
-        SegmentVerdict::Wrong(fault) => {
+        Err(Fail::Memory) => Err(Memory),
+        Err(Fail::Refused(fault)) => {
             let number = sums_of(&last).segments;
             let shown = explain_segment(alloc, &last, segment, fault)?;
             Ok(Step::Wrong(ChainExplanation::No(number, fault, shown)))

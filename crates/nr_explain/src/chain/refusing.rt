@@ -1,50 +1,59 @@
 //! What is said of a chain whose next segment has a fault of the format, or which ends.
 
-ghost use Rattle.std.specs.Prelude.{IfOk};
-ghost use Rattle.nr_trace.specs.FirstFault.{HasSegmentFault};
-ghost use Rattle.nr_trace.specs.declared.fault.Format.TheVariants.{Truncated};
+ghost use Rattle.std.specs.Prelude.{◌≡◌, ◌≤◌, IfOk, length};
+ghost use Rattle.nr_trace.specs.Feed.{IsWhole};
+ghost use Rattle.nr_trace.specs.Feed.Fed.{Taken};
+ghost use Rattle.nr_trace.specs.FirstFault.{HasRefusalAs};
+ghost use Rattle.nr_trace.specs.declared.version.Form.{Form};
 ghost use Rattle.nr_explain.specs.Progress.{layout_in};
 ghost use Rattle.nr_explain.specs.ChainExplanation.{IsExplanationFrom};
-ghost use Rattle.nr_explain.specs.inside.Reading.{all_seen};
+ghost use Rattle.nr_explain.specs.inside.Reading.{all_states};
 ghost use Rattle.nr_explain.specs.inside.Steps.{IsRefusalOf};
 
-use crate::chain::bad_unit::bad_unit;
 use crate::chain::evidence::{BadSegment, SegmentEvidence};
 use crate::chain::explanation::ChainExplanation;
-use crate::chain::progress::{Came, counts_of, sums_of};
-use nr_audit::SegmentFault;
-use nr_trace::{Fault, Format};
+use crate::chain::progress::{Progress, counts_of, sums_of};
+use crate::ends::bad_unit;
+use crate::units::HEADER_BYTES;
+use nr_trace::{Fault, Refusal, SegmentFeed};
 use std::alloc::Global;
-use vs_types::Memory;
+use vs_types::{Fail, Memory};
 
-/// The fault of the format that the bytes of the next segment have, and the unit that shows it. Allocates what `bad_unit` does.
-pub(crate) fn refusal(
+/// The fault of the format that the bytes of the next segment have, and the unit that shows it. Allocates a header.
+pub(crate) fn refused(
     alloc: Global,
-    last: &Option<Came>,
-    bytes: &[u8],
-    fault: Format,
+    last: &Option<Progress>,
+    bytes: Vec<u8>,
+    refusal: Refusal,
 ) -> Result<ChainExplanation, Memory>
-    requires { HasSegmentFault (layout_in (all_seen last.now)) bytes.now fault }
-    ensures { IfOk result (IsRefusalOf (all_seen last.now) bytes.now fault) }
+    requires within { refusal.left ≤ length bytes.items }
+    requires refused { HasRefusalAs (Form.Segment (layout_in (all_states last.now))) bytes.items
+        refusal }
+    ensures { IfOk result (IsRefusalOf (all_states last.now) bytes.items refusal.fault) }
 {
-    let unit = bad_unit(alloc, last, bytes, fault)?;
+    let header = Vec::from_slice(alloc, &bytes[..HEADER_BYTES.min(bytes.len())])?;
+    let count = bytes.len() as u64;
+    let unit = bad_unit(refusal, count, &header, bytes);
     let sums = sums_of(last);
     let begins = sums.bytes;
     Ok(ChainExplanation::No(
         sums.segments,
-        SegmentFault::Within(Fault::Format(fault)),
+        Fault::Format(refusal.fault),
         SegmentEvidence::Format(BadSegment { begins, unit }),
     ))
 }
 
-/// What is said where no byte comes any more, of which these are the next segment's. Allocates a list of pages, or what `bad_unit` does.
+/// What is said where no byte comes any more, of which these are the next segment's. Allocates a list of pages, or a header.
 pub(crate) fn ended(
     alloc: Global,
-    last: &Option<Came>,
-    bytes: &[u8],
+    last: &Option<Progress>,
+    bytes: Vec<u8>,
+    feed: SegmentFeed,
 ) -> Result<ChainExplanation, Memory>
-    requires { HasSegmentFault (layout_in (all_seen last.now)) bytes.now Truncated }
-    ensures { IfOk result (IsExplanationFrom (all_seen last.now) bytes.now) }
+    requires taken { feed.pieces ≡ Taken bytes.items }
+    requires behind { feed.before ≡ layout_in (all_states last.now) }
+    requires not_whole { IsWhole feed → ⊥ }
+    ensures { IfOk result (IsExplanationFrom (all_states last.now) bytes.items) }
 {
     if bytes.is_empty() {
         if let Some(came) = last {
@@ -52,5 +61,9 @@ pub(crate) fn ended(
             return Ok(ChainExplanation::Yes(counts));
         }
     }
-    refusal(alloc, last, bytes, Format::Truncated)
+    match feed.end_or_refuse() {
+        Ok(_) => unreachable!(),
+        Err(Fail::Memory) => Err(Memory),
+        Err(Fail::Refused(refusal)) => refused(alloc, last, bytes, refusal),
+    }
 }

@@ -5,10 +5,10 @@ ghost use Rattle.nr_trace.specs.Orders.{space_from};
 ghost use Rattle.nr_audit.specs.Verdict.{space_of};
 ghost use Rattle.nr_audit.specs.Start.{first_space, start_space, BeginsRight};
 ghost use Rattle.nr_explain.specs.Progress.{space_in};
-ghost use Rattle.nr_explain.specs.inside.Reading.{all_seen, BeginsWell, FitsSegment};
+ghost use Rattle.nr_explain.specs.inside.Reading.{all_states, BeginsWell, FitsSegment};
 
-use crate::chain::progress::Came;
-use crate::replay::apply_place;
+use crate::chain::progress::Progress;
+use crate::search::spaces::apply_place;
 use nr_audit::copy;
 use nr_trace::Trace;
 use std::alloc::Global;
@@ -62,13 +62,13 @@ pub(crate) fn follow(segment: &Trace, first: PlainSpace) -> Result<PlainSpace, M
 /// for a check of the start.
 pub(crate) fn begin(
     alloc: Global,
-    last: &Option<Came>,
+    last: &Option<Progress>,
     segment: &Trace,
 ) -> Result<PlainSpace, Memory>
     requires fits { IfSome last.now (FitsSegment segment.now) }
     requires well { BeginsWell last.now segment.now }
     ensures { IfOk result (λ space. space
-        ≡ space_of segment.now.layout (first_space (space_in (all_seen last.now)) segment.now)) }
+        ≡ space_of segment.now.layout (first_space (space_in (all_states last.now)) segment.now)) }
 {
     match last {
         Some(came) => copy(alloc, segment.layout().tables(), &came.space),

@@ -5,79 +5,25 @@ ghost use Rattle.vs_types.specs.Page.{bytes_of};
 ghost use Rattle.vs_types.specs.declared.page.Page.{Page as PageRow};
 ghost use Rattle.vs_types.specs.declared.page.TheConstants.Page.{PHYS_END};
 ghost use Rattle.vs_walk.specs.Traversal.{walk_fault, found_in};
-ghost use Rattle.vs_walk.specs.Differences.{HasDifference, HasMissingFrame, HasReservedBit, HasSharedFrame};
-ghost use Rattle.nr_audit.specs.Start.{HasPageBeyond};
-ghost use Rattle.nr_audit.specs.declared.fault.SegmentFault.TheVariants as segments;
+ghost use Rattle.vs_walk.specs.Differences.{HasDifference};
+ghost use Rattle.nr_audit.specs.Start.{HasPageBeyond, HasStartFault};
 ghost use Rattle.nr_audit.specs.Faults.{IsFirstAfter};
 ghost use Rattle.nr_explain.specs.inside.Starts.{IsFirstOfTables, IsShownInStart};
 ghost use Rattle.nr_explain.specs.Progress.{space_in};
 ghost use Rattle.nr_explain.specs.ChainExplanation.{IsShownBehind};
-ghost use Rattle.nr_explain.specs.ChainEvidence.{IsStartBeyond, IsStartDiffers, IsStartMissing, IsStartReserved, IsStartShared};
-ghost use Rattle.nr_explain.specs.inside.Reading.{all_seen};
+ghost use Rattle.nr_explain.specs.ChainEvidence.{IsStartBeyond, IsStartDiffers};
+ghost use Rattle.nr_explain.specs.inside.Reading.{all_states};
 
-use crate::chain::evidence::{
-    SegmentEvidence, StartBeyond, StartDiffers, StartMissing, StartReserved, StartShared,
-};
+use crate::chain::evidence::{SegmentEvidence, StartBeyond, StartDiffers};
 use crate::chain::origins::origin_from;
-use crate::chain::progress::Came;
-use crate::paths::{another_way, entries_read, way_to_frame, way_to_reserved};
-use nr_audit::StartFault;
-use nr_trace::Trace;
+use crate::chain::progress::Progress;
+use crate::tables::faults::{missing_table, reserved_entry, shared_table};
+use crate::tables::paths::entries_read;
+use crate::trace::evidence::Owner;
+use nr_trace::{Fault, Trace};
 use std::alloc::Global;
 use vs_types::{Depth, Fail, Memory, Page};
 use vs_walk::{Dump, leaves, translate};
-
-/// The entries that lead to a frame that a start lacks. Allocates memory for them.
-fn start_missing(
-    alloc: Global,
-    start: &Dump,
-    depth: Depth,
-    frame: u64,
-) -> Result<StartMissing, Memory>
-    requires { HasMissingFrame depth start.now frame }
-    ensures frame { IfOk result (λ wrong. wrong.frame ≡ frame) }
-    ensures is { IfOk result (IsStartMissing depth start.now) }
-{
-    let path = way_to_frame(alloc, start, depth, frame)?;
-    Ok(StartMissing { frame, path })
-}
-
-/// The entries that lead to a frame, and others that lead there too. Allocates memory for them.
-fn start_shared(
-    alloc: Global,
-    start: &Dump,
-    depth: Depth,
-    frame: u64,
-) -> Result<StartShared, Memory>
-    requires { HasSharedFrame depth start.now frame }
-    ensures frame { IfOk result (λ wrong. wrong.frame ≡ frame) }
-    ensures is { IfOk result (IsStartShared depth start.now) }
-{
-    let first = way_to_frame(alloc, start, depth, frame)?;
-    let (first, second) = another_way(alloc, start, depth, frame, first)?;
-    Ok(StartShared {
-        frame,
-        first,
-        second,
-    })
-}
-
-/// The entries that lead to a table which has a word with a reserved bit set, that word, and such a bit. Allocates them.
-fn start_reserved(
-    alloc: Global,
-    start: &Dump,
-    depth: Depth,
-    frame: u64,
-    index: u16,
-) -> Result<StartReserved, Memory>
-    requires { HasReservedBit depth start.now frame index }
-    ensures frame { IfOk result (λ wrong. wrong.entry.frame ≡ frame) }
-    ensures index { IfOk result (λ wrong. wrong.entry.index ≡ index) }
-    ensures is { IfOk result (IsStartReserved depth start.now) }
-{
-    let (path, entry, bit) = way_to_reserved(alloc, start, depth, frame, index)?;
-    Ok(StartReserved { path, entry, bit })
-}
 
 /// The first of some pages at a base that ends above the physical addresses that a page may have.
 fn first_beyond(pages: &[Page], base: u64) -> Option<Page>
@@ -132,7 +78,7 @@ fn start_differs(
     alloc: Global,
     start: &Dump,
     depth: Depth,
-    last: &Came,
+    last: &Progress,
     address: u64,
 ) -> Result<StartDiffers, Memory>
     requires { HasDifference depth start.now last.now.space.space address }
@@ -156,45 +102,49 @@ fn explain_tables(
     alloc: Global,
     start: &Dump,
     depth: Depth,
-    fault: StartFault,
+    fault: Fault,
 ) -> Result<SegmentEvidence, Memory>
     requires { IsFirstOfTables depth start.now fault }
     ensures { IfOk result (IsShownInStart depth start.now fault) }
 {
     match fault {
-        StartFault::Missing(frame) => {
-            Ok(SegmentEvidence::StartMissing(start_missing(alloc, start, depth, frame)?))
+        Fault::StartMissing(frame) => {
+            let wrong = missing_table(alloc, Owner::Start, start, depth, frame)?;
+            Ok(SegmentEvidence::StartMissing(wrong))
         }
-        StartFault::Shared(frame) => {
-            Ok(SegmentEvidence::StartShared(start_shared(alloc, start, depth, frame)?))
+        Fault::StartShared(frame) => {
+            let wrong = shared_table(alloc, Owner::Start, start, depth, frame)?;
+            Ok(SegmentEvidence::StartShared(wrong))
         }
-        StartFault::Reserved(frame, index) => Ok(SegmentEvidence::StartReserved(start_reserved(
-            alloc, start, depth, frame, index,
-        )?)),
-        StartFault::Stray(frame) => Ok(SegmentEvidence::StartStray(frame)),
-        StartFault::Beyond(base) => {
+        Fault::StartReserved(frame, index) => {
+            let wrong = reserved_entry(alloc, Owner::Start, start, depth, frame, index)?;
+            Ok(SegmentEvidence::StartReserved(wrong))
+        }
+        Fault::StartStray(frame) => Ok(SegmentEvidence::StartStray(frame)),
+        Fault::StartBeyond(base) => {
             Ok(SegmentEvidence::StartBeyond(start_beyond(alloc, start, depth, base)?))
         }
-        StartFault::Differs(_) => unreachable!(),
+        _ => unreachable!(),
     }
 }
 
 /// What shows the first fault of a segment, which is one of its start. Allocates it.
 pub(crate) fn explain_start(
     alloc: Global,
-    last: &Option<Came>,
+    last: &Option<Progress>,
     segment: &Trace,
-    fault: StartFault,
+    fault: Fault,
 ) -> Result<SegmentEvidence, Memory>
-    requires { IsFirstAfter (space_in (all_seen last.now)) segment.now (segments.Start fault) }
-    ensures { IfOk result (IsShownBehind (all_seen last.now) segment.now (segments.Start fault)) }
+    requires of_start { HasStartFault (space_in (all_states last.now)) segment.now fault }
+    requires first { IsFirstAfter (space_in (all_states last.now)) segment.now fault }
+    ensures { IfOk result (IsShownBehind (all_states last.now) segment.now fault) }
 {
     let Some(start) = segment.start() else {
         unreachable!()
     };
     let depth = segment.layout().depth();
     match fault {
-        StartFault::Differs(address) => match last {
+        Fault::StartDiffers(address) => match last {
             Some(came) => Ok(SegmentEvidence::StartDiffers(start_differs(
                 alloc, start, depth, came, address,
             )?)),

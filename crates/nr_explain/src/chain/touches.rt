@@ -10,12 +10,12 @@ ghost use Rattle.nr_touch.specs.Touches.{IsAnsweredBefore};
 ghost use Rattle.nr_explain.specs.ChainEvidence.{AreLooks, IsStaleTouch};
 ghost use Rattle.nr_explain.specs.inside.Windows.{IsWindowBelow, Narrows};
 
-use crate::answers::asked_address;
+use crate::calls::answers::asked_address;
 use crate::chain::evidence::{Moment, StaleTouch};
 use crate::chain::origins::is_same;
-use crate::lookup::call_at;
-use crate::replay::apply_place;
-use crate::searching::reply_to;
+use crate::search::events::call_at;
+use crate::search::replies::reply_to;
+use crate::search::spaces::apply_place;
 use nr_audit::copy;
 use nr_trace::Trace;
 use std::alloc::Global;

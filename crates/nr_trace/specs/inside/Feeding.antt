@@ -1,19 +1,19 @@
 -- A feed on its way: a reader between two units, and the beginning of the next unit.
 use Rattle.std.specs.Prelude.{◌≡◌, ℕ, ◌<◌, ◌≤◌, ◌++◌, List, [], length, take, Option, Some, None, ⊤}
-use Rattle.nr_trace.specs.FirstFault.{HasFaultAs}
-use Rattle.nr_trace.specs.Feed.{Fed}
+use Rattle.nr_trace.specs.FirstFault.{HasRefusalAs}
+use Rattle.nr_trace.specs.Feed.{Fed, fault_of}
 use Rattle.nr_trace.specs.Feed.Fed.{Taken, Stopped}
 use Rattle.nr_trace.specs.inside.Progress.{form_of, unit_bytes, said, Ahead, IsReady}
-use Rattle.nr_trace.specs.declared.fault.Format.{Format}
+use Rattle.nr_trace.specs.declared.refusal.Refusal.{Refusal}
 use Rattle.nr_trace.specs.declared.version.Form.{Form}
 use Rattle.nr_trace.specs.declared.reading.reader.Reader.{Reader}
 use Rattle.nr_trace.specs.declared.reading.feed.State.{State}
 use Rattle.nr_trace.specs.declared.reading.feed.State.TheVariants as states
 
--- the reader goes on, and a fault of the bytes ahead is one of all the bytes
+-- the reader goes on, and a refusal of the bytes ahead is one of all the bytes
 pub record IsSound (reader : Reader) : Type 0 where
   pub ready : IsReady reader
-  pub faults : (rest : List ℕ) (fault : Format) → Ahead reader rest fault → HasFaultAs (form_of reader) (said reader ++ rest) fault
+  pub faults : (rest : List ℕ) (refusal : Refusal) → Ahead reader rest refusal → HasRefusalAs (form_of reader) (said reader ++ rest) refusal
 
 -- the bytes are fewer than the next unit has; none where there is no next unit
 abbrev pub AreFewer : Option ℕ → List ℕ → Type 0
@@ -36,7 +36,7 @@ pub record IsCut (form : Form) (bytes piece : List ℕ) (reader : Reader) (rest 
 
 abbrev pub fed : State → Fed
 fed (states.Open reader begun) = Taken (said reader ++ begun.items)
-fed (states.Stopped fail) = Stopped fail
+fed (states.Stopped fail) = Stopped (fault_of fail)
 
 abbrev pub IsFeeding : Form → State → Type 0
 IsFeeding form (states.Open reader begun) = (form_of reader ≡ form) × IsSound reader × AreFewer (unit_bytes reader) begun.items

@@ -5,16 +5,18 @@ use Rattle.std.specs.FinMap as finite
 use Rattle.vs_types.specs.Config.{IsLayoutWithin}
 use Rattle.vs_types.specs.declared.limits.TheConstants.{LOG_PLACES, CALLS, FRAMES}
 use Rattle.vs_types.specs.declared.refusal.Fail.{Fail}
-use Rattle.vs_types.specs.declared.refusal.Fail.TheVariants.{Memory, Refused}
+use Rattle.vs_types.specs.Refusal.{IfRefused}
 use Rattle.vs_types.specs.Frame.{IsFrame}
 use Rattle.vs_walk.specs.Dump.{Image}
 use Rattle.nr_trace.specs.Versions.{Follows, IsVersionOf, KnowsDepth, most_frames, most_start, most_tables, most_threads}
 use Rattle.nr_trace.specs.Recording.{IsEvent, IsImage, IsStart, start_frames}
 use Rattle.nr_trace.specs.Spelling.{magic, version_word, counts, log_word, event, dump_head, frame_number, frame_words, frames, dump, start_units}
-use Rattle.nr_trace.specs.FirstFault.{AtUnit, AtVersion, AtCounts, AtStart, AtLog, AtEvents, AtDumps, AtFrames, IsCounts, IsNext, HasFaultAs, counts_bytes}
-use Rattle.nr_trace.specs.FirstFault.{magic_of}
-use Rattle.nr_trace.specs.declared.fault.Format.{Format}
-use Rattle.nr_trace.specs.declared.fault.Format.TheVariants.{BadFrame, BadStart}
+use Rattle.nr_trace.specs.FirstFault.{AtUnit, AtVersion, AtCounts, AtStart, AtLog, AtEvents, AtDumps, AtFrames, IsCounts, IsNext, HasRefusalAs, IsRefusedBy, OfFrames}
+use Rattle.nr_trace.specs.FirstFault.{counts_bytes, counts_unit, magic_of, of_dump, of_start, refusal_at}
+use Rattle.nr_trace.specs.declared.fault.Format.TheVariants.{Truncated}
+use Rattle.nr_trace.specs.declared.refusal.Refusal.{Refusal}
+use Rattle.nr_trace.specs.declared.refusal.TraceUnit.{TraceUnit}
+use Rattle.nr_trace.specs.declared.refusal.TraceUnit.TheVariants as units
 use Rattle.nr_trace.specs.declared.fields.Counts.{Counts}
 use Rattle.nr_trace.specs.declared.version.Form.{Form}
 use Rattle.nr_trace.specs.declared.reading.reader.Owner.{Owner}
@@ -93,7 +95,12 @@ opened_of frame = record { dump = frame.dump.dump; left = frame.left; owner = fr
 
 -- the dump with a frame of this number coming, of which there is no word
 abbrev pub begun : Opened → ℕ → OpenFrame
-begun opened number = record { dump = record { dump = opened.dump; number = number; coming = [] }; left = opened.left; owner = opened.owner }
+begun opened number = record {
+  dump = record { dump = opened.dump; number = number; coming = [] };
+  index = finite.len opened.dump.frames;
+  left = opened.left;
+  owner = opened.owner;
+}
 
 -- the spelling up to the words of the frame that is coming, and the words of it that have come
 abbrev pub frame_begun : Parts → OpenFrame → List ℕ
@@ -114,39 +121,56 @@ said (Dumps parts) = whole_spelling parts
 said (Frame parts opened last) = opened_spelling parts opened
 said (Words parts frame) = frame_begun parts frame ++ words_begun frame
 
--- the faults of the bytes after the dumps that there are
-abbrev pub BehindDumps : Parts → ℕ → List ℕ → Format → Type 0
+-- the refusals of the bytes after the dumps that there are
+abbrev pub BehindDumps : Parts → ℕ → List ℕ → Refusal → Type 0
 BehindDumps parts more = AtDumps parts.version (length parts.dumps.items + more) (parts.layout.replicas - (length parts.dumps.items + more))
 
--- the fault of the frame of an index, and the faults of the bytes after the last frame
-abbrev pub own_fault : Parts → Owner → ℕ → Format
-own_fault parts (owners.Start places events) = BadStart
-own_fault parts owners.Replica = BadFrame (length parts.dumps.items)
+-- whose frames they are, and the refusals of the bytes after the last one
+abbrev pub frames_of : Parts → Owner → OfFrames
+frames_of parts (owners.Start places events) = of_start
+frames_of parts owners.Replica = of_dump (length parts.dumps.items)
 
-abbrev pub BehindFrames : Parts → Owner → List ℕ → Format → Type 0
-BehindFrames parts (owners.Start places events) = AtLog parts.version parts.layout places events
+abbrev pub BehindFrames : Parts → Owner → List ℕ → Refusal → Type 0
+BehindFrames parts (owners.Start places events) = AtLog parts.version parts.layout 0 places events
 BehindFrames parts owners.Replica = BehindDumps parts 1
 
--- the faults of the bytes after the number of the frame that is coming
-abbrev pub AtWords : Parts → OpenFrame → List ℕ → Format → Type 0
-AtWords parts frame rest fault =
-    AtUnit 4096 None IsFrame frame_words (λ words.
-    AtFrames (own_fault parts frame.owner) (finite.len frame.dump.dump.frames + 1) (frame.left - 1) (Some frame.dump.number)
-    (BehindFrames parts frame.owner))
-    rest fault
+-- the refusals of the bytes after the number of the frame that is coming
+abbrev pub AtWords : Parts → OpenFrame → List ℕ → Refusal → Type 0
+AtWords parts frame rest refusal =
+    let own = frames_of parts frame.owner in
+    let index = finite.len frame.dump.dump.frames in
+    AtUnit 4096 (own.words index) None IsFrame frame_words (λ words.
+    AtFrames own (index + 1) (frame.left - 1) (Some frame.dump.number) (BehindFrames parts frame.owner))
+    rest refusal
 
--- the fault of the bytes ahead
-abbrev pub Ahead : Reader → List ℕ → Format → Type 0
-Ahead (Magic alloc form) rest fault = HasFaultAs form rest fault
-Ahead (Version alloc form) rest fault = AtVersion form rest fault
-Ahead (Header alloc form version) rest fault = AtCounts form version rest fault
-Ahead (Root parts numbers) rest fault = AtStart numbers.start (AtLog parts.version parts.layout numbers.places numbers.events) rest fault
-Ahead (Log parts places events) rest fault = AtLog parts.version parts.layout places events rest fault
-Ahead (Events parts events) rest fault = AtEvents parts.version parts.layout (length parts.events.items) events rest fault
-Ahead (Dumps parts) rest fault = BehindDumps parts 0 rest fault
-Ahead (Frame parts opened last) rest fault =
-    AtFrames (own_fault parts opened.owner) (finite.len opened.dump.frames) opened.left last (BehindFrames parts opened.owner) rest fault
-Ahead (Words parts frame) rest fault = AtWords parts frame (words_begun frame ++ rest) fault
+-- the refusal of the bytes ahead
+abbrev pub Ahead : Reader → List ℕ → Refusal → Type 0
+Ahead (Magic alloc form) rest refusal = HasRefusalAs form rest refusal
+Ahead (Version alloc form) rest refusal = AtVersion form rest refusal
+Ahead (Header alloc form version) rest refusal = AtCounts form version rest refusal
+Ahead (Root parts numbers) rest refusal = AtStart numbers.start (AtLog parts.version parts.layout 0 numbers.places numbers.events) rest refusal
+Ahead (Log parts places events) rest refusal = AtLog parts.version parts.layout (length parts.log.items) places events rest refusal
+Ahead (Events parts events) rest refusal = AtEvents parts.version parts.layout (length parts.events.items) events rest refusal
+Ahead (Dumps parts) rest refusal = BehindDumps parts 0 rest refusal
+Ahead (Frame parts opened last) rest refusal =
+    AtFrames (frames_of parts opened.owner) (finite.len opened.dump.frames) opened.left last (BehindFrames parts opened.owner) rest refusal
+Ahead (Words parts frame) rest refusal = AtWords parts frame (words_begun frame ++ rest) refusal
+
+-- the unit that comes next, or has begun; and how the reader is refused where no more bytes come than these, which begin it
+abbrev pub unit_of : Reader → TraceUnit
+unit_of (Magic alloc form) = units.Magic
+unit_of (Version alloc form) = units.Version
+unit_of (Header alloc form version) = counts_unit version
+unit_of (Root parts numbers) = units.StartRoot
+unit_of (Log parts places events) = units.Place (length parts.log.items)
+unit_of (Events parts events) = units.Event (length parts.events.items)
+unit_of (Dumps parts) = units.DumpHead (length parts.dumps.items)
+unit_of (Frame parts opened last) = (frames_of parts opened.owner).number (finite.len opened.dump.frames)
+unit_of (Words parts frame) = (frames_of parts frame.owner).words frame.index
+
+abbrev pub cut_off : Reader → List ℕ → Refusal
+cut_off (Words parts frame) begun = refusal_at (unit_of (Words parts frame)) (words_begun frame ++ begun) Truncated
+cut_off reader begun = refusal_at (unit_of reader) begun Truncated
 
 -- parts in their ranges
 pub record AreInRange (parts : Parts) : Type 0 where
@@ -211,7 +235,7 @@ IsReady (Dumps parts) = AreInRange parts
 IsReady (Frame parts opened last) = IsOpened parts opened × ((number : ℕ) → IsNext last number → AreBelow opened number)
 IsReady (Words parts frame) =
     IsOpened parts (opened_of frame) × (frame.dump.number < 2 ^ 40) × AreBelow (opened_of frame) frame.dump.number
-    × All (λ word. word < 2 ^ 64) frame.dump.coming × (length frame.dump.coming < 512)
+    × All (λ word. word < 2 ^ 64) frame.dump.coming × (length frame.dump.coming < 512) × (frame.index ≡ finite.len frame.dump.dump.frames)
 
 -- what a reader is to read
 abbrev pub form_of : Reader → Form
@@ -225,20 +249,15 @@ form_of (Dumps parts) = parts.form
 form_of (Frame parts opened last) = parts.form
 form_of (Words parts frame) = parts.form
 
--- the reader of what is to have this form has read these bytes, and a fault of the bytes ahead is one by this relation
-pub record HasRead (form : Form) (bytes : List ℕ) (Behind : List ℕ → Format → Type 0) (reader : Reader) : Type 0 where
+-- the reader of what is to have this form has read these bytes, and a refusal of the bytes ahead is one by this relation
+pub record HasRead (form : Form) (bytes : List ℕ) (Behind : List ℕ → Refusal → Type 0) (reader : Reader) : Type 0 where
   pub form_is : form_of reader ≡ form
   pub ready : IsReady reader
   pub bytes_are : said reader ≡ bytes
-  pub faults : (rest : List ℕ) (fault : Format) → Ahead reader rest fault → Behind rest fault
-
--- the fault is one by the relation, whatever comes
-abbrev pub IsFault : (List ℕ → Format → Type 0) → Fail Format → Type 0
-IsFault Behind Memory = ⊤
-IsFault Behind (Refused fault) = (rest : List ℕ) → Behind rest fault
+  pub faults : (rest : List ℕ) (refusal : Refusal) → Ahead reader rest refusal → Behind rest refusal
 
 -- a reader took a run, or refused it
-abbrev pub Takes : Reader → List ℕ → Result Reader (Fail Format) → Type 0
+abbrev pub Takes : Reader → List ℕ → Result Reader (Fail Refusal) → Type 0
 Takes reader run result =
-    MatchResult result (HasRead (form_of reader) (said reader ++ run) (λ rest fault. Ahead reader (run ++ rest) fault))
-    (IsFault (λ rest fault. Ahead reader (run ++ rest) fault))
+    MatchResult result (HasRead (form_of reader) (said reader ++ run) (λ rest refusal. Ahead reader (run ++ rest) refusal))
+    (IfRefused (IsRefusedBy (Ahead reader) run))

@@ -14,7 +14,7 @@ use Rattle.vs_walk.specs.Dump.{OpenImage}
 use Rattle.nr_trace.specs.Versions.{KnowsQuery, KnowsAnswer, KnowsTouch}
 use Rattle.nr_trace.specs.Recording.{IsAnswer, IsEvent}
 use Rattle.nr_trace.specs.Spelling.{answer_fields, touch_fields, counts, log_word, event, dump_head, frame_words}
-use Rattle.nr_trace.specs.FirstFault.{IsCounts, IsDumpHead}
+use Rattle.nr_trace.specs.FirstFault.{IsCounts, IsDumpHead, refusal_at}
 use Rattle.nr_trace.specs.declared.version.Version.{Version}
 use Rattle.nr_trace.specs.declared.fields.AnswerFields.{AnswerFields}
 use Rattle.nr_trace.specs.declared.fields.Counts.{Counts}
@@ -23,8 +23,9 @@ use Rattle.nr_trace.specs.declared.event.Event.{Event}
 use Rattle.nr_trace.specs.declared.event.Event.TheVariants.{Call, Touch}
 use Rattle.nr_trace.specs.declared.reading.events.Asked.{Asked}
 use Rattle.nr_trace.specs.declared.reading.events.Asked.TheVariants as askeds
-use Rattle.nr_trace.specs.declared.fault.Format.{Format}
 use Rattle.nr_trace.specs.declared.fault.Format.TheVariants.{BadEvent}
+use Rattle.nr_trace.specs.declared.refusal.Refusal.{Refusal}
+use Rattle.nr_trace.specs.declared.refusal.TraceUnit.TheVariants as units
 
 -- an answer in range with these fields
 pub record HasAnswerFields (fields : AnswerFields) (answer : Answer) : Type 0 where
@@ -96,7 +97,7 @@ pub record AreRecorded (version : Version) (layout : Layout) (before : List Even
   pub spelled : bytes ≡ flat_map event recorded
 
 -- after some events the bytes have 24 that spell none: the event of this index
-pub record IsBadEvent (version : Version) (layout : Layout) (index : ℕ) (bytes : List ℕ) (fault : Format) : Type 0 where
+pub record IsBadEvent (version : Version) (layout : Layout) (index : ℕ) (bytes : List ℕ) (refusal : Refusal) : Type 0 where
   pub recorded : List Event
   pub unit : List ℕ
   pub behind : List ℕ
@@ -104,7 +105,7 @@ pub record IsBadEvent (version : Version) (layout : Layout) (index : ℕ) (bytes
   pub parts : bytes ≡ flat_map event recorded ++ (unit ++ behind)
   pub whole : length unit ≡ 24
   pub none : (one : Event) → IsEvent version layout one → unit ≢ event one
-  pub first : fault ≡ BadEvent (index + length recorded)
+  pub first : refusal ≡ refusal_at (units.Event (index + length recorded)) (unit ++ behind) (BadEvent (index + length recorded))
 
 -- the words that the bytes spell were put after those that had come
 pub record HasWords (before : OpenImage) (bytes : List ℕ) (after : OpenImage) : Type 0 where

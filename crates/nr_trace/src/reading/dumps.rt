@@ -7,7 +7,7 @@ ghost use Rattle.vs_types.specs.Finds.{Finds};
 ghost use Rattle.vs_types.specs.Frame.{IsFrame};
 ghost use Rattle.nr_trace.specs.FirstFault.{IsNext};
 ghost use Rattle.nr_trace.specs.inside.Progress.{AreBelow, AreInRange, AreUnits, AtWords, BehindFrames, Belongs, HasRead};
-ghost use Rattle.nr_trace.specs.inside.Progress.{IsOpened, IsReady, Takes, begun, frame_begun, opened_of, opened_spelling, own_fault, whole_of, words_begun};
+ghost use Rattle.nr_trace.specs.inside.Progress.{IsOpened, IsReady, Takes, begun, frame_begun, frames_of, opened_of, opened_spelling, whole_of, words_begun};
 ghost use Rattle.nr_trace.specs.inside.Reading.{SpellsHead};
 ghost use Rattle.vs_walk.specs.Dump.{Image};
 ghost use Rattle.std.specs.Global.{Vec};
@@ -18,6 +18,7 @@ use crate::reading::lists::{at_log, push_words};
 use crate::reading::numbers::{take_u32, take_u64};
 use crate::reading::reader::{OpenFrame, Opened, Owner, Parts, Reader};
 use crate::reading::room::{make_room, room_step};
+use crate::refusal::{Refusal, TraceUnit};
 use crate::version::Version;
 use vs_types::{FRAME_WORDS, Fail, Memory};
 use vs_walk::Dump;
@@ -73,7 +74,7 @@ fn dump_head_of(version: Version, unit: &[u8]) -> Option<DumpHead>
     })
 }
 
-pub(crate) fn take_dump_head(parts: Parts, unit: &[u8]) -> Result<Reader, Fail<Format>>
+pub(crate) fn take_dump_head(parts: Parts, unit: &[u8]) -> Result<Reader, Fail<Refusal>>
     requires ready { IsReady (Reader.Dumps parts) }
     requires one_left { length parts.dumps.items < parts.layout.replicas }
     requires whole { length unit.now ≡ 16 }
@@ -93,7 +94,10 @@ pub(crate) fn take_dump_head(parts: Parts, unit: &[u8]) -> Result<Reader, Fail<F
             };
             Ok(Reader::Frame(parts, opened, None))
         }
-        None => Err(Fail::Refused(Format::BadCount)),
+        None => {
+            let replica = parts.dumps.len() as u8;
+            Err(Fail::Refused(Refusal::of(Format::BadCount, TraceUnit::DumpHead(replica), unit)))
+        }
     }
 }
 
@@ -110,10 +114,32 @@ fn is_next(last: Option<u64>, number: u64) -> bool
     }
 }
 
-/// That the number of the frame of an index is wrong.
+/// The unit of the number of the frame of an index.
+pub(crate) fn number_unit(parts: &Parts, owner: Owner, index: u32) -> TraceUnit
+    requires { AreInRange parts.now }
+    ensures { result ≡ (frames_of parts.now owner).number index }
+{
+    match owner {
+        Owner::Start(_, _) => TraceUnit::StartNumber(index),
+        Owner::Replica => TraceUnit::FrameNumber(parts.dumps.len() as u8, index),
+    }
+}
+
+/// The unit of its words.
+pub(crate) fn words_unit(parts: &Parts, owner: Owner, index: u32) -> TraceUnit
+    requires { AreInRange parts.now }
+    ensures { result ≡ (frames_of parts.now owner).words index }
+{
+    match owner {
+        Owner::Start(_, _) => TraceUnit::StartWords(index),
+        Owner::Replica => TraceUnit::FrameWords(parts.dumps.len() as u8, index),
+    }
+}
+
+/// The fault of a frame whose number is wrong.
 fn bad_frame(parts: &Parts, owner: Owner, index: u32) -> Format
     requires { AreInRange parts.now }
-    ensures { result ≡ own_fault parts.now owner index }
+    ensures { result ≡ (frames_of parts.now owner).fault index }
 {
     match owner {
         Owner::Start(_, _) => Format::BadStart(index),
@@ -133,9 +159,15 @@ fn begin_frame(opened: Opened, number: u64) -> Result<OpenFrame, Memory>
         left,
         owner,
     } = opened;
-    dump.make_room(room_step(dump.count(), 1, left as usize))?;
+    let count = dump.count();
+    dump.make_room(room_step(count, 1, left as usize))?;
     let dump = dump.begin_frame(number)?;
-    Ok(OpenFrame { dump, left, owner })
+    Ok(OpenFrame {
+        dump,
+        index: count as u32,
+        left,
+        owner,
+    })
 }
 
 pub(crate) fn take_frame_number(
@@ -143,7 +175,7 @@ pub(crate) fn take_frame_number(
     opened: Opened,
     last: Option<u64>,
     unit: &[u8],
-) -> Result<Reader, Fail<Format>>
+) -> Result<Reader, Fail<Refusal>>
     requires ready { IsReady (Reader.Frame parts opened last) }
     requires whole { length unit.now ≡ 8 }
     ensures { Takes (Reader.Frame parts opened last) unit.now result }
@@ -154,7 +186,9 @@ pub(crate) fn take_frame_number(
         return Ok(Reader::Words(parts, frame));
     }
     let index = opened.dump.count() as u32;
-    Err(Fail::Refused(bad_frame(&parts, opened.owner, index)))
+    let fault = bad_frame(&parts, opened.owner, index);
+    let named = number_unit(&parts, opened.owner, index);
+    Err(Fail::Refused(Refusal::of(fault, named, unit)))
 }
 
 /// The frame is whole, and so is its dump where it was the last one, which then goes where it belongs. It allocates memory for
@@ -165,9 +199,14 @@ fn end_frame(parts: Parts, frame: OpenFrame) -> Result<Reader, Memory>
     requires above { AreBelow (opened_of frame) frame.dump.number }
     requires whole { IsFrame frame.dump.coming }
     ensures { IfOk result (HasRead parts.form (frame_begun parts frame ++ words_begun frame)
-        (λ rest fault. AtWords parts frame (words_begun frame ++ rest) fault)) }
+        (λ rest refusal. AtWords parts frame (words_begun frame ++ rest) refusal)) }
 {
-    let OpenFrame { dump, left, owner } = frame;
+    let OpenFrame {
+        dump,
+        index: _,
+        left,
+        owner,
+    } = frame;
     let number = dump.number();
     let dump = dump.end_frame();
     let left = left - 1;
@@ -183,7 +222,7 @@ pub(crate) fn take_words(
     parts: Parts,
     mut frame: OpenFrame,
     run: &[u8],
-) -> Result<Reader, Fail<Format>>
+) -> Result<Reader, Fail<Refusal>>
     requires ready { IsReady (Reader.Words parts frame) }
     requires run { AreUnits 8 (512 - length frame.dump.coming) (length run.now) }
     ensures { Takes (Reader.Words parts frame) run.now result }

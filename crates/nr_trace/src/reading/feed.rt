@@ -1,16 +1,18 @@
 //! A trace or a segment that comes in pieces.
 
-ghost use Rattle.std.specs.Prelude.{◌≡◌, ◌++◌, ◌↔◌, [], IfErr, IsNone, IsSome, IsTrue, MatchResult};
+ghost use Rattle.std.specs.Prelude.{◌≡◌, ◌+◌, ◌++◌, ◌↔◌, ℕ, List, [], length, IfErr, IsNone, IsSome, IsTrue, MatchResult};
 ghost use Rattle.vs_types.specs.Refusal.{IfRefused};
-ghost use Rattle.nr_trace.specs.Feed.{Ends, EndsSegment, Feeds, FeedsSegment, HasLastingFault, IsWhole, LastsAs};
+ghost use Rattle.nr_trace.specs.FirstFault.{IsRefusedBy};
+ghost use Rattle.nr_trace.specs.Feed.{fault_alone, fault_of, Ends, EndsRefused, EndsSegment, Feeds, FeedsSegment, IsRefusedAs, IsWhole};
 ghost use Rattle.nr_trace.specs.Spelling.{SpellsAs};
 ghost use Rattle.nr_trace.specs.Feed.Fed.{Taken};
-ghost use Rattle.nr_trace.specs.inside.Progress.{form_of, said, unit_bytes};
+ghost use Rattle.nr_trace.specs.inside.Progress.{cut_off, form_of, said, unit_bytes, Ahead, HasRead, IsReady, IsRun};
 ghost use Rattle.nr_trace.specs.inside.Feeding.{AreFewer, HasCome, HasTaken, IsCut, IsSound};
 
 use crate::fault::Format;
 use crate::layout::TraceLayout;
 use crate::reading::reader::Reader;
+use crate::refusal::{Refusal, TraceUnit};
 use crate::trace::Trace;
 use crate::version::Form;
 use std::alloc::Global;
@@ -23,16 +25,42 @@ pub(crate) enum State {
     /// All whole units are read; the beginning of the next one.
     Open(Reader, Vec<u8>),
     /// Why no more is taken.
-    Stopped(Fail<Format>),
+    Stopped(Fail<Refusal>),
+}
+
+/// What a reader's refusal says of the fault.
+fn fault_of(fail: Fail<Refusal>) -> Fail<Format>
+    ensures { result ≡ fault_of fail }
+{
+    match fail {
+        Fail::Memory => Fail::Memory,
+        Fail::Refused(refusal) => Fail::Refused(refusal.fault),
+    }
+}
+
+/// Takes the next run, behind which these bytes come.
+fn take_front(reader: Reader, run: &[u8], behind: &[u8]) -> Result<Reader, Fail<Refusal>>
+    requires ready { IsReady reader }
+    requires run { IsRun reader (length run.now) }
+    ensures { MatchResult result
+        (HasRead (form_of reader) (said reader ++ run.now)
+        (λ rest refusal. Ahead reader (run.now ++ rest) refusal))
+        (IfRefused (IsRefusedBy (Ahead reader) (run.now ++ behind.now))) }
+{
+    match reader.take_run(run) {
+        Ok(next) => Ok(next),
+        Err(Fail::Memory) => Err(Fail::Memory),
+        Err(Fail::Refused(refusal)) => Err(Fail::Refused(refusal.and_then(behind))),
+    }
 }
 
 /// Takes all whole units at the front of the bytes, by runs, and gives what is left: the beginning of the next unit, or what is
 /// behind the last one.
-fn take_units(reader: Reader, bytes: &[u8]) -> Result<(Reader, &[u8]), Fail<Format>>
+fn take_units(reader: Reader, bytes: &[u8]) -> Result<(Reader, &[u8]), Fail<Refusal>>
     requires { IsSound reader }
     ensures { MatchResult result
         (λ left. IsCut (form_of reader) (said reader) bytes.now left.0 left.1.now)
-        (IfRefused (LastsAs (form_of reader) (said reader ++ bytes.now))) }
+        (IfRefused (IsRefusedAs (form_of reader) (said reader ++ bytes.now) (length bytes.now))) }
 {
     let mut reader = reader;
     let mut rest = bytes;
@@ -41,7 +69,7 @@ fn take_units(reader: Reader, bytes: &[u8]) -> Result<(Reader, &[u8]), Fail<Form
             return Ok((reader, rest));
         }
         let (run, behind) = rest.split_at(len);
-        reader = reader.take_run(run)?;
+        reader = take_front(reader, run, behind)?;
         rest = behind;
     }
     Ok((reader, rest))
@@ -53,12 +81,12 @@ fn take_bytes(
     reader: Reader,
     mut begun: Vec<u8>,
     bytes: &[u8],
-) -> Result<(State, usize), Fail<Format>>
+) -> Result<(State, usize), Fail<Refusal>>
     requires sound { IsSound reader }
     requires between { begun.items ≡ [] }
     ensures { MatchResult result
         (λ taken. HasTaken (form_of reader) (said reader) bytes.now taken.0 taken.1)
-        (IfRefused (LastsAs (form_of reader) (said reader ++ bytes.now))) }
+        (IfRefused (IsRefusedAs (form_of reader) (said reader ++ bytes.now) (length bytes.now))) }
 {
     let (reader, rest) = take_units(reader, bytes)?;
     match reader.unit_len() {
@@ -75,12 +103,13 @@ fn take_piece(
     reader: Reader,
     mut begun: Vec<u8>,
     piece: &[u8],
-) -> Result<(State, usize), Fail<Format>>
+) -> Result<(State, usize), Fail<Refusal>>
     requires sound { IsSound reader }
     requires fewer { AreFewer (unit_bytes reader) begun.items }
     ensures { MatchResult result
         (λ taken. HasTaken (form_of reader) (said reader ++ begun.items) piece.now taken.0 taken.1)
-        (IfRefused (LastsAs (form_of reader) (said reader ++ begun.items ++ piece.now))) }
+        (IfRefused (IsRefusedAs (form_of reader) (said reader ++ begun.items ++ piece.now)
+        (length (begun.items ++ piece.now)))) }
 {
     match reader.unit_len() {
         Some(len) if !begun.is_empty() => {
@@ -91,7 +120,7 @@ fn take_piece(
             }
             let (front, behind) = piece.split_at(missing);
             begun.extend_from_slice(front)?;
-            let reader = reader.take_run(&begun)?;
+            let reader = take_front(reader, &begun, behind)?;
             begun.clear();
             let (state, count) = take_bytes(reader, begun, behind)?;
             Ok((state, missing + count))
@@ -101,28 +130,33 @@ fn take_piece(
 }
 
 /// The next piece of a trace, of which nothing may be left.
-fn take_all(reader: Reader, begun: Vec<u8>, piece: &[u8]) -> Result<State, Fail<Format>>
+fn take_all(reader: Reader, begun: Vec<u8>, piece: &[u8]) -> Result<State, Fail<Refusal>>
     requires sound { (form_of reader ≡ Form.Trace) × IsSound reader }
     requires fewer { AreFewer (unit_bytes reader) begun.items }
     ensures { MatchResult result (HasCome Form.Trace (said reader ++ begun.items ++ piece.now))
-        (IfRefused (HasLastingFault (said reader ++ begun.items ++ piece.now))) }
+        (IfRefused (IsRefusedAs Form.Trace (said reader ++ begun.items ++ piece.now)
+        (length (begun.items ++ piece.now)))) }
 {
     let (state, count) = take_piece(reader, begun, piece)?;
     if count < piece.len() {
-        return Err(Fail::Refused(Format::Trailing));
+        return Err(Fail::Refused(Refusal::of(
+            Format::Trailing,
+            TraceUnit::Behind,
+            &piece[count..],
+        )));
     }
     Ok(state)
 }
 
-/// What a reader has read, where no unit is left.
-fn ended(reader: Reader) -> Result<Trace, Fail<Format>>
+/// What a reader has read, where no unit is left; these bytes have begun one.
+fn ended(reader: Reader, begun: Vec<u8>) -> Result<Trace, Fail<Refusal>>
     requires { IsSound reader }
     ensures { MatchResult result
         (λ trace. IsNone (unit_bytes reader) × SpellsAs (form_of reader) (said reader) trace)
-        (λ fail. (fail ≡ Fail.Refused Format.Truncated) × IsSome (unit_bytes reader)) }
+        (λ fail. (fail ≡ Fail.Refused (cut_off reader begun.items)) × IsSome (unit_bytes reader)) }
 {
     match reader.unit_len() {
-        Some(_) => Err(Fail::Refused(Format::Truncated)),
+        Some(_) => Err(Fail::Refused(reader.cut_off(&begun))),
         None => Ok(reader.finish()),
     }
 }
@@ -167,6 +201,24 @@ impl Feed {
     pub fn feed(&mut self, piece: &[u8]) -> Result<(), Fail<Format>>
         ensures { Feeds self.old piece.now self.new result }
     {
+        match self.feed_or_refuse(piece) {
+            Ok(()) => Ok(()),
+            Err(fail) => Err(fault_of(fail)),
+        }
+    }
+
+    /// Takes the next piece as `feed` does, and says of a refusal which unit shows the fault.
+    ///
+    /// # Errors
+    ///
+    /// As `feed`, with the unit, and how many of the bytes so far are left from its first one on. What has refused before gives
+    /// the unit of that time.
+    pub fn feed_or_refuse(&mut self, piece: &[u8]) -> Result<(), Fail<Refusal>>
+        ensures feeds { Feeds self.old piece.now self.new (fault_alone result) }
+        ensures refused { (bytes : List ℕ) → self.old ≡ Taken bytes
+            → IfErr result (IfRefused
+            (IsRefusedAs Form.Trace (bytes ++ piece.now) (length piece.now + 23))) }
+    {
         let state = replace(&mut self.state, State::Stopped(Fail::Memory));
         let next = match state {
             State::Open(reader, begun) => take_all(reader, begun, piece),
@@ -192,9 +244,24 @@ impl Feed {
     pub fn end(self) -> Result<Trace, Fail<Format>>
         ensures { Ends self result }
     {
+        match self.end_or_refuse() {
+            Ok(trace) => Ok(trace),
+            Err(fail) => Err(fault_of(fail)),
+        }
+    }
+
+    /// The trace that the pieces spell, as `end` gives it; of a refusal it says which unit is cut off.
+    ///
+    /// # Errors
+    ///
+    /// As `end`, with the unit, and how many of the bytes are left from its first one on.
+    pub fn end_or_refuse(self) -> Result<Trace, Fail<Refusal>>
+        ensures ends { Ends self (fault_alone result) }
+        ensures refused { EndsRefused Form.Trace self result }
+    {
         let Feed { state } = self;
         match state {
-            State::Open(reader, _) => ended(reader),
+            State::Open(reader, begun) => ended(reader, begun),
             State::Stopped(fail) => Err(fail),
         }
     }
@@ -244,6 +311,25 @@ impl SegmentFeed {
     pub fn feed(&mut self, piece: &[u8]) -> Result<usize, Fail<Format>>
         ensures { FeedsSegment self.old piece.now self.new result }
     {
+        match self.feed_or_refuse(piece) {
+            Ok(count) => Ok(count),
+            Err(fail) => Err(fault_of(fail)),
+        }
+    }
+
+    /// Takes bytes as `feed` does, and says of a refusal which unit shows the fault.
+    ///
+    /// # Errors
+    ///
+    /// As `feed`, with the unit, and how many of the bytes so far are left from its first one on. What has refused before gives
+    /// the unit of that time.
+    pub fn feed_or_refuse(&mut self, piece: &[u8]) -> Result<usize, Fail<Refusal>>
+        ensures feeds { FeedsSegment self.old piece.now self.new (fault_alone result) }
+        ensures refused { (bytes : List ℕ) → self.old.pieces ≡ Taken bytes
+            → IfErr result (IfRefused
+            (IsRefusedAs (Form.Segment self.old.before) (bytes ++ piece.now)
+            (length piece.now + 23))) }
+    {
         let state = replace(&mut self.state, State::Stopped(Fail::Memory));
         let next = match state {
             State::Open(reader, begun) => take_piece(reader, begun, piece),
@@ -279,9 +365,24 @@ impl SegmentFeed {
     pub fn end(self) -> Result<Trace, Fail<Format>>
         ensures { EndsSegment self result }
     {
+        match self.end_or_refuse() {
+            Ok(segment) => Ok(segment),
+            Err(fail) => Err(fault_of(fail)),
+        }
+    }
+
+    /// The segment that the bytes spell, as `end` gives it; of a refusal it says which unit is cut off.
+    ///
+    /// # Errors
+    ///
+    /// As `end`, with the unit, and how many of the bytes are left from its first one on.
+    pub fn end_or_refuse(self) -> Result<Trace, Fail<Refusal>>
+        ensures ends { EndsSegment self (fault_alone result) }
+        ensures refused { EndsRefused (Form.Segment self.before) self.pieces result }
+    {
         let SegmentFeed { before: _, state } = self;
         match state {
-            State::Open(reader, _) => ended(reader),
+            State::Open(reader, begun) => ended(reader, begun),
             State::Stopped(fail) => Err(fail),
         }
     }

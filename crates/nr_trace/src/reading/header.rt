@@ -3,7 +3,7 @@
 ghost use Rattle.std.specs.Prelude.{◌≡◌, ◌⊎◌, ◌+◌, length};
 ghost use Rattle.vs_types.specs.Depth.{levels};
 ghost use Rattle.vs_types.specs.Finds.{Finds};
-ghost use Rattle.nr_trace.specs.FirstFault.{counts_bytes, magic_of, AtLog, AtStart, IsCounts};
+ghost use Rattle.nr_trace.specs.FirstFault.{counts_bytes, counts_unit, magic_of, refusal_at, AtLog, AtStart, IsCounts};
 ghost use Rattle.nr_trace.specs.Spelling.{start_count};
 ghost use Rattle.nr_trace.specs.Versions.{version_code, IsVersionOf};
 ghost use Rattle.nr_trace.specs.declared.version.Version.TheVariants.{Segment};
@@ -16,6 +16,7 @@ use crate::layout::TraceLayout;
 use crate::reading::lists::at_log;
 use crate::reading::numbers::{take_u8, take_u16, take_u32, take_u64};
 use crate::reading::reader::{Opened, Owner, Parts, Reader};
+use crate::refusal::{Refusal, TraceUnit};
 use crate::version::{Form, Version};
 use std::alloc::Global;
 use vs_types::{CALLS, Depth, Fail, LOG_PLACES};
@@ -31,7 +32,7 @@ fn magic_of(form: &Form) -> [u8; 4]
     }
 }
 
-pub(crate) fn take_magic(alloc: Global, form: Form, unit: &[u8]) -> Result<Reader, Fail<Format>>
+pub(crate) fn take_magic(alloc: Global, form: Form, unit: &[u8]) -> Result<Reader, Fail<Refusal>>
     requires { length unit.now ≡ 4 }
     ensures { Takes (Reader.Magic alloc form) unit.now result }
 {
@@ -39,7 +40,7 @@ pub(crate) fn take_magic(alloc: Global, form: Form, unit: &[u8]) -> Result<Reade
     if unit == wanted.as_slice() {
         Ok(Reader::Version(alloc, form))
     } else {
-        Err(Fail::Refused(Format::BadMagic))
+        Err(Fail::Refused(Refusal::of(Format::BadMagic, TraceUnit::Magic, unit)))
     }
 }
 
@@ -61,14 +62,14 @@ fn version_of(form: &Form, code: u16) -> Option<Version>
     }
 }
 
-pub(crate) fn take_version(alloc: Global, form: Form, unit: &[u8]) -> Result<Reader, Fail<Format>>
+pub(crate) fn take_version(alloc: Global, form: Form, unit: &[u8]) -> Result<Reader, Fail<Refusal>>
     requires { length unit.now ≡ 2 }
     ensures { Takes (Reader.Version alloc form) unit.now result }
 {
     let (code, _) = take_u16(unit);
     match version_of(&form, code) {
         Some(version) => Ok(Reader::Header(alloc, form, version)),
-        None => Err(Fail::Refused(Format::BadVersion)),
+        None => Err(Fail::Refused(Refusal::of(Format::BadVersion, TraceUnit::Version, unit))),
     }
 }
 
@@ -139,7 +140,7 @@ fn at_start(parts: Parts, numbers: Counts) -> Reader
     requires numbers { IsCounts parts.version numbers }
     requires layout { numbers.layout ≡ parts.layout }
     ensures { HasRead parts.form (header_units numbers parts) (AtStart numbers.start
-        (AtLog parts.version parts.layout numbers.places numbers.events)) result }
+        (AtLog parts.version parts.layout 0 numbers.places numbers.events)) result }
 {
     if numbers.start == 0 {
         at_log(parts, numbers.places, numbers.events)
@@ -148,12 +149,30 @@ fn at_start(parts: Parts, numbers: Counts) -> Reader
     }
 }
 
+/// The unit of the counts.
+pub(crate) fn counts_unit(version: Version) -> TraceUnit
+    ensures { result ≡ counts_unit version }
+{
+    match version {
+        Version::V1 => TraceUnit::Counts,
+        Version::V2 => TraceUnit::Counts,
+        Version::Segment => TraceUnit::SegmentCounts,
+    }
+}
+
+/// That the counts have this fault.
+fn bad_counts(version: Version, fault: Format, unit: &[u8]) -> Refusal
+    ensures { result ≡ refusal_at (counts_unit version) unit.now fault }
+{
+    Refusal::of(fault, counts_unit(version), unit)
+}
+
 pub(crate) fn take_header(
     alloc: Global,
     form: Form,
     version: Version,
     unit: &[u8],
-) -> Result<Reader, Fail<Format>>
+) -> Result<Reader, Fail<Refusal>>
     requires ready { IsVersionOf form version }
     requires whole { length unit.now ≡ counts_bytes version }
     ensures { Takes (Reader.Header alloc form version) unit.now result }
@@ -162,7 +181,7 @@ pub(crate) fn take_header(
         Some(counts) => {
             let layout = counts.layout;
             if !form.follows(&layout) {
-                return Err(Fail::Refused(Format::BadChain));
+                return Err(Fail::Refused(bad_counts(version, Format::BadChain, unit)));
             }
             let parts = Parts {
                 alloc,
@@ -176,11 +195,11 @@ pub(crate) fn take_header(
             };
             Ok(at_start(parts, counts))
         }
-        None => Err(Fail::Refused(Format::BadCount)),
+        None => Err(Fail::Refused(bad_counts(version, Format::BadCount, unit))),
     }
 }
 
-pub(crate) fn take_root(parts: Parts, numbers: Counts, unit: &[u8]) -> Result<Reader, Fail<Format>>
+pub(crate) fn take_root(parts: Parts, numbers: Counts, unit: &[u8]) -> Result<Reader, Fail<Refusal>>
     requires ready { IsReady (Reader.Root parts numbers) }
     requires whole { length unit.now ≡ 8 }
     ensures { Takes (Reader.Root parts numbers) unit.now result }

@@ -14,6 +14,7 @@ use crate::reading::numbers::{take_u32, take_u64};
 use crate::reading::reader::{Parts, Reader};
 use crate::reading::room::make_room;
 use crate::recorded::Recorded;
+use crate::refusal::{Refusal, TraceUnit};
 use crate::version::Version;
 use vs_types::{Fail, Memory};
 use vs_walk::OpenDump;
@@ -40,7 +41,7 @@ pub(crate) fn at_log(parts: Parts, places: u32, events: u32) -> Reader
     requires no_events { parts.events.items ≡ [] }
     requires no_dumps { parts.dumps.items ≡ [] }
     ensures { HasRead parts.form (parts_spelling (length parts.log.items + places) events parts)
-        (AtLog parts.version parts.layout places events) result }
+        (AtLog parts.version parts.layout (length parts.log.items) places events) result }
 {
     if places == 0 {
         at_events(parts, events)
@@ -68,7 +69,7 @@ pub(crate) fn take_places(
     places: u32,
     events: u32,
     run: &[u8],
-) -> Result<Reader, Fail<Format>>
+) -> Result<Reader, Fail<Refusal>>
     requires ready { IsReady (Reader.Log parts places events) }
     requires run { AreUnits 4 places (length run.now) }
     ensures { Takes (Reader.Log parts places events) run.now result }
@@ -86,7 +87,7 @@ fn push_events(
     layout: TraceLayout,
     events: &mut Vec<Recorded>,
     bytes: &[u8],
-) -> Result<(), Fail<Format>>
+) -> Result<(), Fail<Refusal>>
     requires whole { (n : ℕ) × (length bytes.now ≡ 24 * n) × (length events.old.items + n ≤ CALLS) }
     ensures { MatchResult result
         (λ done. AreRecorded version layout events.old.items bytes.now events.new.items)
@@ -99,7 +100,11 @@ fn push_events(
             Some(event) => events.push(event)?,
             None => {
                 let index = events.len() as u32;
-                return Err(Fail::Refused(Format::BadEvent(index)));
+                return Err(Fail::Refused(Refusal::of(
+                    Format::BadEvent(index),
+                    TraceUnit::Event(index),
+                    rest,
+                )));
             }
         }
         rest = behind;
@@ -107,7 +112,11 @@ fn push_events(
     Ok(())
 }
 
-pub(crate) fn take_events(mut parts: Parts, events: u32, run: &[u8]) -> Result<Reader, Fail<Format>>
+pub(crate) fn take_events(
+    mut parts: Parts,
+    events: u32,
+    run: &[u8],
+) -> Result<Reader, Fail<Refusal>>
     requires ready { IsReady (Reader.Events parts events) }
     requires run { AreUnits 24 events (length run.now) }
     ensures { Takes (Reader.Events parts events) run.now result }

@@ -5,10 +5,13 @@ ghost use Rattle.std.specs.Prelude.{◌≡◌, ◌≤◌, ◌<◌, ◌++◌, [],
 use crate::fault::Format;
 use crate::fields::Counts;
 use crate::layout::TraceLayout;
-use crate::reading::dumps::{take_dump_head, take_frame_number, take_words};
-use crate::reading::header::{take_header, take_magic, take_root, take_version};
+use crate::reading::dumps::{
+    number_unit, take_dump_head, take_frame_number, take_words, words_unit,
+};
+use crate::reading::header::{counts_unit, take_header, take_magic, take_root, take_version};
 use crate::reading::lists::{take_events, take_places};
 use crate::recorded::Recorded;
+use crate::refusal::{Refusal, TraceUnit};
 use crate::trace::Trace;
 use crate::version::{Form, Version};
 use std::alloc::Global;
@@ -46,10 +49,11 @@ pub(crate) struct Opened {
     pub(crate) owner: Owner,
 }
 
-/// A dump of which a frame is coming, and how many frames it lacks, this one among them.
+/// A dump of which a frame is coming, the index of that frame, and how many frames the dump lacks, this one among them.
 #[derive(Drop)]
 pub(crate) struct OpenFrame {
     pub(crate) dump: OpenDump,
+    pub(crate) index: u32,
     pub(crate) left: u32,
     pub(crate) owner: Owner,
 }
@@ -87,12 +91,12 @@ pub(crate) enum Reader {
 
 impl Reader {
     ghost use Rattle.nr_trace.specs.Spelling.{SpellsAs};
-    ghost use Rattle.nr_trace.specs.FirstFault.{HasFaultAs};
-    ghost use Rattle.nr_trace.specs.inside.Progress.{form_of, said, unit_bytes, HasRead, IsReady, IsRun, Takes};
+    ghost use Rattle.nr_trace.specs.FirstFault.{HasRefusalAs};
+    ghost use Rattle.nr_trace.specs.inside.Progress.{cut_off, form_of, said, unit_bytes, unit_of, HasRead, IsReady, IsRun, Takes};
 
     /// A reader at the beginning of what is to have the form. It allocates no memory.
     pub(crate) fn new(alloc: Global, form: Form) -> Reader
-        ensures { HasRead form [] (HasFaultAs form) result }
+        ensures { HasRead form [] (HasRefusalAs form) result }
     {
         Reader::Magic(alloc, form)
     }
@@ -138,9 +142,9 @@ impl Reader {
         }
     }
 
-    /// Takes the next run. It allocates memory for what it says. A refusal is the fault of any bytes that begin with what
+    /// Takes the next run. It allocates memory for what it says. A refusal is that of any bytes that begin with what
     /// was taken so far and this run.
-    pub(crate) fn take_run(self, run: &[u8]) -> Result<Reader, Fail<Format>>
+    pub(crate) fn take_run(self, run: &[u8]) -> Result<Reader, Fail<Refusal>>
         requires ready { IsReady self }
         requires run { IsRun self (length run.now) }
         ensures { Takes self run.now result }
@@ -155,6 +159,42 @@ impl Reader {
             Reader::Dumps(parts) => take_dump_head(parts, run),
             Reader::Frame(parts, opened, last) => take_frame_number(parts, opened, last, run),
             Reader::Words(parts, frame) => take_words(parts, frame, run),
+        }
+    }
+
+    /// The unit that comes next, or of which words have come.
+    fn unit(&self) -> TraceUnit
+        requires { IsReady self.now }
+        ensures { result ≡ unit_of self.now }
+    {
+        match self {
+            Reader::Magic(_, _) => TraceUnit::Magic,
+            Reader::Version(_, _) => TraceUnit::Version,
+            Reader::Header(_, _, version) => counts_unit(*version),
+            Reader::Root(_, _) => TraceUnit::StartRoot,
+            Reader::Log(parts, _, _) => TraceUnit::Place(parts.log.len() as u32),
+            Reader::Events(parts, _) => TraceUnit::Event(parts.events.len() as u32),
+            Reader::Dumps(parts) => TraceUnit::DumpHead(parts.dumps.len() as u8),
+            Reader::Frame(parts, opened, _) => {
+                number_unit(parts, opened.owner, opened.dump.count() as u32)
+            }
+            Reader::Words(parts, frame) => { words_unit(parts, frame.owner, frame.index) }
+        }
+    }
+
+    /// How it is refused where no more bytes come than these, which begin a unit.
+    pub(crate) fn cut_off(&self, begun: &[u8]) -> Refusal
+        requires { IsReady self.now }
+        ensures { result ≡ cut_off self.now begun.now }
+    {
+        let unit = self.unit();
+        match self {
+            Reader::Words(_, frame) => Refusal {
+                fault: Format::Truncated,
+                unit,
+                left: 8 * frame.dump.words_come() + begun.len(),
+            },
+            _ => Refusal::of(Format::Truncated, unit, begun),
         }
     }
 

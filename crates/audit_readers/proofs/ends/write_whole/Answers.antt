@@ -1,4 +1,4 @@
-use Rattle.std.proofs.Common.{◌≡◌, ◌-◌, [], length, drop, sym, subst, take_all, ◌∙◌, arith}
+use Rattle.std.proofs.Common.{◌-◌, [], length, drop, sym, subst, take_all, ◌∙◌, arith}
 use Rattle.std.proofs.lemmas.Bool.{eqb-true}
 use Rattle.std.proofs.lemmas.List.{length-drop, nil_from_length}
 use Rattle.audit_readers.proofs.Writing.{IsWritten, at_any_error, writing_begins, writing_ends, writing_fails, writing_goes_on}

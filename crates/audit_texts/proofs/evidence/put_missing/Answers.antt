@@ -5,5 +5,5 @@ use Rattle.audit_texts.proofs.evidence.put_missing.Goals as goal
 pub returns : goal.returns
 unfolding missing_parts
 returns g c =
-    let begun = rw c.as_slice.ensures.value at c.in_ok-put_missing_frame.ensures in
-    then_put_ok c.put_replica.result _ _ _ _ _ begun c.put_replica.ensures
+    let begun = rw (c.as_slice.ensures.value, c.of_owner-fault.ensures, c.of_owner-end.ensures) at c.in_ok-put_missing_frame.ensures in
+    then_put_ok c.put_owner.result _ _ _ _ _ begun c.put_owner.ensures

@@ -5,5 +5,5 @@ use Rattle.audit_texts.proofs.evidence.put_reserved.Goals as goal
 pub returns : goal.returns
 unfolding reserved_parts
 returns g c =
-    let begun = rw c.as_slice.ensures.value at c.in_ok-put_reserved_entry.ensures in
-    then_put_ok c.put_replica.result _ _ _ _ _ begun c.put_replica.ensures
+    let begun = rw (c.as_slice-path.ensures.value, c.of_owner-fault.ensures) at c.in_ok-put_reserved_entry.ensures in
+    then_put_ok c.put_owner.result _ _ _ _ _ begun c.put_owner.ensures

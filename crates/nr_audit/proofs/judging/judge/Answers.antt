@@ -1,60 +1,37 @@
-use Rattle.std.proofs.Common.{ap}
-use Rattle.vs_plain.specs.Plain.{BoundedSpace}
+use Rattle.std.proofs.Common.{None, refl, sym, subst}
+use Rattle.nr_trace.specs.Orders.{recorded_order}
+use Rattle.nr_trace.specs.declared.fault.Fault.{Fault}
+use Rattle.nr_audit.specs.Faults.{IsFirstAfter}
 use Rattle.nr_audit.specs.declared.verdict.Verdict.TheVariants.{Yes, No}
-use Rattle.nr_audit.proofs.PartsOfVerdicts.{yes_from, no_from, yes_on, no_on, events_on, members_on, precedence_on, answers_on, dumps_on}
+use Rattle.nr_audit.proofs.PartsOfVerdicts.{same_on}
 use Rattle.nr_audit.proofs.judging.judge.Goals as goal
 
-pub returns-in-Right-clause-verdict : goal.returns-in-Right-clause-verdict
-returns-in-Right-clause-verdict c =
-    yes_from c.new-empty.result.space c.args.trace.now c.in_ok-judged.judged c.in-Right.order _
-    (ap (λ (s : BoundedSpace). s.space) c.new-empty.ensures) c.in-Right.is c.in_ok-judged.ensures.judged
+pub returns-in-Ok-clause-verdict : goal.returns-in-Ok-clause-verdict
+returns-in-Ok-clause-verdict c = (c.in-Ok.ensures.sound, c.in-Ok.ensures.order)
+
+pub returns-in-Ok-clause-yes : goal.returns-in-Ok-clause-yes
+returns-in-Ok-clause-yes c = λ sound.
+    let trace = c.args.trace.now in
+    same_on trace (Yes c.in-Ok.order) (Yes (recorded_order trace)) (c.in-Ok.ensures.sound, c.in-Ok.ensures.order) (sound, refl)
+
+pub returns-in-Ok-clause-no : goal.returns-in-Ok-clause-no
+returns-in-Ok-clause-no c = λ fault first.
+    same_on c.args.trace.now (Yes c.in-Ok.order) (No fault) (c.in-Ok.ensures.sound, c.in-Ok.ensures.order) first
 
 pub returns-clause-verdict : goal.returns-clause-verdict
 returns-clause-verdict c =
-    no_from c.new-empty.result.space c.args.trace.now c.in_ok-judged.judged c.in-Wrong.fault
-    (ap (λ (s : BoundedSpace). s.space) c.new-empty.ensures) c.in-Wrong.is c.in_ok-judged.ensures.judged
-
-pub returns-in-Right-clause-yes : goal.returns-in-Right-clause-yes
-returns-in-Right-clause-yes c = λ faultless. yes_on c.args.trace.now (Yes c.in-Right.order)
-    (yes_from c.new-empty.result.space c.args.trace.now c.in_ok-judged.judged c.in-Right.order _
-    (ap (λ (s : BoundedSpace). s.space) c.new-empty.ensures) c.in-Right.is c.in_ok-judged.ensures.judged) faultless
+    subst (λ (f : Fault). IsFirstAfter None c.args.trace.now f) (sym c.in-Err-Refused.fault-is)
+    (rw c.in-Err-Refused.field-0-is at c.in-Err-Refused.ensures.first)
 
 pub returns-clause-yes : goal.returns-clause-yes
-returns-clause-yes c = λ faultless. yes_on c.args.trace.now (No c.in-Wrong.fault)
-    (no_from c.new-empty.result.space c.args.trace.now c.in_ok-judged.judged c.in-Wrong.fault
-    (ap (λ (s : BoundedSpace). s.space) c.new-empty.ensures) c.in-Wrong.is c.in_ok-judged.ensures.judged) faultless
-
-pub returns-in-Right-clause-no : goal.returns-in-Right-clause-no
-returns-in-Right-clause-no c = λ fault first. no_on c.args.trace.now (Yes c.in-Right.order) fault
-    (yes_from c.new-empty.result.space c.args.trace.now c.in_ok-judged.judged c.in-Right.order _
-    (ap (λ (s : BoundedSpace). s.space) c.new-empty.ensures) c.in-Right.is c.in_ok-judged.ensures.judged) first
+returns-clause-yes c = λ sound.
+    let trace = c.args.trace.now in
+    same_on trace (No c.in-Err-Refused.fault) (Yes (recorded_order trace))
+    (subst (λ (f : Fault). IsFirstAfter None trace f) (sym c.in-Err-Refused.fault-is) (rw c.in-Err-Refused.field-0-is at c.in-Err-Refused.ensures.first))
+    (sound, refl)
 
 pub returns-clause-no : goal.returns-clause-no
-returns-clause-no c = λ fault first. no_on c.args.trace.now (No c.in-Wrong.fault) fault
-    (no_from c.new-empty.result.space c.args.trace.now c.in_ok-judged.judged c.in-Wrong.fault
-    (ap (λ (s : BoundedSpace). s.space) c.new-empty.ensures) c.in-Wrong.is c.in_ok-judged.ensures.judged) first
-
-pub returns-in-Right-clause-events : goal.returns-in-Right-clause-events
-returns-in-Right-clause-events c = events_on c.args.trace.now (Yes c.in-Right.order)
-    (yes_from c.new-empty.result.space c.args.trace.now c.in_ok-judged.judged c.in-Right.order _
-    (ap (λ (s : BoundedSpace). s.space) c.new-empty.ensures) c.in-Right.is c.in_ok-judged.ensures.judged)
-
-pub returns-in-Right-clause-members : goal.returns-in-Right-clause-members
-returns-in-Right-clause-members c = members_on c.args.trace.now (Yes c.in-Right.order)
-    (yes_from c.new-empty.result.space c.args.trace.now c.in_ok-judged.judged c.in-Right.order _
-    (ap (λ (s : BoundedSpace). s.space) c.new-empty.ensures) c.in-Right.is c.in_ok-judged.ensures.judged)
-
-pub returns-in-Right-clause-precedence : goal.returns-in-Right-clause-precedence
-returns-in-Right-clause-precedence c = precedence_on c.args.trace.now (Yes c.in-Right.order)
-    (yes_from c.new-empty.result.space c.args.trace.now c.in_ok-judged.judged c.in-Right.order _
-    (ap (λ (s : BoundedSpace). s.space) c.new-empty.ensures) c.in-Right.is c.in_ok-judged.ensures.judged)
-
-pub returns-in-Right-clause-answers : goal.returns-in-Right-clause-answers
-returns-in-Right-clause-answers c = answers_on c.args.trace.now (Yes c.in-Right.order)
-    (yes_from c.new-empty.result.space c.args.trace.now c.in_ok-judged.judged c.in-Right.order _
-    (ap (λ (s : BoundedSpace). s.space) c.new-empty.ensures) c.in-Right.is c.in_ok-judged.ensures.judged)
-
-pub returns-in-Right-clause-dumps : goal.returns-in-Right-clause-dumps
-returns-in-Right-clause-dumps c = dumps_on c.args.trace.now (Yes c.in-Right.order)
-    (yes_from c.new-empty.result.space c.args.trace.now c.in_ok-judged.judged c.in-Right.order _
-    (ap (λ (s : BoundedSpace). s.space) c.new-empty.ensures) c.in-Right.is c.in_ok-judged.ensures.judged)
+returns-clause-no c = λ fault first.
+    same_on c.args.trace.now (No c.in-Err-Refused.fault) (No fault)
+    (subst (λ (f : Fault). IsFirstAfter None c.args.trace.now f) (sym c.in-Err-Refused.fault-is)
+    (rw c.in-Err-Refused.field-0-is at c.in-Err-Refused.ensures.first)) first

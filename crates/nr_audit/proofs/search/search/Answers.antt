@@ -1,17 +1,21 @@
-use Rattle.std.proofs.Common.{refl, sym, subst, lit<}
+use Rattle.std.proofs.Common.{◌≡◌, refl, ap, sym, subst, lit<}
 use Rattle.std.proofs.lemmas.Result.{err_from_is_err_and}
 use Rattle.std.specs.Prelude.{All}
+use Rattle.vs_types.specs.Space.{Space}
+use Rattle.vs_plain.specs.Plain.{BoundedSpace}
 use Rattle.nr_trace.specs.Calls.{IsCall}
-use Rattle.nr_trace.specs.Laws.{HasCleanLog, IsFaultlessFrom}
+use Rattle.nr_trace.specs.Laws.{HasCleanLog}
 use Rattle.nr_trace.specs.Orders.{recorded_order}
+use Rattle.nr_trace.specs.declared.fault.Fault.TheVariants.{Stale}
 use Rattle.nr_audit.specs.inside.LastEvents.{AreLastEvents}
-use Rattle.nr_audit.specs.inside.Search.{HasNone, HasNoneFrom}
-use Rattle.nr_audit.specs.inside.Passes.{IsCallFault, IsLogFault, IsAnswerFault, IsDumpFault}
-use Rattle.nr_audit.proofs.FirstOfPasses.{none_of_format, after_calls, after_positions, before_answers, after_answers, after_dumps}
-use Rattle.nr_audit.proofs.FirstOfPasses.{clean_after_positions, faultless_after_all, refused_by_pass, refused_from_any, refused_of, refused_of_any, refused_in}
-use Rattle.nr_audit.proofs.FirstOfPasses.{call_faults, log_faults, answer_faults, dump_faults}
+use Rattle.nr_audit.specs.inside.Search.{HasNoFaultOn, HasNone, HasNoneFrom}
+use Rattle.nr_audit.specs.inside.Passes.{IsCallFault, IsLogFault, IsAnswerFault, IsTouchFault, IsDumpFault}
+use Rattle.nr_audit.proofs.FirstOfPasses.{none_of_format, after_calls, after_positions, before_answers, after_answers, after_touches, after_dumps}
+use Rattle.nr_audit.proofs.FirstOfPasses.{clean_after_positions, faultless_after_all, refused_by_pass, refused_from_any, refused_of, refused_of_any, refused_on, refused_in}
+use Rattle.nr_audit.proofs.FirstOfPasses.{HasNoneBefore, first_of_pass, call_faults, log_faults, answer_faults, touch_faults, dump_faults}
 use Rattle.nr_audit.proofs.ComparedDumps.{none_found}
 use Rattle.nr_audit.proofs.LastEvents.{all_calls}
+use Rattle.nr_audit.proofs.Judgements.{none_stale, stale_first}
 use Rattle.nr_audit.proofs.search.search.Goals as goal
 
 pub returns-in_err-history-clause-first : goal.returns-in_err-history-clause-first
@@ -60,40 +64,76 @@ check_answers-requires-clause-listed c =
     (subst (λ order. AreLastEvents t order events) c.in_ok-order.ensures c.of-events.ensures)
 
 pub check_answers-requires-clause-none : goal.check_answers-requires-clause-none
-check_answers-requires-clause-none c = none_found c.args.start.space c.args.trace.now _ refl
+check_answers-requires-clause-none c = none_found c.in_ok-stale.start.space c.args.trace.now _ refl
 
 pub returns-in_err-order-2-clause-first : goal.returns-in_err-order-2-clause-first
 returns-in_err-order-2-clause-first c =
-    let start = c.args.start.space in
+    let start = c.in_ok-stale.start.space in
+    let again : start ≡ c.args.start.space = ap (λ (s : BoundedSpace). s.space) c.in_ok-stale.ensures.start in
     let p = err_from_is_err_and c.from_residual-in_err-order-2.result c.from_residual-in_err-order-2.ensures.1 in
     let same = c.in_ok-history.ensures.history in
     let t = c.in_ok-history.history in
     let calls = subst (λ t. HasNone IsCallFault t) (sym same) c.in_ok-history.ensures.clean in
-    rw (p.1, p.2) (refused_of start t c.args.trace.now _ same (refused_by_pass start 6 IsAnswerFault t _ answer_faults
+    rw (p.1, p.2) (refused_on start c.args.start.space c.args.trace.now _ again
+    (refused_of start t c.args.trace.now _ same (refused_by_pass start 6 IsAnswerFault t _ answer_faults
     (before_answers t calls c.in_ok-places.ensures.clean c.in_ok-standing.ensures.clean.0 c.in_ok-standing.ensures.clean.1 start)
-    (refused_in start IsAnswerFault c.args.trace.now t _ (sym same) c.in_err-order-2.ensures.first)))
+    (refused_in start IsAnswerFault c.args.trace.now t _ (sym same) c.in_err-order-2.ensures.first))))
+
+pub returns-in-Some-clause-first : goal.returns-in-Some-clause-first
+returns-in-Some-clause-first c =
+    let start = c.args.start.space in
+    let trace = c.args.trace.now in
+    let again : c.in_ok-stale.start.space ≡ start = ap (λ (s : BoundedSpace). s.space) c.in_ok-stale.ensures.start in
+    let same = c.in_ok-history.ensures.history in
+    let t = c.in_ok-history.history in
+    let calls = subst (λ t. HasNone IsCallFault t) (sym same) c.in_ok-history.ensures.clean in
+    let clean = subst (λ t. HasCleanLog t) same (clean_after_positions t (after_positions t calls c.in_ok-places.ensures.clean c.in_ok-standing.ensures.clean.0)) in
+    let right = subst (λ (s : Space). HasNoneFrom s IsAnswerFault t) again
+    (subst (λ t. HasNoneFrom c.in_ok-stale.start.space IsAnswerFault t) (sym same) c.in_ok-order-2.ensures.right) in
+    let before = subst (λ t. HasNoneBefore start 7 t) same
+    (after_answers t calls c.in_ok-places.ensures.clean c.in_ok-standing.ensures.clean.0 c.in_ok-standing.ensures.clean.1 start right) in
+    first_of_pass start 7 IsTouchFault trace (Stale c.in-Some.call) touch_faults before
+    (stale_first start trace c.in-Some.call (rw c.in-Some.is at (c.in_ok-stale.ensures.some clean)))
+
+pub returns-clause-touches : goal.returns-clause-touches
+returns-clause-touches c =
+    let same = c.in_ok-history.ensures.history in
+    let t = c.in_ok-history.history in
+    let calls = subst (λ t. HasNone IsCallFault t) (sym same) c.in_ok-history.ensures.clean in
+    let clean = subst (λ t. HasCleanLog t) same (clean_after_positions t (after_positions t calls c.in_ok-places.ensures.clean c.in_ok-standing.ensures.clean.0)) in
+    rw c.in_default.is at (c.in_ok-stale.ensures.none clean)
 
 pub returns-in_err-check_dumps-clause-first : goal.returns-in_err-check_dumps-clause-first
 returns-in_err-check_dumps-clause-first c =
-    let start = c.args.start.space in
+    let start = c.in_ok-stale.start.space in
+    let again : start ≡ c.args.start.space = ap (λ (s : BoundedSpace). s.space) c.in_ok-stale.ensures.start in
     let p = err_from_is_err_and c.from_residual-in_err-check_dumps.result c.from_residual-in_err-check_dumps.ensures.1 in
     let same = c.in_ok-history.ensures.history in
     let t = c.in_ok-history.history in
     let calls = subst (λ t. HasNone IsCallFault t) (sym same) c.in_ok-history.ensures.clean in
+    let clean = subst (λ t. HasCleanLog t) same (clean_after_positions t (after_positions t calls c.in_ok-places.ensures.clean c.in_ok-standing.ensures.clean.0)) in
+    let touches = subst (λ (s : Space). HasNoneFrom s IsTouchFault t) (sym again) (subst (λ t. HasNoneFrom c.args.start.space IsTouchFault t) (sym same)
+    (none_stale c.args.start.space c.args.trace.now (rw c.in_default.is at (c.in_ok-stale.ensures.none clean)))) in
     let right = subst (λ t. HasNoneFrom start IsAnswerFault t) (sym same) c.in_ok-order-2.ensures.right in
-    rw (p.1, p.2) (refused_of start t c.args.trace.now _ same (refused_by_pass start 7 IsDumpFault t _ dump_faults
-    (after_answers t calls c.in_ok-places.ensures.clean c.in_ok-standing.ensures.clean.0 c.in_ok-standing.ensures.clean.1 start right)
+    rw (p.1, p.2) (refused_on start c.args.start.space c.args.trace.now _ again
+    (refused_of start t c.args.trace.now _ same (refused_by_pass start 8 IsDumpFault t _ dump_faults
+    (after_touches t calls c.in_ok-places.ensures.clean c.in_ok-standing.ensures.clean.0 c.in_ok-standing.ensures.clean.1 start right touches)
     (refused_in start IsDumpFault c.args.trace.now t _ (sym same) (c.in_err-check_dumps.ensures.first start
-    (record { whole = c.in_ok-order-2.ensures.space; found = c.in_ok-order-2.ensures.found })))))
+    (record { whole = c.in_ok-order-2.ensures.space; found = c.in_ok-order-2.ensures.found }))))))
 
 pub returns-clause-none : goal.returns-clause-none
 returns-clause-none c =
-    let start = c.args.start.space in
+    let start = c.in_ok-stale.start.space in
+    let again : start ≡ c.args.start.space = ap (λ (s : BoundedSpace). s.space) c.in_ok-stale.ensures.start in
     let same = c.in_ok-history.ensures.history in
     let t = c.in_ok-history.history in
     let calls = subst (λ t. HasNone IsCallFault t) (sym same) c.in_ok-history.ensures.clean in
+    let clean = subst (λ t. HasCleanLog t) same (clean_after_positions t (after_positions t calls c.in_ok-places.ensures.clean c.in_ok-standing.ensures.clean.0)) in
+    let touches = subst (λ (s : Space). HasNoneFrom s IsTouchFault t) (sym again) (subst (λ t. HasNoneFrom c.args.start.space IsTouchFault t) (sym same)
+    (none_stale c.args.start.space c.args.trace.now (rw c.in_default.is at (c.in_ok-stale.ensures.none clean)))) in
     let right = subst (λ t. HasNoneFrom start IsAnswerFault t) (sym same) c.in_ok-order-2.ensures.right in
     let dumps = subst (λ t. HasNoneFrom start IsDumpFault t) (sym same) (c.in_ok-check_dumps.ensures.clean start
     (record { whole = c.in_ok-order-2.ensures.space; found = c.in_ok-order-2.ensures.found })) in
-    subst (λ t. IsFaultlessFrom start t) same (faultless_after_all start t (after_dumps t calls c.in_ok-places.ensures.clean
-    c.in_ok-standing.ensures.clean.0 c.in_ok-standing.ensures.clean.1 start right dumps))
+    subst (λ (s : Space). HasNoFaultOn s c.args.trace.now) again
+    (subst (λ t. HasNoFaultOn start t) same (faultless_after_all start t (after_dumps t calls c.in_ok-places.ensures.clean
+    c.in_ok-standing.ensures.clean.0 c.in_ok-standing.ensures.clean.1 start right touches dumps)))

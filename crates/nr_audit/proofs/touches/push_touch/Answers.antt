@@ -1,15 +1,15 @@
-use Rattle.std.proofs.Common.{◌+◌, sym, ◌∙◌, subst}
-use Rattle.nr_audit.specs.inside.Begun.{AreTouchesBelow}
-use Rattle.nr_audit.proofs.TouchLists.{added_none, added_some}
+use Rattle.std.proofs.Common.{◌+◌, sym, subst}
+use Rattle.nr_audit.specs.inside.Begun.{AreTouchesBelow, IsTouchAt}
+use Rattle.nr_audit.proofs.TouchLists.{no_more, one_more_touch}
 use Rattle.nr_audit.proofs.touches.push_touch.Goals as goal
 
 pub returns-in-None : goal.returns-in-None
-returns-in-None c = λ replies below.
-    added_none c.args.segment.now c.args.made c.args.replies.now c.args.touches.now.items replies
-    (sym c.answered_touch.ensures ∙ c.in-None.is) below
+returns-in-None c =
+    no_more c.args.segment.now c.args.made c.args.touches.now.items
+    (subst (IsTouchAt c.args.segment.now c.args.made) c.in-None.is c.answered_touch.ensures)
 
 pub returns-in_ok-push-in-Some : goal.returns-in_ok-push-in-Some
-returns-in_ok-push-in-Some c = λ replies below.
+returns-in_ok-push-in-Some c = λ below.
+    let touch = subst (IsTouchAt c.args.segment.now c.args.made) c.in-Some.is c.answered_touch.ensures in
     subst (AreTouchesBelow c.args.segment.now (c.args.made + 1)) (sym c.in_ok-push-in-Some.ensures.items)
-    (added_some c.args.segment.now c.args.made c.args.replies.now c.args.touches.now.items c.in-Some.touch replies
-    (sym c.answered_touch.ensures ∙ c.in-Some.is) below)
+    (one_more_touch c.args.segment.now c.args.made c.args.touches.now.items c.in-Some.touch touch.0 touch.1 touch.2 below)

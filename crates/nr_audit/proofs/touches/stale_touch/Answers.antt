@@ -4,6 +4,7 @@ use Rattle.std.proofs.lemmas.Option.{get_or_from_slice_get}
 use Rattle.nr_touch.specs.Stale.{FindsStale}
 use Rattle.nr_touch.specs.declared.touch.Touch.{Touch}
 use Rattle.nr_audit.specs.inside.Begun.{AreTouchesBelow, IsFirstStale}
+use Rattle.nr_audit.proofs.Judgements.{no_touches}
 use Rattle.nr_audit.proofs.TouchLists.{all_right, first_of_list}
 use Rattle.nr_audit.proofs.touches.stale_touch.Goals as goal
 
@@ -22,10 +23,15 @@ returns-in-Some-clause-some c = λ clean.
     let e : get_or all c.in-Some.index c.index.result.now ≡ c.index.result.now =
     (let given = c.index.ensures in first_of (cc, grind (arith, common_steps, get_or_from_slice_get))) in
     subst (λ (t : Touch). IsFirstStale c.args.start.space c.args.segment.now t.made) e
-    (first_of_list c.args.start.space c.args.segment.now all c.in-Some.index c.index.result.now (c.in_ok-touches.ensures clean) finds)
+    (first_of_list c.args.start.space c.args.segment.now all c.in-Some.index c.index.result.now c.in_ok-touches.ensures finds)
 
 pub returns-clause-none : goal.returns-clause-none
 returns-clause-none c = λ clean.
     all_right c.args.start.space c.args.segment.now c.deref.result.now
-    (subst (AreTouchesBelow c.args.segment.now (length c.args.segment.now.events)) (sym c.deref.ensures.value) (c.in_ok-touches.ensures clean))
+    (subst (AreTouchesBelow c.args.segment.now (length c.args.segment.now.events)) (sym c.deref.ensures.value) c.in_ok-touches.ensures)
     (rw c.in-None.is at (c.in_ok-stale.ensures.finds clean))
+
+pub returns-then-not-has_touches-clause-none : goal.returns-then-not-has_touches-clause-none
+returns-then-not-has_touches-clause-none c = λ clean.
+    no_touches c.args.start.space c.args.segment.now (λ some.
+    let there = c.has_touches.ensures.1 some in let none = c.if-not-has_touches.true in cc)

@@ -5,7 +5,7 @@ use Rattle.nr_audit.proofs.TouchLists.{none_below}
 use Rattle.nr_audit.proofs.touches.touches_of.Goals as goal
 
 pub loop-made-init : goal.loop-made-init
-loop-made-init c = λ clean. subst (AreTouchesBelow c.args.segment.now 0) (sym c.new-touches.ensures.items) (none_below c.args.segment.now)
+loop-made-init c = subst (AreTouchesBelow c.args.segment.now 0) (sym c.new-touches.ensures.items) (none_below c.args.segment.now)
 
 pub push_touch-requires-clause-few : goal.push_touch-requires-clause-few
 push_touch-requires-clause-few c =
@@ -14,7 +14,7 @@ push_touch-requires-clause-few c =
     omega arith
 
 pub returns : goal.returns
-returns c = λ clean.
+returns c =
     let same = ap (λ (es : List Event). length es) c.events-made-end.ensures.reads in
     let end : c.loop-made.made ≡ length c.args.segment.now.events = omega arith in
-    subst (λ n. AreTouchesBelow c.args.segment.now n c.loop-made.touches.items) end (c.loop-made.invariant clean)
+    subst (λ n. AreTouchesBelow c.args.segment.now n c.loop-made.touches.items) end c.loop-made.invariant

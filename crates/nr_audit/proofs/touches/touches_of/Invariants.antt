@@ -1,6 +1,5 @@
-use Rattle.nr_trace.specs.Laws.{HasCleanLog}
 use Rattle.nr_audit.specs.inside.Begun.{AreTouchesBelow}
 use Rattle.nr_audit.proofs.touches.touches_of.Given as goal
 
 abbrev pub invariant-loop-made : goal.invariant-loop-made
-invariant-loop-made l = HasCleanLog l.segment → AreTouchesBelow l.segment l.made l.touches.items
+invariant-loop-made l = AreTouchesBelow l.segment l.made l.touches.items

@@ -1,6 +1,7 @@
-use Rattle.std.proofs.Common.{subst}
-use Rattle.nr_audit.specs.Segments.{pages_before, IsVerdictAfter}
-use Rattle.nr_audit.specs.declared.verdict.SegmentVerdict.{SegmentVerdict}
+use Rattle.std.proofs.Common.{sym, subst}
+use Rattle.nr_trace.specs.declared.fault.Fault.{Fault}
+use Rattle.nr_audit.specs.Faults.{IsFirstAfter}
+use Rattle.nr_audit.specs.Segments.{pages_before}
 use Rattle.nr_chain.proofs.Betweens.{fresh_between}
 use Rattle.nr_chain.proofs.Pieces.{ended}
 use Rattle.nr_chain.proofs.Wholes.{fits_after, fits_before, judged_right, judged_wrong, not_refused}
@@ -16,25 +17,19 @@ judge_last-requires c =
 
 pub invariant_of-next : goal.invariant_of-next
 invariant_of-next c =
-    let before = c.space_after-before.result in
-    let segment = c.in-Ok.segment in
     fresh_between _ c.new-feed.result c.new-feed.ensures
-    (fits_after before segment c.layout-layout.result c.in-Right.order c.in-Right.space c.layout-layout.ensures.reads
-    (subst (λ (verdict : SegmentVerdict). IsVerdictAfter (pages_before before) segment verdict) c.in-Right.is c.in_ok-order.ensures))
+    (fits_after c.space_after-before.result c.in-Ok.segment c.layout-layout.result c.in-Ok-judge_last.space c.layout-layout.ensures.reads c.in-Ok-judge_last.ensures.space)
 
-pub returns-in-Right : goal.returns-in-Right
-returns-in-Right c =
-    let before = c.space_after-before.result in
-    let segment = c.in-Ok.segment in
-    judged_right c.args.last before c.args.feed c.new-feed.result segment c.layout-layout.result c.args.count c.in-Right.order c.in-Right.space
-    c.space_after-before.ensures c.requires.behind c.layout-layout.ensures.reads (ended c.args.feed segment c.requires.whole c.in-Ok.ensures)
-    (subst (λ (verdict : SegmentVerdict). IsVerdictAfter (pages_before before) segment verdict) c.in-Right.is c.in_ok-order.ensures)
+pub returns-in-Ok-judge_last : goal.returns-in-Ok-judge_last
+returns-in-Ok-judge_last c =
+    judged_right c.args.last c.space_after-before.result c.args.feed c.new-feed.result c.in-Ok.segment c.layout-layout.result c.args.count
+    c.in-Ok-judge_last.order c.in-Ok-judge_last.space c.space_after-before.ensures c.requires.behind c.layout-layout.ensures.reads
+    (ended c.args.feed c.in-Ok.segment c.requires.whole c.in-Ok.ensures) c.in-Ok-judge_last.ensures.sound c.in-Ok-judge_last.ensures.order c.in-Ok-judge_last.ensures.space
     c.new-feed.ensures
 
-pub returns-in-Wrong : goal.returns-in-Wrong
-returns-in-Wrong c =
-    let before = c.space_after-before.result in
-    let segment = c.in-Ok.segment in
-    judged_wrong c.args.last before c.args.feed segment c.args.count c.in-Wrong.fault c.space_after-before.ensures c.requires.behind
-    (ended c.args.feed segment c.requires.whole c.in-Ok.ensures)
-    (subst (λ (verdict : SegmentVerdict). IsVerdictAfter (pages_before before) segment verdict) c.in-Wrong.is c.in_ok-order.ensures)
+pub returns-in-Err-Refused : goal.returns-in-Err-Refused
+returns-in-Err-Refused c =
+    judged_wrong c.args.last c.space_after-before.result c.args.feed c.in-Ok.segment c.args.count _ c.space_after-before.ensures
+    c.requires.behind (ended c.args.feed c.in-Ok.segment c.requires.whole c.in-Ok.ensures)
+    (subst (λ (f : Fault). IsFirstAfter (pages_before c.space_after-before.result) c.in-Ok.segment f) (sym c.in-Err-Refused.fault-is)
+    (rw c.in-Err-Refused.field-0-is at c.in-Err-Refused.ensures.first))

@@ -1,4 +1,4 @@
-use Rattle.nr_explain.proofs.OneBadUnit.{one_field, one_format, one_offset, one_read, one_unit}
+use Rattle.nr_explain.proofs.BadUnits.{one_field, one_format, one_offset, one_read, one_unit}
 use Rattle.nr_explain.proofs.laws.one_bad_unit.Goals as goal
 
 pub returns-clause-fault : goal.returns-clause-fault

@@ -1,37 +1,57 @@
-use Rattle.std.proofs.Common.{◌≡◌, ℕ, ◌==◌, [], true, false, Option, None, is_some, length, sym, ap, ◌∙◌}
+use Rattle.std.proofs.Common.{◌≡◌, ℕ, ◌==◌, arith, vec_len, [], true, false, Option, None, is_some, length, sym, ap, subst, ◌∙◌}
+use Rattle.vs_types.specs.Config.{Layout}
+use Rattle.nr_trace.specs.FirstFault.{HasRefusalAs}
+use Rattle.nr_trace.specs.declared.version.Form.TheVariants as forms
 use Rattle.std.proofs.lemmas.List.{nil_from_length}
-use Rattle.nr_trace.specs.declared.fault.Format.TheVariants.{Truncated}
-use Rattle.nr_explain.specs.Progress.{kept_in}
-use Rattle.nr_explain.specs.inside.Reading.{all_seen, seen_of}
-use Rattle.nr_explain.specs.declared.chain.progress.Came.{Came}
+use Rattle.nr_explain.specs.Progress.{kept_in, layout_in}
+use Rattle.nr_explain.specs.inside.Reading.{all_states, state_of}
+use Rattle.nr_explain.specs.declared.chain.progress.Progress.{Progress}
 use Rattle.nr_explain.specs.ChainExplanation.{IsExplanationFrom}
 use Rattle.nr_explain.specs.inside.Steps.{IsRefusalOf}
-use Rattle.nr_explain.proofs.Feeding.{refusal_explains}
+use Rattle.nr_explain.proofs.Feeding.{ended_whole, refusal_explains}
 use Rattle.std.proofs.lemmas.Bool.{eqb-true}
 use Rattle.std.proofs.lemmas.Result.{IfOk-weaker}
 use Rattle.nr_explain.proofs.chain.refusing.ended.Goals as goal
 use Rattle.nr_explain.proofs.chain.refusing.ended.Goals.{then-is_empty+in_default, else-is_empty}
 
-none_kept : (last : Option Came) → last ≡ None → is_some (kept_in (all_seen last)) ≡ true → ⊥
+none_kept : (last : Option Progress) → last ≡ None → is_some (kept_in (all_states last)) ≡ true → ⊥
 none_kept last none some =
-    let wrong : false ≡ true = sym (ap (λ (l : Option Came). is_some (kept_in (all_seen l))) none) ∙ some in cc
+    let wrong : false ≡ true = sym (ap (λ (l : Option Progress). is_some (kept_in (all_states l))) none) ∙ some in cc
 
 pub returns-in-Some : goal.returns-in-Some
 returns-in-Some c =
-    let none = nil_from_length c.args.bytes.now (eqb-true (length c.args.bytes.now) 0 (sym c.is_empty.ensures ∙ c.if-is_empty.true)) in
-    ([], seen_of c.in-Some.came, (sym (ap all_seen c.in-Some.is), sym none), c.in_ok-counts.ensures)
+    let bytes = c.args.bytes in
+    let zero : vec_len bytes ≡ 0 = eqb-true (vec_len bytes) 0 (sym c.is_empty.ensures ∙ c.if-is_empty.true) in
+    let none = nil_from_length bytes.items (omega (arith, zero, bytes.ok.0)) in
+    ([], state_of c.in-Some.came, (sym (ap all_states c.in-Some.is), sym none), c.in_ok-counts.ensures)
 
-pub returns : goal.returns
-returns c =
-    let bytes = c.args.bytes.now in
-    let came = all_seen c.args.last.now in
-    IfOk-weaker c.refusal.result (IsRefusalOf came bytes Truncated) (IsExplanationFrom came bytes)
-    (λ explanation is. refusal_explains came bytes Truncated explanation is c.requires (λ some none.
+pub unreachable-requires : goal.unreachable-requires
+unreachable-requires c = c.requires.not_whole (ended_whole c.args.feed c.args.bytes.items c.in-Ok.field-0 c.requires.taken c.in-Ok.ensures.ends)
+
+pub refused-requires : goal.refused-requires
+refused-requires c =
+    let bytes = c.args.bytes.items in
+    let given = (rw c.in-Err-Refused.field-0-is at (c.in-Err-Refused.ensures.refused bytes c.requires.taken)) in
+    record {
+      within = given.within;
+      refused = subst (λ (before : Option Layout). HasRefusalAs (forms.Segment before) bytes c.in-Err-Refused.refusal) c.requires.behind given.refused;
+    }
+
+pub returns-in-Err-Refused : goal.returns-in-Err-Refused
+returns-in-Err-Refused c =
+    let bytes = c.args.bytes.items in
+    let came = all_states c.args.last.now in
+    let refusal = c.in-Err-Refused.refusal in
+    let given = (rw c.in-Err-Refused.field-0-is at (c.in-Err-Refused.ensures.refused bytes c.requires.taken)) in
+    let refused : HasRefusalAs (forms.Segment (layout_in came)) bytes refusal =
+    subst (λ (before : Option Layout). HasRefusalAs (forms.Segment before) bytes refusal) c.requires.behind given.refused in
+    IfOk-weaker c.refused.result (IsRefusalOf came bytes refusal.fault) (IsExplanationFrom came bytes)
+    (λ explanation is. refusal_explains came bytes refusal.fault explanation is (refusal.unit, refusal.left, refused) (λ some none.
     elim c.if-is_empty.branch [
       | then-is_empty+in_default w ↦ none_kept c.args.last.now w.in_default.is some
       | else-is_empty w ↦ (
-          let at_zero : length bytes ≡ 0 = ap length none in
+          let at_zero : vec_len c.args.bytes ≡ 0 = omega (arith, ap length none, c.args.bytes.ok.0) in
           let empty : c.is_empty.result ≡ true = c.is_empty.ensures ∙ ap (λ (n : ℕ). n == 0) at_zero in
           let other : c.is_empty.result ≡ false = w.if-is_empty.false in cc)
     ]))
-    c.refusal.ensures
+    c.refused.ensures

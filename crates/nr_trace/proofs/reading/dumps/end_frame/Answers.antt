@@ -1,7 +1,7 @@
 use Rattle.std.proofs.Common.{ℕ, ◌-◌, List, ◌++◌, Some, subst, sym, arith}
 use Rattle.vs_walk.specs.Dump.{Image}
 use Rattle.nr_trace.specs.inside.Progress.{AtWords, BehindFrames, Belongs, HasRead, frame_begun, opened_spelling, whole_of, words_begun}
-use Rattle.nr_trace.specs.declared.fault.Format.{Format}
+use Rattle.nr_trace.specs.declared.refusal.Refusal.{Refusal}
 use Rattle.nr_trace.specs.declared.reading.reader.Reader.TheVariants.{Frame}
 use Rattle.nr_trace.proofs.Frames.{dump_taken, frame_taken, grown, grown_belongs}
 use Rattle.nr_trace.proofs.reading.dumps.end_frame.Goals as goal
@@ -30,7 +30,7 @@ returns c =
     let parts = c.args.parts in
     let frame = c.args.frame in
     let bytes = frame_begun parts frame ++ words_begun frame in
-    let Behind : List ℕ → Format → Type 0 = λ rest fault. AtWords parts frame (words_begun frame ++ rest) fault in
+    let Behind : List ℕ → Refusal → Type 0 = λ rest fault. AtWords parts frame (words_begun frame ++ rest) fault in
     subst (λ (d : Image). HasRead parts.form bytes Behind
     (Frame parts (record { dump = d; left = frame.left - 1; owner = frame.owner }) (Some c.number-number.result)))
     (sym c.end_frame-dump.ensures.made)

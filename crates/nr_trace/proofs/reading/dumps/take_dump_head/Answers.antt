@@ -1,4 +1,10 @@
-use Rattle.std.proofs.Common.{arith}
+use Rattle.std.proofs.Common.{◌≡◌, ℕ, length, ap, ◌∙◌, arith}
+use Rattle.nr_trace.specs.FirstFault.{refusal_at}
+use Rattle.nr_trace.specs.inside.Progress.{Ahead}
+use Rattle.nr_trace.specs.declared.fault.Format.TheVariants.{BadCount}
+use Rattle.nr_trace.specs.declared.reading.reader.Reader.TheVariants.{Dumps}
+use Rattle.nr_trace.specs.declared.refusal.TraceUnit.TheVariants as units
+use Rattle.nr_trace.proofs.Units.{refused_by}
 use Rattle.nr_trace.proofs.DumpHeads.{head_belongs, head_refused, head_taken, head_whole}
 use Rattle.nr_trace.proofs.reading.dumps.take_dump_head.Goals as goal
 
@@ -22,4 +28,10 @@ returns-else-head-eq0 c =
     (omega (arith, c.if-head-eq0.false))
 
 pub returns-in-None : goal.returns-in-None
-returns-in-None c = λ rest. head_refused c.args.parts c.args.unit.now rest c.requires.one_left c.requires.whole c.in-None.ensures
+returns-in-None c =
+    let unit = c.args.unit.now in
+    let parts = c.args.parts in
+    let is : c.of.result ≡ refusal_at (units.DumpHead (length parts.dumps.items)) unit BadCount =
+    c.of.ensures ∙ ap (λ (n : ℕ). refusal_at (units.DumpHead n) unit BadCount) (omega (arith, c.len-replica.ensures, parts.dumps.ok.0)) in
+    refused_by (Ahead (Dumps parts)) (units.DumpHead (length parts.dumps.items)) unit BadCount c.of.result (omega (arith, c.requires.whole)) is
+    (λ rest. head_refused parts unit rest c.of.result c.requires.one_left c.requires.whole c.in-None.ensures is)

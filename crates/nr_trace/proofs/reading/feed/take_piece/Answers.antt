@@ -3,7 +3,7 @@ use Rattle.std.proofs.Common.{[], ap, sym, subst, ◌∙◌, ◌≡◌, ◌++◌
 use Rattle.std.proofs.lemmas.List.{append-nil, length-append}
 use Rattle.std.proofs.lemmas.Grind.{common_steps}
 use Rattle.vs_types.specs.Refusal.{IfRefused}
-use Rattle.nr_trace.specs.Feed.{LastsAs}
+use Rattle.nr_trace.specs.Feed.{IsRefusedAs}
 use Rattle.nr_trace.specs.inside.Progress.{form_of, said, unit_bytes, IsRun}
 use Rattle.nr_trace.specs.inside.Feeding.{HasTaken}
 use Rattle.nr_trace.proofs.Feeding.{fewer_than, refused_behind, refuses, sound_after, starts, taken_behind, unit_completed}
@@ -15,8 +15,8 @@ returns-in_err-reader-in-Some c =
     let reader = c.args.reader in
     let begun = c.args.begun.items in
     let piece = c.args.piece.now in
-    let refused : IfRefused (LastsAs (form_of reader) (said reader ++ begun ++ piece)) c.in_err-reader-in-Some.field-0.0 =
-    subst (λ (l : List ℕ). IfRefused (LastsAs (form_of reader) l) c.in_err-reader-in-Some.field-0.0) (sym (append_assoc (said reader) begun piece))
+    let refused : IfRefused (IsRefusedAs (form_of reader) (said reader ++ begun ++ piece) (length (begun ++ piece))) c.in_err-reader-in-Some.field-0.0 =
+    subst (λ (l : List ℕ). IfRefused (IsRefusedAs (form_of reader) l (length (begun ++ piece))) c.in_err-reader-in-Some.field-0.0) (sym (append_assoc (said reader) begun piece))
     (refuses (form_of reader) (said reader) (begun ++ piece) reader (begun ++ piece) c.deref.result.now c.split_at.result.1.now
     c.in_err-reader-in-Some.field-0.0 (starts reader (begun ++ piece) c.requires.sound)
     (unit_completed begun piece c.split_at.result.0.now c.split_at.result.1.now c.deref.result.now (search rules) (c.deref.ensures.value
@@ -27,8 +27,8 @@ returns-in_err-reader-in-Some c =
 pub take_bytes-requires-clause-sound : goal.take_bytes-requires-clause-sound
 take_bytes-requires-clause-sound c = sound_after c.args.reader c.in_ok-reader-in-Some.reader c.deref.result.now c.requires.sound c.in_ok-reader-in-Some.ensures
 
-pub take_run-requires-clause-run : goal.take_run-requires-clause-run
-take_run-requires-clause-run c =
+pub take_front-requires-clause-run : goal.take_front-requires-clause-run
+take_front-requires-clause-run c =
     let whole : c.in-Some.len ≡ length c.deref.result.now =
     omega (
       arith,
@@ -51,7 +51,7 @@ returns-in_err-state-in-Some c =
     let begun = c.args.begun.items in
     let piece = c.args.piece.now in
     let has = c.in_ok-reader-in-Some.ensures in
-    let refused : IfRefused (LastsAs (form_of reader) (said reader ++ begun ++ piece)) c.in_err-state-in-Some.field-0.0 =
+    let refused : IfRefused (IsRefusedAs (form_of reader) (said reader ++ begun ++ piece) (length (begun ++ piece))) c.in_err-state-in-Some.field-0.0 =
     refused_behind (form_of reader) (said reader) begun piece c.split_at.result.0.now c.split_at.result.1.now c.deref.result.now
     c.in_ok-reader-in-Some.reader c.in_err-state-in-Some.field-0.0 has.form_is has.bytes_are
     (c.deref.ensures.value ∙ c.in_ok-extend_from_slice-in-Some-2.ensures.items) (search rules) c.in_err-state-in-Some.ensures in
@@ -71,6 +71,7 @@ returns-in_default c =
     let form = form_of reader in
     let piece = c.args.piece.now in
     let none : c.args.begun.items ≡ [] = grind (arith, common_steps) in
-    subst (λ (l : List ℕ). MatchResult c.take_bytes-in_default.result (λ taken. HasTaken form l piece taken.0 taken.1)
-    (IfRefused (LastsAs form (l ++ piece))))
-    (sym (ap (λ (l : List ℕ). said reader ++ l) none ∙ append-nil (said reader))) c.take_bytes-in_default.ensures
+    subst (λ (b : List ℕ). MatchResult c.take_bytes-in_default.result (λ taken. HasTaken form (said reader ++ b) piece taken.0 taken.1)
+    (IfRefused (IsRefusedAs form (said reader ++ b ++ piece) (length (b ++ piece))))) (sym none)
+    (subst (λ (l : List ℕ). MatchResult c.take_bytes-in_default.result (λ taken. HasTaken form l piece taken.0 taken.1)
+    (IfRefused (IsRefusedAs form (l ++ piece) (length piece)))) (sym (append-nil (said reader))) c.take_bytes-in_default.ensures)

@@ -1,6 +1,6 @@
-use Rattle.std.proofs.Common.{◌++◌, rules, arith}
+use Rattle.std.proofs.Common.{◌++◌, length, rules, arith}
 use Rattle.vs_types.specs.Refusal.{IfRefused}
-use Rattle.nr_trace.specs.Feed.{LastsAs}
+use Rattle.nr_trace.specs.Feed.{IsRefusedAs}
 use Rattle.nr_trace.specs.inside.Progress.{form_of, said}
 use Rattle.nr_trace.proofs.Feeding.{cut_at_end, cut_short, goes, refuses, starts}
 use Rattle.nr_trace.proofs.Whole.{run_some}
@@ -16,7 +16,7 @@ loop-len-smaller c =
 
 pub returns-in_err-reader : goal.returns-in_err-reader
 returns-in_err-reader c =
-    let refused : IfRefused (LastsAs (form_of c.args.reader) (said c.args.reader ++ c.args.bytes.now)) c.in_err-reader.field-0.0 =
+    let refused : IfRefused (IsRefusedAs (form_of c.args.reader) (said c.args.reader ++ c.args.bytes.now) (length c.args.bytes.now)) c.in_err-reader.field-0.0 =
     refuses (form_of c.args.reader) (said c.args.reader) c.args.bytes.now c.loop-len.reader c.loop-len.rest.now c.split_at.result.0.now
     c.split_at.result.1.now c.in_err-reader.field-0.0 c.loop-len.invariant (search rules) c.in_err-reader.ensures in
     search rules

@@ -4,13 +4,16 @@ use Rattle.std.specs.Int.{w16, to_be_bytes}
 use Rattle.nr_trace.specs.Versions.{IsVersionOf, version_code}
 use Rattle.nr_trace.specs.Spelling.{version_word}
 use Rattle.nr_trace.specs.FirstFault.{AtCounts, magic_of}
+use Rattle.nr_trace.specs.inside.Progress.{Ahead}
 use Rattle.nr_trace.specs.declared.fault.Format.TheVariants.{BadVersion}
-use Rattle.nr_trace.specs.declared.version.Version.{Version}
+use Rattle.nr_trace.specs.declared.reading.reader.Reader.TheVariants.{Version}
+use Rattle.nr_trace.specs.declared.refusal.TraceUnit.TheVariants as units
+use Rattle.nr_trace.specs.declared.version.Version as versions
 use Rattle.nr_trace.specs.declared.version.Version.TheVariants.{V1}
 use Rattle.nr_trace.proofs.LawsOfSpelling.{magic_is}
 use Rattle.nr_trace.proofs.LawsOfUnits.{number_16}
 use Rattle.nr_trace.proofs.Taken.{only_front}
-use Rattle.nr_trace.proofs.Units.{passed, refused}
+use Rattle.nr_trace.proofs.Units.{passed, refused, refused_by}
 use Rattle.nr_trace.proofs.reading.header.take_version.Goals as goal
 
 pub returns-in-Some : goal.returns-in-Some
@@ -25,17 +28,18 @@ returns-in-Some c =
       form_is = refl;
       ready = given.0;
       bytes_are = ap (λ (l : List ℕ). l ++ version_word version) (magic_is form version given.0) ∙ ap (λ (l : List ℕ). magic_of form ++ l) (sym is);
-      faults = λ rest fault h. passed 2 (Some BadVersion) (IsVersionOf form) version_word (AtCounts form) fault unit rest version given.0 is h;
+      faults = λ rest fault h. passed 2 units.Version (Some BadVersion) (IsVersionOf form) version_word (AtCounts form) fault unit rest version given.0 is h;
     }
 
-code_fits : (version : Version) → version_code version < 2 ^ 16
+code_fits : (version : versions.Version) → version_code version < 2 ^ 16
 code_fits V1 = omega arith
 code_fits _ = omega arith
 
 pub returns-in-None : goal.returns-in-None
-returns-in-None c = λ rest.
+returns-in-None c =
     let form = c.args.form in
     let unit = c.args.unit.now in
     let is = only_front unit _ _ c.take_u16-code.ensures c.requires in
-    refused 2 (Some BadVersion) (IsVersionOf form) version_word (AtCounts form) BadVersion unit rest c.requires refl
-    (λ version of e. c.in-None.ensures version (of, (number_16 c.take_u16-code.result.0 _ [] [] (omega arith) (code_fits version) (sym is ∙ e)).0))
+    refused_by (Ahead (Version c.args.alloc form)) units.Version unit BadVersion c.of.result (omega (arith, c.requires)) c.of.ensures (λ rest.
+    refused 2 units.Version BadVersion (IsVersionOf form) version_word (AtCounts form) unit rest c.of.result c.of.ensures c.requires
+    (λ version of e. c.in-None.ensures version (of, (number_16 c.take_u16-code.result.0 _ [] [] (omega arith) (code_fits version) (sym is ∙ e)).0)))

@@ -1,8 +1,7 @@
-use Rattle.std.proofs.Common.{◌++◌, ◌/◌, List, length, rules, ap, subst, arith}
+use Rattle.std.proofs.Common.{◌/◌, List, length, rules, ap, subst, arith}
 use Rattle.std.proofs.lemmas.List.{length-append}
 use Rattle.vs_types.specs.Refusal.{IfRefused}
-use Rattle.nr_trace.specs.FirstFault.{AtEvents}
-use Rattle.nr_trace.specs.inside.Progress.{IsFault}
+use Rattle.nr_trace.specs.FirstFault.{AtEvents, IsRefusedBy}
 use Rattle.nr_trace.specs.inside.Reading.{AreRecorded, IsBadEvent}
 use Rattle.nr_trace.specs.declared.event.Event.{Event}
 use Rattle.nr_trace.proofs.Spelled.{front_of}
@@ -14,7 +13,7 @@ returns-in_err-push_events c =
     let parts = c.args.parts in
     let bad = subst (λ (l : List Event). IfRefused (IsBadEvent parts.version parts.layout (length l) c.args.run.now) c.in_err-push_events.field-0.0)
     c.make_room.ensures.same c.in_err-push_events.ensures in
-    let refused : IsFault (λ rest fault. AtEvents parts.version parts.layout (length parts.events.items) c.args.events (c.args.run.now ++ rest) fault)
+    let refused : IfRefused (IsRefusedBy (AtEvents parts.version parts.layout (length parts.events.items) c.args.events) c.args.run.now)
     c.in_err-push_events.field-0.0 =
     events_refused parts.version parts.layout (length parts.events.items) c.args.events c.requires.run.count c.args.run.now c.in_err-push_events.field-0.0
     c.requires.run.few c.requires.run.all bad in

@@ -8,7 +8,7 @@ use Rattle.nr_explain.proofs.chain.reader.ChainReader.feed.Given as goal
 abbrev pub invariant-segments : goal.invariant-segments
 invariant-segments l = record {
   leads : LeadsTo l.fn.self l.fn.piece l.reader l.rest;
-  short : (l.rest ≡ l.fn.piece) ⊎ HasSegmentFault (layout_in l.reader.came) l.reader.bytes Truncated;
+  short : (l.rest ≡ l.fn.piece) ⊎ HasSegmentFault (layout_in l.reader.state) l.reader.bytes Truncated;
 }
 
 abbrev pub decreases-segments : goal.decreases-segments

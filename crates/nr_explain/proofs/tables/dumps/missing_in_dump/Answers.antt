@@ -1,0 +1,29 @@
+use Rattle.std.proofs.Common.{ap, subst, sym, ◌∙◌}
+use Rattle.vs_types.specs.Config.{Layout}
+use Rattle.vs_types.specs.declared.depth.Depth.{Depth}
+use Rattle.vs_walk.specs.Differences.{HasMissingFrame}
+use Rattle.nr_trace.specs.declared.fault.Fault.TheVariants.{MissingFrame}
+use Rattle.nr_explain.specs.Evidence.{IsMissingTable}
+use Rattle.nr_explain.proofs.Dumped.{read_as}
+use Rattle.nr_explain.proofs.tables.dumps.missing_in_dump.Goals as goal
+
+pub missing_table-requires : goal.missing_table-requires
+missing_table-requires c =
+    let trace = c.args.trace.now in
+    let dump = c.index-dumps-replica.result in
+    let (there, is_there, fault) = read_as trace c.dumps.result.now c.args.replica _ dump c.requires.holds c.dumps.ensures.reads c.index-dumps-replica.is in
+    let given = c.depth-depth.ensures ∙ ap (λ (l : Layout). l.depth) c.layout.ensures.reads in
+    subst (λ (d : Depth). HasMissingFrame d dump c.args.frame) (sym given) fault
+
+pub returns : goal.returns
+returns c =
+    let trace = c.args.trace.now in
+    let dump = c.index-dumps-replica.result in
+    let (there, is_there, fault) = read_as trace c.dumps.result.now c.args.replica _ dump c.requires.holds c.dumps.ensures.reads c.index-dumps-replica.is in
+    let given = c.depth-depth.ensures ∙ ap (λ (l : Layout). l.depth) c.layout.ensures.reads in
+    let wrong = c.in_ok-wrong in (
+      c.args.replica,
+      wrong.ensures.owner,
+      ap (λ frame. MissingFrame c.args.replica frame) (sym wrong.ensures.frame),
+      (dump, there, is_there, subst (λ (d : Depth). IsMissingTable d dump wrong.wrong) given wrong.ensures.is),
+    )

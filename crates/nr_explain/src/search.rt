@@ -1,0 +1,5 @@
+//! Looks into a trace: an event by its index, a thread's last call, its reply, the space after so many places.
+
+pub(crate) mod events;
+pub(crate) mod replies;
+pub(crate) mod spaces;
