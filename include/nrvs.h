@@ -105,7 +105,7 @@ typedef enum nrvs_size { NRVS_4K = 0, NRVS_2M = 1, NRVS_1G = 2 } nrvs_size;
 #define NRVS_USER 2u
 #define NRVS_EXEC 4u
 
-/* Who makes an access; the same there. */
+/* The maker of an access; the same there. */
 #ifndef NRVS_MODES
 #define NRVS_MODES
 typedef enum nrvs_mode { NRVS_SUPERVISOR_MODE = 0, NRVS_USER_MODE = 1 } nrvs_mode;

@@ -1,9 +1,12 @@
 #!/usr/bin/env python3
-"""Compares the words that a reader has to believe with docs/DEFINITIONS.md, which has each of them in words; and the public calls
-of the libraries and their preconditions with the promises of their crates' READMEs. Part 1 of DEFINITIONS.md has to have just the words
-of the two headlines, and just the types and constants of the code of which these speak, with their variants, fields and values as the code
-declares them; and the crates of the audit depend on none of the replication. The tables of ARCHITECTURE.md list the crates of crates.txt, in
-its order, each after those on which it depends. The man page of explain has each fault.
+"""Compares the words that a reader has to believe with what is said of them. Part 1 of docs/DEFINITIONS.md has in words just the definitions
+on which the two headlines rest, and just the types and constants of the code of which these speak, with their variants, fields and values as
+the code declares them. Each other definition on which a clause of a public call rests has its words in the comment above it, which
+tools/words prints. The faults of DEFINITIONS.md, part 2, and of the man page of explain are those of the code.
+
+Compares the public calls of the libraries and their preconditions with the promises of their crates' READMEs; and each line of code that
+such a README shows at its head with the code of the other crates, so that it is compiled and proved there. The crates of the audit depend
+on none of the replication. The tables of CRATES.md list the crates of crates.txt, in its order, each after those on which it depends.
 Each wrong body can be applied: what it replaces is once in its file (`rt ci` passes over one that can't be). Each of those that have to be
 refused is an edit, or PROMISES.md names the tests that refuse it.
 
@@ -12,6 +15,7 @@ cites; worked examples aside. In DEFINITIONS.md a word has its words where it is
 names its crate and file: so two words of one name are there each. Prints each word that is missing on either side, and with
 --list the words by file, in brackets those that are not of the trust base.
 """
+import itertools
 import re
 import sys
 from pathlib import Path
@@ -69,6 +73,55 @@ def definitions():
     return found, again
 
 
+def parameters(lines, at, name):
+    """The names of what a definition takes, which begins on this line: those of a record, or else those of its equations, or what it is."""
+    head = lines[at].partition(f"{name} ")[2]
+    if re.match(r"^(?:pub )?(?:record|data) ", lines[at]):
+        return sum((group.split() for group in re.findall(r"\(([^(){}:]+) :", head)), [])
+    types = re.split(r" → ", re.sub(r"\([^()]*\)|\{[^{}]*\}", "_", head.removeprefix(": ")))
+    found = []
+    for line in lines[at + 1:]:
+        if not line.startswith(f"{name} "):
+            if line and not line.startswith(" "):
+                break
+            continue
+        taken = re.findall(r"\([^()]*(?:\([^()]*\)[^()]*)*\)|\S+", re.split(r" =(?: |$)", line, maxsplit=1)[0])[1:]
+        found += [None] * (len(taken) - len(found))
+        for place, one in enumerate(taken):
+            if re.fullmatch(r"[a-z]\w*", one) and one not in ("zero", "true", "false"):
+                found[place] = found[place] or one
+    kinds = [kind.split()[0].lower() if re.match(r"[A-Z]", kind) else None for kind in types]
+    return [one or kind for one, kind in itertools.zip_longest(found, kinds[:len(found)]) if one or kind]
+
+
+def beside():
+    """What is said beside the definitions of the specs/ folders, by module: the file, what it says of itself, and the comments with the
+    definitions that each is of, with the names of what these take. A definition without a comment shares the one before it; the first of a
+    file, what the file says of itself."""
+    files = {}
+    for file in sorted(ROOT.glob("crates/*/specs/**/*.antt")):
+        crate = file.relative_to(ROOT / "crates").parts[0]
+        module = ".".join(file.relative_to(ROOT / "crates" / crate / "specs").with_suffix("").parts)
+        lines, comment, groups, known = file.read_text().splitlines(), [], [], set()
+        front = list(itertools.takewhile(lambda line: line.startswith("-- ") and not line.startswith("-- ----"), lines))
+        for at, line in enumerate(lines):
+            begins = DEFINES.match(line)
+            if line.startswith("-- ----") or not line and comment is None:
+                comment = []
+            elif line.startswith("-- "):
+                comment = (comment or []) + [line[3:].strip()]
+            elif begins and begins[1] not in known:
+                known.add(begins[1])
+                if comment or not groups:
+                    groups.append((" ".join(comment or []), []))
+                groups[-1][1].append((begins[1], parameters(lines, at, begins[1])))
+                comment = []
+            elif line.startswith("use "):
+                comment = []
+        files[f"{crate}.{module}"] = (file, " ".join(line[3:].strip() for line in front), groups)
+    return files
+
+
 def braced(text, begin):
     """The text from a brace to the one that closes it."""
     depth = 0
@@ -124,7 +177,7 @@ def trust_base(words=None):
 
 
 HEADLINES = (("nr_audit.Headline", "AreRightWith"), ("nr_chain.Headline", "IsRightChain"))    # of a trace, and of a chain
-MOST_LINES = 400
+MOST_LINES = 200
 DECLARED = "### What the code declares"
 
 
@@ -227,7 +280,7 @@ def audit_alone():
 
 
 def listed():
-    """The crates of crates.txt that come before one on which they depend, those that the tables of ARCHITECTURE.md lack, or have twice,
+    """The crates of crates.txt that come before one on which they depend, those that the tables of CRATES.md lack, or have twice,
     those that they have beside, and the first that they have in another order."""
     uses, before = crates_and_uses()[1], set()
     for crate, below in uses.items():
@@ -235,13 +288,13 @@ def listed():
             yield f"crates.txt has {crate} before {other}, on which it depends"
         before.add(crate)
     crates = list(uses)
-    section = (ROOT / "docs/ARCHITECTURE.md").read_text().partition("\n## Crates\n")[2].partition("\n## ")[0]
+    section = (ROOT / "docs/CRATES.md").read_text()
     rows = [line.split("|")[1] for line in section.splitlines() if line.startswith("| ")]
     named = [name for row in rows for name in re.findall(r"`(\w+)`", row)]
     if sorted(named) != sorted(crates):
-        yield f"ARCHITECTURE.md has other crates than crates.txt: {' '.join(sorted(set(named) ^ set(crates))) or 'some twice'}"
+        yield f"CRATES.md has other crates than crates.txt: {' '.join(sorted(set(named) ^ set(crates))) or 'some twice'}"
     elif named != crates:
-        yield "ARCHITECTURE.md has {} where crates.txt has {}".format(*next(pair for pair in zip(named, crates) if pair[0] != pair[1]))
+        yield "CRATES.md has {} where crates.txt has {}".format(*next(pair for pair in zip(named, crates) if pair[0] != pair[1]))
 
 
 def public_calls():
@@ -371,7 +424,7 @@ def main_promises():
     if rows > HEADLINE_ROWS:
         yield f"PROMISES.md has {rows} rows, of {HEADLINE_ROWS} at most"
     if re.search(r"^\|.*\]\(?.*crates/", text, re.M):
-        yield "PROMISES.md has a row of one crate, whose promise ARCHITECTURE.md has"
+        yield "PROMISES.md has a row of one crate, whose promise CRATES.md has"
     for file in [page, *sorted(ROOT.glob("crates/*/README.md"))]:
         for number_, line in enumerate(file.read_text().splitlines(), 1):
             if len(line) > WIDTH:
@@ -379,8 +432,12 @@ def main_promises():
 
 
 def told_faults():
-    """The faults that a table of the man page of explain lacks, and those that it has beside: each has its lines, sentence and members."""
-    faults = re.findall(r"^\| \d+ \| `(\w+)", (ROOT / "docs/DEFINITIONS.md").read_text() + (ROOT / "docs/FORMATS.md").read_text(), re.M)
+    """What DEFINITIONS.md has otherwise than the code of the faults, which are numbered as they are declared; and the faults that a table of
+    the man page of explain lacks, and those that it has beside: each has its lines, sentence and members."""
+    rows = re.findall(r"^\| (\d+) \| `(\w+)", (ROOT / "docs/DEFINITIONS.md").read_text(), re.M)
+    declared = parts_of_type("Fault", ROOT / "crates/nr_trace/src/fault.rt")
+    if rows != [(str(number_), name) for number_, name in enumerate(declared, 1)]:
+        yield f"DEFINITIONS.md has other faults than the code: {' '.join(declared)}"
     tables = {"Lines": [], "Sentence": [], "Members of `evidence`, beside `fault`": []}
     rows = None
     for line in (ROOT / "docs/man/nrvs-explain.1.md").read_text().splitlines():
@@ -392,8 +449,29 @@ def told_faults():
         elif rows is not None and not first.startswith("---"):
             rows += first.split(", ")
     for name, rows in tables.items():
-        if sorted({*rows}) != sorted({*faults}):
-            yield f"nrvs-explain.1.md, {name}: {' '.join(sorted({*rows} ^ {*faults}))}"
+        if sorted({*rows}) != sorted(declared):
+            yield f"nrvs-explain.1.md, {name}: {' '.join(sorted({*rows} ^ {*declared}))}"
+
+
+def squeezed(code):
+    """Code without its comments, its spaces, and the commas that only a line break asks for."""
+    return re.sub(r",(?=[)\]}]|$)", "", re.sub(r"\s+", "", re.sub(r"//.*", "", code)))
+
+
+def uncompiled():
+    """The lines of Rattle that the README of a library shows at its head, and that the code of no other crate has."""
+    code = {}
+    for file in ROOT.glob("crates/*/src/**/*.rt"):
+        crate = file.relative_to(ROOT / "crates").parts[0]
+        code[crate] = code.get(crate, "") + squeezed(file.read_text()) + "\n"
+    for library in sorted(ROOT.glob("crates/*/src/lib.rt")):
+        crate = library.parent.parent.name
+        if crate.endswith(("_tests", "_c")):
+            continue
+        head = (library.parent.parent / "README.md").read_text().partition("\n## ")[0]
+        for line in re.findall(r"^ {4}(.*)$", head, re.M):
+            if squeezed(line) and not any(squeezed(line) in text for other, text in code.items() if other != crate):
+                yield f"the README of {crate} shows a line that no other crate has: {line.strip()}"
 
 
 def unusable_edits():
@@ -474,13 +552,17 @@ def main(words):
             print(f"{place}: {' '.join(name if (place, name) in base else f'({name})' for name in names)}")
     base = {(place, name) for place, name in base if not place.endswith(".Examples")}
     told = read_aloud((ROOT / "docs/DEFINITIONS.md").read_text())
-    missing = sorted(base - {(place, name) for places, name in told for place in places})
+    first = {(place, name) for places, name in told for place in places}
+    commented = {(place, name) for place, (_, about, groups) in beside().items() for comment, those in groups if comment or about
+                 for name, _ in those}
+    missing = sorted(base - first - commented)
     for place, name in missing:
-        print(f"not read aloud under a heading of its place: {name} ({place})")
+        print(f"no comment says what it is: {name} ({place})")
     others = [(places, name) for places, name in told if not any((place, name) in base for place in places)]
     for places, name in others:
         print(f"read aloud, and no clause rests on it: {name} (of {', '.join(places)})")
-    checks = (first_part, audit_alone, untold, main_promises, told_faults, unknown_names, listed, unusable_edits, unrefused_bodies)
+    checks = (first_part, audit_alone, untold, main_promises, told_faults, unknown_names, listed, uncompiled, unusable_edits,
+              unrefused_bodies)
     lacking = [line for check in checks for line in check()]
     for line in lacking:
         print(line)

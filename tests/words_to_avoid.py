@@ -1,9 +1,11 @@
 #!/usr/bin/env python3
 """Counts the words of words_to_avoid.txt, in the docs and in the comments of all else that is written here; and sentences that are too
 long: of more than 30 words in README.md and docs/RECORDING.md, of more than 35 in the other pages, and of more than 25 on average in any
-page. Code is none of these: what is in backquotes, and blocks of it. Nor are brackets that only cite clauses.
+page. Nor may a sentence of a page begin with `Of`, `Who`, `Whose`, or `Where`, unless it asks. Code is none of these: what is in
+backquotes, and blocks of it. Nor are brackets that only cite clauses.
 
-Prints each place, and ends with how many files have none and how many have some.
+Prints each place, and ends with how many files have none and how many have some. With --averages it prints how many words a sentence of
+each page has, on average and at most.
 """
 import ast
 import io
@@ -14,7 +16,7 @@ import tokenize
 from pathlib import Path
 
 ROOT = Path(__file__).resolve().parent.parent
-MOST_WORDS = {"README.md": 30, "docs/RECORDING.md": 30, "docs/DEFINITIONS.md": 60}
+MOST_WORDS = {"README.md": 30, "docs/RECORDING.md": 30}
 MOST = 35
 AVERAGE = 25
 CITED = re.compile(r"\s*\((?:`\s*`|\[([^\]]*)\]|\b(?:and|both|in|is|it|its|law|laws|of|private|so|the|which|whose)\b|[\s,;:/*])+\)")
@@ -107,8 +109,12 @@ def too_long(name, text):
     counts = []
     for at, sentence in sentences(text):
         counts.append(len(re.findall(r"[^\s]*[\w`][^\s]*", sentence)))
+        if re.match(r"(?:- |\d+\. )?\s*(?:Of|Who|Whose|Where)\b(?!.*\?$)", sentence, re.S):
+            yield f"{name}:{at} begins with its object: {' '.join(sentence.split())[:60]}.."
         if counts[-1] > MOST_WORDS.get(name, MOST):
             yield f"{name}:{at} has a sentence of {counts[-1]} words: {' '.join(sentence.split())[:60]}.."
+    if counts and "--averages" in sys.argv:
+        print(f"{name}: {sum(counts) / len(counts):.1f} words a sentence, {max(counts)} at most")
     if counts and sum(counts) > AVERAGE * len(counts):
         yield f"{name} has {sum(counts) / len(counts):.1f} words a sentence"
 

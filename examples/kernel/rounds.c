@@ -146,7 +146,7 @@ static struct page draw_new_page(void)
 	return page;
 }
 
-/* Where a page is unmapped or changed: mostly at its begin, at times inside of it or where there may be none. */
+/* The address at which a page is unmapped or changed: mostly at its begin, at times inside of it or where there may be none. */
 static uint64_t draw_begin(void)
 {
 	const struct page *page = random_below(8) != 0 ? draw_page() : 0;

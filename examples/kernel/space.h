@@ -37,7 +37,7 @@ int space_access(uint64_t address, unsigned mode, unsigned access, struct answer
 const struct page *space_page_at(uint64_t address);
 const struct page *space_page(unsigned k);
 unsigned space_count(void);
-/* One of the pages that were unmapped last; k is below SPACE_GONE. Where there weren't so many it is a page at 0. */
+/* One of the pages that were unmapped last; k is below SPACE_GONE. If there weren't so many, it is a page at 0. */
 const struct page *space_gone(unsigned k);
 
 static inline uint64_t bytes_of(unsigned size)

@@ -11,7 +11,7 @@ struct try {
 
 extern uint64_t tries_made, tries_differ;
 
-/* Tries one access. Where a page covers the address, its memory there is the kernel's own or of a spot (spots.h). */
+/* Tries one access. If a page covers the address, its memory there is the kernel's own or of a spot (spots.h). */
 void try_access(struct try try);
 
 /* Tries accesses while the processor walks the boot tables. */

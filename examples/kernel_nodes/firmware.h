@@ -6,7 +6,7 @@
 
 enum { MOST_NODES = 4 };
 
-/* Of a node its largest stretch of memory, in bytes. */
+/* The largest stretch of a node's memory, in bytes. */
 struct memory {
 	uint64_t first, length;
 };
@@ -17,7 +17,7 @@ struct firmware {
 	unsigned node_of[PROCESSORS]; /* of each processor */
 };
 
-/* Reads it, from where ACPI's tables begin. Where it isn't there, or has too much, all stops. */
+/* Reads it, from where ACPI's tables begin. If it isn't there, or has too much, all stops. */
 void firmware_read(struct firmware *firmware, const void *tables);
 
 #endif

@@ -28,7 +28,7 @@ uint64_t processor_root(unsigned processor)
 	return node_target(node_of(processor))->root * 4096;
 }
 
-/* Of a changer a change between some accesses; of the others accesses alone. One that is let while it is held makes the wished access. */
+/* A changer makes a change between some accesses; the others access alone. One that is let while it is held makes the wished access. */
 void processor_turn(unsigned processor, uint64_t *seed)
 {
 	if (updates_wish.slot != 0) {
@@ -44,7 +44,7 @@ void processor_turn(unsigned processor, uint64_t *seed)
 	__atomic_fetch_add(&made[processor], 1, __ATOMIC_SEQ_CST);
 }
 
-/* There are some accesses for each change, at least. Of a mistake that was seen, few changes are enough. */
+/* There are some accesses for each change, at least. A mistake that was seen needs few more changes. */
 static int is_over(void)
 {
 	if (!is_planted(PLANT_NONE) && (is_seen || updates_wrong() > 0))

@@ -172,7 +172,7 @@ nrvs_answer nodes_look(unsigned node, uint64_t address, uint64_t *at)
 	return (nrvs_answer){ (uint8_t)reply.code, (uint8_t)reply.size, (uint8_t)reply.rights, reply.number };
 }
 
-/* Of a page fault on a node: it syncs, and looks. The access is made again, unless the node's tables say just this fault now. */
+/* A page fault on a node: it syncs, and looks. The access is made again, unless the node's tables say just this fault now. */
 int page_faulted(uint64_t code, uint64_t address)
 {
 	struct home *home = &homes[node_of(processor_here())];

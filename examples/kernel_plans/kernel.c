@@ -99,7 +99,7 @@ static int is_seen(void)
 	return is_planted(PLANT_SHOOTDOWN) ? slots_recorded() > 8 : slots_differ() + slots_lost() > 0;
 }
 
-/* Of a planted mistake that was seen, few changes are enough. */
+/* A planted mistake that was seen needs few more changes. */
 static void change_all(uint64_t changes)
 {
 	const uint64_t few = is_planted(PLANT_NONE) ? changes : 60;

@@ -22,7 +22,7 @@ uint64_t draw(uint64_t *seed, uint64_t bound)
 
 /* ---- what the pages lead to ---- */
 
-/* Of a slot there are two pages of memory, one of which it leads to: of 1 GiB the first GiB or the second, from 128 MiB on. */
+/* A slot has two pages of memory, one of which it leads to: of 1 GiB the first GiB or the second, from 128 MiB on. */
 uint64_t page_of(const struct slot *slot, unsigned which)
 {
 	return slot->size == NRVS_1G ? (uint64_t)which << 30 : FIRST_PAGE + (2 * (uint64_t)(slot - slots) + which) * UINT64_C(0x200000);

@@ -22,7 +22,7 @@ static inline int is_missing(struct state state, uint64_t part)
 	return state.in_parts && part - state.gap < state.gap_count;
 }
 
-/* Where a page may be, and all that it was: state `next` is there once the call under way is done, and none before `done` is left. */
+/* The place of a page, and all that it was: state `next` is there once the call under way is done, and none before `done` is left. */
 struct slot {
 	uint64_t base;
 	unsigned size, space; /* ALL_SPACES: of the half in common */

@@ -57,7 +57,7 @@ static void say(struct slots_counts all)
 		all.faults, all.differ, all.lost, all.wrong);
 }
 
-/* Of a planted mistake that was seen, also in what was recorded, few changes are enough. What is recorded of a page that isn't there are
+/* A planted mistake that was seen, also in what was recorded, needs few more changes. What is recorded of a page that isn't there are
  * accesses alone.
  */
 static bool is_enough(void)

@@ -121,7 +121,7 @@ static struct nrvs_reply list_joins(struct model *model, unsigned page)
 	return answer(NRVS_CHANGED, 0, 0, model->rights[page]);
 }
 
-/* Of a page that begins at the address */
+/* For a page that begins at the address */
 static struct nrvs_reply list_changes(struct model *model, const struct call *call)
 {
 	const unsigned page = call->page;
@@ -291,7 +291,7 @@ static bool is_step_right(struct model *model, struct call *call)
 	}
 }
 
-/* A map, an unmap or a protect of some pages. Where a step isn't done, the range ends, and the list says so too. */
+/* A map, an unmap or a protect of some pages. If a step isn't done, the range ends, and the list says so too. */
 static bool is_range_right(struct model *model, struct call call, unsigned pages)
 {
 	const unsigned most = (PAGES - call.page) / pages_of(call.size), count = pages < most ? pages : most;

@@ -14,8 +14,8 @@ struct state {
 	bool in_parts;
 };
 
-/* Where a page may be, or a range of 512 pages in two tables, and all that it was: state `next` is there once the change under way is done,
- * and none before `done` is left.
+/* The place of a page, or of a range of 512 pages in two tables, and all that it was: state `next` is there once the change under way is
+ * done, and none before `done` is left.
  */
 struct slot {
 	uint64_t base;

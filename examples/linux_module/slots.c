@@ -54,7 +54,7 @@ static int take_pages(void)
 	return 0;
 }
 
-/* Of a range the pages are small, and one range follows another. */
+/* The pages of a range are small, and one range follows another. */
 static struct slot range_at(unsigned k)
 {
 	struct slot slot = { .was[0].frame = NONE, .size = NRVS_2M, .written = written[k] };
@@ -108,7 +108,7 @@ static uint64_t draw_frame(const struct slot *slot, struct rnd_state *random)
 	return page_to_pfn(pages[prandom_u32_state(random) % DATA]);
 }
 
-/* Of a range the first page often, behind which another range ends. */
+/* Often the first page of a range, behind which another range ends. */
 uint64_t slot_part(const struct slot *slot, struct rnd_state *random)
 {
 	const uint64_t part = prandom_u32_state(random) % PARTS;
@@ -350,7 +350,7 @@ static struct slot *draw_slot(struct rnd_state *random)
 	return is_range ? &slots[SLOTS - 1 - prandom_u32_state(random) % RANGE_SLOTS] : &slots[prandom_u32_state(random) % SLOTS];
 }
 
-/* After a map and after a collection flags are clear. Where the processors are held from then on until the next change has its plan, they
+/* After a map and after a collection flags are clear. If the processors are held from then on until the next change has its plan, they
  * set them between that and its stores.
  */
 void slots_change(struct rnd_state *random)

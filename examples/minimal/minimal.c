@@ -8,8 +8,7 @@
 enum { THREADS = 4, REQUESTS = 1000, TABLES = 16, RIGHTS = NRVS_WRITE | NRVS_USER };
 
 static uint64_t tables[TABLES][512]; /* table n lies at physical n * 4096; the root is table 0 */
-static unsigned tables_used = 1;
-static uint32_t updates;
+static uint32_t tables_used = 1, updates;
 static pthread_mutex_t lock = PTHREAD_MUTEX_INITIALIZER;
 
 /* 1. memory for the trace */
@@ -18,11 +17,7 @@ static uint64_t events[2 * THREADS * REQUESTS][3];
 static nrvs_atomic places[THREADS * REQUESTS];
 static nrvs_frame frames[TABLES];
 
-static void must(nrvs_status status)
-{
-	if (status != NRVS_OK)
-		exit(2);
-}
+static void must(nrvs_status status) { if (status != NRVS_OK) exit(2); }
 
 /* The entry of the page of 4 KiB at the address. Links tables on the way. */
 static uint64_t *entry(uint64_t address)
@@ -48,10 +43,7 @@ static void request(unsigned thread, unsigned random)
 	uint64_t *word = entry(address), found = *word & 0xffffffffff000;
 	nrvs_answer answer = maps ? *word ? nrvs_overlap(address) : nrvs_done() : !*word ? nrvs_not_mapped()
 	                     : unmaps ? nrvs_removed(found, NRVS_4K, RIGHTS) : nrvs_mapped(found, NRVS_4K, RIGHTS);
-	if (maps && !*word)
-		*word = phys | 7 | 1ull << 63;
-	else if (unmaps)
-		*word = 0;
+	*word = maps && !*word ? phys | 7 | 1ull << 63 : unmaps ? 0 : *word;
 	at = updates;
 	if (maps || unmaps)
 		must(nrvs_place(&trace, updates++, call)); /* 4. an update's place, under the lock */
@@ -80,8 +72,7 @@ int main(void)
 	must(nrvs_begin(&trace, &config));
 	for (unsigned n = 0; n < THREADS; n++)
 		must(pthread_create(&threads[n], 0, work, &numbers[n]) ? NRVS_BAD_CONFIG : NRVS_OK);
-	for (unsigned n = 0; n < THREADS; n++)
-		pthread_join(threads[n], 0);
+	for (unsigned n = 0; n < THREADS; n++) pthread_join(threads[n], 0);
 	/* 6. dump the tables, and write */
 	must(nrvs_dump(&trace, 0, updates, 0, lend, 0));
 	must(nrvs_finish(&trace, put, stdout));

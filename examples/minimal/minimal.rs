@@ -1,27 +1,15 @@
 //! A page table under a mutex that records itself. The numbers are the six steps of docs/RECORDING.md.
 //!     rustc --edition 2021 -O -o minimal examples/minimal/minimal.rs && ./minimal | nrvs audit
-#[path = "../../recorders/nrvs_trace.rs"]
-#[allow(dead_code)]
-mod nrvs_trace;
-
+#[path = "../../recorders/nrvs_trace.rs"] #[allow(dead_code)] mod nrvs_trace;
 use nrvs_trace::{Answer, Config, Event, Failed, Frame, Memory, Refusal, Request, Rights, Size, Trace};
 use std::{io::Write, sync::atomic::AtomicU32, sync::Mutex, thread};
-
 const RIGHTS: Rights = Rights { write: true, user: true, exec: false };
-const PHYSICAL: u64 = 0xf_ffff_ffff_f000;
 
 /// Table n lies at physical n * 4096; the root is table 0.
-struct Tables {
-    tables: Vec<[u64; 512]>,
-    updates: u32,
-}
-
+struct Tables { tables: Vec<[u64; 512]>, updates: u32 }
 impl Memory for Tables {
-    fn frame(&mut self, number: u64) -> Result<Option<&[u64; 512]>, Failed> {
-        Ok(self.tables.get(number as usize))
-    }
+    fn frame(&mut self, number: u64) -> Result<Option<&[u64; 512]>, Failed> { Ok(self.tables.get(number as usize)) }
 }
-
 impl Tables {
     /// The entry of the page of 4 KiB at the address. Links tables on the way.
     fn entry(&mut self, address: u64) -> &mut u64 {
@@ -38,24 +26,15 @@ impl Tables {
     }
 
     fn answer(&mut self, request: Request) -> Answer {
+        let (Request::Map { address, .. } | Request::Unmap { address } | Request::Resolve { address }) = request else { unreachable!() };
+        let word = self.entry(address);
+        let (found, size, rights) = (*word & 0xf_ffff_ffff_f000, Size::K4, RIGHTS);
         match request {
-            Request::Map { address, phys, .. } => {
-                let word = self.entry(address);
-                if *word != 0 {
-                    return Answer::Overlap(address);
-                }
-                *word = phys | 7 | 1 << 63;
-                Answer::Done
-            }
-            Request::Unmap { address } => match std::mem::take(self.entry(address)) {
-                0 => Answer::NotMapped,
-                word => Answer::Removed { phys: word & PHYSICAL, size: Size::K4, rights: RIGHTS },
-            },
-            Request::Resolve { address } => match *self.entry(address) {
-                0 => Answer::NotMapped,
-                word => Answer::Mapped { phys: word & PHYSICAL, size: Size::K4, rights: RIGHTS },
-            },
-            _ => unreachable!("no other is made"),
+            Request::Map { .. } if *word != 0 => Answer::Overlap(address),
+            Request::Map { phys, .. } => { *word = phys | 7 | 1 << 63; Answer::Done }
+            _ if *word == 0 => Answer::NotMapped,
+            Request::Unmap { .. } => { *word = 0; Answer::Removed { phys: found, size, rights } }
+            _ => Answer::Mapped { phys: found, size, rights },
         }
     }
 }
@@ -64,9 +43,9 @@ fn work(trace: &Trace, tables: &Mutex<Tables>, thread: u16) -> Result<(), Refusa
     let mut random = u32::from(thread);
     for _ in 0..1000 {
         random = random.wrapping_mul(1664525).wrapping_add(1013904223);
-        let address = 0x40_0000 + u64::from(random >> 8 & 7) * 0x20_1000;
+        let (address, phys) = (0x40_0000 + u64::from(random >> 8 & 7) * 0x20_1000, u64::from(random) << 12);
         let request = match random >> 11 & 3 {
-            0 | 1 => Request::Map { address, size: Size::K4, phys: u64::from(random) << 12, rights: RIGHTS },
+            0 | 1 => Request::Map { address, size: Size::K4, phys, rights: RIGHTS },
             2 => Request::Unmap { address },
             _ => Request::Resolve { address },
         };

@@ -4,7 +4,7 @@
 
 #include "nrvs_trace.h"
 
-/* Starts it, or opens the file of --write. Where there is no auditor the program ends. */
+/* Starts it, or opens the file of --write. If there is no auditor, the program ends. */
 void judge_begin(void);
 /* Takes bytes of the chain: an nrvs_write. It fails when the auditor has found a fault. */
 int judge_take(void *context, const uint8_t *bytes, uint32_t length);

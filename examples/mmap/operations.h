@@ -38,7 +38,7 @@ extern unsigned prot_count, prot_of_data_count;
 /* Stores to a private page, which gets a frame of its own by that; NOTHING where it may not be written. The slot is locked. */
 enum outcome store_to(struct worker *worker, unsigned slot);
 
-/* Of these errors a call is one that this kernel, or a filter of its calls, doesn't have. */
+/* With one of these errors a call is one that this kernel, or a filter of its calls, doesn't have. */
 int is_refusal(int error);
 
 #endif

@@ -63,7 +63,7 @@ static pid_t fork_child(const uint64_t *random)
 	return clone(be_child, stack + STACK, SIGCHLD, (void *)(uintptr_t)random);
 }
 
-/* Of each page that is mapped: its slot, as it will be in the child. */
+/* The slot of each page that is mapped, as it will be in the child. */
 static unsigned copy_mapped(struct slot *childs, struct change *change)
 {
 	unsigned count = 0;

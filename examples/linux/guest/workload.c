@@ -141,7 +141,7 @@ static int run_parts(int marks_end, char **names)
 	return wrong != 0;
 }
 
-/* Where it ends it stops, so that another can ask for its mappings. Nothing is mapped between its mark and its stop: what is done there
+/* At its end it stops, so that another can ask for its mappings. Nothing is mapped between its mark and its stop: what is done there
  * was done before. */
 static int run_parts_and_stop(char **names)
 {

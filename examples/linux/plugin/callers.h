@@ -1,4 +1,4 @@
-/* Who called: what may be return addresses on a processor's stack. The reader picks those that fit (callers in log_lines.py). */
+/* The callers: what may be return addresses on a processor's stack. The reader picks those that fit (callers in log_lines.py). */
 #ifndef CALLERS_H
 #define CALLERS_H
 

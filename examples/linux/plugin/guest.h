@@ -44,7 +44,7 @@ uint64_t guest_direct(uint64_t address);
 /* The physical address of a byte that QEMU holds, or NOWHERE. */
 uint64_t guest_of_host(const void *byte);
 
-/* Where a processor's own variables are: what is added to an address of the kernel. */
+/* The place of a processor's own variables: what is added to an address of the kernel. */
 uint64_t guest_own_base(unsigned cpu);
 
 uint64_t guest_loaded(unsigned cpu);
@@ -56,7 +56,7 @@ void guest_enter(uint64_t space);
 /* The frame of the process's table there. */
 uint64_t guest_root(void);
 
-/* Where an address of the kernel lies, and the word there, 0 where there is none. */
+/* The place of an address of the kernel, and the word there, 0 where there is none. */
 uint64_t guest_walk(uint64_t address);
 uint64_t guest_kernel_word(uint64_t address);
 
@@ -68,7 +68,7 @@ struct flush guest_flush(unsigned cpu);
 /* Whether the processor's own words of a flush are at that address of the kernel. */
 int guest_is_of_flush(unsigned cpu, uint64_t address);
 
-/* Whether the kernel holds a frame as a page table, by its struct page. Of tables of levels 1 and 2 alone it does. */
+/* Whether the kernel holds a frame as a page table, by its struct page. It does so for tables of levels 1 and 2 alone. */
 int guest_holds_table(uint64_t frame);
 
 #endif

@@ -1,4 +1,4 @@
-/* Which processor runs. Where one thread of the host runs all, QEMU from 9.0 on says to a callback which one translated the code; which one
+/* Which processor runs. If one thread of the host runs all, QEMU from 9.0 on says to a callback which one translated the code; which one
  * runs it is then asked of its registers. */
 #ifndef PROCESSOR_H
 #define PROCESSOR_H

@@ -6,7 +6,7 @@
 #include <inttypes.h>
 #include <stddef.h>
 
-/* Of struct pt_regs. */
+/* Offsets in struct pt_regs. */
 enum registers { FOURTH = 0x38, THIRD = 0x60, SECOND = 0x68, FIRST = 0x70, NUMBER = 0x78 };
 
 enum { MPROTECT = 10, MUNMAP = 11, PKEY_MPROTECT = 329 };

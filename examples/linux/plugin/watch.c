@@ -385,7 +385,7 @@ static void translate_kernel(struct qemu_plugin_insn *instruction)
 			ask(instruction, on_flushed);
 }
 
-/* Of a block in user mode its first instruction is logged as a fetch. */
+/* The first instruction of a block in user mode is logged as a fetch. */
 static void translate_user(struct qemu_plugin_tb *block, struct qemu_plugin_insn *first)
 {
 	uint64_t physical = guest_of_host(qemu_plugin_insn_haddr(first));
