@@ -1,11 +1,10 @@
-/* Plans for a page table of x86-64 that is the caller's own: what to store, in which order, what to flush, what may be freed.
+/* Plans for the caller's own x86-64 page table: what to store, in which order, what to flush, and what may be freed then.
  *
- * For a kernel whose frames come one at a time from an allocator and lie anywhere, whose other processors walk the tables while one changes
- * them, and whose roots have half of their tables in common. A call allocates nothing, writes only the plan, and reads only that, the
- * target and the words that it is shown. It is asked for a change, asks for the words of one frame after another, then for empty frames,
- * and ends with a plan. The caller, under its own lock, finds the frames, carries the plan out by compare-exchanges (or a hypercall),
- * flushes, and frees.
- * tests/plans_c/loop.c has this as code:
+ * This is for a kernel whose frames come one at a time from an allocator and may lie anywhere. Other processors walk the tables while one
+ * changes them, and roots may share half of their tables. A call allocates nothing, writes only the plan, and reads only the plan, the
+ * target and the words that it is shown. You ask for a change. The library then asks for the words of one frame after another, and for
+ * empty frames, and ends with a plan. You find the frames, carry the plan out by compare-exchanges (or a hypercall), flush, and free, all
+ * under your own lock. tests/plans_c/loop.c has this as code:
  *
  *     struct nrvs_plan plan;
  *     uint32_t step = nrvs_plan_map(&plan, &target, base, NRVS_4K, physical, NRVS_WRITE, 0);
@@ -28,8 +27,8 @@
  *                                                                              // clear them
  *     return plan.reply.code == NRVS_DONE ? 0 : ..;
  *
- * Between the words that are shown and the store a processor may set flags of its own in the word (accessed and dirty, bits 5 and 6). So a
- * store is carried out by compare-exchanges, and where one finds another word, that is put in the plan:
+ * After a word was shown and before it is stored to, a processor may set flags in it (accessed and dirty, bits 5 and 6). So carry a store
+ * out by compare-exchanges. If one finds another word, hand that to the plan:
  *
  *     uint64_t *at = &words_of(plan.stores[i].frame)[plan.stores[i].index];
  *     while (!compare_exchange(at, plan.stores[i].old_word, plan.stores[i].new_word, &found)) {
@@ -39,101 +38,101 @@
  *                     fill(&plan);                                             // once more, with these flags, before it is linked
  *     }
  *
- * What is promised of a plan, where the caller keeps what is listed below; in brackets are the clauses, of `IsRight` in crates/vs_plan
- * where nothing else is said. It is given to C by the clause `next` of each call (crates/nrvs_plan_c/README.md):
- *   - the answer is that of one sequential address space, as which the memory translates; where it changes nothing, no store is planned
+ * The following is promised of a plan, if the caller keeps what is listed further below. Brackets name the clauses: those of `IsRight` in
+ * crates/vs_plan unless they say otherwise. The clause `next` of each C call has them (crates/nrvs_plan_c/README.md):
+ *   - the answer is that of one sequential address space, the one that the memory translates to. If it changes nothing, no store is planned
  *     [reply, nothing];
- *   - the old word of each store is the one that is there [found]. One of the stores is the switch: after each one before it the memory,
- *     with the table that was filled, translates every canonical address as before, and from it on as after the call [safe]. So a processor
- *     that walks at any moment finds the old translation or the new one, never a missing frame, a reserved bit, or a page that was in
- *     neither, whatever flags are set meanwhile [the law flags_keep_plans_safe];
- *   - a store writes the page's entry, clears a link to a table that is unlinked, or writes a word of a frame that was given; by a join and
- *     a collapse it writes the page's entry in the place of such a link. No other present entry changes [meant], and each store changes its
- *     word [changing]. A protect keeps all bits of the page's entry but 1, 2 and 63; a map writes just the bits that it was given
+ *   - the old word of each store is the one that is in memory [found]. One of the stores is the switch. Before it, the memory with the
+ *     table that was filled translates every canonical address as before the call; from it on, as after the call [safe]. So a processor
+ *     that walks at any moment finds the old translation or the new one. It never finds a missing frame, a reserved bit, or a page that was
+ *     in neither, whatever flags are set meanwhile [the law flags_keep_plans_safe];
+ *   - a store writes the page's entry, clears a link to a table that is unlinked, or writes a word of a frame that was given. For a join or
+ *     a collapse it writes the page's entry over such a link. No other present entry changes [meant], and each store changes its word
+ *     [changing]. A protect keeps all bits of the page's entry except 1, 2 and 63. A map writes exactly the bits that it was given
  *     [written];
- *   - a link that a plan writes is the frame's address and 7: it allows everything, and has no other bit [AreLinks; put: IsSplit];
- *   - a map writes over words that are not present, whatever their other bits, as those of pages on disk [one_way]. Such a word is the
- *     `old_word` of the store. An unmap clears the page's word and links alone [one_way, meant];
- *   - where a protect or a remap of a page plans no store, its entry is already as it would be written; where a prune does, the table in
- *     which the address's way ends has a present entry, is the root, or stays [already]. The bits that are answered are those of the page's
- *     entry [`told`];
- *   - a remap is at most one store, which keeps all bits of the page's entry but its address and its rights. A split fills a frame that was
- *     given with the entries of 512 pages of the next smaller size, which have the page's rights, its flags and its other bits, and then
- *     links it by one store; an unmap of parts does so with 0 for these parts, and no other plan fills a frame. A join is one store, of an
- *     entry with the address, the rights and the bits of the first page and with both flags set, so that no processor sets one that could
- *     be lost. A collapse is one store of the same kind, of an entry with the address and the rights that were asked for. A prune is one
- *     store, which clears the link to a table without a present entry [put: IsRemapped, IsSplit, IsJoined, IsCollapsed, IsCut];
- *   - no flag of a page is lost where a store is made again: it is in what is stored, or by a split and an unmap of parts in what the frame
- *     is filled with, and in the bits that are answered. A join's and a collapse's entry has both already, whatever flags were found, and
- *     the bits that it answers have those of the first page as it was shown. The flags of a link are dropped with it [the law
- *     flags_keep_plans_safe: protects, remaps, splits, joins, bits]. The plan is right then, in all that is said here, for the memory with
- *     the word that was found [the laws plans_are_made_again, plans_are_right_again];
- *   - a processor that was up to date is so again after the flush that is named: it keeps nothing that leads elsewhere than a walk of the
- *     memory, and nothing that leads into an unlinked frame [flushed; the law flushes_of_right_plans_suffice], whatever flags are set
- *     meanwhile [the law flags_keep_processors_up_to_date]. What it keeps is a frame or a table, with rights; dirty flags, G, keys and
- *     memory types of what it keeps aren't in the law [Kept]. Whoever clears a flag flushes as well;
- *   - an unlinked frame was a table on the way of the address, is none now, and is named once. Its words are all 0, but by a join, a
- *     collapse and a prune, where they stay as they were, but for flags: clear them before the frame is given again [unlinked, named_once].
- *     After an unmap each table on the way that may be unlinked has a word that isn't 0 [pruned];
- *   - what the caller has to keep of the memory holds again after the stores, so that plans follow one another, from a root of zeros on
- *     [whole, own; the law premises_hold_again];
- *   - where another root leads to tables that this root leads to, processors that walk from it find the old translation or the new one too,
- *     and the same flush suffices for them [the law plans_are_right_beside_their_root], under three conditions [IsBeside]. For each address
- *     the entries of both roots lead to one table and allow the same, or its way from the other root meets no table on the way of the base
- *     [ways]. The other root is itself no table on that way [root]. Where both share the entry for the base, `pinned` is not 0 and at most
- *     `levels` [pinned]. So these are outside: a table that is shared below different entries (page directories that Linux shares for
- *     huge pages), and a copy of a root whose entries allow less (the kernel's view of user space with page-table isolation);
- *   - what a plan through such a root asks of the memory holds again; but that the pages of both still make one address space, the caller
- *     has to know [the law roots_stay_beside];
- *   - the words of a frame are asked for once a level at most, by an unmap twice: if its page's table is left empty, it goes down once
- *     more, and looks whether those above are too [nrvs_plan_see: fewer, shows_left]. Each frame lies within `phys_bits` [within, of
- *     AwaitsWords in IsSound]. Then a map asks for a frame once for each level below the root's at most, a split or an unmap of parts
- *     once, and for no words any more [nrvs_plan_give, nrvs_plan_give_none: fewer, ends];
- *   - outside of what is listed below, where a reserved bit is set or the words shown are others, nothing is said of a plan but its size:
- *     at most NRVS_MOST_STORES stores and NRVS_MOST_UNLINKED frames [IsSound; named].
+ *   - a link that a plan writes is the frame's address plus 7: it allows everything, and has no other bit [AreLinks; put: IsSplit];
+ *   - a map overwrites words that are not present, whatever their other bits are, such as swap entries [one_way]. The overwritten word is
+ *     the `old_word` of the store. An unmap clears only the page's word and links [one_way, meant];
+ *   - if a protect or a remap of a page plans no store, its entry is already as it would be written. If a prune plans none, the table in
+ *     which the address's walk ends has a present entry, is the root, or stays [already]. The answered bits are those of the page's entry
+ *     [`told`];
+ *   - a remap is at most one store, which keeps all bits of the page's entry except its address and its rights. A split fills a frame that
+ *     was given with the entries of 512 pages of the next smaller size, which have the page's rights, flags and other bits. Then it links
+ *     that frame by one store. An unmap of parts does the same with 0 for these parts, and no other plan fills a frame. A join is one store
+ *     of an entry with the address, the rights and the bits of the first page, with both flags set, so that no processor sets one that
+ *     could be lost. A collapse is one such store too, with the address and the rights that were asked for. A prune is one store, which
+ *     clears the link to a table without a present entry [put: IsRemapped, IsSplit, IsJoined, IsCollapsed, IsCut];
+ *   - no flag of a page is lost if a store is made again. The flag is in the stored word (for a split or an unmap of parts, in the words of
+ *     the filled frame), and in the answered bits. The entry of a join or a collapse already has both flags, whatever flags were found. Its
+ *     answered bits have the flags of the first page as it was shown. The flags of a link are dropped with it [the law
+ *     flags_keep_plans_safe: protects, remaps, splits, joins, bits]. Then all that is said here holds for the memory with the word that was
+ *     found [the laws plans_are_made_again, plans_are_right_again];
+ *   - the flush that a plan names is sufficient. If a processor's caches agreed with the tables before, they do so again after it: they
+ *     have nothing that leads elsewhere than a walk of the memory, and nothing that leads into an unlinked frame [flushed; the law
+ *     flushes_of_right_plans_suffice], whatever flags are set meanwhile [the law flags_keep_processors_up_to_date]. In the law a cached
+ *     entry is a frame or a table, with rights; it has no dirty flag, G, key or memory type [Kept]. If you clear a flag, flush as well;
+ *   - an unlinked frame was a table on the address's walk, is none now, and is named once. Its words are all 0, except after a join, a
+ *     collapse or a prune: then they stay as they were, apart from flags, so clear them before the frame is given again [unlinked,
+ *     named_once]. After an unmap, each table on the walk that may be unlinked has a word that isn't 0 [pruned];
+ *   - what the caller has to keep about the memory holds again after the stores. So plans can follow one another, beginning with a root of
+ *     zeros [whole, own; the law premises_hold_again];
+ *   - if another root leads to tables of this root, processors that walk from that root also find the old translation or the new one, and
+ *     the same flush suffices for them [the law plans_are_right_beside_their_root], under three conditions [IsBeside]. For each address,
+ *     either the entries of both roots lead to one table and allow the same, or its walk from the other root meets no table on the walk of
+ *     the base [ways]. The other root is itself no table on that walk [root]. If both share the entry for the base, `pinned` is not 0 and
+ *     at most `levels` [pinned]. So two cases aren't covered: a table that is shared below different entries (page directories that Linux
+ *     shares for huge pages), and a copy of a root whose entries allow less (the kernel's view of user space with page-table isolation);
+ *   - what a plan through such a root requires of the memory holds again, but the caller has to know that the pages of both roots still
+ *     make one address space [the law roots_stay_beside];
+ *   - the words of a frame are asked for at most once a level, or twice for an unmap: if its page's table is left empty, it walks down once
+ *     more, to see whether the tables above are empty too [nrvs_plan_see: fewer, shows_left]. Each frame lies within `phys_bits` [within,
+ *     of AwaitsWords in IsSound]. Then a map asks for at most one empty frame for each level below the root's, and a split or an unmap of
+ *     parts for one. From then on no words are asked for [nrvs_plan_give, nrvs_plan_give_none: fewer, ends];
+ *   - if the caller doesn't keep what is listed below, for example if a reserved bit is set or other words are shown, only the plan's size
+ *     is known: at most NRVS_MOST_STORES stores and NRVS_MOST_UNLINKED frames [IsSound; named].
  *
  * What the caller has to keep, which no call can test:
- *   - pointers are not null, aligned as their types are, and to as many elements as is said; nobody else reads or writes the plan
- *     meanwhile; each call but the first is given the plan as the call before left it [IsSound];
- *   - the words shown are the 512 of the frame asked for, and but for flags that processors set they stay so until the plan is carried out.
- *     Flags may be set while nrvs_plan_see reads a frame too: what it hands the frame to reads no word twice [once, of FrameWords::read],
- *     so that what is known of a word is what one read gave. That nrvs_plan_see reads none itself was read in the code; that the archive
- *     reads none twice is tested (tests/plans). Of the calls over frames both were read in the code;
- *   - one lock is held from the first call until the flush is over on each processor. No other plan for this table, or for one that
- *     shares tables with it, begins before that, whichever its address is, but by the holder of the lock. The law of a flush is of
- *     processors that keep nothing but what walks of the memory find now [IsUpToDate, in Suffices]. One flush that is left out voids it
- *     for every later plan. Several plans may go before one flush that drops all that theirs drop, where none writes into a frame that
- *     one before it has unlinked: such a frame is free only after that flush [flushes_of_several_plans_suffice, of vs_range]. A processor
- *     may read between the parts of that flush, if their order is right: the first drops what is kept of tables too, as each invlpg does;
- *     or they are the plans' own, in their order [the law flushes_come_in_order]. No plan begins before the last part is done;
- *   - from the root on, each canonical address is translated with no frame that is missing and no reserved bit, and each page that is there
- *     lies below physical 2^51. That is asked of the whole address space: one such word anywhere, and nothing is said of any plan
- *     [IsPremise: translates, is_space];
- *   - no other way leads to the tables on the way of the address, the root among them [IsPremise: own]. So an entry that leads back to the
- *     root or to a table above (a recursive slot) is outside. Other addresses may share their tables, as a half that other roots have too:
- *     tables in common are changed through one root at a time, and with `pinned` where the root's own entries are in common;
- *   - a frame that is given has words that are all 0, no table leads to it, and it isn't given twice [IsSpareFor; given]. It has to be seen
- *     by the other processors as 0 before the stores, as it is where it was cleared by this processor;
- *   - the frame that is to be filled is filled before the stores, and again after an nrvs_plan_again. The stores are compare-exchanges, in
- *     their order, each of the whole word; then comes the flush, on each processor that may have used the table; then the unlinked frames
- *     may be freed, or given again. A plain store (WRITE_ONCE) would lose flags that a processor sets meanwhile;
- *   - an interrupt that asks other processors for the flush is sent after the last store is seen by all. By x2APIC an MFENCE and an LFENCE
- *     come before the WRMSR of the interrupt command, which may overtake stores (SDM volume 3A, "MSR Access in x2APIC Mode");
- *   - the flush: for NRVS_FLUSH_PAGE and NRVS_FLUSH_PAGE_AND_TABLES an invlpg of the base, which drops all entries of paging-structure
- *     caches, or a load of CR3 (SDM volume 3A, 4.10.4.1). NRVS_FLUSH_RANGE, after a split, an unmap of parts, a join or a collapse, takes
- *     an invlpg for each of the 512 smaller pages, or a load of CR3. EFER.TCE is 0: where it is 1, AMD's invlpg drops only the entries on
- *     the way of its address; an INVPCID of one address (type 0) does no more, so it isn't enough after NRVS_FLUSH_PAGE_AND_TABLES and
- *     NRVS_FLUSH_RANGE [IsDropped]. Pages that are global or of other PCIDs are the caller's;
- *   - the processor: CR0.WP and EFER.NXE are 1; where NXE is 0, bit 63 is reserved, so map with NRVS_EXEC. CR4.SMEP, SMAP, PKE and PKS are
- *     0, or it refuses more than the rights say. CR4.LA57 is 1 where there are five levels, and 0 where there are four. `phys_bits` is how
- *     many bits its physical addresses have (CPUID 80000008H). Attributes PWT, PCD and PAT, and memory types, are the caller's. Where it
- *     has no pages of 1 GiB (CPUID 80000001H, EDX bit 26 is 0), map none, and join and collapse no pages of 2 MiB: bit 7 is reserved there.
- *     Where a change of an executable page's size may raise a machine check (IA32_ARCH_CAPABILITIES, PSCHANGE_MC_NO is 0), split, join and
- *     collapse no such page, and unmap no parts of one: unmap, flush and map instead. Address bits that encrypt memory (AMD's C, TDX's
- *     shared) are left out: links have none;
- *   - the archive: XMM registers and linking are as in nrvs.h. The stack is aligned to 16 and has 6 KiB left, for ranges 8 KiB: some 5 and
- *     7.3 KiB are used, whatever is asked. No word is kept below RSP. There are jumps by tables and no calls by register; none is marked
- *     for CET, so CR4.CET is 0.
+ *   - pointers are not null, aligned for their types, and lead to as many elements as stated. Nobody else reads or writes the plan
+ *     meanwhile. Each call except the first gets the plan as the call before left it [IsSound];
+ *   - the words shown are the 512 of the frame asked for, and except for flags that processors set they stay so until the plan is carried
+ *     out. Flags may also be set while nrvs_plan_see reads a frame: the function that reads its words reads none twice [once, of
+ *     FrameWords::read], so all that is known about a word comes from one read. We read in the code that nrvs_plan_see reads none itself,
+ *     and tested that the archive reads none twice (tests/plans). For the calls over frames we read both in the code;
+ *   - one lock is held from the first call until the flush is over on each processor. Before that nobody but the holder of the lock begins
+ *     another plan for this table, or for one that shares tables with it, whichever its address is. The law on flushes is about processors
+ *     whose caches agree with the tables [IsUpToDate, in Suffices]: one missing flush voids it for every later plan. Several plans may
+ *     share one flush that drops all that theirs drop, if none writes into a frame that an earlier one has unlinked. Such a frame is free
+ *     only after that flush [flushes_of_several_plans_suffice, of vs_range]. A processor may read between the parts of that flush if their
+ *     order is right: the first part also drops what is cached of tables, as each invlpg does, or the parts are those of the plans, in
+ *     their order [the law flushes_come_in_order]. No plan begins before the last part is done;
+ *   - from the root on, the walk of each canonical address meets no missing frame and no reserved bit, and each page lies below physical
+ *     2^51. This is required of the whole address space: with one bad word anywhere, nothing is promised of any plan [IsPremise:
+ *     translates, is_space];
+ *   - no other path leads to the tables on the address's walk, including the root [IsPremise: own]. So an entry that leads back to the root
+ *     or to a table above it (a recursive slot) isn't covered. Tables of other addresses may be shared, such as a half that other roots
+ *     have too. Change shared tables through one root at a time, and with `pinned` if the root's own entries are shared;
+ *   - a frame that is given has only words of 0, no table leads to it, and it isn't given twice [IsSpareFor; given]. Other processors have
+ *     to see it as 0 before the stores, as they do if this processor cleared it;
+ *   - if a frame is to be filled, it is filled before the stores, and again after an nrvs_plan_again. The stores are compare-exchanges, in
+ *     their order, each of the whole word. Then comes the flush, on each processor that may have used the table. After that the unlinked
+ *     frames may be freed, or given again. A plain store (WRITE_ONCE) would lose flags that a processor sets meanwhile;
+ *   - an interrupt that asks other processors for the flush is sent only when all of them see the last store. With x2APIC, put an MFENCE
+ *     and an LFENCE before the WRMSR of the interrupt command, which may overtake stores (SDM volume 3A, "MSR Access in x2APIC Mode");
+ *   - the flush: for NRVS_FLUSH_PAGE and NRVS_FLUSH_PAGE_AND_TABLES, an invlpg of the base, which drops all entries of paging-structure
+ *     caches, or a load of CR3 (SDM volume 3A, 4.10.4.1). NRVS_FLUSH_RANGE, after a split, an unmap of parts, a join or a collapse, needs
+ *     an invlpg for each of the 512 smaller pages, or a load of CR3. EFER.TCE is 0: if it is 1, AMD's invlpg drops only the entries on the
+ *     walk of its address. An INVPCID of one address (type 0) does no more, so it isn't enough after NRVS_FLUSH_PAGE_AND_TABLES and
+ *     NRVS_FLUSH_RANGE [IsDropped]. Global pages and pages of other PCIDs are up to the caller;
+ *   - the processor: CR0.WP and EFER.NXE are 1. (If NXE is 0, bit 63 is reserved, so map with NRVS_EXEC.) CR4.SMEP, SMAP, PKE and PKS are
+ *     0, otherwise it refuses more than the rights say. CR4.LA57 is 1 with five levels, and 0 with four. `phys_bits` is how many bits its
+ *     physical addresses have (CPUID 80000008H). Attributes PWT, PCD and PAT, and memory types, are up to the caller. If it has no pages of
+ *     1 GiB (CPUID 80000001H, EDX bit 26 is 0), map none, and join and collapse no pages of 2 MiB: bit 7 would be reserved. If a change of
+ *     an executable page's size may raise a machine check (IA32_ARCH_CAPABILITIES, PSCHANGE_MC_NO is 0), don't split, join or collapse such
+ *     a page, nor unmap parts of one: unmap, flush and map instead. Address bits that encrypt memory (AMD's C, TDX's shared) aren't
+ *     supported: links have none;
+ *   - the archive: XMM registers and linking are as in nrvs.h. The stack is aligned to 16 and has 6 KiB left, or 8 KiB for ranges: some 5
+ *     and 7.3 KiB are used, whatever is asked for. Nothing is kept below RSP. There are jumps by tables, but no calls by register. They
+ *     aren't marked for CET, so CR4.CET is 0.
  *
  */
 #ifndef NRVS_PLAN_H
@@ -163,8 +162,8 @@ struct nrvs_store {
 	uint64_t new_word;
 };
 
-/* A table that is written before the stores: word i of a frame, 0 to 511, becomes `first_word` + i * `step`; but `gap_count` words from
- * index `gap` on stay 0: none by a split.
+/* A table that is written before the stores: word i of a frame, 0 to 511, becomes `first_word` + i * `step`, but `gap_count` words from
+ * index `gap` on stay 0. For a split there are none of these.
  */
 struct nrvs_fill {
 	uint64_t frame;
@@ -176,7 +175,7 @@ struct nrvs_fill {
 
 enum { NRVS_MOST_STORES = 5, NRVS_MOST_UNLINKED = 4 };
 
-/* A plan, and how far it is. What most plans have, with one store, is in the first 128 bytes. */
+/* A plan, and how far it is made. What most plans have, with one store, lies in the first 128 bytes. */
 struct nrvs_plan {
 	uint64_t frame;           /* after NRVS_SEE: the frame whose words are to be shown */
 	struct nrvs_reply reply;  /* after NRVS_PLANNED: what the call answers; it and all that follows */
@@ -195,7 +194,7 @@ struct nrvs_plan {
 	uint64_t own[19];         /* the library's */
 };
 
-/* What comes next. Each call but nrvs_plan_again returns one of these, where it isn't refused, and the plan waits for just that [status;
+/* What comes next. Each call except nrvs_plan_again returns one of these, unless it is refused, and the plan waits for just that [status;
  * begun of the calls that begin a plan].
  */
 enum {
@@ -204,10 +203,10 @@ enum {
 	NRVS_GIVE = 33    /* an empty frame is to be given: nrvs_plan_give, or nrvs_plan_give_none */
 };
 
-/* What a call is refused for [status, asked]; some are of nrvs.h. The first that holds is returned, in this order: NRVS_BAD_LEVELS;
+/* Why a call is refused [status, asked]; some reasons are in nrvs.h. The first that holds is returned, in this order: NRVS_BAD_LEVELS;
  * NRVS_PHYS_BITS above 52; NRVS_BAD_SIZE; NRVS_BAD_RIGHTS; NRVS_PHYS_BITS below 36; NRVS_BAD_ROOT; NRVS_NOT_CANONICAL; NRVS_UNALIGNED;
- * NRVS_PHYS_UNALIGNED; NRVS_PHYS_RANGE, where the page doesn't lie below physical 2^51 and 2^phys_bits; NRVS_BAD_BITS; NRVS_BAD_PART. The
- * plan is then as it was [refused]. That a page that is there lies within phys_bits is not looked at.
+ * NRVS_PHYS_UNALIGNED; NRVS_PHYS_RANGE, if the page doesn't lie below physical 2^51 and 2^phys_bits; NRVS_BAD_BITS; NRVS_BAD_PART. The plan
+ * is then as it was [refused]. No call checks whether an existing page lies within phys_bits.
  */
 enum {
 	NRVS_PHYS_BITS = 14, /* `phys_bits` is none of 36 to 52 */
@@ -218,10 +217,9 @@ enum {
 	NRVS_BAD_PART = 18   /* parts that are to be removed: none, all 512, or not all among 0 to 511 */
 };
 
-/* Codes of replies, beside those of nrvs.h. No store is planned then [nothing]. Each is given only where it holds [reply]; of 15 to 19 one
- * is given wherever one holds, and nothing else then, but NRVS_RESERVED for a link beyond phys_bits [due]. Where two hold it is the first:
- * of a remap in the order 15, 16, of a join in the order 18, 19, 15, of a collapse in the order 18, 19, 15, 16 [phys_refusal, not_first,
- * not_over].
+/* Codes of replies, beside those of nrvs.h. With these no store is planned [nothing]. Each is answered only if it holds [reply]. If one of
+ * 15 to 19 holds, one of them is answered, or NRVS_RESERVED for a link beyond phys_bits, and nothing else [due]. If two of them hold it is
+ * the first in this order: for a remap 15, 16, for a join 18, 19, 15, for a collapse 18, 19, 15, 16 [phys_refusal, not_first, not_over].
  */
 enum {
 	NRVS_NO_FRAME = 10,    /* none was given; those that were are free */
@@ -246,7 +244,7 @@ enum {
 	NRVS_PINNED = 21       /* the pages that are to be joined or collapsed lie in a table that stays, by `pinned` [KeepsTable] */
 };
 
-/* What the processors that use this table have to forget once the last store is carried out. */
+/* What the processors that use this table have to drop after the last store is carried out. */
 enum {
 	NRVS_FLUSH_NOTHING = 0,
 	NRVS_FLUSH_PAGE = 1,           /* the translations of a page */
@@ -254,8 +252,8 @@ enum {
 	NRVS_FLUSH_RANGE = 3           /* all translations from the base on for as many bytes as this size, and what they keep of tables */
 };
 
-/* Attributes of a page, at the places of an entry of 4 KiB, whatever the size: PWT 3, PCD 4, accessed 5, dirty 6, PAT 7, global 8, for
- * software 11:9 and 58:52, protection key 62:59. Map with both flags (5 and 6) where no processor is to write the entry.
+/* Attributes of a page, at the bit positions of a 4 KiB entry, whatever the size is: PWT 3, PCD 4, accessed 5, dirty 6, PAT 7, global 8,
+ * for software 11:9 and 58:52, protection key 62:59. Map with both flags (5 and 6) if no processor is to write the entry.
  */
 #define NRVS_ATTRIBUTES UINT64_C(0x7ff0000000000ff8)
 
@@ -265,7 +263,7 @@ enum {
 uint32_t nrvs_plan_map(struct nrvs_plan *plan, const struct nrvs_target *target, uint64_t base, uint32_t size, uint64_t physical,
 		       uint32_t rights, uint64_t bits);
 
-/* Unmaps the page that begins at an address, and unlinks the tables that are emptied [reply, put, pruned]: NRVS_REMOVED, NRVS_INSIDE,
+/* Unmaps the page that begins at an address, and unlinks the tables that become empty [reply, put, pruned]: NRVS_REMOVED, NRVS_INSIDE,
  * NRVS_NOT_MAPPED.
  */
 uint32_t nrvs_plan_unmap(struct nrvs_plan *plan, const struct nrvs_target *target, uint64_t base);
@@ -275,61 +273,61 @@ uint32_t nrvs_plan_unmap(struct nrvs_plan *plan, const struct nrvs_target *targe
  */
 uint32_t nrvs_plan_protect(struct nrvs_plan *plan, const struct nrvs_target *target, uint64_t base, uint32_t rights);
 
-/* Lets the page that begins at an address lead to another physical address, with these rights; its size stays [reply, due, put, already]:
- * NRVS_CHANGED (with the rights that it had), NRVS_INSIDE, NRVS_NOT_MAPPED, NRVS_MISPLACED, NRVS_BEYOND, NRVS_NARROW. The physical address
- * that it had is in `old_word` of the store alone; where no store is planned it is the new one.
+/* Moves the page that begins at an address to another physical address, with these rights; its size stays [reply, due, put, already]:
+ * NRVS_CHANGED (with the rights that it had), NRVS_INSIDE, NRVS_NOT_MAPPED, NRVS_MISPLACED, NRVS_BEYOND, NRVS_NARROW. Only `old_word` of
+ * the store has its old physical address. If no store is planned, that is the same as the new one.
  */
 uint32_t nrvs_plan_remap(struct nrvs_plan *plan, const struct nrvs_target *target, uint64_t base, uint64_t physical, uint32_t rights);
 
-/* Puts 512 pages of the next smaller size in the place of the page that begins at an address; they translate as it does, and an empty frame
- * is asked for [reply, due, put; the law splits_keep_translations]: NRVS_CHANGED (with the rights, which stay), NRVS_INSIDE,
- * NRVS_NOT_MAPPED, NRVS_SMALLEST, NRVS_NO_FRAME, NRVS_FRAME_RANGE.
+/* Replaces the page that begins at an address by 512 pages of the next smaller size, which translate as it does; asks for an empty frame
+ * [reply, due, put; the law splits_keep_translations]: NRVS_CHANGED (with the rights, which stay), NRVS_INSIDE, NRVS_NOT_MAPPED,
+ * NRVS_SMALLEST, NRVS_NO_FRAME, NRVS_FRAME_RANGE.
  */
 uint32_t nrvs_plan_split(struct nrvs_plan *plan, const struct nrvs_target *target, uint64_t base);
 
-/* Puts one page in the place of 512, the first of which begins at an address, where they follow on from each other in memory and are alike
- * but for flags 5 and 6 [reply, due, put, fits; the law joins_keep_translations]: NRVS_CHANGED (with the rights, which stay), NRVS_INSIDE,
- * NRVS_NOT_MAPPED, NRVS_LARGEST, NRVS_NOT_FIRST, NRVS_MISPLACED, NRVS_PINNED, NRVS_APART.
+/* Replaces 512 pages, the first of which begins at an address, by one page, if they are contiguous in memory and alike except for flags 5
+ * and 6 [reply, due, put, fits; the law joins_keep_translations]: NRVS_CHANGED (with the rights, which stay), NRVS_INSIDE, NRVS_NOT_MAPPED,
+ * NRVS_LARGEST, NRVS_NOT_FIRST, NRVS_MISPLACED, NRVS_PINNED, NRVS_APART.
  */
 uint32_t nrvs_plan_join(struct nrvs_plan *plan, const struct nrvs_target *target, uint64_t base);
 
-/* Unlinks the table in which the way of an address ends, where none of its entries is present [reply, put, already]: NRVS_DONE. The table
- * is in `unlinked`; where there is none, it has a present entry, is the root, or stays by `pinned`. Any address on its way will do, as that
- * in `bits` after NRVS_EMPTY. One table is unlinked at a time.
+/* Unlinks the table in which the walk of an address ends, if none of its entries is present [reply, put, already]: NRVS_DONE. The table is
+ * in `unlinked`. If nothing is there, the table has a present entry, is the root, or stays by `pinned`. Any address whose walk ends there
+ * will do, such as the one in `bits` after NRVS_EMPTY. One call unlinks one table.
  */
 uint32_t nrvs_plan_prune(struct nrvs_plan *plan, const struct nrvs_target *target, uint64_t address);
 
-/* Removes `count` of the 512 parts of the page of 2 MiB or 1 GiB that begins at an address, from number `first` on: the space is that after
- * a split and an unmap of each of these parts [reply; stepped]. An empty frame is asked for, filled with the parts that stay, and linked by
- * one store, so that each address is translated as before it or as after it [put, safe]: NRVS_CHANGED (with the rights, which stay),
- * NRVS_INSIDE, NRVS_NOT_MAPPED, NRVS_SMALLEST, NRVS_NO_FRAME, NRVS_FRAME_RANGE. Refused with NRVS_BAD_PART after NRVS_UNALIGNED where there
- * are no such parts, or all: unmap the page then.
+/* Removes `count` of the 512 parts of the page of 2 MiB or 1 GiB that begins at an address, from part number `first` on: the result is as
+ * after a split and an unmap of each of these parts [reply; stepped]. It asks for an empty frame, which is filled with the parts that stay,
+ * and linked by one store. So each address is translated as before or as after [put, safe]: NRVS_CHANGED (with the rights, which stay),
+ * NRVS_INSIDE, NRVS_NOT_MAPPED, NRVS_SMALLEST, NRVS_NO_FRAME, NRVS_FRAME_RANGE. It is refused with NRVS_BAD_PART, checked after
+ * NRVS_UNALIGNED, if there are no such parts, or if these are all: then unmap the page.
  */
 uint32_t nrvs_plan_unmap_part(struct nrvs_plan *plan, const struct nrvs_target *target, uint64_t base, uint64_t first, uint64_t count);
 
-/* Puts one page of the next larger size, at this physical address and with these rights, in the place of 512, the first of which
- * begins at an address. They may lie anywhere, but have the same rights, and the same attributes but for flags 5 and 6 [reply, due,
+/* Replaces 512 pages, the first of which begins at an address, by one page of the next larger size, at this physical address and with these
+ * rights. The 512 pages may lie anywhere, but must have the same rights, and the same attributes except for flags 5 and 6 [reply, due,
  * put]: NRVS_CHANGED (with the rights that the first had), NRVS_INSIDE, NRVS_NOT_MAPPED, NRVS_LARGEST, NRVS_NOT_FIRST, NRVS_MISPLACED,
- * NRVS_BEYOND, NRVS_NARROW, NRVS_PINNED, NRVS_APART. What lies at the physical address is the caller's: that it has what the pages
- * have, and that nobody writes to them from the copy until the flush is over, as where they were protected and flushed before.
+ * NRVS_BEYOND, NRVS_NARROW, NRVS_PINNED, NRVS_APART. What lies at the physical address is up to the caller: it has to have the contents of
+ * the pages, and nobody may write to them from the copy until the flush is over. For example, protect and flush them before.
  */
 uint32_t nrvs_plan_collapse(struct nrvs_plan *plan, const struct nrvs_target *target, uint64_t base, uint64_t physical, uint32_t rights);
 
-/* Looks at an address: NRVS_MAPPED, with the physical address of this very address, or NRVS_NOT_MAPPED. No store is planned [reply,
- * nothing].
+/* Looks an address up: NRVS_MAPPED, with the physical address of this address (not of its page), or NRVS_NOT_MAPPED. No store is planned
+ * [reply, nothing].
  */
 uint32_t nrvs_plan_ask(struct nrvs_plan *plan, const struct nrvs_target *target, uint64_t address);
 
-/* Five of these requests over frames that lie one after another, as in a direct map: frame number `first` + i has the words
- * frames[i].word, for each i below `count`. Such a call begins the plan [refused] and shows it the frames that it asks for, as far as they
- * lie there [seen]. So, where it isn't refused, it returns NRVS_PLANNED; NRVS_GIVE; or NRVS_SEE of a frame that lies elsewhere, after which
- * nrvs_plan_see goes on [HasSeen: waits, elsewhere, kept]. The plan is right for each memory that has these frames [HasSeen: next].
+/* Five of these requests over consecutive frames, as in a direct map: frame number `first` + i has the words frames[i].word, for each i
+ * below `count`. Such a call begins the plan [refused] and shows it the frames that it asks for, as far as they lie there [seen]. So,
+ * unless it is refused, it returns NRVS_PLANNED, or NRVS_GIVE, or NRVS_SEE for a frame that lies elsewhere, after which nrvs_plan_see goes
+ * on [HasSeen: waits, elsewhere, kept]. The plan is right for each memory that has these frames [HasSeen: next].
  *
- * Where the way leads to a table of level 1 there, and no table is linked or unlinked, the plan is made by one way down, in some 190
- * instructions. All else is planned as by the calls one by one; the words of the first way down are then read once more, and what they
- * were is not used. That it is just the plan of the calls one by one is tested (tests/plans); that no frame is read but those on the way
- * was read in the code. So only these have to stay as they are while the call runs, but for flags: others may change, as under other
- * locks. A proof speaks of frames that all stay as they are: plan and target lie in none that is asked for.
+ * If the walk leads to a table of level 1 there, and no table is linked or unlinked, the plan is made in one walk, in some 190
+ * instructions. Everything else is planned as by the single calls. Then the words of the first walk are read once more, and what the first
+ * read gave isn't used. We tested that the plan is just that of the single calls (tests/plans), and read in the code that only frames on
+ * the walk are read. So only these have to stay as they are while the call runs, except for flags. Others may change, for example under
+ * other locks. The proof is about frames that all stay as they are, with plan and target in none that is asked for.
  */
 uint32_t nrvs_plan_map_in(struct nrvs_plan *plan, const struct nrvs_target *target, const struct nrvs_words *frames, size_t count,
 			  uint64_t first, uint64_t base, uint32_t size, uint64_t physical, uint32_t rights, uint64_t bits);
@@ -342,22 +340,22 @@ uint32_t nrvs_plan_remap_in(struct nrvs_plan *plan, const struct nrvs_target *ta
 uint32_t nrvs_plan_ask_in(struct nrvs_plan *plan, const struct nrvs_target *target, const struct nrvs_words *frames, size_t count,
 			  uint64_t first, uint64_t address);
 
-/* Shows the words of `plan->frame` [next]. NRVS_NOT_ASKED where no words are waited for [asked]. */
+/* Shows the words of `plan->frame` [next]. NRVS_NOT_ASKED if the plan doesn't wait for words [asked]. */
 uint32_t nrvs_plan_see(struct nrvs_plan *plan, const uint64_t words[512]);
 
-/* Gives a frame all of whose words are 0; says that there is none [next]. NRVS_NOT_ASKED where no frame is waited for [asked]. */
+/* Gives a frame whose words are all 0, or says that there is none [next]. NRVS_NOT_ASKED if the plan doesn't wait for a frame [asked]. */
 uint32_t nrvs_plan_give(struct nrvs_plan *plan, uint64_t frame);
 uint32_t nrvs_plan_give_none(struct nrvs_plan *plan);
 
-/* Store `index` finds `found` in place of an `old_word` that is present (bit 0), from which it differs by flags 5 and 6 at most, set or
- * cleared: NRVS_OK, and the plan has that word in its place [flags, again]; wherever that is so [done], and only there [asked, flags].
- * Where it fills a frame, that has to be filled again.
+/* Store `index` found `found` instead of its `old_word`. If that is present (bit 0), and differs from it by flags 5 and 6 at most, set or
+ * cleared, this returns NRVS_OK, and the plan has the word `found` instead [flags, again; done]. Otherwise it is refused [asked, flags]. If
+ * the plan fills a frame, fill it again.
  */
 uint32_t nrvs_plan_again(struct nrvs_plan *plan, uint64_t index, uint64_t found);
 
-/* Ranges: pages that follow one another, in one run of words for each table. A call deals with pages of one table, from the base of the
- * range on, as the calls page by page would in their order, up to the first that is refused. It is asked for words and frames as a plan is,
- * and ends with one of the codes below. The caller carries that out and goes on with the rest of the range:
+/* Ranges: consecutive pages, with one run of words for each table. A call deals with pages of one table, from the base of the range on, as
+ * single calls for each page would in their order, up to the first that would be refused. It asks for words and frames as a plan does, and
+ * ends with one of the codes below. The caller carries that out and goes on with the rest of the range:
  *
  *     while (bytes) {
  *             step = nrvs_plan_unmap_range(&run, &target, base, bytes);
@@ -382,23 +380,25 @@ uint32_t nrvs_plan_again(struct nrvs_plan *plan, uint64_t index, uint64_t found)
  *     }
  *     shoot_down(..);                                                          // once, for all runs and plans
  *
- * What is promised of a run, under all that has to be kept for plans [next of nrvs_run_see and of the calls over frames: IsRangeNextOf]:
- *   - it has a page, lies within the range and within its table, and is as long as it can be [some, within, longest; room];
- *   - what comes of it is what comes of the calls page by page: each has a plan that is right for the memory and the space that those
- *     before it have left, and is done; together they leave the memory that the run leaves, and unlink nothing [calls, asked, right, done,
+ * The following is promised of a run, if everything is kept that has to be kept for plans [next of nrvs_run_see and of the calls over
+ * frames: IsRangeNextOf]:
+ *   - it has at least one page, lies within the range and within its table, and is as long as possible [some, within, longest; room];
+ *   - its result is that of single calls for each page. Each of these has a plan that is right for the memory and the space after those
+ *     before it, and answers NRVS_DONE. Together they leave the memory that the run leaves, and unlink nothing [calls, asked, right, done,
  *     ended, unlinked, of IsRunRight];
- *   - each store finds the word that was shown, but for flags that were set since [found]; each address is walked as before up to one of
- *     the stores at most, and from that one on as after them all [switches]: so a processor never finds a page that is half changed;
- *   - it is of the table to which the way of the base leads, from the entry for the base on, of pages of that table's level, and its words
- *     change as was asked [IsRunOf];
- *   - a processor that was up to date before the run is so again after it and the flush of each of its pages, or none, in any order, whatever
- *     it reads meanwhile [flushed, suffices; forgets]. Runs and plans may follow one another before one flush that drops all that theirs
- *     drop, whatever flags processors set meanwhile; an access that is made meanwhile finds what a walk finds before the first or after one
- *     of them [the law flushes_of_several_plans_suffice: read, between, flushing];
- *   - a harvest finds present entries of pages, clears their flags 5 and 6 and nothing else, and its flush drops what is kept of its pages,
- *     so that a processor sets the flags again [IsHarvestNext: cleared, found, dropped].
+ *   - each store finds the word that was shown, except for flags that were set since [found]. Each address is translated as before up to
+ *     one of the stores, and from that one on as after all of them [switches]. So a processor never finds a half-changed page;
+ *   - it lies in the table to which the walk of the base leads, from the entry for the base on. Its pages are of that table's level, and
+ *     its words change as requested [IsRunOf];
+ *   - the flush is sufficient: a processor whose caches agreed with the tables before the run has such caches again after a flush of each
+ *     of its pages, or none if none is named, in any order, whatever it reads meanwhile [flushed, suffices; forgets]. Several runs and
+ *     plans may share one flush that drops all that theirs drop, whatever flags processors set meanwhile. An access during that time finds
+ *     what a walk finds before the first or after one of them [the law flushes_of_several_plans_suffice: read, between, flushing];
+ *   - a harvest finds present entries of pages, and clears their flags 5 and 6 and nothing else. Its flush drops what is cached of its
+ *     pages, so that a processor sets the flags again [IsHarvestNext: cleared, found, dropped].
  *
- * No table is linked or unlinked by a run: the first page for which a table is new, and the last of a table, come as plans [NRVS_PLANNED].
+ * A run links and unlinks no table. The first page in a new table, and the last page of a table that becomes empty, come as plans
+ * [NRVS_PLANNED].
  */
 struct nrvs_run {
 	uint64_t frame;        /* after NRVS_RUN and NRVS_HARVEST: the table; it and all up to `covered` */
@@ -416,7 +416,7 @@ struct nrvs_run {
 	struct nrvs_plan plan; /* after NRVS_SEE `plan.frame` is to be shown; after NRVS_PLANNED it is the plan */
 };
 
-/* What comes next, beside NRVS_SEE and NRVS_GIVE [IsRangeStatus; IsRangeNextOf]. */
+/* What comes next, besides NRVS_SEE and NRVS_GIVE [IsRangeStatus; IsRangeNextOf]. */
 enum {
 	/* NRVS_PLANNED: `plan` is the plan of the page at the base alone: it links or unlinks tables, or the page is refused or isn't there;
 	 * of a harvest what nrvs_plan_ask answers of a page that begins before the base [planned] */
@@ -428,11 +428,12 @@ enum {
 			    * split. Never by a map [beyond] */
 };
 
-/* Begins a range of so many bytes: NRVS_SEE, or what nrvs_plan_map of its first page, nrvs_plan_unmap, nrvs_plan_protect and nrvs_plan_ask
- * of its base are refused for; the struct is then as it was [status, begun, refused]. By a map the pages follow one another physically
- * too. It is refused with NRVS_UNALIGNED before all else where `bytes` are 0, or no multiple of a `size` that there is: so it never goes
- * beyond its range [status: map_range_status]. Then each range is refused with NRVS_NOT_CANONICAL that goes beyond the last address, where
- * base + bytes is more than 2^64 [range_status]. An unmap, a protect and a harvest take pages of all sizes; a run has those of one.
+/* Begins a range of `bytes` bytes: NRVS_SEE, or a refusal, as of nrvs_plan_map for its first page, and of nrvs_plan_unmap,
+ * nrvs_plan_protect and nrvs_plan_ask for its base. After a refusal the struct is as it was [status, begun, refused]. The pages of a map
+ * are contiguous in physical memory too. A map is refused with NRVS_UNALIGNED before all else if `bytes` is 0, or no multiple of the size,
+ * if that is a size: so it never goes beyond its range [status: map_range_status]. After that, any range that goes beyond the last address,
+ * so that base + bytes is more than 2^64, is refused with NRVS_NOT_CANONICAL [range_status]. An unmap, a protect and a harvest deal with
+ * pages of all sizes, but a run has pages of one size.
  */
 uint32_t nrvs_plan_map_range(struct nrvs_run *run, const struct nrvs_target *target, uint64_t base, uint32_t size, uint64_t physical,
 			     uint32_t rights, uint64_t bits, uint64_t bytes);
@@ -440,16 +441,17 @@ uint32_t nrvs_plan_unmap_range(struct nrvs_run *run, const struct nrvs_target *t
 uint32_t nrvs_plan_protect_range(struct nrvs_run *run, const struct nrvs_target *target, uint64_t base, uint64_t bytes, uint32_t rights);
 uint32_t nrvs_plan_harvest_range(struct nrvs_run *run, const struct nrvs_target *target, uint64_t base, uint64_t bytes);
 
-/* Shows the words of `run->plan.frame` [next]; one frame a level at most is asked for, and that of the lowest table once more where an
- * unmap would leave it empty [fewer]. NRVS_NOT_ASKED where no words are waited for [asked].
+/* Shows the words of `run->plan.frame` [next]. At most one frame a level is asked for, and that of the lowest table once more if an unmap
+ * would leave it empty [fewer]. A page at the base that ends beyond the range is named so, and one that can go in a run does [taken].
+ * NRVS_NOT_ASKED if no words are waited for [asked].
  */
 uint32_t nrvs_run_see(struct nrvs_run *run, const uint64_t words[512]);
 
-/* As nrvs_plan_give and nrvs_plan_give_none [next, given, fewer]. NRVS_NOT_ASKED where no frame is waited for [asked]. */
+/* Like nrvs_plan_give and nrvs_plan_give_none [next, given, fewer]. NRVS_NOT_ASKED if no frame is waited for [asked]. */
 uint32_t nrvs_run_give(struct nrvs_run *run, uint64_t frame);
 uint32_t nrvs_run_give_none(struct nrvs_run *run);
 
-/* Ranges over frames that lie one after another, as in a direct map: as nrvs_plan_map_in and those beside it are [refused, seen:
+/* Ranges over consecutive frames, as in a direct map: they are to ranges what nrvs_plan_map_in is to nrvs_plan_map [refused, seen:
  * HasSeenRange].
  */
 uint32_t nrvs_plan_map_range_in(struct nrvs_run *run, const struct nrvs_target *target, const struct nrvs_words *frames, size_t count,
@@ -462,13 +464,13 @@ uint32_t nrvs_plan_protect_range_in(struct nrvs_run *run, const struct nrvs_targ
 uint32_t nrvs_plan_harvest_range_in(struct nrvs_run *run, const struct nrvs_target *target, const struct nrvs_words *frames, size_t count,
 				    uint64_t first, uint64_t base, uint64_t bytes);
 
-/* What word i of a run becomes, where it is `word`. */
+/* What word i of a run becomes if it is `word`. */
 static inline uint64_t nrvs_run_word(const struct nrvs_run *run, uint64_t i, uint64_t word)
 {
 	return (word & run->keep) + run->first_word + i * run->step;
 }
 
-/* One word by an exchange: what was there. */
+/* Exchanges one word, and returns what was there. */
 static inline uint64_t nrvs_run_exchange(uint64_t *at, uint64_t keep, uint64_t next)
 {
 	uint64_t was = __atomic_load_n(at, __ATOMIC_RELAXED);
@@ -477,9 +479,9 @@ static inline uint64_t nrvs_run_exchange(uint64_t *at, uint64_t keep, uint64_t n
 	return was;
 }
 
-/* Carries a run out in the words of its frame, from the first to the last, each by one exchange of what is there: flags that a processor
- * has set meanwhile are kept, or found. By a map, whose words aren't present, a store does: no processor writes those. What each finds
- * goes to `found`, room for run->count words, or NULL. This is C, and not proved; it is tested (tests/plans).
+/* Carries a run out in the words of its frame, from the first to the last, each by one exchange. So flags that a processor has set
+ * meanwhile are kept, or found. For a map a store suffices, since its words aren't present, and no processor writes those. What each
+ * exchange finds goes to `found`, which has room for run->count words or is NULL. This is C, and not proved; it is tested (tests/plans).
  */
 static inline void nrvs_run_carry_out(const struct nrvs_run *run, uint64_t *words, uint64_t *found)
 {

@@ -35,6 +35,7 @@ pub data Work : Type 0 where
   Takes : (act : Act) → Work
   CarriesOut : (node : ℕ) → (request : Request) → (offered : List (Option ℕ)) → (plan : Plan) → Work
 
+-- a step of the schedule applies no entry
 abbrev pub AppliesNone : Act → Type 0
 AppliesNone (Applies n) = ⊥
 AppliesNone act = ⊤
@@ -50,6 +51,7 @@ pub record IsPlanFor {Answer : Type 0} (target : ℕ → Target) (kind : Kind Sp
   pub right : IsRight (target n) request (w.memory n) (w.nodes.state n) offered plan
   pub same : space_after (target n) request (w.nodes.state n) plan.reply ≡ kind.step (w.nodes.state n) (entry_at w n)
 
+-- the work may be done: a step of the schedule that applies no entry, or an entry by a plan for it
 abbrev pub MayWork : {Answer : Type 0} → ℕ → (ℕ → Target) → Kind Space Answer → Tables Answer → Work → Type 0
 MayWork nodes target kind w (Takes act) = AppliesNone act × MayAct nodes w.nodes.world act
 MayWork nodes target kind w (CarriesOut n request offered plan) =
@@ -60,6 +62,7 @@ abbrev pub moments_after : {Answer : Type 0} → Tables Answer → ℕ → Plan 
 moments_after w n plan done =
     while_stored (begun (w.memory n) plan) (take done plan.stores.items) (Is (begun (w.memory n) plan) ∷ w.moments n)
 
+-- what becomes of the nodes, their memories and their processors by a work
 abbrev pub worked : {Answer : Type 0} → Kind Space Answer → Tables Answer → Work → Tables Answer
 worked kind w (Takes act) = record w { nodes = followed kind w.nodes act }
 worked kind w (CarriesOut n request offered plan) = record w {
@@ -74,6 +77,7 @@ abbrev pub Works : {Answer : Type 0} → ℕ → (ℕ → Target) → Kind Space
 Works nodes target kind w [] = ⊤
 Works nodes target kind w (work ∷ works) = MayWork nodes target kind w work × Works nodes target kind (worked kind w work) works
 
+-- what becomes of them by works, one after another
 abbrev pub after_works : {Answer : Type 0} → Kind Space Answer → Tables Answer → List Work → Tables Answer
 after_works kind w [] = w
 after_works kind w (work ∷ works) = after_works kind (worked kind w work) works
@@ -83,6 +87,7 @@ pub record AreNew (nodes : ℕ) (target : ℕ → Target) (memory : ℕ → Memo
   pub whole : (n : ℕ) → n < nodes → AreWhole (memory n)
   pub clear : (n : ℕ) → n < nodes → finite.get (memory n) (target n).root ≡ Some zeros
 
+-- the nodes before the first work
 abbrev pub new_tables : {Answer : Type 0} → ℕ → Kind Space Answer → (ℕ → Memory) → Tables Answer
 new_tables nodes kind memory = record { nodes = at_first nodes kind; memory = memory; moments = λ n. [] }
 
@@ -90,6 +95,7 @@ new_tables nodes kind memory = record { nodes = at_first nodes kind; memory = me
 abbrev pub space_of : {Answer : Type 0} → Kind Space Answer → Tables Answer → ℕ → Space
 space_of kind w count = state_after kind w.nodes.world.log.entry count
 
+-- what a walk of an address finds after so many entries
 abbrev pub found_in : {Answer : Type 0} → Kind Space Answer → Tables Answer → ℕ → ℕ → Walk
 found_in kind w count address = as_walk (look (space_of kind w count) address)
 

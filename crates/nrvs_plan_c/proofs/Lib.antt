@@ -13,3 +13,5 @@ mod EndsHere
 mod RangesBegun
 mod RunNumbers
 mod RangesMoved
+mod RangesTaken
+mod RangesDown

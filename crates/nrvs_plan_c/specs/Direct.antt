@@ -1,5 +1,5 @@
 -- Frames that lie one after another in memory, as in a direct map.
-use Rattle.std.specs.Prelude.{◌≡◌, ◌≢◌, ◌⊎◌, ℕ, ◌+◌, ◌<◌, ◌≤◌, List, [], length, slice_index_or, Some}
+use Rattle.std.specs.Prelude.{◌≡◌, ◌≢◌, ◌⊎◌, ℕ, ◌+◌, ◌<◌, ◌≤◌, List, [], length, slice_index_or, Some, None}
 use Rattle.std.specs.FinMap as finite
 use Rattle.vs_walk.specs.Memory.{Memory}
 use Rattle.vs_plan.specs.declared.plan.TheConstants.{MOST_UNLINKED}
@@ -13,15 +13,14 @@ use Rattle.nrvs_plan_c.specs.declared.kept.Words.{Words}
 use Rattle.nrvs_plan_c.specs.Kept.{IsSound, phase_in, planner_in, request_in, target_in}
 use Rattle.nrvs_plan_c.specs.Next.{IsNextFor, status_in}
 
--- the memory has these frames, from a number on
-abbrev pub HasFrames : Memory → ℕ → List Words → Type 0
-HasFrames memory first frames = (i : ℕ) (words : Words) → i < length frames → words ≡ slice_index_or frames i words
-    → finite.get memory (first + i) ≡ Some words.word
-
 -- the memory has those of these frames that lie within the physical addresses
 abbrev pub HasFramesWithin : Target → Memory → ℕ → List Words → Type 0
 HasFramesWithin target memory first frames = (i : ℕ) (words : Words) → i < length frames → first + i < frames_end target
     → words ≡ slice_index_or frames i words → finite.get memory (first + i) ≡ Some words.word
+
+-- the memory has no frame beyond the physical addresses
+abbrev pub HasNoneBeyond : Target → Memory → Type 0
+HasNoneBeyond target memory = (number : ℕ) → frames_end target ≤ number → finite.get memory number ≡ None
 
 -- a frame is none of so many, from a number on
 abbrev pub IsElsewhere : ℕ → ℕ → ℕ → Type 0

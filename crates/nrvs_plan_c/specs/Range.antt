@@ -2,12 +2,14 @@
 use Rattle.std.specs.Prelude.{◌≡◌, ◌≢◌, ℕ, ◌+◌, ◌*◌, ◌^◌, ◌<◌, ◌≤◌, ◌⊎◌, ◌||◌, Bool, List, Option, cond, nat_eq, nat_lt, if◌then◌else◌}
 use Rattle.std.specs.Int.Bits.{bit_and}
 use Rattle.vs_types.specs.Codes.{size_code}
+use Rattle.vs_types.specs.Depth.{levels}
 use Rattle.vs_types.specs.Page.{bytes_of}
 use Rattle.vs_types.specs.Space.{Space}
 use Rattle.vs_types.specs.declared.page.Rights.{Rights}
 use Rattle.vs_types.specs.declared.page.Size.{Size}
 use Rattle.vs_walk.specs.Memory.{Memory}
 use Rattle.vs_plan.specs.declared.plan.TheConstants.{MOST_UNLINKED}
+use Rattle.vs_plan.specs.declared.planner.Phase.TheVariants.{Descent}
 use Rattle.vs_plan.specs.declared.request.Request.{Request}
 use Rattle.vs_plan.specs.declared.request.Request.TheVariants.{Map}
 use Rattle.vs_plan.specs.declared.target.Target.{Target}
@@ -18,7 +20,7 @@ use Rattle.vs_range.specs.declared.planner.RangePlanner.{RangePlanner}
 use Rattle.vs_range.specs.declared.run.Forget.{Forget}
 use Rattle.vs_range.specs.declared.run.Forget.TheVariants.{Nothing, Pages}
 use Rattle.vs_range.specs.declared.run.Run as ranged
-use Rattle.vs_range.specs.Planner.{are_pages, IsMap, IsRanged, IsRunNext, IsHarvestNext, IsAbsentFor, EndsBeyond, range_sees}
+use Rattle.vs_range.specs.Planner.{are_pages, IsMap, IsRanged, IsRunNext, IsHarvestNext, IsAbsentFor, EndsBeyond, IsSeenPage, IsInRun, range_sees}
 use Rattle.vs_range.specs.Run.{word_after}
 use Rattle.nrvs_plan_c.specs.declared.codes.TheConstants.{ENDED}
 use Rattle.nrvs_plan_c.specs.declared.kept.Target as targets
@@ -58,7 +60,7 @@ pub record IsSoundRange (run : Run) : Type 0 where
 abbrev pub range_sees_in : Run → ℕ
 range_sees_in run = range_sees (range_in run)
 
--- a range has begun: it waits for the words of a frame, and what is kept is so in any memory, of which nothing was shown yet
+-- a range has begun: it waits for the words of the root, and what is kept is so in any memory, of which nothing was shown yet
 pub record HasBegunRange (target : Target) (request : Request) (bytes : ℕ) (run : Run) : Type 0 where
   pub sound : IsSoundRange run
   pub waits : status_in (phase_in run.plan.way.phase) ≡ 32
@@ -67,6 +69,8 @@ pub record HasBegunRange (target : Target) (request : Request) (bytes : ℕ) (ru
   pub of_bytes : run.bytes ≡ bytes
   pub ends : run.base + run.bytes ≤ 2 ^ 64
   pub together : run.own ≡ 0
+  pub descends : phase_in run.plan.way.phase ≡ Descent
+  pub top : run.plan.way.level ≡ levels (target_in run.plan.call).depth
   pub shown : (memory : Memory) → IsShown memory (planner_in run.plan)
 
 -- what is asked is kept
@@ -115,3 +119,16 @@ pub record IsRangeNextOf (memory : Memory) (run : Run) (offered : List (Option �
   pub beyond : status ≡ 37 → (size : Size) × (run.size ≡ size_code size) × ((IsMap (request_in run.plan.call) → ⊥) × ((space : Space)
       → IsPremise (target_in run.plan.call).depth memory (target_in run.plan.call).root run.base space
       → EndsBeyond space run.base run.bytes size))
+
+-- the status of a run, or of one that takes flags
+abbrev pub IsRunStatus : ℕ → Type 0
+IsRunStatus status = (status ≡ 34) ⊎ (status ≡ 35)
+
+-- what became of a range that was shown these words: a page that is seen at its base is named, by 37 and its size, where it ends beyond the range, and
+-- else dealt with in a run, not alone; and so is one that a map has room for
+pub record TakesPageOf (range : RangePlanner) (words : List ℕ) (run : Run) (status : ℕ) : Type 0 where
+  pub beyond : (size : Size) → IsSeenPage range words size → (IsMap range.planner.request → ⊥) → range.bytes < bytes_of size
+      → (status ≡ 37) × (run.size ≡ size_code size)
+  pub within : (size : Size) → IsSeenPage range words size → bytes_of size ≤ range.bytes → IsInRun range words range.planner.request
+      → IsRunStatus status
+  pub mapped : IsMap range.planner.request → range.planner.phase ≡ Descent → IsInRun range words range.planner.request → IsRunStatus status

@@ -15,6 +15,7 @@ use Rattle.vs_plan.specs.declared.plan.Store.{Store}
 use Rattle.nrvs_plan_c.specs.declared.kept.Plan.{Plan}
 use Rattle.nrvs_plan_c.specs.declared.told.Reply.{Reply}
 
+-- a reply with a number alone
 abbrev numbered : ℕ → ℕ → Reply
 numbered code number = record { code = code; size = 0; rights = 0; number = number }
 

@@ -1,7 +1,9 @@
 //! How a plan goes down by a link where it is kept, in C's struct: what most calls of `nrvs_plan_see` do.
-ghost use Rattle.std.specs.Prelude.{◌≡◌, ◌≢◌, ◌/◌, ◌<◌, ◌≤◌, ℕ, List, Some, IsTrue, IsFalse, slice_index};
+ghost use Rattle.std.specs.Prelude.{◌≡◌, ◌≢◌, ◌-◌, ◌/◌, ◌%◌, ◌^◌, ◌<◌, ◌≤◌, ℕ, List, Some, IsTrue, IsFalse, slice_index};
 ghost use Rattle.std.specs.FinMap as finite;
 ghost use Rattle.vs_types.specs.Depth.{index_at};
+ghost use Rattle.vs_types.specs.Entry.{meaning, rights_of};
+ghost use Rattle.vs_types.specs.declared.entry.Meaning.{Meaning};
 ghost use Rattle.vs_types.specs.declared.frame.TheConstants.{FRAME_WORDS};
 ghost use Rattle.vs_walk.specs.Memory.{Memory};
 ghost use Rattle.vs_plan.specs.Request.{lowest_of};
@@ -26,6 +28,10 @@ pub(crate) fn go_down(plan: &mut Plan, word: u64) -> bool
     ensures call { plan.new.call ≡ plan.old.call }
     ensures phase { plan.new.way.phase ≡ plan.old.way.phase }
     ensures fewer { IsTrue result → plan.new.way.level < plan.old.way.level }
+    ensures down { IsTrue result → plan.new.way.level ≡ plan.old.way.level - 1 }
+    ensures below { IsTrue result → lowest_of (request_in plan.old.call) < plan.old.way.level }
+    ensures link { IsTrue result → meaning plan.old.way.level word
+        ≡ Meaning.Table (word % 2 ^ 52 / 2 ^ 12) (rights_of word) }
     ensures shown { IsTrue result → (memory : Memory) (words : List ℕ)
         → IsShown memory (planner_in plan.old)
         → word ≡ slice_index words (index_at plan.old.way.level plan.old.call.address)

@@ -13,8 +13,9 @@ ghost use Rattle.vs_range.specs.Planner.{IsRanged};
 ghost use Rattle.nrvs_plan_c.specs.declared.codes.TheConstants.{DESCENT, SEARCH};
 ghost use Rattle.nrvs_plan_c.specs.Kept.{page_in, phase_in, planner_in, request_in, rights_in, takes_frame, target_in, target_of};
 ghost use Rattle.nrvs_plan_c.specs.Next.{HasBegun};
-ghost use Rattle.nrvs_plan_c.specs.Range.{are_whole, map_range_status, range_in, range_sees_in, range_status, HasBegunRange, IsRangeNextOf, IsRangeStatus, IsSoundRange, KeepsRange};
+ghost use Rattle.nrvs_plan_c.specs.Range.{are_whole, map_range_status, range_in, range_sees_in, range_status, HasBegunRange, IsRangeNextOf, IsRangeStatus, IsSoundRange, KeepsRange, TakesPageOf};
 ghost use Rattle.nrvs_plan_c.specs.Status.{begun_status, target_status};
+ghost use Rattle.nrvs_plan_c.specs.inside.Stepped.{FollowsLinkOf};
 
 use crate::begin::start;
 use crate::codes::{DESCENT, SEARCH, size_in};
@@ -183,6 +184,7 @@ pub extern "C" fn nrvs_run_see(run: &mut Run, words: &Words) -> u32
     ensures next { result ≢ 17 → (memory : Memory) → IsShown memory (planner_in run.old.plan)
         → finite.get memory run.old.plan.frame ≡ Some words.now.word
         → IsRangeNextOf memory run.new [] result }
+    ensures taken { result ≢ 17 → TakesPageOf (range_in run.old) words.now.word run.new result }
 {
     if run.plan.way.phase > SEARCH {
         return NOT_ASKED;
@@ -266,6 +268,8 @@ pub(crate) fn see_range<W: FrameWords>(run: &mut Run, words: &mut W) -> u32
     ensures next { (memory : Memory) → IsShown memory (planner_in run.old.plan)
         → finite.get memory run.old.plan.frame ≡ Some (W.words words.old)
         → IsRangeNextOf memory run.new [] result }
+    ensures taken { TakesPageOf (range_in run.old) (W.words words.old) run.new result }
+    ensures leads { FollowsLinkOf run.old (W.words words.old) run.new result }
 {
     if run.plan.way.phase != DESCENT {
         return search(&mut run.plan, words);
@@ -302,6 +306,8 @@ fn follow_by<W: FrameWords>(
     ensures next { (memory : Memory) → IsShown memory (planner_in run.old.plan)
         → finite.get memory run.old.plan.frame ≡ Some (W.words words.old)
         → IsRangeNextOf memory run.new [] result }
+    ensures taken { TakesPageOf (range_in run.old) (W.words words.old) run.new result }
+    ensures leads { FollowsLinkOf run.old (W.words words.old) run.new result }
 {
     let step = range.follow(word, words);
     go_on_range(run, range, &step)

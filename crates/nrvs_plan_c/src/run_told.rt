@@ -9,6 +9,7 @@ ghost use Rattle.vs_range.specs.Planner.{AwaitsNext, HasGivenFor, HasRoom, IsRan
 ghost use Rattle.vs_range.specs.Run.{word_after};
 ghost use Rattle.nrvs_plan_c.specs.Kept.{planner_in, request_in, target_in};
 ghost use Rattle.nrvs_plan_c.specs.Range.{IsRangeNextOf, IsRangeStatus, IsRunTold, IsSoundRange, KeepsRange, range_in, range_sees_in};
+ghost use Rattle.nrvs_plan_c.specs.inside.Stepped.{IsStatusOf};
 
 use crate::codes::ENDED;
 use crate::kept::{keep, open};
@@ -51,6 +52,8 @@ pub(crate) fn go_on_range(run: &mut Run, range: &RangePlanner, step: &RangeStep)
     requires awaits { AwaitsNext range.now step.now }
     requires room { HasRoom step.now }
     ensures asked { result ≢ 17 }
+    ensures told { IsStatusOf step.now run.new result }
+    ensures again { result ≡ 32 → range_in run.new ≡ range.now }
     ensures status { IsRangeStatus run.new result }
     ensures sound { IsSoundRange run.new }
     ensures kept { KeepsRange run.old run.new }

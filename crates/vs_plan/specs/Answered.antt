@@ -31,7 +31,7 @@ pub record HasEmptyTable (target : Target) (memory : Memory) (page : Page) (numb
   pub way : IsWay target.depth memory target.root address level number rights
   pub empty : (index : ℕ) → index < 512 → entry_in level memory number index ≡ Some entry.Absent
 
--- that a map's page lies over a table without present entries, which is on the way of an address
+-- a map's page lies over a table without present entries, which is on the way of an address
 abbrev pub LiesOverEmpty : Target → Memory → Request → ℕ → ℕ → Type 0
 LiesOverEmpty target memory (Map page bits) number address = HasEmptyTable target memory page number address
 LiesOverEmpty target memory (Unmap base) number address = ⊥
@@ -64,7 +64,7 @@ pub record AllowsLess (target : Target) (memory : Memory) (address : ℕ) (wante
   pub way : IsWay target.depth memory target.root address level number rights
   pub less : intersection rights wanted ≢ wanted
 
--- that a page is to allow more than the entries above it
+-- a page is to allow more than the entries above it
 abbrev pub WantsMore : Target → Memory → Request → Type 0
 WantsMore target memory (Map page bits) = AllowsLess target memory page.base page.rights
 WantsMore target memory (Unmap base) = ⊥
@@ -122,7 +122,7 @@ pub record IsUnlike (target : Target) (memory : Memory) (base index : ℕ) : Typ
   pub unlike : IsLike (size_at level) first word → ⊥
   pub before : AreLikeBelow memory number (size_at level) first index
 
--- that an entry keeps the pages of a table from being joined, or replaced by one
+-- an entry keeps the pages of a table from being joined, or replaced by one
 abbrev pub KeepsApart : Target → Memory → Request → ℕ → Type 0
 KeepsApart target memory (Map page bits) index = ⊥
 KeepsApart target memory (Unmap base) index = ⊥
@@ -145,7 +145,7 @@ pub record LiesInPinned (target : Target) (memory : Memory) (base : ℕ) : Type 
   pub leaf : (phys : ℕ) × (own : Rights) × (meaning level first ≡ entry.Leaf phys own)
   pub stays : highest_link target ≤ level
 
--- that the table of the pages of a join or a collapse stays
+-- the table of the pages of a join or a collapse stays
 abbrev pub KeepsTable : Target → Memory → Request → Type 0
 KeepsTable target memory (Map page bits) = ⊥
 KeepsTable target memory (Unmap base) = ⊥

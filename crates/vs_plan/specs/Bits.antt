@@ -41,9 +41,10 @@ with_rights word rights =
 abbrev pub with_address : Size → ℕ → ℕ → ℕ
 with_address size word phys = word % bytes_of size + phys + word / 2 ^ 52 * 2 ^ 52
 
--- a word without its accessed and its dirty flag, and with both
+-- a word without its accessed and its dirty flag
 abbrev pub unflagged : ℕ → ℕ
 unflagged word = word % 2 ^ 5 + word / 2 ^ 7 * 2 ^ 7
 
+-- a word with its accessed and its dirty flag
 abbrev pub flagged : ℕ → ℕ
 flagged word = unflagged word + 3 * 2 ^ 5

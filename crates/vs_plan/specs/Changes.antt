@@ -17,12 +17,13 @@ use Rattle.vs_plan.specs.declared.plan.Reply.TheVariants as replies
 
 -- ---- pages and their parts
 
--- the next smaller size, and the next larger one
+-- the next smaller size
 abbrev pub smaller : Size → Size
 smaller K4 = K4
 smaller M2 = K4
 smaller G1 = M2
 
+-- the next larger size
 abbrev pub larger : Size → Size
 larger K4 = M2
 larger M2 = G1
@@ -95,6 +96,7 @@ collapse space base phys rights =
 
 -- ---- why the page that begins at the base can't be changed so, whatever the tables: the first reason that holds
 
+-- the reason why the page that begins at the base can't be changed; none if no page begins there
 abbrev pub why_not : ℕ → (Page → Option Reply) → Option Page → Option Reply
 why_not base reason None = None
 why_not base reason (Some page) = if page.base == base then reason page else None
@@ -106,18 +108,21 @@ phys_refusal phys phys_bits size =
     else if nat_lt (2 ^ min phys_bits 51) (phys + bytes_of size) then Some replies.PhysRange
     else None
 
+-- why the page that begins at the base can't be remapped there
 abbrev pub remap_refusal : Space → ℕ → ℕ → ℕ → Option Reply
 remap_refusal space base phys phys_bits = why_not base (λ page. phys_refusal phys phys_bits page.size) (page_at space base)
 
+-- a page of 4 KiB has no parts
 abbrev pub smallest : Size → Option Reply
 smallest K4 = Some replies.Smallest
 smallest M2 = None
 smallest G1 = None
 
--- a page of 4 KiB has no parts
+-- why the page that begins at the base can't be split
 abbrev pub split_refusal : Space → ℕ → Option Reply
 split_refusal space base = why_not base (λ page. smallest page.size) (page_at space base)
 
+-- the base or the physical address is no multiple of the size
 abbrev pub unaligned : ℕ → ℕ → Size → Option Reply
 unaligned base phys size =
     if not (base % bytes_of size == 0) then Some replies.Unaligned
@@ -130,6 +135,7 @@ not_first base phys K4 = unaligned base phys M2
 not_first base phys M2 = unaligned base phys G1
 not_first base phys G1 = Some replies.Largest
 
+-- why the page that begins at the base can't be joined with those behind it
 abbrev pub join_refusal : Space → ℕ → Option Reply
 join_refusal space base = why_not base (λ page. not_first page.base page.phys page.size) (page_at space base)
 
@@ -143,12 +149,13 @@ not_over base phys phys_bits K4 = misplaced base phys phys_bits M2
 not_over base phys phys_bits M2 = misplaced base phys phys_bits G1
 not_over base phys phys_bits G1 = Some replies.Largest
 
+-- why the page that begins at the base can't be replaced, with those behind it, by a page at this physical address
 abbrev pub collapse_refusal : Space → ℕ → ℕ → ℕ → Option Reply
 collapse_refusal space base phys phys_bits = why_not base (λ page. not_over page.base phys phys_bits page.size) (page_at space base)
 
 -- ---- what stays
 
--- where an address leads and what it allows, whatever the size of its page
+-- the place to which an address leads, and what it allows, whatever the size of its page
 abbrev pub leads_to : Answer → Option (ℕ × Rights)
 leads_to (Mapped phys size rights) = Some (phys, rights)
 leads_to _ = None

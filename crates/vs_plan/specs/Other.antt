@@ -42,8 +42,8 @@ MeetsNone depth memory root other base address = (level height number : ℕ) →
 abbrev pub LeadsNotTo : Depth → Memory → ℕ → ℕ → Type 0
 LeadsNotTo depth memory root frame = (level address : ℕ) → table_at (levels depth) memory root level address ≢ Some frame
 
--- the roots have no tables in common but those of addresses that have the same way from both below the roots: for any other address no table
--- on its way from the other root is one that the root leads to; nor is the other root
+-- the roots have no tables in common but those of addresses that have the same way from both below the roots. For any other address no
+-- table on its way from the other root is one that the root leads to; nor is the other root
 pub record AreBeside (depth : Depth) (memory : Memory) (root other : ℕ) : Type 0 where
   pub other_root : LeadsNotTo depth memory root other
   pub ways : (address : ℕ) → IsShared depth memory root other address

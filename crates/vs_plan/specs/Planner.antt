@@ -68,6 +68,7 @@ pub record AwaitsDivision (planner : Planner) : Type 0 where
   pub next : suc planner.height ≡ planner.level
   pub divides : Divides planner.request
 
+-- in this phase the planner waits for a frame
 abbrev pub AwaitsFrameIn : Phase → Planner → Type 0
 AwaitsFrameIn phases.Descent planner = ⊥
 AwaitsFrameIn phases.Search planner = ⊥
@@ -89,7 +90,7 @@ Awaits planner (steps.Planned plan) = planner.phase ≡ phases.Ended
 abbrev pub frames_given : Planner → List ℕ
 frames_given planner = map (λ (store : Store). store.frame) planner.stores.items
 
--- where it waits for a frame, these were given
+-- if it waits for a frame, these were given
 abbrev pub HasGiven : Planner → List ℕ → Step → Type 0
 HasGiven planner frames (steps.See number) = Unit {0}
 HasGiven planner frames steps.Give = frames_given planner ≡ frames
@@ -103,6 +104,7 @@ asked_in phases.Growth number = asks.Frame
 asked_in phases.Division number = asks.Frame
 asked_in phases.Ended number = asks.Nothing
 
+-- what the planner waits for
 abbrev pub asked_by : Planner → Asks
 asked_by planner = asked_in planner.phase planner.number
 

@@ -25,6 +25,7 @@ page_number level address = address / entry_bytes level
 abbrev pub region_number : ℕ → ℕ → ℕ
 region_number level address = address / table_bytes level
 
+-- what a processor may keep: a translation of a page, or the table of a region
 pub data Kept : Type 0 where
   -- "Caching Translations in TLBs": for a page number, the page frame, from an entry of this level, and what all the entries used allow
   Translation : (level page frame : ℕ) (rights : Rights) → Kept

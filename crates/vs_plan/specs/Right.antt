@@ -88,6 +88,7 @@ pub record IsLeft (target : Target) (memory after : Memory) (base number : ℕ) 
   pub same : finite.get after number ≡ finite.get memory number
   pub unreached : (level b : ℕ) → table_at (levels target.depth) after target.root level b ≢ Some number
 
+-- a table that the plan of a request unlinks: its words are all 0, but after a join, a collapse or a prune they are as they were
 abbrev pub IsUnlinkedBy : Target → Memory → Memory → Request → ℕ → Type 0
 IsUnlinkedBy target memory after (Map page bits) number = IsUnlinked target memory after page.base number
 IsUnlinkedBy target memory after (Unmap base) number = IsUnlinked target memory after base number
@@ -107,7 +108,7 @@ pub record HasWord (memory : Memory) (number : ℕ) : Type 0 where
   pub there : word_at memory number index ≡ Some word
   pub some : word ≢ 0
 
--- where something was removed, each table that is still on the way of the base, and to which a link may be cleared, has a word
+-- if something was removed, each table that is still on the way of the base, and to which a link may be cleared, has a word
 abbrev pub IsPruned : Target → Memory → Request → List Store → Type 0
 IsPruned target after request [] = Unit {0}
 IsPruned target after (Map page bits) (store ∷ stores) = Unit {0}
@@ -193,8 +194,8 @@ pub record IsRemapped (target : Target) (memory : Memory) (base phys : ℕ) (rig
   pub at : store.index ≡ index_at entry_is.level base
   pub new : store.new ≡ with_rights (with_address size store.old phys) rights
 
--- a split of a page larger than 4 KiB fills a spare frame that was offered with the entries of the page's parts, which have the page's rights
--- and bits, but for those in a gap, and links it
+-- a split of a page larger than 4 KiB fills a spare frame that was offered, and links it. Its entries are those of the page's parts, which
+-- have the page's rights and bits, but for those in a gap
 pub record IsSplit (target : Target) (memory : Memory) (base gap count : ℕ) (offered : List (Option ℕ)) (fill : Fill) (store : Store) : Type 0 where
   pub size : Size
   pub phys : ℕ
@@ -214,8 +215,8 @@ pub record IsSplit (target : Target) (memory : Memory) (base gap count : ℕ) (o
   pub count_is : fill.gap_count ≡ count
   pub link : store.new ≡ table_word fill.frame
 
--- a join writes one page's entry in the place of the link to a table, whose entries follow on from its first one: with the rights and the
--- bits of that one, as far as the link allows, and with both flags set
+-- a join writes one page's entry in the place of the link to a table, whose entries follow on from its first one. It has the rights and the
+-- bits of that one, as far as the link allows, and both flags set
 pub record IsJoined (target : Target) (memory : Memory) (base : ℕ) (unlinked : List ℕ) (store : Store) : Type 0 where
   pub level : ℕ
   pub number : ℕ
@@ -236,8 +237,8 @@ pub record IsJoined (target : Target) (memory : Memory) (base : ℕ) (unlinked :
       (flagged (bits_in (size_at level) first))
   pub unlinked_is : unlinked ≡ number ∷ []
 
--- a collapse writes one page's entry in the place of the link to a table, whose entries are like its first one: with the given address and
--- rights and the bits of that one, and with both flags set
+-- a collapse writes one page's entry in the place of the link to a table, whose entries are like its first one. It has the given address
+-- and rights and the bits of that one, and both flags set
 pub record IsCollapsed (target : Target) (memory : Memory) (base phys : ℕ) (rights : Rights) (unlinked : List ℕ) (store : Store) : Type 0 where
   pub level : ℕ
   pub number : ℕ
@@ -291,7 +292,7 @@ IsPut target (UnmapPart base first count) memory offered fill (store ∷ stores)
 IsPut target (Collapse base phys rights) memory offered fill (store ∷ stores) unlinked =
     (fill ≡ None) × IsCollapsed target memory base phys rights unlinked store
 
--- where pages are joined, the space has each part of the page that takes their place
+-- if pages are joined, the space has each part of the page that takes their place
 abbrev pub Fits : Request → Space → List Store → Type 0
 Fits request space [] = Unit {0}
 Fits (Map page bits) space (store ∷ stores) = Unit {0}
@@ -403,6 +404,7 @@ begun memory plan = filled memory plan.fill
 abbrev pub ended : Memory → Plan → Memory
 ended memory plan = stored_all (begun memory plan) plan.stores.items
 
+-- a plan is right for a request over this memory, which translates as this space, where these frames were given
 pub record IsRight (target : Target) (request : Request) (memory : Memory) (space : Space) (offered : List (Option ℕ)) (plan : Plan) : Type 0 where
   pub reply : IsReply target request memory space offered plan.reply
   pub due : IsDue target space request plan.reply

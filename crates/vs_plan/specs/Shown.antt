@@ -60,12 +60,14 @@ pub record HasMet (memory : Memory) (planner : Planner) (from : ℕ) : Type 0 wh
   pub busy : (base : ℕ) → planner.request ≡ Unmap base → planner.stop < highest_link planner.target
       → (from ≤ planner.stop) × HasOtherWord memory (slice_index planner.numbers planner.stop) (index_at planner.stop (address_of planner.request))
 
+-- the planner has come down to a table on the way of its address, whose tables are as they were met
 pub record IsDescended (memory : Memory) (planner : Planner) : Type 0 where
   pub way : IsWay planner.target.depth memory planner.target.root (address_of planner.request) planner.level planner.number planner.rights
   pub met : HasMet memory planner (planner.level + 1)
 
 -- ---- below the level of a page, towards the first page there
 
+-- below the level of a page that is to be mapped, the planner looks for a page or a word that is there
 pub record IsSearched (memory : Memory) (planner : Planner) : Type 0 where
   pub page : Page
   pub bits : ℕ
@@ -125,6 +127,7 @@ pub record AreFilled (depth : Depth) (memory : Memory) (root : ℕ) (page : Page
   pub lone : level_of page.size < height → (m : Memory) → AreSameIn (frames_of stores) (stored_all memory stores) m
       → IsLone m page.base (height - 1) below (frames_of stores)
 
+-- the planner of a map has new tables up to a height, and asks for the frame of the next one
 pub record IsGrown (memory : Memory) (planner : Planner) : Type 0 where
   pub page : Page
   pub bits : ℕ
@@ -138,6 +141,7 @@ pub record IsGrown (memory : Memory) (planner : Planner) : Type 0 where
 
 -- ---- at the entry of a page that is to be divided
 
+-- the planner of a split, or of an unmap of parts, has found the page
 pub record IsDivided (memory : Memory) (planner : Planner) : Type 0 where
   pub base : ℕ
   pub place : address_of planner.request ≡ base
@@ -150,6 +154,7 @@ pub record IsDivided (memory : Memory) (planner : Planner) : Type 0 where
 
 -- ---- all of it
 
+-- what the planner was shown, in each phase
 abbrev pub IsShownIn : Phase → Memory → Planner → Type 0
 IsShownIn phases.Descent memory planner = IsDescended memory planner
 IsShownIn phases.Search memory planner = IsSearched memory planner

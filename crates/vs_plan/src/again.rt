@@ -49,10 +49,10 @@ impl Fill {
 }
 
 impl Plan {
-    /// Where the store at this index finds this word, in which a processor has set its flags since it was shown: makes the plan one for
-    /// it, so that no flag is lost. The store has the word as `old`; its flags are in `new`, or by a split in the fill, which is to be
-    /// made again; and they are in the bits of the page's entry. Whether it did: else anything else differs, the word is no entry,
-    /// or there is no such store, and the plan stays.
+    /// Call this if the store at this index finds this word, in which a processor has set flags since it was shown. It makes the plan
+    /// one for the word, so that no flag is lost, and is true then. The store has the word as `old`. Its flags are in `new`, or by a
+    /// split in the fill, which is to be made again, and in the bits of the page's entry. It is false, and the plan stays, if anything
+    /// else differs, if the word is no entry, or if there is no such store.
     pub fn again(&mut self, index: usize, word: u64) -> bool
         ensures done { IsTrue result → IsPlanAgain self.old index word self.new }
         ensures stays { IsFalse result → self.new ≡ self.old }

@@ -36,9 +36,9 @@ pub fn joins_keep_translations()
         → leads_to (look (join space page.base).space address) ≡ leads_to (look space address) }
 {}
 
-/// An entry follows on from the first one of a table of pages of 4 KiB or 2 MiB, which is that of a page whose physical address is a
-/// multiple of the next larger size, just where it is that of a page whose physical address is as many pages further on, with the same
-/// rights and, but for the accessed and the dirty flag, the same bits.
+/// Let the first entry of a table of pages of 4 KiB or 2 MiB have a physical address that is a multiple of the next larger size. Another
+/// entry follows on from it exactly if it is that of a page whose physical address is as many pages further on. It has the same rights
+/// and, but for the accessed and the dirty flag, the same bits.
 pub fn entries_follow_on_by_their_parts()
     ensures { (level first index word phys : ℕ) (own : Rights) → 1 ≤ level → level ≤ 2
         → first < 2 ^ 64 → word < 2 ^ 64 → meaning level first ≡ Meaning.Leaf phys own

@@ -36,9 +36,8 @@ pub fn up_to_date_processors_find_walks()
 {}
 
 /// The fill of a right plan changes no table that is reached, so that no processor reads it (`unreached_frames_are_unread`). And its flush
-/// suffices for each processor that was up to date before its stores: while they are made, an access finds what a walk finds before or
-/// after them all; after them and the flush the processor is up to date; and then it keeps nothing that leads into a frame that
-/// was unlinked.
+/// suffices for each processor that was up to date before its stores. While they are made, an access finds what a walk finds before or
+/// after them all. After them and the flush the processor is up to date, and keeps nothing that leads into a frame that was unlinked.
 pub fn flushes_of_right_plans_suffice()
     ensures filled { (target : Target) (request : Request) (memory : Memory) (space : Space)
         (offered : List (Option ℕ)) (plan : Plan)
@@ -62,10 +61,10 @@ pub fn unreached_frames_are_unread()
         → walk depth new root address ≡ walk depth old root address }
 {}
 
-/// A plan for one root is right for each other root beside it that may share the tables below: after any number of
-/// the stores, an address whose root entries lead to one table is walked alike from both, and one that meets no table on the
-/// way of the plan's base is walked as before; no frame that was unlinked is reached; and the flush suffices for processors that walk
-/// from the other root.
+/// A plan for one root is right for each other root beside it that may share the tables below. Let any number of its stores be made. An
+/// address whose root entries lead to one table is then walked alike from both roots, and one that meets no table on the way of the
+/// plan's base is walked as before. No frame that was unlinked is reached, and the flush suffices for processors that walk from the
+/// other root.
 pub fn plans_are_right_beside_their_root()
     ensures { (target : Target) (request : Request) (memory : Memory) (space : Space)
         (offered : List (Option ℕ)) (plan : Plan) (other : ℕ)
@@ -77,10 +76,10 @@ pub fn plans_are_right_beside_their_root()
 
 /// Two roots have no tables in common but those of addresses that have the same way from both below the roots. Then a plan for any base
 /// is one beside the other root, where the tables that the root leads to stay if the base is such an address, and the other root leads
-/// to no spare frame that is written. After it that is so again, as is what a plan through the other root asks of the memory: no other
-/// way leads to the tables on an address's way, and from the other root the memory translates as each space that has what the root's
-/// has now at addresses in common, and elsewhere what the other's had. And it is so the other way round, where each table of the root
-/// has one way.
+/// to no spare frame that is written. After it that is so again, and so is what a plan through the other root asks of the memory. No other
+/// way leads to the tables on an address's way. From the other root the memory translates as each space that has what the root's
+/// has now at addresses in common, and elsewhere what the other's had. It is so the other way round too, if each table of the root has
+/// one way.
 pub fn roots_stay_beside()
     ensures beside { (target : Target) (memory : Memory) (base : ℕ) (plan : Plan) (other : ℕ)
         → AreBeside target.depth memory target.root other
@@ -125,7 +124,7 @@ pub fn roots_stay_beside()
         → AreBeside depth memory other root }
 {}
 
-/// Plans follow one another: a frame whose words are all 0 is the root of the empty space, and after a right plan what the next one asks of
+/// Plans follow one another. A frame whose words are all 0 is the root of the empty space. After a right plan, what the next one asks of
 /// the memory holds with the space after it, for each address for which no other way led to the tables on its way.
 pub fn premises_hold_again()
     ensures first { (depth : Depth) (memory : Memory) (root address : ℕ) → AreWhole memory

@@ -1,8 +1,8 @@
 //! Plans: what a kernel has to store, to flush and to free for a call on a page table whose frames it keeps itself.
 //!
 //! A `Planner` holds no memory. It asks for the words of one frame after another by number, then for frames whose words are all
-//! 0, and ends with a `Plan`: the answer, a table to be filled where a page is split, the stores in their order, what has to be
-//! flushed, and which frames are no longer linked. The caller finds the frames, fills, stores, flushes and frees. No call
+//! 0, and ends with a `Plan`. It has the answer, a table to be filled if a page is split, the stores in their order, what has
+//! to be flushed, and which frames are no longer linked. The caller finds the frames, fills, stores, flushes and frees. No call
 //! allocates memory or waits.
 //!
 //! Addresses are in bytes. A frame number is a physical address divided by 4,096.

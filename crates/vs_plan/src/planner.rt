@@ -1,5 +1,5 @@
 //! The planner: the way of an address, frame by frame, and what comes at its end.
-ghost use Rattle.std.specs.Prelude.{◌≡◌, ◌≢◌, ◌+◌, ◌<◌, ◌≤◌, ◌⊎◌, ℕ, [], Some, None, MatchOption, MatchResult, slice_index};
+ghost use Rattle.std.specs.Prelude.{◌≡◌, ◌≢◌, ◌+◌, ◌-◌, ◌<◌, ◌≤◌, ◌⊎◌, ℕ, [], Some, None, MatchOption, MatchResult, slice_index};
 ghost use Rattle.std.specs.FinMap as finite;
 ghost use Rattle.vs_types.specs.declared.frame.TheConstants.{FRAME_WORDS};
 ghost use Rattle.vs_types.specs.declared.entry.Meaning.{Meaning};
@@ -13,6 +13,8 @@ ghost use Rattle.vs_plan.specs.declared.request.Request.{Request};
 ghost use Rattle.vs_plan.specs.Request.{address_of, lowest_of};
 ghost use Rattle.vs_plan.specs.Planner.{HasGiven, AwaitsWords, Awaits, asked_by, sees_left};
 ghost use Rattle.vs_plan.specs.Shown.{IsShown, IsDescended, IsNext};
+ghost use Rattle.vs_plan.specs.Target.{frames_end};
+ghost use Rattle.vs_plan.specs.declared.plan.Step.{Step};
 ghost use Rattle.vs_plan.specs.inside.Ended.{IsAtEnd, IsNoMap, HasEnded, IsRightAt};
 
 use crate::plan::{Flush, MOST_STORES, Plan, Reply, Step, Store};
@@ -161,7 +163,8 @@ impl Planner {
         self.follow(word, words)
     }
 
-    /// Takes the words of the frame that was asked for on the way down, by the word of its entry, which was read already. As `see` does.
+    /// Takes the words of the frame that was asked for on the way down, by the word of its entry, which was read already. As `see` does. A link
+    /// to a table within the physical addresses leads on: the way ends at no other word above the request's lowest level.
     pub fn follow<W: FrameWords>(&mut self, word: u64, words: &mut W) -> Step
         requires awaits { AwaitsWords self.old }
         requires phase { self.old.phase ≡ Phase.Descent }
@@ -177,6 +180,11 @@ impl Planner {
         ensures next { (memory : Memory) → IsDescended memory self.old
             → finite.get memory self.old.number ≡ Some (W.words words.old)
             → IsNext memory self.new [] result }
+        ensures leads { (next : ℕ) (own : Rights) → lowest_of self.old.request < self.old.level
+            → meaning self.old.level word ≡ Meaning.Table next own
+            → next < frames_end self.old.target
+            → (result ≡ Step.See next) × (self.new.level ≡ self.old.level - 1)
+            × (self.new.phase ≡ Phase.Descent) }
     {
         let level = self.level;
         let index = index_at(level, self.request.address());

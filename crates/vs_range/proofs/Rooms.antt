@@ -1,5 +1,5 @@
 -- How far pages reach.
-use Rattle.std.proofs.Common.{◌≡◌, ℕ, ◌+◌, ◌*◌, ◌-◌, ◌^◌, ◌<◌, ◌≤◌, ◌⊎◌, inl, inr, ⊎_elim, subst, min, arith}
+use Rattle.std.proofs.Common.{◌≡◌, ℕ, ◌+◌, ◌*◌, ◌-◌, ◌^◌, ◌<◌, ◌≤◌, ◌⊎◌, inl, inr, ⊎_elim, ap, subst, min, arith}
 use Rattle.std.proofs.lemmas.Bool.{cases_lt}
 use Rattle.vs_types.specs.Page.{bytes_of}
 use Rattle.vs_types.specs.declared.page.Size.{Size}
@@ -51,3 +51,27 @@ mapped_most index here own result bytes one phys end first second few table last
     (λ (e : bytes < (here + 1) * one). inr (inl (subst (λ n. bytes < (n + 1) * one) (first le) e)))
     table)
     (cases_lt own here)
+
+-- where no page fits that follows on, the first goes beyond the physical addresses
+pub no_room : (one phys bits : ℕ) {here own : ℕ} → phys + 1 * one ≤ 2 ^ 51 → phys + 1 * one ≤ 2 ^ bits → 1 ≤ here → (here ≤ own → here ≡ 0)
+    → (own < here → own ≡ 0) → (own ≡ 512) ⊎ (2 ^ min bits 51 < phys + (own + 1) * one) → ⊥
+no_room one phys bits {here} {own} low within some first second last = ⊎_elim
+    (λ (less : own < here). by own (second less) last)
+    (λ (le : here ≤ own). omega (arith, first le, some))
+    (cases_lt own here) where
+      by : (n : ℕ) → n ≡ 0 → (n ≡ 512) ⊎ (2 ^ min bits 51 < phys + (n + 1) * one) → ⊥
+      by n none past = ⊎_elim
+          (λ (e : n ≡ 512). omega (arith, e, none))
+          (λ (far : 2 ^ min bits 51 < phys + (n + 1) * one).
+          let over : 2 ^ min bits 51 < phys + 1 * one = subst (λ m. 2 ^ min bits 51 < phys + (m + 1) * one) none far in
+          ⊎_elim
+          (λ (few : bits < 51).
+          let same : min bits 51 ≡ bits = omega arith in
+          let is : 2 ^ min bits 51 ≡ 2 ^ bits = ap (λ k. 2 ^ k) same in
+          omega (arith, is, over, within))
+          (λ (many : 51 ≤ bits).
+          let same : min bits 51 ≡ 51 = omega arith in
+          let is : 2 ^ min bits 51 ≡ 2 ^ 51 = ap (λ k. 2 ^ k) same in
+          omega (arith, is, over, low))
+          (cases_lt bits 51))
+          past

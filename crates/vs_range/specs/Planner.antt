@@ -25,10 +25,11 @@ use Rattle.vs_plan.specs.Bits.{page_word, unflagged}
 use Rattle.vs_plan.specs.Planner.{AwaitsWords, AwaitsFrame, frames_given}
 use Rattle.vs_plan.specs.Premise.{IsPremise}
 use Rattle.vs_plan.specs.Processor.{page_number, Translation}
-use Rattle.vs_plan.specs.Request.{IsRequest, address_of, request_fault}
+use Rattle.vs_plan.specs.Request.{IsRequest, address_of, lowest_of, request_fault}
 use Rattle.vs_plan.specs.Right.{IsRight}
 use Rattle.vs_plan.specs.Shown.{IsShown}
 use Rattle.vs_plan.specs.Stores.{FindTheirWords}
+use Rattle.vs_plan.specs.Target.{frames_end}
 use Rattle.vs_plan.specs.Way.{IsWay}
 use Rattle.vs_range.specs.declared.planner.RangePlanner.{RangePlanner}
 use Rattle.vs_range.specs.declared.planner.RangeStep.{RangeStep}
@@ -64,10 +65,12 @@ IsRanged (Protect base rights) = Unit {0}
 IsRanged (Ask address) = Unit {0}
 IsRanged request = ⊥
 
+-- the request maps a page
 abbrev pub IsMap : Request → Type 0
 IsMap (Map page bits) = Unit {0}
 IsMap request = ⊥
 
+-- the request asks of an address
 abbrev pub IsAsk : Request → Type 0
 IsAsk (Ask address) = Unit {0}
 IsAsk request = ⊥
@@ -254,13 +257,16 @@ abbrev pub IsSeenPage : RangePlanner → List ℕ → Size → Type 0
 IsSeenPage range words size =
     (range.planner.phase ≡ Descent) × IsPageAt range (slice_index words (index_at range.planner.level range.base)) size
 
--- whether such a page is in a run: of an unmap if its table has another word, of a protect if the entries above allow the rights
+-- whether the page at the base is in a run: of a map if there is room for it, of an unmap if its table has another word, of a protect if the entries
+-- above allow the rights
 abbrev pub IsInRun : RangePlanner → List ℕ → Request → Type 0
+IsInRun range words (Map page bits) = IsMapRoom range page (slice_index words (index_at range.planner.level range.base)) 1
 IsInRun range words (Unmap base) = (range.alone ≡ false) × HasOther words (index_at range.planner.level range.base) 1
 IsInRun range words (Protect base rights) = intersection range.planner.rights rights ≡ rights
 IsInRun range words (Ask address) = Unit {0}
 IsInRun range words request = ⊥
 
+-- the step is a run, or a harvest of one
 abbrev pub IsRunStep : RangeStep → Type 0
 IsRunStep (See number) = ⊥
 IsRunStep Give = ⊥
@@ -270,11 +276,20 @@ IsRunStep (Planned plan) = ⊥
 IsRunStep (Absent bytes) = ⊥
 IsRunStep (Beyond size) = ⊥
 
--- a page that is seen at the base is named where it ends beyond the range, and else dealt with in a run, not alone
+-- a page that is seen at the base is named where it ends beyond the range, and else dealt with in a run, not alone; and so is one that a map has room for
 pub record TakesPage (range : RangePlanner) (words : List ℕ) (step : RangeStep) : Type 0 where
   pub beyond : (size : Size) → IsSeenPage range words size → (IsMap range.planner.request → ⊥) → range.bytes < bytes_of size → step ≡ Beyond size
   pub within : (size : Size) → IsSeenPage range words size → bytes_of size ≤ range.bytes → IsInRun range words range.planner.request
       → IsRunStep step
+  pub mapped : IsMap range.planner.request → range.planner.phase ≡ Descent → IsInRun range words range.planner.request → IsRunStep step
+
+-- on the way down a link to a table within the physical addresses leads on, above the level of a page that is mapped: that table is asked for next
+abbrev pub FollowsLink : RangePlanner → List ℕ → RangePlanner → RangeStep → Type 0
+FollowsLink before words after step = (next : ℕ) (own : Rights) → before.planner.phase ≡ Descent
+    → lowest_of before.planner.request < before.planner.level
+    → meaning before.planner.level (slice_index words (index_at before.planner.level before.base)) ≡ entry.Table next own
+    → next < frames_end before.planner.target
+    → (step ≡ See next) × (after.planner.level ≡ before.planner.level - 1) × (after.planner.phase ≡ Descent) × (after.alone ≡ before.alone)
 
 -- ---- what its next step means
 

@@ -96,6 +96,7 @@ abbrev pub pages_flushed : ℕ → Size → ℕ → ℕ → List Flush
 pages_flushed base size number zero = []
 pages_flushed base size number (suc count) = flushes.Page (base + number * bytes_of size) size ∷ pages_flushed base size (suc number) count
 
+-- the flushes that a run names
 abbrev pub flushes_in : Forget → List Flush
 flushes_in Nothing = []
 flushes_in (Pages base size count) = pages_flushed base size 0 count

@@ -9,7 +9,7 @@ ghost use Rattle.vs_plan.specs.Shown.{IsShown};
 ghost use Rattle.vs_plan.specs.declared.request.Request.{Request};
 ghost use Rattle.vs_plan.specs.declared.planner.Phase.{Phase};
 ghost use Rattle.vs_range.specs.Planner.{AwaitsNext, AwaitsRange, HasGivenFor, HasRoom, IsNewRange, IsRanged, IsRangeNext};
-ghost use Rattle.vs_range.specs.Planner.{IsSameRange, IsSeenNext, TakesPage, are_pages, as_range, map_fault, range_fault, range_gives_left};
+ghost use Rattle.vs_range.specs.Planner.{FollowsLink, IsSameRange, IsSeenNext, TakesPage, are_pages, as_range, map_fault, range_fault, range_gives_left};
 ghost use Rattle.vs_range.specs.Planner.{range_sees, range_sees_left};
 
 use crate::room::{are_pages, ends_late};
@@ -154,6 +154,7 @@ impl RangePlanner {
         ensures room { HasRoom result }
         ensures next { IsSeenNext self.old (W.words words.old) self.new result }
         ensures taken { TakesPage self.old (W.words words.old) result }
+        ensures leads { FollowsLink self.old (W.words words.old) self.new result }
     {
         if self.planner.phase != Phase::Descent {
             let step = self.planner.see(words);
@@ -179,6 +180,7 @@ impl RangePlanner {
         ensures room { HasRoom result }
         ensures next { IsSeenNext self.old (W.words words.old) self.new result }
         ensures taken { TakesPage self.old (W.words words.old) result }
+        ensures leads { FollowsLink self.old (W.words words.old) self.new result }
     {
         match self.planner.request {
             Request::Map(page, bits) => self.see_map(page, bits, word, words),
@@ -227,6 +229,7 @@ impl RangePlanner {
         ensures given { HasGivenFor self.new [] result }
         ensures room { HasRoom result }
         ensures next { IsSeenNext self.old (W.words words.old) self.new result }
+        ensures leads { FollowsLink self.old (W.words words.old) self.new result }
     {
         let step = self.planner.follow(word, words);
         self.step_of(step)

@@ -40,7 +40,7 @@ pub(crate) fn phys_room(page: Page, phys_bits: u8) -> usize
         → page.phys + count * bytes_of page.size ≤ 2 ^ 51 }
     ensures own { 1 ≤ result → (count : ℕ) → count ≤ result
         → page.phys + count * bytes_of page.size ≤ 2 ^ phys_bits }
-    ensures most { 1 ≤ result → (result ≡ 512)
+    ensures most { (result ≡ 512)
         ⊎ (2 ^ min phys_bits 51 < page.phys + (result + 1) * bytes_of page.size) }
 {
     let end = phys_end(phys_bits);

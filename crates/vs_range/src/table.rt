@@ -7,7 +7,7 @@ ghost use Rattle.vs_types.specs.declared.page.Size.{Size};
 ghost use Rattle.vs_plan.specs.declared.request.Request.{Request};
 ghost use Rattle.vs_plan.specs.declared.planner.Phase.{Phase};
 ghost use Rattle.vs_range.specs.Planner.{AwaitsNext, AwaitsRange, HasGivenFor, HasRoom, IsMap, IsMapRoom, IsPageAt, IsSameRange};
-ghost use Rattle.vs_range.specs.Planner.{IsSeenNext, TakesPage, range_sees, range_sees_left};
+ghost use Rattle.vs_range.specs.Planner.{FollowsLink, IsSeenNext, TakesPage, range_sees, range_sees_left};
 
 use crate::made::{run_of_harvest, run_of_map, run_of_protect, run_of_unmap};
 use crate::planner::{RangePlanner, RangeStep};
@@ -41,6 +41,7 @@ impl RangePlanner {
         ensures room { HasRoom result }
         ensures next { IsSeenNext self.old (W.words words.old) self.new result }
         ensures taken { TakesPage self.old (W.words words.old) result }
+        ensures leads { FollowsLink self.old (W.words words.old) self.new result }
     {
         let most = self.most_mapped(page, word);
         if most == 0 {
@@ -61,6 +62,7 @@ impl RangePlanner {
             ⊎ ((self.now.bytes < (result + 1) * bytes_of page.size)
             ⊎ (2 ^ min self.now.planner.target.phys_bits 51
             < page.phys + (result + 1) * bytes_of page.size)) }
+        ensures none { result ≡ 0 → IsMapRoom self.now page word 1 → ⊥ }
     {
         let level = self.planner.level;
         if level != page.size.level() || word % 2 != 0 || self.bytes < page.size.bytes() {
@@ -89,6 +91,7 @@ impl RangePlanner {
         ensures room { HasRoom result }
         ensures next { IsSeenNext self.now (W.words words.old) self.now result }
         ensures taken { TakesPage self.now (W.words words.old) result }
+        ensures leads { FollowsLink self.now (W.words words.old) self.now result }
     {
         let level = self.planner.level;
         let index = index_at(level, self.base);
@@ -119,6 +122,7 @@ impl RangePlanner {
         ensures room { HasRoom result }
         ensures next { IsSeenNext self.old (W.words words.old) self.new result }
         ensures taken { TakesPage self.old (W.words words.old) result }
+        ensures leads { FollowsLink self.old (W.words words.old) self.new result }
     {
         let Some(size) = self.page_begins(word) else {
             return self.follow_alone(word, words);
@@ -159,6 +163,7 @@ impl RangePlanner {
         ensures room { HasRoom result }
         ensures next { IsSeenNext self.old (W.words words.old) self.new result }
         ensures taken { TakesPage self.old (W.words words.old) result }
+        ensures leads { FollowsLink self.old (W.words words.old) self.new result }
     {
         let Some(size) = self.page_begins(word) else {
             return self.follow_alone(word, words);
@@ -178,7 +183,7 @@ impl RangePlanner {
         ))
     }
 
-    /// A run of pages that are removed, from this word on, or the next step of the first page's planner. Where the table would be left empty,
+    /// A run of pages that are removed, from this word on, or the next step of the first page's planner. If the table would be left empty,
     /// the last page is left to the next planner, or the first one is planned alone.
     #[inline(never)]
     pub(crate) fn see_unmap<W: FrameWords>(&mut self, word: u64, words: &mut W) -> RangeStep
@@ -196,6 +201,7 @@ impl RangePlanner {
         ensures room { HasRoom result }
         ensures next { IsSeenNext self.old (W.words words.old) self.new result }
         ensures taken { TakesPage self.old (W.words words.old) result }
+        ensures leads { FollowsLink self.old (W.words words.old) self.new result }
     {
         let Some(size) = self.page_begins(word) else {
             return self.follow_alone(word, words);

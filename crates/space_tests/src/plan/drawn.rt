@@ -15,7 +15,7 @@ const CALLS: u32 = 3_000;
 /// The pieces of a page that is split or joined.
 const PARTS: u64 = 512;
 
-/// Where pages are drawn: in both halves, and at the end of one.
+/// The bases at which pages are drawn: in both halves, and at the end of one.
 const TOPS: [u64; 3] = [0, 0x7FFF80000000, 0xFFFF800000000000];
 
 /// The sizes, from which the smaller ones are drawn more often.

@@ -120,7 +120,7 @@ impl Memory {
     }
 }
 
-/// Where a frame is.
+/// The index of a frame.
 fn place(rt: &impl Abort, number: u64) -> usize {
     let place = number.checked_sub(FIRST).expect(rt, "a frame's number");
     usize::try_from(place).ok().expect(rt, "a place")

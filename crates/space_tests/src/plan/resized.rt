@@ -54,7 +54,7 @@ fn split_and_joined(rt: HostRuntime) {
     assert!(rt; plan.fill.is_none());
 }
 
-// Of a page of 2 MiB the parts 5 to 7 are removed, by one link to a table without them.
+// The parts 5 to 7 of a page of 2 MiB are removed, by one link to a table without them.
 #[test]
 fn unmapped_in_part(rt: HostRuntime) {
     let mut memory = with_large(&rt, rt.alloc(), 8);

@@ -33,3 +33,7 @@ returns-clause-shown c = λ did memory words shown read there.
     (omega arith) (inr (refl, λ low. absurd (omega (arith, low, c.if-level-plan.false)))) (omega (arith, few, awaits.few)) (omega (arith, few, awaits.few))
     awaits.some (c.is_link.ensures c.if-not-is_link.false c.args.plan.now.way.level (c.goes_on_below.ensures.some link))
     c.narrowed-plan.ensures (goes_down c.args.plan.now.way.phase c.requires.descent)
+
+pub returns-clause-link : goal.returns-clause-link
+returns-clause-link c = λ did.
+    c.is_link.ensures c.if-not-is_link.false c.args.plan.now.way.level (c.goes_on_below.ensures.some c.if-not-goes_on_below.false)

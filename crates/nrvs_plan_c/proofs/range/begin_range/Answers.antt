@@ -1,8 +1,9 @@
 use Rattle.std.proofs.Common.{refl, sym, ap, subst, ◌∙◌, arith}
+use Rattle.vs_types.specs.Depth.{levels}
 use Rattle.vs_plan.specs.Request.{address_of}
 use Rattle.vs_range.specs.Planner.{IsRanged}
 use Rattle.nrvs_plan_c.specs.declared.kept.Call.{Call}
-use Rattle.nrvs_plan_c.specs.Kept.{request_in, target_in}
+use Rattle.nrvs_plan_c.specs.Kept.{depth_in, phase_in, request_in, target_in}
 use Rattle.nrvs_plan_c.proofs.RangesBegun.{good_begun}
 use Rattle.nrvs_plan_c.proofs.range.begin_range.Goals as goal
 
@@ -26,6 +27,8 @@ returns c =
         of_bytes = refl;
         ends = c.requires.ends;
         together = refl;
+        descends = ap phase_in start.phase;
+        top = start.level ∙ sym (ap (λ (k : Call). levels (depth_in k.levels)) start.call);
         shown = start.begun.shown;
       };
     }

@@ -1,4 +1,4 @@
-use Rattle.std.proofs.Common.{sym, ap, subst, ◌∙◌, arith}
+use Rattle.std.proofs.Common.{refl, sym, ap, subst, ◌∙◌, arith}
 use Rattle.vs_plan.specs.declared.planner.Phase.TheVariants.{Ended}
 use Rattle.vs_range.specs.declared.planner.RangePlanner.{RangePlanner}
 use Rattle.vs_range.specs.declared.planner.RangeStep.{RangeStep}
@@ -8,6 +8,7 @@ use Rattle.nrvs_plan_c.specs.Kept.{planner_in, request_in, target_in}
 use Rattle.nrvs_plan_c.specs.Range.{range_in}
 use Rattle.nrvs_plan_c.proofs.Keeping.{ended_target, right_as}
 use Rattle.nrvs_plan_c.proofs.RangesMoved.{run_as, harvest_as, absent_as, beyond_as}
+use Rattle.nrvs_plan_c.proofs.RangesTaken.{own_back, range_back, told_as}
 use Rattle.nrvs_plan_c.proofs.run_told.go_on_range.Goals as goal
 
 pub returns-in-Planned-clause-next : goal.returns-in-Planned-clause-next
@@ -101,3 +102,14 @@ returns-in-Beyond-clause-next c = λ memory offered next. record {
       c.requires.bytes c.in-Beyond.size (subst (λ (s : RangeStep). IsRangeNext memory c.args.range.now offered s) c.in-Beyond.is next) in
       (c.in-Beyond.size, c.from-run-in-Beyond.ensures ∙ c.code.ensures.is, is);
 }
+
+pub returns-in-See-clause-again : goal.returns-in-See-clause-again
+returns-in-See-clause-again c = λ is.
+    range_back c.args.range.now (planner_in c.keep.new.plan) c.args.run.now.base c.args.run.now.bytes c.from-run.result c.keep.ensures.kept
+    (sym c.requires.base) (sym c.requires.bytes) (own_back c.args.range.now.alone c.from-run.result c.from-run.ensures)
+
+pub returns-in-Beyond-clause-told : goal.returns-in-Beyond-clause-told
+returns-in-Beyond-clause-told c = told_as c.args.step.now _ (record c.args.run.now {
+  plan = record c.args.run.now.plan { way = record c.args.run.now.plan.way { phase = 5 } };
+  size = c.from-run-in-Beyond.result;
+}) 37 c.in-Beyond.is (refl, c.from-run-in-Beyond.ensures ∙ c.code.ensures.is)

@@ -1,6 +1,10 @@
-use Rattle.std.proofs.Common.{Some, sym, ap, ◌∙◌, arith}
+use Rattle.std.proofs.Common.{◌≡◌, Some, None, refl, sym, ap, ◌∙◌, arith}
 use Rattle.std.specs.Prelude.{slice_index}
 use Rattle.vs_types.specs.Depth.{index_at}
+use Rattle.vs_types.specs.declared.entry.Meaning.{Meaning}
+use Rattle.vs_types.specs.declared.entry.Meaning.TheVariants as entry
+use Rattle.vs_space.specs.Path.{table_in}
+use Rattle.vs_plan.specs.declared.plan.Step.TheVariants as steps
 use Rattle.vs_walk.proofs.Walks.{few_levels}
 use Rattle.vs_plan.specs.declared.planner.Planner.{Planner}
 use Rattle.vs_plan.proofs.Descending.{shown_on, ends_at, goes_beyond}
@@ -35,3 +39,20 @@ returns-in_default-clause-next g c = λ memory descended there.
     c.stop_at-self.ensures.at_most c.stop_at-self.ensures.alone (omega (arith, few, c.requires.awaits.few)) (omega (arith, few, c.requires.awaits.few))
     c.in_default.ensures)
     (there ∙ ap Some (sym c.stop_at-self.ensures.same))
+
+pub returns-clause-leads : goal.returns-clause-leads
+returns-clause-leads g c = λ next own low link within.
+    let same : entry.Table c.in-Some.next c.in-Some.own ≡ entry.Table next own = sym c.in-Some.ensures.1 ∙ link in
+    let number : c.in-Some.next ≡ next = cc in
+    (ap steps.See number, refl, c.requires.phase)
+
+pub returns-then-next-frames_end-clause-leads : goal.returns-then-next-frames_end-clause-leads
+returns-then-next-frames_end-clause-leads g c = λ next own low link within.
+    let same : entry.Table c.in-Some.next c.in-Some.own ≡ entry.Table next own = sym c.in-Some.ensures.1 ∙ link in
+    let number : c.in-Some.next ≡ next = cc in
+    absurd (omega (arith, number, within, c.frames_end.ensures.is, c.if-next-frames_end.true))
+
+pub returns-in_default-clause-leads : goal.returns-in_default-clause-leads
+returns-in_default-clause-leads g c = λ next own low link within.
+    let some : Some next ≡ None = sym (ap (λ (e : Meaning). table_in (Some e)) link) ∙ c.in_default.ensures low in
+    cc

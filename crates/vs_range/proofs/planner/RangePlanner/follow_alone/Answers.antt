@@ -1,6 +1,7 @@
-use Rattle.std.proofs.Common.{[], sym, subst}
+use Rattle.std.proofs.Common.{[], refl, sym, ap, subst, ◌∙◌}
+use Rattle.vs_types.specs.Entry.{meaning}
 use Rattle.vs_range.specs.declared.planner.RangePlanner.{RangePlanner}
-use Rattle.vs_range.specs.Planner.{IsRangeNext}
+use Rattle.vs_range.specs.Planner.{IsRangeNext, as_range}
 use Rattle.vs_range.proofs.Seeing.{range_next, descended}
 use Rattle.vs_range.proofs.planner.RangePlanner.follow_alone.Goals as goal
 
@@ -15,3 +16,8 @@ returns-clause-next g c = λ memory shown got.
     subst (IsRangeNext memory range []) (sym c.step_of.ensures.is)
     (range_next memory range [] c.follow-step.result
     (c.follow-step.ensures.next memory (descended c.args.self.now.planner c.requires.phase shown) got))
+
+pub returns-clause-leads : goal.returns-clause-leads
+returns-clause-leads g c = λ next own phase low link within.
+    let on = c.follow-step.ensures.leads next own low (ap (meaning c.args.self.now.planner.level) c.requires.read ∙ link) within in
+    (c.step_of.ensures.is ∙ ap as_range on.0, on.1, on.2, refl)

@@ -1,6 +1,6 @@
 use Rattle.std.proofs.Common.{arith}
 use Rattle.vs_range.proofs.Seeing.{absent_next, few_levels}
-use Rattle.vs_range.proofs.Taking.{absent_takes}
+use Rattle.vs_range.proofs.Taking.{absent_links, absent_takes}
 use Rattle.vs_range.proofs.planner.RangePlanner.see_absent.Goals as goal
 
 pub returns-clause-next : goal.returns-clause-next
@@ -12,4 +12,8 @@ returns-clause-next g c = λ memory shown got.
     (omega (arith, c.requires.awaits.words.few, few_levels c.args.self.now.planner.target.depth))
 
 pub returns-clause-taken : goal.returns-clause-taken
-returns-clause-taken g c = absent_takes c.args.self.now (g.W.FrameWords.words c.args.words.now) _ c.requires.absent
+returns-clause-taken g c = absent_takes c.args.self.now (g.W.FrameWords.words c.args.words.now) _ c.requires.kind c.requires.absent
+
+pub returns-clause-leads : goal.returns-clause-leads
+returns-clause-leads g c = λ next own phase low link within.
+    absurd (absent_links c.args.self.now (g.W.FrameWords.words c.args.words.now) c.requires.absent next own link)

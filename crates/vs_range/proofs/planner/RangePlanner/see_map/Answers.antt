@@ -1,8 +1,9 @@
-use Rattle.std.proofs.Common.{◌≡◌, ◌+◌, ◌*◌, ◌^◌, ◌<◌, ◌⊎◌, min, sym, subst, arith}
+use Rattle.std.proofs.Common.{◌≡◌, ◌+◌, ◌*◌, ◌^◌, ◌<◌, ◌⊎◌, min, sym, ap, subst, arith}
 use Rattle.vs_types.specs.Page.{bytes_of}
+use Rattle.vs_plan.specs.Request.{lowest_of}
 use Rattle.vs_range.specs.Planner.{IsRunNext}
 use Rattle.vs_range.proofs.Seeing.{map_next, map_ends}
-use Rattle.vs_range.proofs.Taking.{map_takes}
+use Rattle.vs_range.proofs.Taking.{none_maps, run_maps}
 use Rattle.vs_range.proofs.planner.RangePlanner.see_map.Goals as goal
 
 pub returns-clause-next : goal.returns-clause-next
@@ -20,7 +21,13 @@ returns-clause-next g c = λ memory shown got.
     (sym c.index_at-index.ensures.is) (c.most_mapped-most.ensures.most (omega (arith, c.if-most-eq0.false))))))
 
 pub returns-then-most-eq0-clause-taken : goal.returns-then-most-eq0-clause-taken
-returns-then-most-eq0-clause-taken g c = map_takes c.args.self.now (g.W.FrameWords.words c.args.words.now) c.args.page c.args.bits _ c.requires.request
+returns-then-most-eq0-clause-taken g c = none_maps c.args.self.now (g.W.FrameWords.words c.args.words.now) c.args.page c.args.bits c.args.word _
+    c.requires.request c.requires.read (c.most_mapped-most.ensures.none (omega (arith, c.if-most-eq0.true)))
 
 pub returns-clause-taken : goal.returns-clause-taken
-returns-clause-taken g c = map_takes c.args.self.now (g.W.FrameWords.words c.args.words.now) c.args.page c.args.bits _ c.requires.request
+returns-clause-taken g c = run_maps c.args.self.now (g.W.FrameWords.words c.args.words.now) c.args.page c.args.bits _ c.requires.request tt
+
+pub returns-clause-leads : goal.returns-clause-leads
+returns-clause-leads g c = λ next own phase low link within.
+    let room = c.most_mapped-most.ensures.room (omega (arith, c.if-most-eq0.false)) in
+    absurd (omega (arith, low, room.level, ap lowest_of c.requires.request))
