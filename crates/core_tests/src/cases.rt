@@ -50,7 +50,7 @@ pub struct Case {
     pub events: Option<&'static [Item]>,
     /// The calls of the order with which the auditor says yes.
     pub order: &'static [u32],
-    /// Of each replica, how many entries it has applied, and how many tables it has.
+    /// How many entries each replica has applied, and how many tables it has.
     pub dumps: &'static [(u32, usize)],
 }
 

@@ -65,7 +65,7 @@ fn event_of(rt: &impl Abort, depth: Depth, item: Item) -> Event {
     }
 }
 
-/// That a trace has just these events.
+/// Asserts that a trace has just these events.
 fn assert_events(rt: &impl Abort, trace: &Trace, depth: Depth, events: &[Item]) {
     assert_eq!(rt; trace.events().len(), events.len());
     for (recorded, item) in trace.events().iter().zip(events.iter()) {
@@ -73,7 +73,7 @@ fn assert_events(rt: &impl Abort, trace: &Trace, depth: Depth, events: &[Item]) 
     }
 }
 
-/// That a trace has just these dumps.
+/// Asserts that a trace has just these dumps.
 fn assert_dumps(rt: &impl Abort, trace: &Trace, dumps: &[(u32, usize)]) {
     assert_eq!(rt; trace.dumps().len(), dumps.len());
     for (dump, wanted) in trace.dumps().iter().zip(dumps.iter()) {
@@ -81,7 +81,7 @@ fn assert_dumps(rt: &impl Abort, trace: &Trace, dumps: &[(u32, usize)]) {
     }
 }
 
-/// That a trace is the recording of the case.
+/// Asserts that a trace is the recording of the case.
 pub fn assert_recorded(rt: &impl Abort, trace: &Trace, case: &Case) {
     assert!(rt; trace.version() == case.version);
     assert!(rt; trace.layout() == TraceLayout::of(case.config(rt)));

@@ -11,7 +11,7 @@ use std::alloc::Global;
 use std::process::Abort;
 use vs_types::{Config, Depth, Request};
 
-/// That each request of a script is well formed at the depth.
+/// Asserts that each request of a script is well formed at the depth.
 fn assert_fits(rt: &impl Abort, depth: Depth, script: &[Request])
     ensures { All (IsQuery depth) script.now }
 {
@@ -20,7 +20,7 @@ fn assert_fits(rt: &impl Abort, depth: Depth, script: &[Request])
     }
 }
 
-/// That there is one script for each thread, with requests that are few enough and well formed.
+/// Asserts that there is one script for each thread, with requests that are few enough and well formed.
 fn assert_scripts(rt: &impl Abort, config: Config, scripts: &[Vec<Request>])
     ensures { AreScripts config (map (λ script. script.items) scripts.now) }
 {
@@ -118,7 +118,7 @@ pub fn order_at_once(
     order_in(rt, verdict.expect(rt, "memory"))
 }
 
-/// That two traces are spelled alike.
+/// Asserts that two traces are spelled alike.
 pub fn assert_alike(rt: &impl Abort, alloc: Global, one: &Trace, other: &Trace) {
     let first = write(alloc, one).expect(rt, "memory");
     let second = write(alloc, other).expect(rt, "memory");

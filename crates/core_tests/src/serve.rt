@@ -7,4 +7,5 @@ pub(crate) mod points;
 pub(crate) mod runs;
 pub(crate) mod scene;
 pub(crate) mod scripts;
+pub(crate) mod segments;
 pub(crate) mod turns;

@@ -10,7 +10,9 @@ use Rattle.vs_types.specs.declared.request.Query.{Query}
 use Rattle.nr_ring.specs.Pass.{Known, TableId}
 use Rattle.nr_node.proofs.Lists.{same_some}
 use Rattle.nr_record.specs.Pen.{ClockId, PenState, new_pens}
-use Rattle.nr_serve.specs.inside.Calls.{AreServed, IsServed, WorkerState}
+use Rattle.nr_serve.specs.SegmentRun.{HasSeenMore}
+use Rattle.nr_serve.specs.inside.Calls.{AreServed, IsServed, Since, WorkerState}
+use Rattle.nr_serve.specs.inside.Ending.{passes_of}
 use Rattle.nr_serve.specs.inside.Working.{IsDone, IsReadyJob, JobState, jobs_from}
 
 -- ---- two lists, place by place
@@ -33,14 +35,14 @@ one_started {H} f handles more h job jobs rest all items kept steps split =
     ∙ split
 
 -- jobs that were ready were done by the clock
-pub done_by_clock : (clock : ClockId) (log : TableId) (jobs : List JobState) (workers : List WorkerState) → All (IsReadyJob clock log) jobs
-    → AllZip (λ job worker. IsDone job.pen.clock log job worker) jobs workers → AllZip (IsDone clock log) jobs workers
-done_by_clock clock log [] [] ready each = tt
-done_by_clock clock log (j ∷ jobs) (w ∷ workers) ready each = (
-  subst (λ (c : ClockId). IsDone c log j w) (ap (λ (p : PenState). p.clock) (ready 0 j (omega arith)).pen_is) each.0,
-  done_by_clock clock log jobs workers (λ k d lt. ready (suc k) d (omega (arith, lt))) each.1,
+pub done_by_clock : (clock : ClockId) (of : Since) (jobs : List JobState) (workers : List WorkerState) → All (IsReadyJob clock of.log) jobs
+    → AllZip (λ job worker. IsDone job.pen.clock of job worker) jobs workers → AllZip (IsDone clock of) jobs workers
+done_by_clock clock of [] [] ready each = tt
+done_by_clock clock of (j ∷ jobs) (w ∷ workers) ready each = (
+  subst (λ (c : ClockId). IsDone c of j w) (ap (λ (p : PenState). p.clock) (ready 0 j (omega arith)).pen_is) each.0,
+  done_by_clock clock of jobs workers (λ k d lt. ready (suc k) d (omega (arith, lt))) each.1,
 )
-done_by_clock clock log _ _ ready each = absurd each
+done_by_clock clock of _ _ ready each = absurd each
 
 -- ---- jobs
 
@@ -67,33 +69,46 @@ jobs_count thread (s ∷ scripts) (pen ∷ pens) (pass ∷ passes) p q =
 jobs_count thread (s ∷ scripts) [] passes p q = absurd (omega (arith, p))
 jobs_count thread (s ∷ scripts) (pen ∷ pens) [] p q = absurd (omega (arith, q))
 
-served_from : (clock : ClockId) (log : TableId) (thread : ℕ) (scripts : List (List Query)) (pens : List PenState) (passes : List Known)
+served_from : (clock : ClockId) (of : Since) (thread : ℕ) (scripts : List (List Query)) (pens : List PenState) (passes : List Known)
     (workers : List WorkerState) → length pens ≡ length scripts → length passes ≡ length scripts
-    → AllZip (IsDone clock log) (jobs_from thread scripts pens passes) workers
+    → AllZip (IsDone clock of) (jobs_from thread scripts pens passes) workers
     → (index : ℕ) (script : List Query) (worker : WorkerState) → slice_get scripts index ≡ Some script → slice_get workers index ≡ Some worker
-    → IsServed clock log (thread + index) script worker
-served_from clock log thread [] pens passes workers p q each index script worker here there = absurd (none-some script here)
-served_from clock log thread (s ∷ scripts) [] passes workers p q each index script worker here there = absurd (omega (arith, p))
-served_from clock log thread (s ∷ scripts) (pen ∷ pens) [] workers p q each index script worker here there = absurd (omega (arith, q))
-served_from clock log thread (s ∷ scripts) (pen ∷ pens) (pass ∷ passes) [] p q each index script worker here there = absurd each
-served_from clock log thread (s ∷ scripts) (pen ∷ pens) (pass ∷ passes) (w ∷ workers) p q each zero script worker here there =
+    → IsServed clock of (thread + index) script worker
+served_from clock of thread [] pens passes workers p q each index script worker here there = absurd (none-some script here)
+served_from clock of thread (s ∷ scripts) [] passes workers p q each index script worker here there = absurd (omega (arith, p))
+served_from clock of thread (s ∷ scripts) (pen ∷ pens) [] workers p q each index script worker here there = absurd (omega (arith, q))
+served_from clock of thread (s ∷ scripts) (pen ∷ pens) (pass ∷ passes) [] p q each index script worker here there = absurd each
+served_from clock of thread (s ∷ scripts) (pen ∷ pens) (pass ∷ passes) (w ∷ workers) p q each zero script worker here there =
     let n : thread ≡ thread + 0 = omega arith in
-    subst (λ (t : ℕ). IsServed clock log t script worker) n
-    (subst (λ (v : WorkerState). IsServed clock log thread script v) (same_some there)
-    (subst (λ (l : List Query). IsServed clock log thread l w) (same_some here) each.0))
-served_from clock log thread (s ∷ scripts) (pen ∷ pens) (pass ∷ passes) (w ∷ workers) p q each (suc index) script worker here there =
+    subst (λ (t : ℕ). IsServed clock of t script worker) n
+    (subst (λ (v : WorkerState). IsServed clock of thread script v) (same_some there)
+    (subst (λ (l : List Query). IsServed clock of thread l w) (same_some here) each.0.0))
+served_from clock of thread (s ∷ scripts) (pen ∷ pens) (pass ∷ passes) (w ∷ workers) p q each (suc index) script worker here there =
     let n : thread + 1 + index ≡ thread + suc index = omega arith in
-    subst (λ (t : ℕ). IsServed clock log t script worker) n
-    (served_from clock log (thread + 1) scripts pens passes workers (omega (arith, p)) (omega (arith, q)) each.1 index script worker here there)
+    subst (λ (t : ℕ). IsServed clock of t script worker) n
+    (served_from clock of (thread + 1) scripts pens passes workers (omega (arith, p)) (omega (arith, q)) each.1 index script worker here there)
 
 -- the threads have done all jobs
-pub all_served : (clock : ClockId) (log : TableId) (scripts : List (List Query)) (pens : List PenState) (passes : List Known) (workers : List WorkerState)
-    → length pens ≡ length scripts → length passes ≡ length scripts → AllZip (IsDone clock log) (jobs_from 0 scripts pens passes) workers
-    → AreServed clock log scripts workers
-all_served clock log scripts pens passes workers p q each = record {
-  one_each = AllZip-long (IsDone clock log) (jobs_from 0 scripts pens passes) workers each ∙ jobs_count 0 scripts pens passes p q;
+pub all_served : (clock : ClockId) (of : Since) (scripts : List (List Query)) (pens : List PenState) (passes : List Known) (workers : List WorkerState)
+    → length pens ≡ length scripts → length passes ≡ length scripts → AllZip (IsDone clock of) (jobs_from 0 scripts pens passes) workers
+    → AreServed clock of scripts workers
+all_served clock of scripts pens passes workers p q each = record {
+  one_each = AllZip-long (IsDone clock of) (jobs_from 0 scripts pens passes) workers each ∙ jobs_count 0 scripts pens passes p q;
   each = λ index script worker here there.
       let n : 0 + index ≡ index = omega arith in
-      subst (λ (t : ℕ). IsServed clock log t script worker) n
-      (served_from clock log 0 scripts pens passes workers p q each index script worker here there);
+      subst (λ (t : ℕ). IsServed clock of t script worker) n
+      (served_from clock of 0 scripts pens passes workers p q each index script worker here there);
 }
+
+-- and their passes have seen what they had seen, and perhaps more
+pub all_heard : (clock : ClockId) (of : Since) (thread : ℕ) (scripts : List (List Query)) (pens : List PenState) (passes : List Known)
+    (workers : List WorkerState) → length pens ≡ length scripts → length passes ≡ length scripts
+    → AllZip (IsDone clock of) (jobs_from thread scripts pens passes) workers → AllZip HasSeenMore passes (passes_of workers)
+all_heard clock of thread [] pens [] [] p q each = tt
+all_heard clock of thread [] pens [] (w ∷ workers) p q each = absurd each
+all_heard clock of thread [] pens (pass ∷ passes) workers p q each = absurd (omega (arith, q))
+all_heard clock of thread (s ∷ scripts) [] passes workers p q each = absurd (omega (arith, p))
+all_heard clock of thread (s ∷ scripts) (pen ∷ pens) [] workers p q each = absurd (omega (arith, q))
+all_heard clock of thread (s ∷ scripts) (pen ∷ pens) (pass ∷ passes) [] p q each = absurd each
+all_heard clock of thread (s ∷ scripts) (pen ∷ pens) (pass ∷ passes) (w ∷ workers) p q each =
+    (each.0.1, all_heard clock of (thread + 1) scripts pens passes workers (omega (arith, p)) (omega (arith, q)) each.1)

@@ -5,3 +5,5 @@ pub mod Made
 pub mod Shown
 pub mod Teams
 pub mod Jobs
+pub mod Segments
+pub mod Runs

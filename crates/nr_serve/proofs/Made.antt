@@ -1,7 +1,7 @@
 -- The calls of a trace are those of the threads whose pens it was made of.
 use Rattle.std.proofs.lemmas.Bool.{false≢true}
 use Rattle.std.proofs.lemmas.Simd.{map-map}
-use Rattle.std.proofs.Common.{◌≡◌, ℕ, zero, suc, ◌<◌, ◌≤◌, Bool, true, false, List, [], ◌∷◌, All, Contains, length, get_or, map, eqb, eq-eqb, refl, ap, sym}
+use Rattle.std.proofs.Common.{◌≡◌, ℕ, zero, suc, ◌+◌, ◌<◌, ◌≤◌, Bool, true, false, List, [], ◌∷◌, All, Contains, length, get_or, map, eqb, eq-eqb, refl, ap, sym}
 use Rattle.std.proofs.Common.{◌∙◌, subst, arith}
 use Rattle.std.specs.Prelude.{Option, None, Some, IsSome, slice_get, option_and_then, take, if◌then◌else◌, option_map}
 use Rattle.std.specs.Option.{option_map_or}
@@ -26,7 +26,8 @@ use Rattle.nr_record.specs.Pen.{ClockId, PenState, call_by, stamps_of}
 use Rattle.nr_record.specs.Stamps.{Rise}
 use Rattle.nr_record.specs.declared.stamped.Stamped.{Stamped}
 use Rattle.nr_record.proofs.Finished.{pen_of_stamp, once_in}
-use Rattle.nr_serve.specs.inside.Calls.{AreServed, IsServed, IsTrueOf, MadeCall, WorkerState}
+use Rattle.nr_serve.specs.inside.Calls.{AreServed, IsServed, IsTrueOf, MadeCall, Since, WorkerState, since}
+use Rattle.nr_serve.specs.SegmentRun.{HasSeenAnswersFrom}
 use Rattle.nr_serve.specs.Run.{AreCallsOf, HasAllOrStopped, HasSeenAnswers, StopsLast, asked_by, calls_of, said_of}
 use Rattle.nr_serve.specs.inside.Ending.{pens_of}
 use Rattle.nr_serve.specs.declared.said.Said.{Said}
@@ -34,14 +35,14 @@ use Rattle.nr_serve.specs.declared.said.Said.TheVariants.{Answer, Stopped}
 use Rattle.nr_serve.proofs.Notes.{AreNoted, answers_are, made_calls, note_is_call, numbers, response, rise_numbers, spoken, stamps}
 use Rattle.nr_serve.proofs.Numbers.{passes_below}
 
-all_at : {X : Type 0} (P : X → Type 0) (xs : List X) (k : ℕ) (x : X) → All P xs → slice_get xs k ≡ Some x → P x
+pub all_at : {X : Type 0} (P : X → Type 0) (xs : List X) (k : ℕ) (x : X) → All P xs → slice_get xs k ≡ Some x → P x
 all_at P xs k x all at = subst P (get_or_from_slice_get xs k x x at) (all k x (slice_get_within xs k x at))
 
 -- a thread's calls are in the events as its notes say
-noted_of : (clock : ClockId) (log : TableId) (thread : ℕ) (script : List Query) (worker : WorkerState) (workers : List WorkerState) (events : List Event)
-    → AreEventsOf events (pens_of workers) → slice_get workers thread ≡ Some worker → (served : IsServed clock log thread script worker)
+noted_of : (clock : ClockId) (of : Since) (thread : ℕ) (script : List Query) (worker : WorkerState) (workers : List WorkerState) (events : List Event)
+    → AreEventsOf events (pens_of workers) → slice_get workers thread ≡ Some worker → (served : IsServed clock of thread script worker)
     → AreNoted events clock.layout thread served.calls
-noted_of clock log thread script worker workers events are at served =
+noted_of clock of thread script worker workers events are at served =
     let pens = pens_of workers in
     let pen = worker.pen in
     let here : slice_get pens thread ≡ Some pen = slice_get-map (λ (w : WorkerState). w.pen) workers thread ∙ ap (option_map (λ (w : WorkerState). w.pen)) at in
@@ -94,11 +95,11 @@ all_within events layout thread calls are =
     (made_calls events layout thread calls are k d lt))
 
 -- an event that is a call of the thread is one of the calls that its notes say
-only_own : (clock : ClockId) (log : TableId) (scripts : List (List Query)) (workers : List WorkerState) (events : List Event)
-    → AreServed clock log scripts workers → AreEventsOf events (pens_of workers) → (thread : ℕ) (script : List Query) (worker : WorkerState)
-    → slice_get workers thread ≡ Some worker → (served : IsServed clock log thread script worker)
+only_own : (clock : ClockId) (of : Since) (scripts : List (List Query)) (workers : List WorkerState) (events : List Event)
+    → AreServed clock of scripts workers → AreEventsOf events (pens_of workers) → (thread : ℕ) (script : List Query) (worker : WorkerState)
+    → slice_get workers thread ≡ Some worker → (served : IsServed clock of thread script worker)
     → (i : ℕ) → makes thread events i ≡ true → Contains (numbers served.calls) i
-only_own clock log scripts workers events all are thread script worker at served i holds =
+only_own clock of scripts workers events all are thread script worker at served i holds =
     let pens = pens_of workers in
     let call = called events thread i holds in
     let lt = slice_get_within events i call.event call.at in
@@ -127,16 +128,16 @@ only_own clock log scripts workers events all are thread script worker at served
     subst (λ (s : ℕ). Contains (numbers served.calls) s) found.2.2
     (note_is_call clock.layout thread served.calls item thread mine event).is_call
 
-calls_are : (clock : ClockId) (log : TableId) (scripts : List (List Query)) (workers : List WorkerState) (trace : Recording)
-    → AreServed clock log scripts workers → AreEventsOf trace.events (pens_of workers) → (thread : ℕ) (script : List Query) (worker : WorkerState)
-    → slice_get workers thread ≡ Some worker → (served : IsServed clock log thread script worker)
+calls_are : (clock : ClockId) (of : Since) (scripts : List (List Query)) (workers : List WorkerState) (trace : Recording)
+    → AreServed clock of scripts workers → AreEventsOf trace.events (pens_of workers) → (thread : ℕ) (script : List Query) (worker : WorkerState)
+    → slice_get workers thread ≡ Some worker → (served : IsServed clock of thread script worker)
     → calls_of trace thread ≡ numbers served.calls
-calls_are clock log scripts workers trace all are thread script worker at served =
-    let noted = noted_of clock log thread script worker workers trace.events are at served in
+calls_are clock of scripts workers trace all are thread script worker at served =
+    let noted = noted_of clock of thread script worker workers trace.events are at served in
     let calls = served.calls in
     passes_below (makes thread trace.events) (numbers calls) (length trace.events) (rise_numbers clock.layout thread calls noted.rising)
     (all_within trace.events clock.layout thread calls noted)
-    (only_own clock log scripts workers trace.events all are thread script worker at served)
+    (only_own clock of scripts workers trace.events all are thread script worker at served)
     (λ i has. All-contains (λ (j : ℕ). makes thread trace.events j ≡ true) (numbers calls) i (all_make trace.events clock.layout thread calls noted) has)
 
 map_both : {Y : Type 0} (f : ℕ → Y) (g : MadeCall → Y) (calls : List MadeCall) → All (λ c. f c.number ≡ g c) calls → map f (numbers calls) ≡ map g calls
@@ -150,17 +151,17 @@ said_back number (Answer at answer) = refl
 said_back number Stopped = refl
 
 -- the calls of each thread are those that it made, and its answers theirs
-pub are_calls : (clock : ClockId) (log : TableId) (scripts : List (List Query)) (workers : List WorkerState) (trace : Recording)
-    → AreServed clock log scripts workers → AreEventsOf trace.events (pens_of workers) → trace.layout ≡ clock.layout
+pub are_calls : (clock : ClockId) (of : Since) (scripts : List (List Query)) (workers : List WorkerState) (trace : Recording)
+    → AreServed clock of scripts workers → AreEventsOf trace.events (pens_of workers) → trace.layout ≡ clock.layout
     → (thread : ℕ) (script : List Query) (said : List Said) → slice_get scripts thread ≡ Some script
     → slice_get (map (λ w. w.said) workers) thread ≡ Some said → AreCallsOf trace thread script said
-are_calls clock log scripts workers trace all are layout thread script said at_script at_said =
+are_calls clock of scripts workers trace all are layout thread script said at_script at_said =
     let there = slice_get-unmap (λ (w : WorkerState). w.said) workers thread said at_said in
     let worker = there.0 in
     let served = all.each thread script worker at_script there.1 in
     let calls = served.calls in
-    let noted = noted_of clock log thread script worker workers trace.events are there.1 served in
-    let is = calls_are clock log scripts workers trace all are thread script worker there.1 served in
+    let noted = noted_of clock of thread script worker workers trace.events are there.1 served in
+    let is = calls_are clock of scripts workers trace all are thread script worker there.1 served in
     let asked : Query → Option Invocation = λ request. Some (asked_by trace.layout thread request) in
     let long : length calls ≡ length (calls_of trace thread) =
     sym (length-map calls (λ (c : MadeCall). c.number)) ∙ ap (λ (xs : List ℕ). length xs) (sym is) in
@@ -192,47 +193,47 @@ call_of_number (c ∷ cs) n has = at has.0 has.1 has.2 (λ rest. call_of_number 
       let rest = more (k, omega arith, is) in (rest.0, (suc rest.1.0, omega (arith, rest.1.1), rest.1.2), rest.2)
 
 -- where what came of a call is true of a log, an answered update is at its place
-stands : (layout : Layout) (log : Log) (number : ℕ) (request : Query) (said : Said) → IsTrueOf layout log number request said
+stands : (layout : Layout) (from : ℕ) (log : Log) (number : ℕ) (request : Query) (said : Said) → IsTrueOf layout from log number request said
     → (action : Action) (reply : Response) → operation_in request ≡ Some action → response number said ≡ Some reply
-    → slice_get log.entries reply.at ≡ Some (record { call = number; op = action })
-stands layout log number (Update act) (Answer at answer) is action reply op rep =
+    → slice_get log.entries (from + reply.at) ≡ Some (record { call = number; op = action })
+stands layout from log number (Update act) (Answer at answer) is action reply op rep =
     let same : act ≡ action = cc in
     let r : Response = record { call = number; at = at; answer = answer } in
     let reply_is : r ≡ reply = cc in
-    subst (λ (p : ℕ). slice_get log.entries p ≡ Some (record { call = number; op = action })) (ap (λ (x : Response). x.at) reply_is)
+    subst (λ (p : ℕ). slice_get log.entries (from + p) ≡ Some (record { call = number; op = action })) (ap (λ (x : Response). x.at) reply_is)
     (is.stands ∙ ap (λ (a : Action). Some (record { call = number; op = a })) same)
-stands layout log number _ _ is action reply op rep = absurd cc
+stands layout from log number _ _ is action reply op rep = absurd cc
 
 -- and an answered read saw no more entries than there are
-known : (layout : Layout) (log : Log) (number : ℕ) (request : Query) (said : Said) → IsTrueOf layout log number request said
-    → (reply : Response) → IsSome (read_address request) → response number said ≡ Some reply → reply.at ≤ length log.entries
-known layout log number (Update act) said is reply read rep = absurd (false≢true read)
-known layout log number _ Stopped is reply read rep = absurd cc
-known layout log number _ (Answer at answer) is reply read rep =
+known : (layout : Layout) (from : ℕ) (log : Log) (number : ℕ) (request : Query) (said : Said) → IsTrueOf layout from log number request said
+    → (reply : Response) → IsSome (read_address request) → response number said ≡ Some reply → from + reply.at ≤ length log.entries
+known layout from log number (Update act) said is reply read rep = absurd (false≢true read)
+known layout from log number _ Stopped is reply read rep = absurd cc
+known layout from log number _ (Answer at answer) is reply read rep =
     let r : Response = record { call = number; at = at; answer = answer } in
     let reply_is : r ≡ reply = cc in
-    subst (λ (p : ℕ). p ≤ length log.entries) (ap (λ (x : Response). x.at) reply_is) is.known
+    subst (λ (p : ℕ). from + p ≤ length log.entries) (ap (λ (x : Response). x.at) reply_is) is.known
 
 -- a call of the thread, with what is known of it
-record IsKnownCall (trace : Recording) (layout : Layout) (log : Log) (thread call : ℕ) : Type 0 where
+record IsKnownCall (trace : Recording) (layout : Layout) (from : ℕ) (log : Log) (thread call : ℕ) : Type 0 where
   request : Query
   said : Said
   asked : slice_get trace.events call ≡ Some (call_by layout thread request)
   replied : reply_to trace call ≡ response call said
-  is_true : IsTrueOf layout log call request said
+  is_true : IsTrueOf layout from log call request said
 
-known_call : (clock : ClockId) (log : TableId) (scripts : List (List Query)) (workers : List WorkerState) (trace : Recording)
-    → AreServed clock log scripts workers → AreEventsOf trace.events (pens_of workers) → (thread : ℕ) (worker : WorkerState)
+known_call : (clock : ClockId) (of : Since) (scripts : List (List Query)) (workers : List WorkerState) (trace : Recording)
+    → AreServed clock of scripts workers → AreEventsOf trace.events (pens_of workers) → (thread : ℕ) (worker : WorkerState)
     → slice_get workers thread ≡ Some worker → (call : ℕ) (made : Invocation) → call_of trace call ≡ Some made → made.thread ≡ thread
-    → IsKnownCall trace clock.layout (log_after clock.layout.replicas worker.pass.view.seen) thread call
-known_call clock log scripts workers trace all are thread worker at call made is_made who =
+    → IsKnownCall trace clock.layout of.from (log_after clock.layout.replicas worker.pass.view.seen) thread call
+known_call clock of scripts workers trace all are thread worker at call made is_made who =
     let its = item_of scripts thread (omega (arith, slice_get_within workers thread worker at, all.one_each)) in
     let served = all.each thread its.0 worker its.1 at in
     let calls = served.calls in
-    let noted = noted_of clock log thread its.0 worker workers trace.events are at served in
+    let noted = noted_of clock of thread its.0 worker workers trace.events are at served in
     let holds : makes thread trace.events call ≡ true =
     ap (λ o. option_map_or (λ (m : Invocation). eqb m.thread thread) o false) is_made ∙ eq-eqb made.thread thread who in
-    let found = call_of_number calls call (only_own clock log scripts workers trace.events all are thread its.0 worker at served call holds) in
+    let found = call_of_number calls call (only_own clock of scripts workers trace.events all are thread its.0 worker at served call holds) in
     let c = found.0 in
     record {
       request = c.request;
@@ -243,16 +244,16 @@ known_call clock log scripts workers trace all are thread worker at call made is
       replied = subst (λ (n : ℕ). reply_to trace n ≡ response n c.said) found.2
           (All-contains (λ (d : MadeCall). reply_to trace d.number ≡ response d.number d.said) calls c
           (answers_are trace.events clock.layout thread calls noted) found.1);
-      is_true = subst (λ (n : ℕ). IsTrueOf clock.layout (log_after clock.layout.replicas worker.pass.view.seen) n c.request c.said) found.2
-          (All-contains (λ (d : MadeCall). IsTrueOf clock.layout (log_after clock.layout.replicas worker.pass.view.seen) d.number d.request d.said)
+      is_true = subst (λ (n : ℕ). IsTrueOf clock.layout of.from (log_after clock.layout.replicas worker.pass.view.seen) n c.request c.said) found.2
+          (All-contains (λ (d : MadeCall). IsTrueOf clock.layout of.from (log_after clock.layout.replicas worker.pass.view.seen) d.number d.request d.said)
           calls c served.true_calls found.1);
     }
 
 -- each thread's pass has seen all on which its answers depend
-pub have_seen : (clock : ClockId) (log : TableId) (scripts : List (List Query)) (workers : List WorkerState) (trace : Recording)
-    → AreServed clock log scripts workers → AreEventsOf trace.events (pens_of workers) → trace.layout ≡ clock.layout
-    → (thread : ℕ) (pass : Known) → slice_get (map (λ w. w.pass) workers) thread ≡ Some pass → HasSeenAnswers trace thread pass
-have_seen clock log scripts workers trace all are layout thread pass at_pass =
+pub have_seen_from : (clock : ClockId) (of : Since) (scripts : List (List Query)) (workers : List WorkerState) (trace : Recording)
+    → AreServed clock of scripts workers → AreEventsOf trace.events (pens_of workers) → trace.layout ≡ clock.layout
+    → (thread : ℕ) (pass : Known) → slice_get (map (λ w. w.pass) workers) thread ≡ Some pass → HasSeenAnswersFrom of.from trace thread pass
+have_seen_from clock of scripts workers trace all are layout thread pass at_pass =
     let there = slice_get-unmap (λ (w : WorkerState). w.pass) workers thread pass at_pass in
     let worker = there.0 in
     let here : log_after clock.layout.replicas worker.pass.view.seen ≡ log_after trace.layout.replicas pass.view.seen =
@@ -260,18 +261,34 @@ have_seen clock log scripts workers trace all are layout thread pass at_pass =
     ∙ ap (λ (p : Known). log_after trace.layout.replicas p.view.seen) there.2 in
     record {
       updates = λ call made action reply is_made who op rep.
-          let its = known_call clock log scripts workers trace all are thread worker there.1 call made is_made who in
+          let its = known_call clock of scripts workers trace all are thread worker there.1 call made is_made who in
           let op' : operation_in its.request ≡ Some action =
           sym (ap (λ o. option_and_then (λ (m : Invocation). operation_in m.request) (option_and_then made_by o)) its.asked) ∙ op in
-          subst (λ (l : Log). slice_get l.entries reply.at ≡ Some (record { call = call; op = action })) here
-          (stands clock.layout (log_after clock.layout.replicas worker.pass.view.seen) call its.request its.said its.is_true action reply op'
+          subst (λ (l : Log). slice_get l.entries (of.from + reply.at) ≡ Some (record { call = call; op = action })) here
+          (stands clock.layout of.from (log_after clock.layout.replicas worker.pass.view.seen) call its.request its.said its.is_true action reply op'
           (sym its.replied ∙ rep));
       reads = λ call made reply is_made who read rep.
-          let its = known_call clock log scripts workers trace all are thread worker there.1 call made is_made who in
+          let its = known_call clock of scripts workers trace all are thread worker there.1 call made is_made who in
           let read' : IsSome (read_address its.request) =
           subst (λ o. IsSome (option_and_then (λ (m : Invocation). if m.touch then None else read_address m.request) (option_and_then made_by o))) its.asked
           read in
-          subst (λ (l : Log). reply.at ≤ length l.entries) here
-          (known clock.layout (log_after clock.layout.replicas worker.pass.view.seen) call its.request its.said its.is_true reply read'
+          subst (λ (l : Log). of.from + reply.at ≤ length l.entries) here
+          (known clock.layout of.from (log_after clock.layout.replicas worker.pass.view.seen) call its.request its.said its.is_true reply read'
           (sym its.replied ∙ rep));
     }
+
+-- where places are counted from the first one on
+from_first : (trace : Recording) (thread : ℕ) (pass : Known) → HasSeenAnswersFrom 0 trace thread pass → HasSeenAnswers trace thread pass
+from_first trace thread pass seen = record {
+  updates = λ call made action reply is_made who op rep.
+      let same : 0 + reply.at ≡ reply.at = omega arith in
+      subst (λ (p : ℕ). slice_get (log_after trace.layout.replicas pass.view.seen).entries p ≡ Some (record { call = call; op = action })) same
+      (seen.updates call made action reply is_made who op rep);
+  reads = λ call made reply is_made who read rep. omega (arith, seen.reads call made reply is_made who read rep);
+}
+
+pub have_seen : (clock : ClockId) (log : TableId) (scripts : List (List Query)) (workers : List WorkerState) (trace : Recording)
+    → AreServed clock (since log 0) scripts workers → AreEventsOf trace.events (pens_of workers) → trace.layout ≡ clock.layout
+    → (thread : ℕ) (pass : Known) → slice_get (map (λ w. w.pass) workers) thread ≡ Some pass → HasSeenAnswers trace thread pass
+have_seen clock log scripts workers trace all are layout thread pass at_pass =
+    from_first trace thread pass (have_seen_from clock (since log 0) scripts workers trace all are layout thread pass at_pass)

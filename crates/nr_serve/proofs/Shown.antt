@@ -1,10 +1,9 @@
 -- What a run has to show, once its bytes are audited.
-use Rattle.std.proofs.Common.{◌≡◌, ℕ, List, Vec, length, map, ap, sym, subst, ◌∙◌, arith}
+use Rattle.std.proofs.Common.{◌≡◌, ℕ, List, Vec, length, ap, sym, subst, ◌∙◌, arith}
 use Rattle.std.specs.Vec.{with_items}
 use Rattle.std.proofs.lemmas.List.{length-map, with_items_is}
-use Rattle.std.specs.Prelude.{IfOk, Result, Ok, drop}
+use Rattle.std.specs.Prelude.{IfOk, Result, Ok}
 use Rattle.vs_types.specs.Config.{Layout}
-use Rattle.vs_types.specs.declared.log_entry.LogEntry.{LogEntry}
 use Rattle.vs_types.specs.declared.request.Query.{Query}
 use Rattle.nr_ring.specs.Pass.{Known, TableId}
 use Rattle.nr_trace.specs.Faults.{IsFirstOf}
@@ -22,7 +21,7 @@ use Rattle.nr_serve.specs.Run.{AreAllCallsOf, HaveSeenAnswers, IfRunRefused, IfV
 use Rattle.nr_serve.specs.declared.outcome.Outcome.{Outcome}
 use Rattle.nr_serve.specs.declared.outcome.Outcome.TheVariants.{Refused, Verified}
 use Rattle.nr_serve.specs.declared.said.Said.{Said}
-use Rattle.nr_serve.specs.inside.Calls.{AreServed, WorkerState}
+use Rattle.nr_serve.specs.inside.Calls.{AreServed, WorkerState, since}
 use Rattle.nr_serve.specs.inside.Ending.{IsWrittenOf, answers_of, passes_of, pens_of}
 use Rattle.nr_serve.proofs.Made.{are_calls, have_seen}
 
@@ -33,13 +32,13 @@ spelled_with bytes trace P spelled is = (trace, record { spelled = spelled; no_o
 -- the bytes that are written spell a trace of the threads' scripts
 pub trace_of_run : (clock : ClockId) (log : TableId) (layout : Layout) (scripts : List (List Query)) (workers : List WorkerState)
     (pens : List PenState) (passes : List Known) (bytes : List ℕ) → layout ≡ clock.layout → length scripts ≡ layout.threads
-    → AreServed clock log scripts workers → pens ≡ pens_of workers → passes ≡ passes_of workers → IsWrittenOf layout pens passes bytes
+    → AreServed clock (since log 0) scripts workers → pens ≡ pens_of workers → passes ≡ passes_of workers → IsWrittenOf layout pens passes bytes
     → IsTraceOf layout scripts (answers_of workers) (passes_of workers) bytes
 trace_of_run clock log layout scripts workers pens passes bytes of_clock one_each served pens_are passes_are written =
     let trace = written.trace in
     let recorded = subst (λ (ps : List PenState). AreEventsOf trace.events ps) pens_are written.recorded in
     let same = written.layout_is ∙ of_clock in
-    let calls = are_calls clock log scripts workers trace served recorded same in
+    let calls = are_calls clock (since log 0) scripts workers trace served recorded same in
     let seen = have_seen clock log scripts workers trace served recorded same in
     let of_log = subst (λ (ps : List Known). IsLogOf layout trace.log ps) passes_are written.log in
     record {
@@ -87,7 +86,7 @@ pub back_is : {X Z : Type 0} (v : Vec X Z) (ws : List X) → ws ≡ v.items → 
 back_is {X} v ws same =
     let long : length ws ≡ v.len = omega (arith, ap (λ (xs : List X). length xs) same, v.ok.0) in with_items_is v ws long ∙ same
 
--- the calls of a log from its first place on are all
-pub from_the_first : (base : ℕ) (entries : List LogEntry) (calls : List ℕ) → calls ≡ map (λ entry. entry.call) (drop base entries) → base ≡ 0
-    → calls ≡ map (λ entry. entry.call) entries
-from_the_first base entries calls are none = are ∙ ap (λ (b : ℕ). map (λ (entry : LogEntry). entry.call) (drop b entries)) none
+-- a vector to which as many elements are written back has those
+pub written_back : {X Z : Type 0} (v : Vec X Z) (ws : List X) → length ws ≡ length v.items → (with_items v ws).items ≡ ws
+written_back {X} v ws same =
+    let long : length ws ≡ v.len = omega (arith, same, v.ok.0) in with_items_is v ws long

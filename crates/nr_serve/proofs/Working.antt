@@ -13,7 +13,7 @@ use Rattle.vs_types.specs.declared.request.Query.{Query}
 use Rattle.vs_types.specs.declared.request.Query.TheVariants.{Update, Resolve, Access}
 use Rattle.vs_types.specs.Step.{allow, look}
 use Rattle.nr_ring.specs.Laws.{HasGoneOn}
-use Rattle.nr_ring.specs.LogHistory.{IsLogHistory, Log, log_after, tail}
+use Rattle.nr_ring.specs.LogHistory.{IsLogHistory, Log, log_after}
 use Rattle.nr_ring.specs.Pass.{Known, TableId}
 use Rattle.nr_ring.specs.declared.log_event.LogEvent.{LogEvent}
 use Rattle.nr_ring.specs.declared.view.View.{View}
@@ -24,22 +24,27 @@ use Rattle.nr_replicas.specs.Replicas.{HasHeard}
 use Rattle.nr_replicas.proofs.Hearing.{heard_on}
 use Rattle.nr_replicas.proofs.Logs.{answer_stays, read_stays}
 use Rattle.nr_serve.specs.Run.{StopsLast}
-use Rattle.nr_serve.specs.inside.Calls.{IsServed, IsTrueOf, MadeCall, notes_of}
+use Rattle.nr_serve.specs.inside.Calls.{IsServed, IsTrueAt, IsTrueOf, MadeCall, Since, notes_of}
 use Rattle.nr_serve.specs.declared.said.Said.{Said}
 use Rattle.nr_serve.specs.declared.said.Said.TheVariants.{Answer, Stopped}
-use Rattle.nr_serve.specs.inside.Working.{HasCalled, IsAnswer, IsNamed, IsReady, IsUnderWay}
+use Rattle.nr_serve.specs.SegmentRun.{IsAnswer}
+use Rattle.nr_serve.specs.inside.Working.{HasCalled, IsNamed, IsReady, IsUnderWay}
 
 -- ---- what is true of a log is true of each later one
 
-pub true_stays : (layout : Layout) (p q : Log) (number : ℕ) (request : Query) (said : Said) → HasGoneOn p q → IsTrueOf layout p number request said
-    → IsTrueOf layout q number request said
-true_stays layout p q number request Stopped on is = tt
-true_stays layout p q number (Update action) (Answer at answer) on is =
-    answer_stays layout.depth layout.tables 0 p q (record { call = number; op = action }) at answer on is
-true_stays layout p q number (Resolve address) (Answer at answer) on is =
-    read_stays layout.depth layout.tables 0 p q (λ space. look space address) at answer on is
-true_stays layout p q number (Access address mode access) (Answer at answer) on is =
-    read_stays layout.depth layout.tables 0 p q (λ space. allow space address mode access) at answer on is
+true_at_stays : (layout : Layout) (p q : Log) (number : ℕ) (request : Query) (place : ℕ) (answer : answers.Answer) → HasGoneOn p q
+    → IsTrueAt layout p number request place answer → IsTrueAt layout q number request place answer
+true_at_stays layout p q number (Update action) place answer on is =
+    answer_stays layout.depth layout.tables 0 p q (record { call = number; op = action }) place answer on is
+true_at_stays layout p q number (Resolve address) place answer on is =
+    read_stays layout.depth layout.tables 0 p q (λ space. look space address) place answer on is
+true_at_stays layout p q number (Access address mode access) place answer on is =
+    read_stays layout.depth layout.tables 0 p q (λ space. allow space address mode access) place answer on is
+
+pub true_stays : (layout : Layout) (from : ℕ) (p q : Log) (number : ℕ) (request : Query) (said : Said) → HasGoneOn p q
+    → IsTrueOf layout from p number request said → IsTrueOf layout from q number request said
+true_stays layout from p q number request Stopped on is = tt
+true_stays layout from p q number request (Answer at answer) on is = true_at_stays layout p q number request (from + at) answer on is
 
 -- ---- the items
 
@@ -62,10 +67,10 @@ calls_in_both xs ys = omega (arith, sum_by-append (λ (item : Stamped). cond (is
 -- ---- request by request
 
 -- nothing is asked yet
-pub begins : (clock : ClockId) (log : TableId) (thread : ℕ) (script : List Query) (pen : PenState) (pass : Known)
-    → IsReady clock log thread script pen pass → IsLogHistory clock.layout.depth clock.layout.replicas pass.view.seen
-    → IsUnderWay clock log thread script 0 pen pass []
-begins clock log thread script pen pass ready history = record {
+pub begins : (clock : ClockId) (of : Since) (thread : ℕ) (script : List Query) (pen : PenState) (pass : Known)
+    → IsReady clock of.log thread script pen pass → IsLogHistory clock.layout.depth clock.layout.replicas pass.view.seen
+    → IsUnderWay clock of thread script 0 pen pass []
+begins clock of thread script pen pass ready history = record {
   of_clock = ap (λ (p : PenState). p.clock) ready.pen_is;
   of_thread = ap (λ (p : PenState). p.thread) ready.pen_is;
   quota = ap (λ (p : PenState). p.quota) ready.pen_is;
@@ -89,17 +94,17 @@ one_call layout thread request number replied (Answer at answer) = refl
 one_call layout thread request number replied Stopped = refl
 
 -- the next request is called
-pub record IsNext (clock : ClockId) (log : TableId) (thread : ℕ) (script : List Query) (done : ℕ) (request : Query) (pen pen' : PenState) (pass pass' : Known)
+pub record IsNext (clock : ClockId) (of : Since) (thread : ℕ) (script : List Query) (done : ℕ) (request : Query) (pen pen' : PenState) (pass pass' : Known)
     (said : List Said) (item : Said) : Type 0 where
-  pub under_way : IsUnderWay clock log thread script done pen pass said
+  pub under_way : IsUnderWay clock of thread script done pen pass said
   pub within : done < length script
   pub request_is : request ≡ get_or script done request
   pub same_log : pass'.log ≡ pass.log
   pub heard : HasHeard clock.layout.depth clock.layout.replicas pass.view pass'.view
-  pub called : HasCalled clock.layout request pen pen' pass' item
+  pub called : HasCalled clock.layout of.from request pen pen' pass' item
 
-module _ (clock : ClockId) (log : TableId) (thread : ℕ) (script : List Query) (done : ℕ) (request : Query) (pen pen' : PenState) (pass pass' : Known)
-    (said : List Said) (item : Said) (next : IsNext clock log thread script done request pen pen' pass pass' said item) where
+module _ (clock : ClockId) (of : Since) (thread : ℕ) (script : List Query) (done : ℕ) (request : Query) (pen pen' : PenState) (pass pass' : Known)
+    (said : List Said) (item : Said) (next : IsNext clock of thread script done request pen pen' pass pass' said item) where
   abbrev call : MadeCall
   call = record { request = request; number = next.called.number; said = item; replied = next.called.replied }
 
@@ -110,7 +115,7 @@ module _ (clock : ClockId) (log : TableId) (thread : ℕ) (script : List Query) 
   notes = notes_of clock.layout thread
 
   abbrev IsTrueNow : MadeCall → Type 0
-  IsTrueNow made = IsTrueOf clock.layout (log_after clock.layout.replicas pass'.view.seen) made.number made.request made.said
+  IsTrueNow made = IsTrueOf clock.layout of.from (log_after clock.layout.replicas pass'.view.seen) made.number made.request made.said
 
   requests_more : map (λ made. made.request) (old ++ call ∷ []) ≡ take (done + 1) script
   requests_more =
@@ -137,7 +142,7 @@ module _ (clock : ClockId) (log : TableId) (thread : ℕ) (script : List Query) 
       All-push IsTrueNow old call
       (λ k d lt.
       let made = get_or old k d in
-      true_stays clock.layout (log_after clock.layout.replicas pass.view.seen) (log_after clock.layout.replicas pass'.view.seen) made.number made.request
+      true_stays clock.layout of.from (log_after clock.layout.replicas pass.view.seen) (log_after clock.layout.replicas pass'.view.seen) made.number made.request
       made.said on (next.under_way.true_calls k d lt))
       next.called.true_call
 
@@ -151,7 +156,7 @@ module _ (clock : ClockId) (log : TableId) (thread : ℕ) (script : List Query) 
       ap calls_in next.called.notes ∙ both ∙ omega (arith, one, next.under_way.calls_noted)
 
   -- it was answered, and there may be more
-  pub goes_on : IsAnswer item → IsUnderWay clock log thread script (done + 1) pen' pass' (said ++ item ∷ [])
+  pub goes_on : IsAnswer item → IsUnderWay clock of thread script (done + 1) pen' pass' (said ++ item ∷ [])
   goes_on answer = record {
     of_clock = next.called.of_clock ∙ next.under_way.of_clock;
     of_thread = next.called.of_thread ∙ next.under_way.of_thread;
@@ -170,7 +175,7 @@ module _ (clock : ClockId) (log : TableId) (thread : ℕ) (script : List Query) 
   }
 
   -- it was stopped, and is the last
-  pub stops : item ≡ Stopped → IsServed clock log thread script (record { pen = pen'; pass = pass'; said = said ++ item ∷ [] })
+  pub stops : item ≡ Stopped → IsServed clock of thread script (record { pen = pen'; pass = pass'; said = said ++ item ∷ [] })
   stops stopped = record {
     of_clock = next.called.of_clock ∙ next.under_way.of_clock;
     of_thread = next.called.of_thread ∙ next.under_way.of_thread;
@@ -187,10 +192,10 @@ module _ (clock : ClockId) (log : TableId) (thread : ℕ) (script : List Query) 
   }
 
 -- all requests were answered
-pub ends : (clock : ClockId) (log : TableId) (thread : ℕ) (script : List Query) (done : ℕ) (pen : PenState) (pass : Known) (said : List Said)
-    → IsUnderWay clock log thread script done pen pass said → done ≡ length script
-    → IsServed clock log thread script (record { pen = pen; pass = pass; said = said })
-ends clock log thread script done pen pass said is all = record {
+pub ends : (clock : ClockId) (of : Since) (thread : ℕ) (script : List Query) (done : ℕ) (pen : PenState) (pass : Known) (said : List Said)
+    → IsUnderWay clock of thread script done pen pass said → done ≡ length script
+    → IsServed clock of thread script (record { pen = pen; pass = pass; said = said })
+ends clock of thread script done pen pass said is all = record {
   of_clock = is.of_clock;
   of_thread = is.of_thread;
   quota = is.quota;
@@ -207,34 +212,27 @@ ends clock log thread script done pen pass said is all = record {
 
 -- ---- the names of a log and its replicas say how the service is laid out
 
-pub named_history : (layout : Layout) (depth : Depth) (replicas places tables : ℕ) (seen : List LogEvent) → IsNamed layout depth replicas places tables
-    → IsLogHistory depth replicas seen → IsLogHistory layout.depth layout.replicas seen
-named_history layout depth replicas places tables seen named is =
+pub named_history : (layout : Layout) (base : ℕ) (depth : Depth) (replicas tables from : ℕ) (seen : List LogEvent)
+    → IsNamed layout base depth replicas tables from → IsLogHistory depth replicas seen → IsLogHistory layout.depth layout.replicas seen
+named_history layout base depth replicas tables from seen named is =
     subst (λ (d : Depth). IsLogHistory d layout.replicas seen) (sym named.depth_is)
     (subst (λ (r : ℕ). IsLogHistory depth r seen) (sym named.replicas_are) is)
 
-pub named_heard : (layout : Layout) (depth : Depth) (replicas places tables : ℕ) (a b : View) → IsNamed layout depth replicas places tables
-    → HasHeard depth replicas a b → HasHeard layout.depth layout.replicas a b
-named_heard layout depth replicas places tables a b named is =
+pub named_heard : (layout : Layout) (base : ℕ) (depth : Depth) (replicas tables from : ℕ) (a b : View)
+    → IsNamed layout base depth replicas tables from → HasHeard depth replicas a b → HasHeard layout.depth layout.replicas a b
+named_heard layout base depth replicas tables from a b named is =
     subst (λ (d : Depth). HasHeard d layout.replicas a b) (sym named.depth_is)
     (subst (λ (r : ℕ). HasHeard depth r a b) (sym named.replicas_are) is)
 
 -- ---- one call
 
--- what came of a call was reached in the log
-pub true_within : (layout : Layout) (log : Log) (number : ℕ) (request : Query) (at : ℕ) (answer : answers.Answer)
-    → IsTrueOf layout log number request (Answer at answer) → at ≤ tail log
-true_within layout log number (Update action) at answer is =
-    omega (arith, slice_get_within log.entries at (record { call = number; op = action }) is.stands)
-true_within layout log number (Resolve address) at answer is = is.known
-true_within layout log number (Access address mode access) at answer is = is.known
-
 -- a call, and its reply
-pub called_and_answered : (clock : ClockId) (request : Query) (before middle after : PenState) (pass : Known) (number replied at : ℕ) (answer : answers.Answer)
-    (replicas : ℕ) → before.clock ≡ clock → middle ≡ with_call before number request → after ≡ with_reply middle replied number at answer
-    → clock.layout.replicas ≡ replicas → IsTrueOf clock.layout (log_after replicas pass.view.seen) number request (Answer at answer)
-    → HasCalled clock.layout request before after pass (Answer at answer)
-called_and_answered clock request before middle after pass number replied at answer replicas of called answered same is =
+pub called_and_answered : (clock : ClockId) (request : Query) (before middle after : PenState) (pass : Known) (number replied from place at : ℕ)
+    (answer : answers.Answer) (replicas : ℕ) → place ≡ from + at → before.clock ≡ clock → middle ≡ with_call before number request
+    → after ≡ with_reply middle replied number at answer → clock.layout.replicas ≡ replicas
+    → IsTrueAt clock.layout (log_after replicas pass.view.seen) number request place answer
+    → HasCalled clock.layout from request before after pass (Answer at answer)
+called_and_answered clock request before middle after pass number replied from place at answer replicas counted of called answered same is =
     let reply : Stamped = stamped replied (Reply number at answer) in
     record {
       number = number;
@@ -247,5 +245,6 @@ called_and_answered clock request before middle after pass number replied at ans
           ∙ append_assoc before.made (stamped number (call_by before.clock.layout before.thread request) ∷ []) (reply ∷ [])
           ∙ ap (λ (c : ClockId). before.made ++ stamped number (call_by c.layout before.thread request) ∷ reply ∷ []) of;
       none_waits = λ _. ap (λ (p : PenState). p.waiting) answered;
-      true_call = subst (λ (r : ℕ). IsTrueOf clock.layout (log_after r pass.view.seen) number request (Answer at answer)) (sym same) is;
+      true_call = subst (λ (r : ℕ). IsTrueAt clock.layout (log_after r pass.view.seen) number request (from + at) answer) (sym same)
+          (subst (λ (p : ℕ). IsTrueAt clock.layout (log_after replicas pass.view.seen) number request p answer) counted is);
     }

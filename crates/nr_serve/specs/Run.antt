@@ -102,12 +102,12 @@ pub record IsRefusedRun (layout : Layout) (scripts : List (List Query)) (bytes :
   pub trace_of : IsTraceOf layout scripts answers passes bytes
   pub first : IsFirstOf bytes fault
 
--- where the outcome is a verified run, its answers, trace, order and passes have the property
+-- if the outcome is a verified run, its answers, trace, order and passes have the property
 abbrev pub IfVerified : {J : Type 0} → (List (List Said) → List ℕ → List ℕ → List Known → Type 0) → Outcome J → Type 0
 IfVerified P (Verified answers trace order passes) = P answers trace order passes
 IfVerified P (Refused trace fault) = ⊤
 
--- where it is refused, the trace and its fault have the property
+-- if it is refused, the trace and its fault have the property
 abbrev pub IfRunRefused : {J : Type 0} → (List ℕ → Fault → Type 0) → Outcome J → Type 0
 IfRunRefused P (Verified answers trace order passes) = ⊤
 IfRunRefused P (Refused trace fault) = P trace fault

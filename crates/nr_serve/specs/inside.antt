@@ -2,3 +2,4 @@
 pub mod Calls
 pub mod Working
 pub mod Ending
+pub mod Segment

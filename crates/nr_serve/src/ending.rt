@@ -7,7 +7,7 @@ ghost use Rattle.nr_audit.specs.Verdict.{IsVerdictOf};
 ghost use Rattle.nr_audit.specs.declared.verdict.Verdict.TheVariants.{Yes};
 ghost use Rattle.nr_record.specs.Pen.{AreAllPens};
 ghost use Rattle.nr_trace.specs.Faults.{IsFirstOf};
-ghost use Rattle.nr_serve.specs.inside.Calls.{AreServed};
+ghost use Rattle.nr_serve.specs.inside.Calls.{AreServed, since};
 ghost use Rattle.nr_serve.specs.Run.{IfRunRefused, IfVerified, IsRefusedRun, IsVerifiedRun};
 ghost use Rattle.nr_serve.specs.inside.Ending.{IsWrittenOf, answers_of, passes_of, pens_of};
 
@@ -23,14 +23,17 @@ use std::alloc::Global;
 use vs_types::{Config, Memory};
 
 /// What the threads have handed back, by kind.
-struct Parts<J: LogName> {
-    pens: Vec<Pen>,
-    passes: Vec<LogPass<J>>,
-    answers: Vec<Vec<Said>>,
+pub(crate) struct Parts<J: LogName> {
+    pub(crate) pens: Vec<Pen>,
+    pub(crate) passes: Vec<LogPass<J>>,
+    pub(crate) answers: Vec<Vec<Said>>,
 }
 
 /// The pens, the passes and the answers of all threads.
-fn parts_of<J: LogName>(alloc: Global, workers: Vec<Worker<J>>) -> Result<Parts<J>, Memory>
+pub(crate) fn parts_of<J: LogName>(
+    alloc: Global,
+    workers: Vec<Worker<J>>,
+) -> Result<Parts<J>, Memory>
     ensures pens { IfOk result (λ parts. parts.pens.items ≡ pens_of workers.items) }
     ensures passes { IfOk result (λ parts. parts.passes.items ≡ passes_of workers.items) }
     ensures answers { IfOk result
@@ -125,10 +128,10 @@ pub(crate) fn ending<J: LogName, K: ReplicasName>(
     requires pens { AreAllPens clock (pens_of workers.items) }
     requires passes { All (λ pass. pass.log ≡ K.log) (passes_of workers.items) }
     ensures verified { (scripts : List (List Query)) → length scripts ≡ config.threads
-        → AreServed clock K.log scripts workers.items
+        → AreServed clock (since K.log 0) scripts workers.items
         → IfOk result (IfVerified (IsVerifiedRun config scripts)) }
     ensures refused { (scripts : List (List Query)) → length scripts ≡ config.threads
-        → AreServed clock K.log scripts workers.items
+        → AreServed clock (since K.log 0) scripts workers.items
         → IfOk result (IfRunRefused (IsRefusedRun config scripts)) }
 {
     let Parts {

@@ -1,6 +1,7 @@
 //! What a thread is given, and how it works through its script.
 ghost use Rattle.std.specs.Prelude.{◌≡◌, ◌<◌, ◌≤◌, [], ◌∷◌, ◌++◌, length, vec_capacity, vec_len};
-ghost use Rattle.nr_serve.specs.inside.Calls.{IsServed};
+ghost use Rattle.nr_serve.specs.SegmentRun.{HasSeenMore};
+ghost use Rattle.nr_serve.specs.inside.Calls.{IsServed, since};
 ghost use Rattle.nr_serve.specs.inside.Working.{IsDone, IsNamed, IsReady, IsReadyJob};
 
 use crate::said::Said;
@@ -43,9 +44,9 @@ impl<J: LogName> Job<J> {
         team: &Team<'_, J, K, G>,
     ) -> Worker<J>
         requires layout { team.now.replicas.now ≡ team.now.clock.now.layout }
-        requires names { IsNamed team.now.clock.now.layout J.depth J.replicas J.places K.tables }
+        requires names { IsNamed team.now.clock.now.layout team.now.base J.depth J.replicas K.tables K.base }
         requires ready { IsReadyJob team.now.clock.now K.log self }
-        ensures { IsDone team.now.clock.now K.log self result }
+        ensures { IsDone team.now.clock.now (since K.log K.base) self result }
     {
         let Job {
             thread,
@@ -70,11 +71,12 @@ fn work_through<J: LogName, K: ReplicasName, G: Gate, R: Wait>(
     said: &mut Vec<Said>,
 )
     requires layout { team.now.replicas.now ≡ team.now.clock.now.layout }
-    requires names { IsNamed team.now.clock.now.layout J.depth J.replicas J.places K.tables }
+    requires names { IsNamed team.now.clock.now.layout team.now.base J.depth J.replicas K.tables K.base }
     requires ready { IsReady team.now.clock.now K.log thread script.now pen.old pass.old }
     requires said { (said.old.items ≡ []) × (length script.now ≤ vec_capacity said.old) }
-    ensures { IsServed team.now.clock.now K.log thread script.now
+    ensures served { IsServed team.now.clock.now (since K.log K.base) thread script.now
         (record { pen = pen.new; pass = pass.new; said = said.new.items }) }
+    ensures heard { HasSeenMore pass.old pass.new }
 {
     pass.has_seen_a_history();
     for done in 0..script.len() {

@@ -4,19 +4,28 @@
 #![tactic(auto)]
 
 mod always_go;
+mod chain_run;
 mod ending;
 mod job;
+pub mod laws;
+mod no_segment;
 mod no_thread;
 mod outcome;
 mod promise;
 mod running;
 mod said;
+mod segment_ending;
+mod segment_outcome;
+mod serving;
 mod team;
 mod threads;
 mod worker;
 
 pub use always_go::AlwaysGo;
+pub use chain_run::ChainRun;
+pub use no_segment::NoSegment;
 pub use no_thread::NoThread;
 pub use outcome::{Answers, Outcome, Passes, TraceBytes};
 pub use running::run;
 pub use said::Said;
+pub use segment_outcome::SegmentOutcome;

@@ -28,8 +28,9 @@ impl<J: LogName, K: ReplicasName> Finished<J, K> {
 }
 
 impl<J: LogName, K: ReplicasName> Promise<Worker<J>> for Finished<J, K> {
+    ghost use Rattle.nr_serve.specs.inside.Calls.{since};
     ghost use Rattle.nr_serve.specs.inside.Working.{IsDone};
 
     ghost kept_by = { λ promise worker.
-        IsDone promise.job.value.pen.clock K.log promise.job.value worker };
+        IsDone promise.job.value.pen.clock (since K.log K.base) promise.job.value worker };
 }

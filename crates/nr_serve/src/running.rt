@@ -28,7 +28,7 @@ struct Beginning<J: LogName> {
 }
 
 /// How many calls each thread may make: as many as its script has requests.
-fn quotas_of(alloc: Global, scripts: &[Vec<Request>]) -> Result<Vec<u32>, Memory>
+pub(crate) fn quotas_of(alloc: Global, scripts: &[Vec<Request>]) -> Result<Vec<u32>, Memory>
     requires { All (λ script. length script.items ≤ LOG_PLACES) scripts.now }
     ensures { IfOk result
         (λ quotas. quotas.items ≡ map (λ script. length script.items) scripts.now) }
@@ -120,6 +120,7 @@ fn go_on<
         clock: &clock,
         gate,
         turns,
+        base: 0,
     };
     let workers = serve_all(rt, alloc, &team, scripts, pens, passes)?;
     let outcome = ending(alloc, clock, replicas, config, workers)?;

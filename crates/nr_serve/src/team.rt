@@ -1,11 +1,11 @@
 //! What all threads of a run share, and what each does for one request.
-ghost use Rattle.std.specs.Prelude.{◌≡◌, ◌<◌, ◌≤◌, IfSome, None};
+ghost use Rattle.std.specs.Prelude.{◌≡◌, ◌+◌, ◌<◌, IfSome, None};
 ghost use Rattle.vs_types.specs.Query.{IsQuery};
-ghost use Rattle.vs_types.specs.declared.limits.TheConstants.{CALLS, LOG_PLACES};
-ghost use Rattle.nr_ring.specs.LogHistory.{log_after, tail};
+ghost use Rattle.vs_types.specs.declared.limits.TheConstants.{CALLS};
+ghost use Rattle.nr_ring.specs.LogHistory.{log_after};
 ghost use Rattle.nr_record.specs.Pen.{calls_in};
 ghost use Rattle.nr_replicas.specs.Replicas.{HasHeard};
-ghost use Rattle.nr_serve.specs.inside.Calls.{IsTrueOf};
+ghost use Rattle.nr_serve.specs.inside.Calls.{IsTrueAt};
 ghost use Rattle.nr_serve.specs.inside.Working.{HasCalled, IsNamed};
 
 use crate::said::Said;
@@ -15,27 +15,27 @@ use nr_ring::{LogName, LogPass};
 use std::sync::Wait;
 use vs_types::{Answer, Query, Request};
 
-/// A place of a log of 65,536 places, or its end, as it is in a trace.
-fn in_trace<J: LogName>(pass: &LogPass<J>, at: u64) -> u32
-    requires places { J.places ≡ LOG_PLACES }
-    requires known { at ≤ tail (log_after J.replicas pass.now.view.seen) }
-    ensures { result ≡ at }
+/// A place of the log as it is in a trace, whose places are counted from this one on. `None` of a place before it, and of one that is
+/// 2^32 places behind it or more.
+fn place_behind(base: u64, place: u64) -> Option<u32>
+    ensures { IfSome result (λ at. place ≡ base + at) }
 {
-    pass.has_seen_a_history();
-    at as u32
+    u32::try_from(place.checked_sub(base)?).ok()
 }
 
-/// What all threads of a run share: the replicas, the clock, the gate, and how many turns each call has.
+/// What all threads of a run share: the replicas, the clock, the gate, how many turns each call has, and the place of the log from
+/// which on places are counted.
 #[derive(Drop)]
 pub(crate) struct Team<'a, J: LogName, K: ReplicasName, G: Gate> {
     pub(crate) replicas: &'a Replicas<J, K>,
     pub(crate) clock: &'a Clock,
     pub(crate) gate: &'a G,
     pub(crate) turns: u32,
+    pub(crate) base: u64,
 }
 
 impl<J: LogName, K: ReplicasName, G: Gate> Team<'_, J, K, G> {
-    /// Makes a call: stamps it, has the replicas answer it, and stamps the reply. Where the gate says stop, or the replicas do
+    /// Makes a call: stamps it, has the replicas answer it, and stamps the reply. If the gate says stop, or the replicas do
     /// not answer, there is none.
     pub(crate) fn call<R: Wait>(
         &self,
@@ -46,7 +46,8 @@ impl<J: LogName, K: ReplicasName, G: Gate> Team<'_, J, K, G> {
         request: Request,
     ) -> Said
         requires layout { self.now.replicas.now ≡ self.now.clock.now.layout }
-        requires names { IsNamed self.now.clock.now.layout J.depth J.replicas J.places K.tables }
+        requires names { IsNamed self.now.clock.now.layout self.now.base J.depth J.replicas K.tables
+            K.base }
         requires pen { (pen.old.clock ≡ self.now.clock.now) × (pen.old.waiting ≡ None)
             × (calls_in pen.old.made < pen.old.quota) }
         requires pass { pass.old.log ≡ K.log }
@@ -54,8 +55,8 @@ impl<J: LogName, K: ReplicasName, G: Gate> Team<'_, J, K, G> {
         requires fits { IsQuery self.now.clock.now.layout.depth request }
         ensures log { pass.new.log ≡ pass.old.log }
         ensures heard { HasHeard J.depth J.replicas pass.old.view pass.new.view }
-        ensures called { HasCalled self.now.clock.now.layout request pen.old pen.new pass.new
-            result }
+        ensures called { HasCalled self.now.clock.now.layout K.base request pen.old pen.new
+            pass.new result }
     {
         pass.has_seen_a_history();
         let number = pen.call(self.clock, request);
@@ -65,7 +66,9 @@ impl<J: LogName, K: ReplicasName, G: Gate> Team<'_, J, K, G> {
         let Some((reached, answer)) = self.ask(rt, pass, thread, number, request) else {
             return Said::Stopped;
         };
-        let at = in_trace(pass, reached);
+        let Some(at) = place_behind(self.base, reached) else {
+            return Said::Stopped;
+        };
         if self.gate.at(thread, Point::Answered) == Signal::Stop {
             return Said::Stopped;
         }
@@ -83,7 +86,8 @@ impl<J: LogName, K: ReplicasName, G: Gate> Team<'_, J, K, G> {
         request: Request,
     ) -> Option<(u64, Answer)>
         requires layout { self.now.replicas.now ≡ self.now.clock.now.layout }
-        requires names { IsNamed self.now.clock.now.layout J.depth J.replicas J.places K.tables }
+        requires names { IsNamed self.now.clock.now.layout self.now.base J.depth J.replicas K.tables
+            K.base }
         requires pass { pass.old.log ≡ K.log }
         requires thread { thread < self.now.clock.now.layout.threads }
         requires number { number < CALLS }
@@ -92,9 +96,8 @@ impl<J: LogName, K: ReplicasName, G: Gate> Team<'_, J, K, G> {
         ensures heard { HasHeard J.depth J.replicas pass.old.view pass.new.view }
         ensures told { IfSome result
             (λ told.
-            IsTrueOf self.now.clock.now.layout (log_after J.replicas pass.new.view.seen) number
-            request
-            (Said.Answer told.0 told.1)) }
+            IsTrueAt self.now.clock.now.layout (log_after J.replicas pass.new.view.seen) number
+            request told.0 told.1) }
     {
         let (replicas, turns) = (self.replicas, self.turns);
         match request.query() {

@@ -3,7 +3,9 @@ ghost use Rattle.std.specs.Prelude.{◌≡◌, ◌≤◌, [], All, IfOk, IfSome,
 ghost use Rattle.std.specs.List.{AllZip};
 ghost use Rattle.vs_types.specs.declared.limits.TheConstants.{THREADS};
 ghost use Rattle.nr_record.specs.Pen.{new_pens};
-ghost use Rattle.nr_serve.specs.inside.Calls.{AreServed};
+ghost use Rattle.nr_serve.specs.SegmentRun.{HasSeenMore};
+ghost use Rattle.nr_serve.specs.inside.Calls.{AreServed, since};
+ghost use Rattle.nr_serve.specs.inside.Ending.{passes_of};
 ghost use Rattle.vs_types.specs.Query.{AreScripts};
 ghost use Rattle.nr_serve.specs.inside.Working.{IsDone, IsNamed, IsReadyJob, jobs_from};
 
@@ -50,7 +52,7 @@ pub(crate) fn serve_all<
     passes: Vec<LogPass<J>>,
 ) -> Result<Vec<Worker<J>>, Fail<NoThread>>
     requires layout { team.now.replicas.now ≡ team.now.clock.now.layout }
-    requires names { IsNamed team.now.clock.now.layout J.depth J.replicas J.places K.tables }
+    requires names { IsNamed team.now.clock.now.layout team.now.base J.depth J.replicas K.tables K.base }
     requires few { team.now.clock.now.layout.threads ≤ THREADS }
     requires scripts { AreScripts team.now.clock.now.layout
         (map (λ script. script.items) scripts.items) }
@@ -58,10 +60,12 @@ pub(crate) fn serve_all<
         ≡ new_pens team.now.clock.now 0 (map (λ script. length script.items) scripts.items) }
     requires passes { length passes.items ≡ length scripts.items }
     requires of_log { All (λ pass. pass.log ≡ K.log) passes.items }
-    ensures { IfOk result
+    ensures served { IfOk result
         (λ workers.
-        AreServed team.now.clock.now K.log (map (λ script. script.items) scripts.items)
-        workers.items) }
+        AreServed team.now.clock.now (since K.log K.base)
+        (map (λ script. script.items) scripts.items) workers.items) }
+    ensures heard { IfOk result
+        (λ workers. AllZip HasSeenMore passes.items (passes_of workers.items)) }
 {
     let jobs = jobs_of(alloc, scripts, pens, passes)?;
     let handles = Vec::with_capacity(alloc, jobs.len())?;
@@ -134,25 +138,25 @@ fn run_all<
     workers: Vec<Worker<J>>,
 ) -> Option<Vec<Worker<J>>>
     requires layout { team.now.replicas.now ≡ team.now.clock.now.layout }
-    requires names { IsNamed team.now.clock.now.layout J.depth J.replicas J.places K.tables }
+    requires names { IsNamed team.now.clock.now.layout team.now.base J.depth J.replicas K.tables K.base }
     requires ready { All (IsReadyJob team.now.clock.now K.log) jobs.items }
     requires handles { (handles.items ≡ []) × (length jobs.items ≤ vec_capacity handles) }
     requires workers { (workers.items ≡ []) × (length jobs.items ≤ vec_capacity workers) }
     ensures { IfSome result
-        (λ workers. AllZip (IsDone team.now.clock.now K.log) jobs.items workers.items) }
+        (λ workers. AllZip (IsDone team.now.clock.now (since K.log K.base)) jobs.items workers.items) }
 {
     thread::scope(
         thread::scope_env(),
         rt,
         |scope| -> Option<Vec<Worker<J>>>
             requires { (team.now.replicas.now ≡ team.now.clock.now.layout)
-                × IsNamed team.now.clock.now.layout J.depth J.replicas J.places K.tables
+                × IsNamed team.now.clock.now.layout team.now.base J.depth J.replicas K.tables K.base
                 × All (IsReadyJob team.now.clock.now K.log) jobs.items
                 × ((handles.items ≡ []) × (length jobs.items ≤ vec_capacity handles))
                 × ((workers.items ≡ []) × (length jobs.items ≤ vec_capacity workers)) }
             ensures { IfSome result
                 (λ workers.
-                AllZip (IsDone team.entry.now.clock.now K.log) jobs.items workers.items) }
+                AllZip (IsDone team.entry.now.clock.now (since K.log K.base)) jobs.items workers.items) }
         {
             let (all, handles) = start_all(rt, scope, team, jobs, handles);
             let workers = join_all(rt, handles, workers);
@@ -177,7 +181,7 @@ fn start_all<
     handles: Vec<Started<J, K>>,
 ) -> (bool, Vec<Started<J, K>>)
     requires layout { team.now.replicas.now ≡ team.now.clock.now.layout }
-    requires names { IsNamed team.now.clock.now.layout J.depth J.replicas J.places K.tables }
+    requires names { IsNamed team.now.clock.now.layout team.now.base J.depth J.replicas K.tables K.base }
     requires ready { All (IsReadyJob team.now.clock.now K.log) jobs.items }
     requires handles { (handles.items ≡ []) × (length jobs.items ≤ vec_capacity handles) }
     ensures few { length result.1.items ≤ length jobs.items }
@@ -189,9 +193,9 @@ fn start_all<
         let promise = Finished::of(&job);
         let worker = move || -> Worker<J>
             requires { (team.now.replicas.now ≡ team.now.clock.now.layout)
-                × IsNamed team.now.clock.now.layout J.depth J.replicas J.places K.tables
+                × IsNamed team.now.clock.now.layout team.now.base J.depth J.replicas K.tables K.base
                 × IsReadyJob team.now.clock.now K.log job }
-            ensures { IsDone team.entry.now.clock.now K.log job result }
+            ensures { IsDone team.entry.now.clock.now (since K.log K.base) job result }
         { job.work(rt, team) };
         let stack = Stack::new().stack_size(STACK_BYTES);
         let Ok(handle) = stack.spawn_scoped_with(scope, promise, worker) else {
@@ -211,7 +215,7 @@ fn join_all<J: LogName, K: ReplicasName, R: Threads>(
     workers: Vec<Worker<J>>,
 ) -> Vec<Worker<J>>
     requires { (workers.items ≡ []) × (length handles.items ≤ vec_capacity workers) }
-    ensures { AllZip (λ job worker. IsDone job.pen.clock K.log job worker)
+    ensures { AllZip (λ job worker. IsDone job.pen.clock (since K.log K.base) job worker)
         (map (λ handle. handle.promise.job.value) handles.items) result.items }
 {
     let mut workers = workers;

@@ -1,10 +1,11 @@
-//! Refused growths of memory: the run of four lines, each of whose growths `tests/programs` refuses in turn. Where the growth that is
-//! refused is that of starting a thread, there is no thread.
+//! Refused growths of memory: a run of four lines, and one in two segments, each of whose growths `tests/programs` refuses in turn. If
+//! the growth that is refused is that of starting a thread, there is no thread.
 use crate::serve::scene::{TURNS, verified};
 use crate::serve::scripts::{map_a, resolve_a, unmap_a};
+use crate::serve::segments::segments_of;
 use nr_serve::{AlwaysGo, Said};
 use std::test::Fail;
-use vs_types::{Answer, Rights, Size};
+use vs_types::{Answer, Request, Rights, Size};
 
 #[test]
 fn whole_run(rt: HostRuntime) -> Result<(), Fail> {
@@ -21,5 +22,15 @@ fn whole_run(rt: HostRuntime) -> Result<(), Fail> {
             Said::Answer(2, Answer::NotMapped),
         ],
     );
+    Ok(())
+}
+
+#[test]
+fn run_in_two_segments(rt: HostRuntime) -> Result<(), Fail> {
+    let segments: [&[&[Request]]; 2] = [&[&[map_a(&rt)]], &[&[resolve_a(&rt)]]];
+    let shown = segments_of(&rt, rt.alloc(), 1, 1, &segments, &AlwaysGo)?;
+    let mapped = Answer::Mapped(0x1123, Size::K4, Rights::ALL);
+    shown.assert_said(&rt, 0, 0, &[Said::Answer(0, Answer::Done)]);
+    shown.assert_said(&rt, 1, 0, &[Said::Answer(0, mapped)]);
     Ok(())
 }

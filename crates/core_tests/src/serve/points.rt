@@ -13,7 +13,7 @@ use vs_types::Answer;
 
 const POINTS: [Point; 3] = [Point::Called, Point::Appended, Point::Answered];
 
-/// Where each thread has a replica of its own, each of its updates is a batch. A read appends none.
+/// If each thread has a replica of its own, each of its updates is a batch. A read appends none.
 #[test]
 fn each_point_is_asked_once(rt: HostRuntime) {
     let alloc = rt.alloc();
@@ -31,7 +31,7 @@ fn each_point_is_asked_once(rt: HostRuntime) {
     assert_eq!(rt; gate.asked(&rt, 1), [2, 0, 2]);
 }
 
-/// Where three threads of one replica update, each of their batches has one to three of their 96 updates. A fourth reads.
+/// If three threads of one replica update, each of their batches has one to three of their 96 updates. A fourth reads.
 #[test]
 fn batches_of_several_threads(rt: HostRuntime) {
     let alloc = rt.alloc();

@@ -7,7 +7,7 @@ use std::alloc::Global;
 use std::process::Abort;
 use vs_types::{Access, Config, Depth, Mode, Op, Request, Rights, Size};
 
-/// That each request of a script is well formed at the depth.
+/// Asserts that each request of a script is well formed at the depth.
 fn assert_fits(rt: &impl Abort, depth: Depth, script: &[Request])
     ensures { All (IsQuery depth) script.now }
 {
@@ -16,7 +16,7 @@ fn assert_fits(rt: &impl Abort, depth: Depth, script: &[Request])
     }
 }
 
-/// That there is one script for each thread, with requests that are few enough and well formed.
+/// Asserts that there is one script for each thread, with requests that are few enough and well formed.
 pub fn assert_scripts(rt: &impl Abort, config: Config, scripts: &[Vec<Request>])
     ensures { AreScripts config (map (λ script. script.items) scripts.now) }
 {

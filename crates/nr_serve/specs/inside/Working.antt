@@ -1,23 +1,22 @@
 -- What holds while a thread works through its script.
-use Rattle.std.specs.Prelude.{◌≡◌, ℕ, ◌+◌, ◌<◌, List, [], ◌∷◌, ◌++◌, All, None, flat_map, length, map, take, ⊤}
+use Rattle.std.specs.Prelude.{◌≡◌, ℕ, ◌+◌, ◌<◌, List, [], ◌∷◌, ◌++◌, All, None, flat_map, length, map, take}
 use Rattle.vs_types.specs.Config.{Layout}
 use Rattle.vs_types.specs.Query.{IsQuery}
 use Rattle.vs_types.specs.declared.depth.Depth.{Depth}
-use Rattle.vs_types.specs.declared.limits.TheConstants.{LOG_PLACES}
 use Rattle.vs_types.specs.declared.request.Query.{Query}
 use Rattle.nr_ring.specs.LogHistory.{IsLogHistory, log_after}
 use Rattle.nr_ring.specs.Pass.{Known, TableId}
 use Rattle.nr_record.specs.Pen.{ClockId, PenState, calls_in, new_pen}
-use Rattle.nr_serve.specs.inside.Calls.{IsServed, IsTrueOf, MadeCall, WorkerState, notes_of}
+use Rattle.nr_serve.specs.SegmentRun.{HasSeenMore, IsAnswer}
+use Rattle.nr_serve.specs.inside.Calls.{IsServed, IsTrueOf, MadeCall, Since, WorkerState, notes_of}
 use Rattle.nr_serve.specs.declared.said.Said.{Said}
-use Rattle.nr_serve.specs.declared.said.Said.TheVariants.{Answer, Stopped}
 
--- the layout is that of the names of a log, which has 65,536 places, and its replicas
-pub record IsNamed (layout : Layout) (depth : Depth) (replicas places tables : ℕ) : Type 0 where
+-- the layout, and the place from which on places are counted, are those of the names of a log and of its replicas
+pub record IsNamed (layout : Layout) (base : ℕ) (depth : Depth) (replicas tables from : ℕ) : Type 0 where
   pub depth_is : layout.depth ≡ depth
   pub replicas_are : layout.replicas ≡ replicas
-  pub places_are : places ≡ LOG_PLACES
   pub tables_are : layout.tables ≡ tables
+  pub base_is : base ≡ from
 
 -- what a thread is given
 pub record JobState : Type 0 where
@@ -42,16 +41,12 @@ pub record IsReady (clock : ClockId) (log : TableId) (thread : ℕ) (script : Li
 abbrev pub IsReadyJob : ClockId → TableId → JobState → Type 0
 IsReadyJob clock log job = IsReady clock log job.thread job.script job.pen job.pass
 
--- what a job's thread hands back
-abbrev pub IsDone : ClockId → TableId → JobState → WorkerState → Type 0
-IsDone clock log job worker = IsServed clock log job.thread job.script worker
-
-abbrev pub IsAnswer : Said → Type 0
-IsAnswer (Answer at answer) = ⊤
-IsAnswer Stopped = ⊥
+-- what a job's thread hands back: it has done what its script asks, and its pass has seen what it had seen, and perhaps more
+abbrev pub IsDone : ClockId → Since → JobState → WorkerState → Type 0
+IsDone clock of job worker = IsServed clock of job.thread job.script worker × HasSeenMore job.pass worker.pass
 
 -- a pen has noted one call more, and its reply where there is one; what came of it is true of the log that the pass has seen
-pub record HasCalled (layout : Layout) (request : Query) (before after : PenState) (pass : Known) (said : Said) : Type 0 where
+pub record HasCalled (layout : Layout) (from : ℕ) (request : Query) (before after : PenState) (pass : Known) (said : Said) : Type 0 where
   pub number : ℕ
   pub replied : ℕ
   pub of_clock : after.clock ≡ before.clock
@@ -60,15 +55,15 @@ pub record HasCalled (layout : Layout) (request : Query) (before after : PenStat
   pub notes : after.made
       ≡ before.made ++ notes_of layout before.thread (record { request = request; number = number; said = said; replied = replied })
   pub none_waits : IsAnswer said → after.waiting ≡ None
-  pub true_call : IsTrueOf layout (log_after layout.replicas pass.view.seen) number request said
+  pub true_call : IsTrueOf layout from (log_after layout.replicas pass.view.seen) number request said
 
 -- so many requests of the script are answered
-pub record IsUnderWay (clock : ClockId) (log : TableId) (thread : ℕ) (script : List Query) (done : ℕ) (pen : PenState) (pass : Known) (said : List Said)
+pub record IsUnderWay (clock : ClockId) (of : Since) (thread : ℕ) (script : List Query) (done : ℕ) (pen : PenState) (pass : Known) (said : List Said)
     : Type 0 where
   pub of_clock : pen.clock ≡ clock
   pub of_thread : pen.thread ≡ thread
   pub quota : pen.quota ≡ length script
-  pub of_log : pass.log ≡ log
+  pub of_log : pass.log ≡ of.log
   pub history : IsLogHistory clock.layout.depth clock.layout.replicas pass.view.seen
   pub calls : List MadeCall
   pub count : length calls ≡ done
@@ -78,4 +73,4 @@ pub record IsUnderWay (clock : ClockId) (log : TableId) (thread : ℕ) (script :
   pub answered : All IsAnswer said
   pub none_waits : pen.waiting ≡ None
   pub calls_noted : calls_in pen.made ≡ done
-  pub true_calls : All (λ call. IsTrueOf clock.layout (log_after clock.layout.replicas pass.view.seen) call.number call.request call.said) calls
+  pub true_calls : All (λ call. IsTrueOf clock.layout of.from (log_after clock.layout.replicas pass.view.seen) call.number call.request call.said) calls

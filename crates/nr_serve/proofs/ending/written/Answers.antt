@@ -5,14 +5,14 @@ use Rattle.vs_types.specs.declared.log_entry.LogEntry.{LogEntry}
 use Rattle.nr_ring.specs.LogHistory.{log_after}
 use Rattle.nr_trace.specs.declared.version.Form.TheVariants as forms
 use Rattle.nr_serve.specs.Run.{IsLogOf}
-use Rattle.nr_serve.proofs.Shown.{from_the_first}
+use Rattle.nr_serve.proofs.Segments.{calls_from_first}
 use Rattle.nr_serve.proofs.ending.written.Goals as goal
 
 pub finish-requires-clause-log : goal.finish-requires-clause-log
 finish-requires-clause-log g c =
     let settled = c.in_ok-log.ensures.settled in
     let entries = (log_after g.J.LogName.replicas settled.history).entries in
-    let calls = from_the_first g.K.ReplicasName.base entries c.in_ok-log.log.items settled.calls_are c.requires.places.1 in
+    let calls = calls_from_first g.K.ReplicasName.base entries c.in_ok-log.log.items settled.calls_are c.requires.places.1 in
     let long = length-map entries (λ (entry : LogEntry). entry.call) in
     omega (arith, ap (λ (calls : List ℕ). length calls) calls, long, settled.ends, c.requires.places.0)
 
@@ -28,8 +28,7 @@ returns-clause-written g c =
       is_history = search rules;
       begins = settled.begins;
       calls_are = made.handed_in.1
-          ∙ from_the_first g.K.ReplicasName.base (log_after g.J.LogName.replicas settled.history).entries c.in_ok-log.log.items settled.calls_are
-          c.requires.places.1
+          ∙ calls_from_first g.K.ReplicasName.base (log_after g.J.LogName.replicas settled.history).entries c.in_ok-log.log.items settled.calls_are c.requires.places.1
           ∙ ap (λ (r : ℕ). map (λ (entry : LogEntry). entry.call) (log_after r settled.history).entries) (sym c.requires.names.1);
     } in
     IfOk-weaker c.write.result _ _

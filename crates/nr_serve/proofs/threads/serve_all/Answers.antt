@@ -5,7 +5,8 @@ use Rattle.std.specs.List.{AllZip}
 use Rattle.vs_types.specs.declared.request.Query.{Query}
 use Rattle.nr_record.specs.Pen.{PenState, new_pens}
 use Rattle.nr_serve.specs.inside.Working.{IsDone, IsReadyJob, JobState, jobs_from}
-use Rattle.nr_serve.proofs.Jobs.{all_served, jobs_ready, pens_count}
+use Rattle.nr_serve.specs.inside.Calls.{since}
+use Rattle.nr_serve.proofs.Jobs.{all_heard, all_served, jobs_ready, pens_count}
 use Rattle.nr_serve.proofs.threads.serve_all.Goals as goal
 
 pub jobs_of-requires-clause-few : goal.jobs_of-requires-clause-few
@@ -44,7 +45,7 @@ run_all-requires-clause-ready g c =
 pub returns-in-Some : goal.returns-in-Some
 returns-in-Some g c =
     let clock = c.args.team.now.clock.now in
-    let log = g.K.ReplicasName.log in
+    let of = since g.K.ReplicasName.log g.K.ReplicasName.base in
     let scripts = map (λ script. script.items) c.args.scripts.items in
     let pens = c.args.pens.items in
     let passes = c.args.passes.items in
@@ -61,6 +62,9 @@ returns-in-Some g c =
     )
     in
     let passes_long : length passes ≡ length scripts = omega (arith, c.requires.passes, long) in
-    let each : AllZip (IsDone clock log) (jobs_from 0 scripts pens passes) workers =
-    subst (λ (l : List JobState). AllZip (IsDone clock log) l workers) c.in_ok-jobs.ensures c.in-Some.ensures in
-    all_served clock log scripts pens passes workers pens_long passes_long each
+    let each : AllZip (IsDone clock of) (jobs_from 0 scripts pens passes) workers =
+    subst (λ (l : List JobState). AllZip (IsDone clock of) l workers) c.in_ok-jobs.ensures c.in-Some.ensures in
+    record {
+      served = all_served clock of scripts pens passes workers pens_long passes_long each;
+      heard = all_heard clock of 0 scripts pens passes workers pens_long passes_long each;
+    }

@@ -1,0 +1,60 @@
+use Rattle.std.proofs.Common.{◌≡◌, ◌≤◌, ℕ, List, All, length, map, sum, ap, sym, subst, ◌∙◌}
+use Rattle.std.proofs.lemmas.List.{length-map}
+use Rattle.std.specs.Prelude.{IfOk}
+use Rattle.vs_types.specs.Config.{Layout}
+use Rattle.vs_types.specs.declared.limits.TheConstants.{LOG_PLACES}
+use Rattle.vs_types.specs.declared.request.Query.{Query}
+use Rattle.nr_audit.specs.Segments.{pages_before}
+use Rattle.nr_ring.specs.Pass.{Known, TableId}
+use Rattle.nr_record.specs.Pen.{AreAllPens}
+use Rattle.nr_serve.specs.ChainOfRun.{IsOutcomeOf}
+use Rattle.nr_serve.specs.RunState.{RunState}
+use Rattle.nr_serve.specs.inside.Calls.{WorkerState, since}
+use Rattle.nr_serve.proofs.Segments.{same_state}
+use Rattle.nr_serve.proofs.Teams.{all_few, all_of_log, all_pens, quotas_of_scripts}
+use Rattle.nr_serve.proofs.serving.serve_on.Goals as goal
+
+pub quotas_of-requires : goal.quotas_of-requires
+quotas_of-requires g c =
+    subst (All (λ script. length script.items ≤ LOG_PLACES)) (sym c.deref.ensures.value)
+    (all_few (λ script. script.items) c.args.scripts.items LOG_PLACES c.requires.scripts.few)
+
+pub serve_all-requires-clause-of_log : goal.serve_all-requires-clause-of_log
+serve_all-requires-clause-of_log g c = λ lifetimes bounds.
+    subst (λ (log : TableId). All (λ (pass : Known). pass.log ≡ log) c.args.between.passes.items) c.requires.log.0 c.requires.run.of_log
+
+pub segment_ending-requires-clause-pens : goal.segment_ending-requires-clause-pens
+segment_ending-requires-clause-pens g c =
+    let clock = c.in_ok-clock.clock in
+    let scripts = c.args.scripts.items in
+    let one_each = c.requires.scripts.one_each ∙ ap (λ (l : Layout). l.threads) (sym c.in_ok-clock.ensures.clock.0) in
+    let calls = c.in_ok-clock.ensures.clock.1 ∙ ap (λ (ns : List ℕ). sum ns) (quotas_of_scripts (λ script. script.items) scripts _ _ _
+    c.deref-2.ensures.value c.in_ok-quotas.ensures c.deref.ensures.value) in
+    subst (AreAllPens clock) (sym c.in_ok-parts-in-Ok.ensures.pens) (all_pens _ _ _ _ c.in-Ok.ensures.served one_each calls)
+
+pub segment_ending-requires-clause-passes : goal.segment_ending-requires-clause-passes
+segment_ending-requires-clause-passes g c =
+    let passes_are = c.in_ok-parts-in-Ok.ensures.passes in
+    let served = c.in-Ok.ensures.served in (
+      ap (λ (ps : List Known). length ps) passes_are ∙ length-map c.in-Ok.workers.items (λ (w : WorkerState). w.pass) ∙ served.one_each
+          ∙ c.requires.scripts.one_each,
+      subst (All (λ (pass : Known). pass.log ≡ g.K.ReplicasName.log)) (sym passes_are) (all_of_log _ _ _ _ served),
+    )
+
+pub returns-in-Ok : goal.returns-in-Ok
+returns-in-Ok g c =
+    let of = since g.K.ReplicasName.log g.K.ReplicasName.base in
+    let between = c.args.between in
+    let scripts : List (List Query) = map (λ script. script.items) c.args.scripts.items in
+    let parts = c.in_ok-parts-in-Ok.ensures in
+    subst (λ (state : RunState). IfOk c.segment_ending.result (IsOutcomeOf state scripts))
+    (same_state of (since between.opened.log between.opened.base) between.passes.items between.config (pages_before between.space) (sym c.requires.log.0) (sym c.requires.log.1))
+    (c.segment_ending.ensures between.passes.items scripts (record {
+      workers = c.in-Ok.workers.items;
+      served = c.in-Ok.ensures.served;
+      heard = c.in-Ok.ensures.heard;
+      pens_are = parts.pens;
+      passes_are = parts.passes;
+      answers_are = parts.answers;
+      one_each = c.requires.scripts.one_each ∙ ap (λ (l : Layout). l.threads) (sym c.in_ok-clock.ensures.clock.0);
+    }))

@@ -1,0 +1,269 @@
+//! The end of a segment: its threads have ended, and what they hand back is cut off or settled, written down and judged.
+ghost use Rattle.std.specs.Prelude.{◌≡◌, ◌+◌, List, All, IfOk, IfSome, IsTrue, Option, length, map};
+ghost use Rattle.vs_types.specs.Config.{Layout};
+ghost use Rattle.vs_types.specs.declared.request.Query.{Query};
+ghost use Rattle.nr_trace.specs.Parts.{HasFrames};
+ghost use Rattle.nr_trace.specs.Spelling.{SpellsSegment};
+ghost use Rattle.nr_trace.specs.declared.version.Version.TheVariants.{Segment};
+ghost use Rattle.nr_audit.specs.Segments.{FitsLayout, pages_before};
+ghost use Rattle.nr_ring.specs.Pass.{Known};
+ghost use Rattle.nr_replicas.specs.Settled.{IsCut, IsSettled};
+ghost use Rattle.nr_record.specs.Events.{AreEventsOf};
+ghost use Rattle.nr_record.specs.Pen.{AreAllPens};
+ghost use Rattle.nr_serve.specs.ChainOfRun.{IsOutcomeOf};
+ghost use Rattle.nr_serve.specs.SegmentRun.{IsAnswer};
+ghost use Rattle.nr_serve.specs.inside.Calls.{since};
+ghost use Rattle.nr_serve.specs.inside.Segment.{HaveServed, state_with};
+
+use crate::chain_run::{Between, ChainRun};
+use crate::ending::Parts;
+use crate::no_segment::NoSegment;
+use crate::outcome::{Answers, Passes, TraceBytes};
+use crate::said::Said;
+use crate::segment_outcome::SegmentOutcome;
+use nr_audit::judge_segment;
+use nr_record::{Clock, Pen, finish_segment};
+use nr_replicas::{Cut, Replicas, ReplicasName};
+use nr_ring::{LogName, LogPass};
+use nr_trace::{Trace, write};
+use std::alloc::Global;
+use vs_plain::PlainSpace;
+use vs_types::{Config, Fail, LOG_PLACES, Memory};
+use vs_walk::Dump;
+
+/// A segment, and its bytes.
+#[derive(Drop)]
+struct Written {
+    trace: Trace,
+    bytes: Vec<u8>,
+}
+
+/// Whether each of these calls was answered.
+fn are_answered(items: &[Said]) -> bool
+    ensures yes { IsTrue result → All IsAnswer items.now }
+    ensures no { All IsAnswer items.now → IsTrue result }
+{
+    for item in items {
+        match item {
+            Said::Answer(_, _) => {}
+            Said::Stopped => return false,
+        }
+    }
+    true
+}
+
+/// Whether each call of all threads was answered.
+fn all_answered(answers: &[Vec<Said>]) -> bool
+    ensures yes { IsTrue result → All (λ items. All IsAnswer items.items) answers.now }
+    ensures no { All (λ items. All IsAnswer items.items) answers.now → IsTrue result }
+{
+    for items in answers {
+        if !are_answered(items) {
+            return false;
+        }
+    }
+    true
+}
+
+/// The segment of what the pens were given, with these calls of the log and these dumps.
+fn written_segment(
+    alloc: Global,
+    clock: Clock,
+    pens: Vec<Pen>,
+    config: Config,
+    calls: Vec<u32>,
+    dumps: Vec<Dump>,
+) -> Result<Written, Fail<NoSegment>>
+    requires config { config ≡ clock.layout }
+    requires pens { AreAllPens clock pens.items }
+    requires dumps { (length dumps.items ≡ config.replicas)
+        × All (HasFrames Segment) dumps.items }
+    ensures layout { IfOk result (λ written. written.trace.layout ≡ config) }
+    ensures recorded { IfOk result (λ written. AreEventsOf written.trace.events pens.items) }
+    ensures calls { IfOk result (λ written. written.trace.log ≡ calls.items) }
+    ensures spelled { (before : Option Layout) → IfSome before (λ layout. layout ≡ config)
+        → IfOk result (λ written. SpellsSegment before written.bytes.items written.trace) }
+{
+    if calls.len() > LOG_PLACES as usize {
+        return Err(Fail::Refused(NoSegment::NotCut));
+    }
+    let trace = finish_segment(alloc, clock, pens, config, calls, dumps)?;
+    let bytes = write(alloc, &trace)?;
+    Ok(Written { trace, bytes })
+}
+
+/// Cuts the log: the cut, and the passes, which have then seen the whole log.
+fn cut_log<J: LogName, K: ReplicasName>(
+    replicas: Replicas<J, K>,
+    passes: Vec<LogPass<J>>,
+) -> Result<(Cut<J>, Vec<LogPass<J>>), Fail<NoSegment>>
+    requires { All (λ pass. pass.log ≡ K.log) passes.items }
+    ensures opened { IfOk result (λ made. (made.0.replicas.log ≡ K.log)
+        × (made.0.replicas.layout ≡ replicas)
+        × (made.0.replicas.base ≡ K.base + length made.0.calls.items)) }
+    ensures cut { IfOk result (λ made.
+        IsCut J.depth J.replicas J.places K.tables K.base passes.items made.1.items
+        made.0.calls.items made.0.dumps.items) }
+    ensures count { IfOk result (λ made. length made.1.items ≡ length passes.items) }
+    ensures log { IfOk result (λ made. All (λ pass. pass.log ≡ K.log) made.1.items) }
+{
+    let mut passes = passes;
+    match replicas.cut(&mut passes) {
+        Ok(cut) => Ok((cut, passes)),
+        Err(Fail::Memory) => Err(Fail::Memory),
+        Err(Fail::Refused(_)) => Err(Fail::Refused(NoSegment::NotCut)),
+    }
+}
+
+/// Settles the replicas: the calls since the last cut, the dumps, and the passes as they were.
+fn settled<J: LogName, K: ReplicasName>(
+    replicas: Replicas<J, K>,
+    passes: Vec<LogPass<J>>,
+) -> Result<(Vec<u32>, Vec<Dump>, Vec<LogPass<J>>), Memory>
+    requires { All (λ pass. pass.log ≡ K.log) passes.items }
+    ensures settled { IfOk result (λ made.
+        IsSettled J.depth J.replicas J.places K.tables K.base passes.items made.0.items made.1.items) }
+    ensures passes { IfOk result (λ made. made.2.items ≡ passes.items) }
+{
+    let mut passes = passes;
+    let (calls, dumps) = replicas.settle(&mut passes)?;
+    Ok((calls, dumps, passes))
+}
+
+/// The end of a segment whose requests are all answered: the log is cut, and the run goes on.
+fn going_on<J: LogName, K: ReplicasName>(
+    alloc: Global,
+    clock: Clock,
+    replicas: Replicas<J, K>,
+    config: Config,
+    space: Option<PlainSpace>,
+    parts: Parts<J>,
+) -> Result<SegmentOutcome<J>, Fail<NoSegment>>
+    requires config { (config ≡ clock.layout) × (replicas ≡ config) }
+    requires names { (config.depth ≡ J.depth) × (config.replicas ≡ J.replicas) }
+    requires pens { AreAllPens clock parts.pens.items }
+    requires passes { (length parts.passes.items ≡ config.threads)
+        × All (λ pass. pass.log ≡ K.log) parts.passes.items }
+    requires space { IfSome space (FitsLayout config) }
+    requires answered { All (λ items. All IsAnswer items.items) parts.answers.items }
+    ensures { (before : List Known) (scripts : List (List Query))
+        → HaveServed clock (since K.log K.base) before scripts parts.pens.items parts.passes.items
+        (map (λ said. said.items) parts.answers.items)
+        → IfOk result
+        (IsOutcomeOf (state_with (since K.log K.base) before config (pages_before space)) scripts) }
+{
+    let Parts {
+        pens,
+        passes,
+        answers,
+    } = parts;
+    let (cut, passes) = cut_log(replicas, passes)?;
+    let Cut {
+        calls,
+        dumps,
+        replicas: opened,
+    } = cut;
+    let Written { trace, bytes } = written_segment(alloc, clock, pens, config, calls, dumps)?;
+    let bytes = TraceBytes::of(bytes);
+    match judge_segment(alloc, &trace, space) {
+        Ok((order, after)) => {
+            let answers = Answers::of(answers);
+            let space = Some(after);
+            let between = Between {
+                opened,
+                passes,
+                config,
+                space,
+            };
+            let run = ChainRun { between };
+            Ok(SegmentOutcome::Right {
+                answers,
+                bytes,
+                order,
+                run,
+            })
+        }
+        Err(Fail::Memory) => Err(Fail::Memory),
+        Err(Fail::Refused(fault)) => Ok(SegmentOutcome::Wrong { bytes, fault }),
+    }
+}
+
+/// The end of the last segment: the replicas are settled.
+fn last<J: LogName, K: ReplicasName>(
+    alloc: Global,
+    clock: Clock,
+    replicas: Replicas<J, K>,
+    config: Config,
+    space: Option<PlainSpace>,
+    parts: Parts<J>,
+) -> Result<SegmentOutcome<J>, Fail<NoSegment>>
+    requires config { (config ≡ clock.layout) × (replicas ≡ config) }
+    requires names { (config.depth ≡ J.depth) × (config.replicas ≡ J.replicas) }
+    requires pens { AreAllPens clock parts.pens.items }
+    requires passes { (length parts.passes.items ≡ config.threads)
+        × All (λ pass. pass.log ≡ K.log) parts.passes.items }
+    requires space { IfSome space (FitsLayout config) }
+    requires stopped { All (λ items. All IsAnswer items.items) parts.answers.items → ⊥ }
+    ensures { (before : List Known) (scripts : List (List Query))
+        → HaveServed clock (since K.log K.base) before scripts parts.pens.items parts.passes.items
+        (map (λ said. said.items) parts.answers.items)
+        → IfOk result
+        (IsOutcomeOf (state_with (since K.log K.base) before config (pages_before space)) scripts) }
+{
+    let Parts {
+        pens,
+        passes,
+        answers,
+    } = parts;
+    let (calls, dumps, passes) = settled(replicas, passes)?;
+    let Written { trace, bytes } = written_segment(alloc, clock, pens, config, calls, dumps)?;
+    let bytes = TraceBytes::of(bytes);
+    match judge_segment(alloc, &trace, space) {
+        Ok((order, _after)) => {
+            let answers = Answers::of(answers);
+            let passes = Passes::of(passes);
+            Ok(SegmentOutcome::Last {
+                answers,
+                bytes,
+                order,
+                passes,
+            })
+        }
+        Err(Fail::Memory) => Err(Fail::Memory),
+        Err(Fail::Refused(fault)) => Ok(SegmentOutcome::Wrong { bytes, fault }),
+    }
+}
+
+/// What comes of a segment whose threads have ended and handed this back.
+///
+/// It allocates memory.
+///
+/// # Errors
+///
+/// `NotCut` where an update has no answer though no thread was stopped, or out of memory.
+pub(crate) fn segment_ending<J: LogName, K: ReplicasName>(
+    alloc: Global,
+    clock: Clock,
+    replicas: Replicas<J, K>,
+    config: Config,
+    space: Option<PlainSpace>,
+    parts: Parts<J>,
+) -> Result<SegmentOutcome<J>, Fail<NoSegment>>
+    requires config { (config ≡ clock.layout) × (replicas ≡ config) }
+    requires names { (config.depth ≡ J.depth) × (config.replicas ≡ J.replicas) }
+    requires pens { AreAllPens clock parts.pens.items }
+    requires passes { (length parts.passes.items ≡ config.threads)
+        × All (λ pass. pass.log ≡ K.log) parts.passes.items }
+    requires space { IfSome space (FitsLayout config) }
+    ensures { (before : List Known) (scripts : List (List Query))
+        → HaveServed clock (since K.log K.base) before scripts parts.pens.items parts.passes.items
+        (map (λ said. said.items) parts.answers.items)
+        → IfOk result
+        (IsOutcomeOf (state_with (since K.log K.base) before config (pages_before space)) scripts) }
+{
+    if all_answered(&parts.answers) {
+        going_on(alloc, clock, replicas, config, space, parts)
+    } else {
+        last(alloc, clock, replicas, config, space, parts)
+    }
+}
