@@ -4,7 +4,7 @@ use Rattle.std.specs.Prelude.{unwrap_or, option_map, if◌then◌else◌}
 use Rattle.std.specs.Borrow.{Bor}
 use Rattle.std.specs.Str.{bytes_eq}
 use Rattle.std.specs.Str.Parse.{ParsesUnsigned}
-use Rattle.clap.specs.Words.{App, Kinds, Row, Rule, Text, all_of, first_of, new_app, new_rule, with_rule}
+use Rattle.clap.specs.Words.{App, Kinds, Row, Rule, Text, all_of, first_of, new_app, new_rule, with_rule, with_subcommand}
 use Rattle.clap.specs.Walk.{one_of}
 use Rattle.clap.specs.declared.builder.command.Command.{Command as ClapCommand}
 use Rattle.clap.specs.declared.builder.command.Command.TheViews.{out-Command}
@@ -56,6 +56,8 @@ all_option = record (new_rule (codes "all")) { long = Some (codes "all"); action
 abbrev pub chain_option : Rule
 chain_option = record (new_rule (codes "chain")) { long = Some (codes "chain"); action = Some SetTrue }
 
+-- --quiet, which has no value
+-- --quiet, which has no value
 abbrev pub quiet_option : Rule
 quiet_option = record (new_rule (codes "quiet")) { long = Some (codes "quiet"); action = Some SetTrue }
 
@@ -64,30 +66,41 @@ abbrev pub flag_option : Text → Rule
 flag_option id = record (new_rule id) { long = Some id; action = Some SetTrue }
 
 -- --steps, which has no value
+-- --steps, which has no value
 abbrev pub steps_option : Rule
 steps_option = record (new_rule (codes "steps")) { long = Some (codes "steps"); action = Some SetTrue }
 
+-- the command `audit`, with its options and files
 abbrev pub audit_app : App
 audit_app = with_rule (with_rule (with_rule (new_app (codes "audit")) chain_option) quiet_option) files_argument
 
+-- the command `explain`, with its options and file
 abbrev pub explain_app : App
 explain_app =
     with_rule (with_rule (with_rule (with_rule (new_app (codes "explain")) json_option) all_option) (flag_option (codes "chain"))) file_argument
 
+-- the command `resolve`, with its options and file
 abbrev pub resolve_app : App
 resolve_app =
     with_rule (with_rule (with_rule (with_rule (new_app (codes "resolve")) address_option) replica_option) steps_option) file_argument
 
 -- --ranges, --chain, --start and --end, which have no value
+-- the command `pages`, with its options and file
 abbrev pub pages_app : App
 pages_app =
     with_rule (with_rule (with_rule (with_rule (with_rule (with_rule (new_app (codes "pages")) replica_option) (flag_option (codes "ranges")))
     (flag_option (codes "chain"))) (flag_option (codes "start"))) (flag_option (codes "end"))) file_argument
 
+-- a program's words with those of these commands
+abbrev pub with_inspections : App → App
+with_inspections app =
+    with_subcommand (with_subcommand (with_subcommand (with_subcommand app audit_app.top) explain_app.top) resolve_app.top) pages_app.top
+
 -- the file of this name, but standard input where it is `-` or there is none
 abbrev pub named_file : Text → Option Text
 named_file name = if bytes_eq name (codes "-") then None else Some name
 
+-- the file that is named, or standard input
 abbrev pub input_of : Option Text → Option Text
 input_of None = None
 input_of (Some name) = named_file name

@@ -1,10 +1,10 @@
 //! What the words of `audit`, `explain`, `resolve` and `pages` ask for.
 
-ghost use Rattle.std.specs.Prelude.{◌≡◌, ◌⊎◌, IfErr, IfOk, codes, false, option_map};
+ghost use Rattle.std.specs.Prelude.{◌≡◌, ◌⊎◌, ◌∷◌, [], IfErr, IfOk, IsSomeAnd, codes, false, option_map};
 ghost use Rattle.clap.specs.Walk.{one_of};
-ghost use Rattle.clap.specs.Words.{first_of, found_of, kind_of, rows_of};
-ghost use Rattle.audit_commands.specs.Words.{AsksAudit, AsksExplain, AsksPages, AsksResolve, AsksTraces};
-ghost use Rattle.audit_commands.specs.Words.{IsFlag, IsMisuse, IsPagesMisuse, IsPoint, IsPointMisuse};
+ghost use Rattle.clap.specs.Words.{first_of, found_of, kind_of, rows_of, subcommand_rows_of, HasKind};
+ghost use Rattle.audit_commands.specs.Words.{AsksAudit, AsksExplain, AsksInspection, AsksPages, AsksResolve, AsksTraces};
+ghost use Rattle.audit_commands.specs.Words.{IsFlag, IsMisuse, IsMisused, IsPagesMisuse, IsPoint, IsPointMisuse};
 ghost use Rattle.audit_commands.specs.Words.{input_of, named_file};
 
 use crate::task::{ChainPoint, Task};
@@ -60,7 +60,7 @@ fn read_traces<'a>(alloc: Global, given: &ArgMatches<'a>) -> Result<Inspection<'
 /// # Errors
 ///
 /// `TooManyValues` where several chains are named, `MissingRequiredArgument` where it is to be quiet of no chain; out of memory.
-pub fn read_audit<'a>(
+fn read_audit<'a>(
     alloc: Global,
     line: &mut Command<'a>,
     given: &ArgMatches<'a>,
@@ -96,7 +96,7 @@ pub fn read_audit<'a>(
 }
 
 /// What was given with `explain` asks for.
-pub fn read_explain<'a>(given: &ArgMatches<'a>) -> Inspection<'a>
+fn read_explain<'a>(given: &ArgMatches<'a>) -> Inspection<'a>
     ensures { AsksExplain (rows_of (found_of given.now)) result }
 {
     let as_json = is_given(given, "json");
@@ -108,7 +108,7 @@ pub fn read_explain<'a>(given: &ArgMatches<'a>) -> Inspection<'a>
 }
 
 /// What was given with `resolve` asks for.
-pub fn read_resolve<'a>(given: &ArgMatches<'a>) -> Inspection<'a>
+fn read_resolve<'a>(given: &ArgMatches<'a>) -> Inspection<'a>
     ensures { AsksResolve (rows_of (found_of given.now)) result }
 {
     let address = given.get_str("address").unwrap_or("");
@@ -182,10 +182,7 @@ fn read_dump_pages<'a>(
 ///
 /// `ArgumentConflict` where both ends of a chain are asked for, `MissingRequiredArgument` where none is, or one but no chain; out of
 /// memory.
-pub fn read_pages<'a>(
-    line: &mut Command<'a>,
-    given: &ArgMatches<'a>,
-) -> Result<Inspection<'a>, Error>
+fn read_pages<'a>(line: &mut Command<'a>, given: &ArgMatches<'a>) -> Result<Inspection<'a>, Error>
     ensures asks { IfOk result (AsksPages (rows_of (found_of given.now))) }
     ensures misused { IfErr result (λ error. (kind_of error ≡ ErrorKind.OutOfMemory)
         ⊎ IsPagesMisuse (rows_of (found_of given.now)) (kind_of error)) }
@@ -196,4 +193,31 @@ pub fn read_pages<'a>(
     let point = read_point(line, given)?;
     let as_ranges = is_given(given, "ranges");
     Ok(Inspection::One(Task::PagesOfChain(point, as_ranges), input_of(given)))
+}
+
+/// What `audit`, `explain`, `resolve` or `pages` and what was given with it ask for. The line is that of the program, for what it says of
+/// its words.
+///
+/// # Errors
+///
+/// `MissingSubcommand` where none of these was given, or what is wrong with what was: `TooManyValues` where several chains are named to
+/// `audit`, `ArgumentConflict` where both ends of a chain are asked of `pages`, `MissingRequiredArgument` where an option lacks the one that
+/// it is for; and out of memory.
+pub fn read_inspection<'a>(
+    alloc: Global,
+    line: &mut Command<'a>,
+    matches: &ArgMatches<'a>,
+) -> Result<Inspection<'a>, Error>
+    ensures asks { IfOk result (λ inspection. IsSomeAnd (subcommand_rows_of matches.now)
+        (λ given. AsksInspection given inspection)) }
+    ensures fault { IfErr result (λ error. HasKind (ErrorKind.MissingSubcommand ∷ []) error
+        ⊎ IsMisused (subcommand_rows_of matches.now) (kind_of error)) }
+{
+    match matches.subcommand() {
+        Some(("audit", given)) => read_audit(alloc, line, given),
+        Some(("explain", given)) => Ok(read_explain(given)),
+        Some(("resolve", given)) => Ok(read_resolve(given)),
+        Some(("pages", given)) => read_pages(line, given),
+        _ => Err(line.error(ErrorKind::MissingSubcommand, "a subcommand is required")?),
+    }
 }

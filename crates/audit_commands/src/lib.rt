@@ -12,8 +12,8 @@ mod words;
 
 pub use files::FilesByName;
 pub use host_words::{NoWords, program_words};
-pub use inspection::{Inspection, read_audit, read_explain, read_pages, read_resolve};
+pub use inspection::{Inspection, read_inspection};
 pub use refusal::{exit_status, tell_outcome, tell_refusal};
 pub use running::run_inspection;
 pub use task::{ChainPoint, Task};
-pub use words::{VERSION, audit, explain, pages, resolve, with_command};
+pub use words::{VERSION, with_command, with_inspections};

@@ -163,7 +163,7 @@ fn audit_each<F: FilesByName, R: Read, W: Write, E: Write>(
 ///
 /// # Errors
 ///
-/// Of one input `CannotRead` where the file couldn't be opened, and those of `Task::run`; of several files
+/// One input: `CannotRead` if the file couldn't be opened, and those of `Task::run`. Several files:
 /// `CannotWrite`.
 pub fn run_inspection<F: FilesByName, R: Read, W: Write, E: Write>(
     files: &F,

@@ -2,7 +2,7 @@
 ghost use Rattle.std.specs.Prelude.{◌≡◌, false, IfOk};
 ghost use Rattle.clap.specs.Words.{App, app_of, rule_of, with_subcommand};
 ghost use Rattle.audit_commands.specs.Words.{address_option, audit_app, explain_app, file_argument, files_argument, flag_option, pages_app};
-ghost use Rattle.audit_commands.specs.Words.{replica_option, resolve_app, IsLocal};
+ghost use Rattle.audit_commands.specs.Words.{replica_option, resolve_app, with_inspections, IsLocal};
 
 use clap::{Arg, ArgAction, Command, value_parser};
 use std::alloc::{AllocError, Global};
@@ -66,11 +66,7 @@ fn replica<'a>(alloc: Global) -> Arg<'a>
 }
 
 /// The words of `audit`.
-///
-/// # Errors
-///
-/// Out of memory.
-pub fn audit<'a>(alloc: Global) -> Result<Command<'a>, AllocError>
+fn audit<'a>(alloc: Global) -> Result<Command<'a>, AllocError>
     ensures app { IfOk result (λ command. app_of command ≡ audit_app) }
     ensures local { IfOk result IsLocal }
 {
@@ -85,11 +81,7 @@ pub fn audit<'a>(alloc: Global) -> Result<Command<'a>, AllocError>
 }
 
 /// The words of `explain`.
-///
-/// # Errors
-///
-/// Out of memory.
-pub fn explain<'a>(alloc: Global) -> Result<Command<'a>, AllocError>
+fn explain<'a>(alloc: Global) -> Result<Command<'a>, AllocError>
     ensures app { IfOk result (λ command. app_of command ≡ explain_app) }
     ensures local { IfOk result IsLocal }
 {
@@ -106,11 +98,7 @@ pub fn explain<'a>(alloc: Global) -> Result<Command<'a>, AllocError>
 }
 
 /// The words of `resolve`.
-///
-/// # Errors
-///
-/// Out of memory.
-pub fn resolve<'a>(alloc: Global) -> Result<Command<'a>, AllocError>
+fn resolve<'a>(alloc: Global) -> Result<Command<'a>, AllocError>
     ensures app { IfOk result (λ command. app_of command ≡ resolve_app) }
     ensures local { IfOk result IsLocal }
 {
@@ -127,11 +115,7 @@ pub fn resolve<'a>(alloc: Global) -> Result<Command<'a>, AllocError>
 }
 
 /// The words of `pages`.
-///
-/// # Errors
-///
-/// Out of memory.
-pub fn pages<'a>(alloc: Global) -> Result<Command<'a>, AllocError>
+fn pages<'a>(alloc: Global) -> Result<Command<'a>, AllocError>
     ensures app { IfOk result (λ command. app_of command ≡ pages_app) }
     ensures local { IfOk result IsLocal }
 {
@@ -163,4 +147,18 @@ pub fn with_command<'a>(
 {
     let given = command?;
     line.subcommand(given)
+}
+
+/// A program's words with those of `audit`, `explain`, `resolve` and `pages`.
+///
+/// # Errors
+///
+/// Out of memory.
+pub fn with_inspections<'a>(alloc: Global, line: Command<'a>) -> Result<Command<'a>, AllocError>
+    ensures app { IfOk result (λ whole. app_of whole ≡ with_inspections (app_of line.entry)) }
+{
+    let line = with_command(line, audit(alloc))?;
+    let line = with_command(line, explain(alloc))?;
+    let line = with_command(line, resolve(alloc))?;
+    with_command(line, pages(alloc))
 }

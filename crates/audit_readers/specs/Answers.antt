@@ -22,7 +22,7 @@ use Rattle.audit_texts.specs.Text.{no_text, verdict_line, verdict_text, walk_tex
 use Rattle.audit_texts.specs.EvidenceText.{step_line}
 use Rattle.vs_text.specs.Words.{SpellsAddress}
 
--- of `audit`: the text and the status are those of the verdict of these bytes; where it is yes they are right with its order
+-- the answer of `audit`: the text and the status are those of the verdict of these bytes; where it is yes they are right with its order
 pub record IsAudit (bytes text : List ℕ) (status : ℕ) : Type 0 where
   pub verdict : Verdict
   pub is_verdict : IsVerdictOf bytes verdict
@@ -30,7 +30,7 @@ pub record IsAudit (bytes text : List ℕ) (status : ℕ) : Type 0 where
   pub text_is : text ≡ verdict_text verdict
   pub status_is : status ≡ verdict_status verdict
 
--- of `audit` of one file of several: the file's name, a colon and the first line of the verdict of these bytes
+-- the answer of `audit` for one file of several: the file's name, a colon and the first line of the verdict of these bytes
 pub record IsNamedAudit (name bytes text : List ℕ) (status : ℕ) : Type 0 where
   pub verdict : Verdict
   pub is_verdict : IsVerdictOf bytes verdict
@@ -38,7 +38,7 @@ pub record IsNamedAudit (name bytes text : List ℕ) (status : ℕ) : Type 0 whe
   pub text_is : text ≡ name ++ (codes ": " ++ verdict_line verdict)
   pub status_is : status ≡ verdict_status verdict
 
--- where the walk of an address ends in a dump, and with steps the entries that it reads
+-- the end of the walk of an address in a dump, and with steps the entries that it reads
 abbrev pub walk_lines : Bool → Depth → Image → ℕ → List ℕ
 walk_lines false depth dump address = walk_text (walk depth dump.frames dump.root address)
 walk_lines true depth dump address =
@@ -61,7 +61,7 @@ pub record IsFormatRefusal (bytes text : List ℕ) (status : ℕ) : Type 0 where
   pub text_is : text ≡ no_text (faults.Format fault)
   pub status_is : status ≡ 1
 
--- where this address leads in the dump of this replica
+-- the place to which this address leads in the dump of this replica
 abbrev pub IsWalk : ℕ → ℕ → Bool → List ℕ → List ℕ → ℕ → Type 0
 IsWalk address replica with_steps bytes text status =
     IsWalkInDump bytes address replica with_steps text status ⊎ IsFormatRefusal bytes text status
@@ -79,7 +79,7 @@ pub record LacksReplica (bytes : List ℕ) (address replica : ℕ) : Type 0 wher
   pub canonical : IsCanonical trace.layout.depth address
   pub lacking : trace.layout.replicas ≤ replica
 
--- of `resolve`, where this word spells the address
+-- the answer of `resolve`, if this word spells the address
 pub record IsResolve (word : List ℕ) (replica : ℕ) (with_steps : Bool) (bytes text : List ℕ) (status : ℕ) : Type 0 where
   pub address : ℕ
   pub spelled : SpellsAddress word address

@@ -40,7 +40,7 @@ pub record HasReadFewOfChain (old new : Option (List ℕ)) : Type 0 where
   pub right_yet : AreRightYet before orders
   pub one_block : length block ≤ 4096
 
--- where there is no answer: the lines of right segments at the front of what was read were written, and nothing else; where the input
+-- no answer: the lines of right segments at the front of what was read were written, and nothing else; where the input
 -- failed, of all segments that were whole
 pub record HasWrittenFirst (quiet : Bool) (known left old new : Option (List ℕ)) (fault : ProgFault) : Type 0 where
   pub front : List ℕ

@@ -42,11 +42,11 @@ pub record ShowsEnd (as_ranges : Bool) (bytes text : List ℕ) (status : ℕ) : 
   pub text_is : text ≡ pages_text as_ranges (pages last.space)
   pub status_is : status ≡ 0
 
--- of `pages --start`: the text is that of the start; or the first segment has a fault
+-- the answer of `pages --start`: the text is that of the start; or the first segment has a fault
 abbrev pub IsChainStart : Bool → List ℕ → List ℕ → ℕ → Type 0
 IsChainStart as_ranges bytes text status = ShowsStart as_ranges bytes text status ⊎ TellsFault [] bytes text status
 
--- of `pages --end`: the text is that of the end; or some segment has a fault
+-- the answer of `pages --end`: the text is that of the end; or some segment has a fault
 abbrev pub IsChainEnd : Bool → List ℕ → List ℕ → ℕ → Type 0
 IsChainEnd as_ranges bytes text status =
     ShowsEnd as_ranges bytes text status ⊎ ((orders : List (List ℕ)) × TellsFault orders bytes text status)

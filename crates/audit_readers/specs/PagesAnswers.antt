@@ -34,6 +34,7 @@ pub record NamesFault (replica : ℕ) (depth : Depth) (dump : Image) (text : Lis
   pub text_is : text ≡ no_text (dump_fault replica fault)
   pub status_is : status ≡ 1
 
+-- the text is that of the pages of the dump, or of the first fault that its traversal meets
 abbrev pub ShowsDump : Bool → ℕ → Depth → Image → List ℕ → ℕ → Type 0
 ShowsDump as_ranges replica depth dump text status = ListsPages as_ranges depth dump text status ⊎ NamesFault replica depth dump text status
 
@@ -45,7 +46,7 @@ pub record ShowsReplica (as_ranges : Bool) (replica : ℕ) (bytes text : List �
   pub is_dump : slice_get trace.dumps replica ≡ Some dump
   pub shown : ShowsDump as_ranges replica trace.layout.depth dump text status
 
--- of `pages`, of the replica of this number: the text is that of its dump; or the bytes spell no trace, and it is that of their fault
+-- the answer of `pages` for the replica of this number: the text is that of its dump; or the bytes spell no trace, and it is that of their fault
 abbrev pub IsPages : Bool → ℕ → List ℕ → List ℕ → ℕ → Type 0
 IsPages as_ranges replica bytes text status = ShowsReplica as_ranges replica bytes text status ⊎ IsFormatRefusal bytes text status
 

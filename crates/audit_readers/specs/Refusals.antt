@@ -19,6 +19,7 @@ refusal_status CannotRead = 2
 refusal_status CannotWrite = 2
 refusal_status Memory = 3
 
+-- the words of a refusal
 abbrev pub refusal_words : ProgFault → List ℕ
 refusal_words BadAddress = codes "bad address"
 refusal_words NotCanonical = codes "not canonical"
@@ -66,7 +67,7 @@ IsResolveFault word replica with_steps known CannotRead = (address : ℕ) × Spe
 IsResolveFault word replica with_steps known Memory = (address : ℕ) × SpellsAddress word address
 IsResolveFault word replica with_steps known _ = ⊥
 
--- where there is no answer, the writer is as it was, but where it could not be written to
+-- if there is no answer, the writer is as it was, but where it could not be written to
 abbrev pub WritesAnswersAlone : {W : Type 0} → W → W → Result ℕ ProgFault → Type 0
 WritesAnswersAlone old new result = IfErr result (λ fault. fault ≢ CannotWrite → new ≡ old)
 

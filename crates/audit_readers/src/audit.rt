@@ -48,7 +48,7 @@ pub fn audit_read(alloc: Global, read: Result<Trace, Fail<Format>>) -> Result<Re
 }
 
 /// Reads a trace in blocks, judges it, and writes the verdict; the status is 0 where it is right, else 1. It stops reading
-/// as soon as a whole unit has a fault, or a byte comes after the last unit. Where it gives no answer some input may have been
+/// as soon as a whole unit has a fault, or a byte comes after the last unit. If it gives no answer, some input may have been
 /// read, and nothing was written but where that failed.
 ///
 /// # Errors

@@ -68,7 +68,7 @@ pub fn explained_read(
 
 /// Reads a trace in blocks, judges it, and writes the verdict and, for a no, a sentence and what shows the fault, as lines or as one JSON
 /// object; the status is 0 where it is right, else 1. It stops reading as soon as a whole unit has a fault, or a byte is
-/// after the last unit. Where it gives no answer some input may have been read, and nothing was written but where that failed.
+/// after the last unit. If it gives no answer, some input may have been read, and nothing was written but where that failed.
 ///
 /// # Errors
 ///
@@ -123,7 +123,7 @@ pub fn fully_explained_read(
 }
 
 /// As `explain_io`, and after the explanation writes what is wrong with each dump that the first fault is not of: the first fault of
-/// that dump with a sentence and what shows it, or that it has none. Of a right trace, and of an input that spells none, it writes what
+/// that dump with a sentence and what shows it, or that it has none. For a right trace, and for an input that spells none, it writes what
 /// `explain_io` writes.
 ///
 /// # Errors

@@ -89,7 +89,7 @@ pub fn pages_read(
 /// Reads a trace, and writes the pages of a replica's dump by rising base: a line for each, or, as ranges, one for all that follow one
 /// another with one size and the same rights, virtually and physically. The status is 0; or 1 where the input spells no trace, or the
 /// traversal of the dump meets a fault, whose line is written then. It reads in blocks, and stops as soon as a whole unit has a fault, or a
-/// byte is after the last unit. Where it gives no answer some input may have been read, and nothing was written but where that failed.
+/// byte is after the last unit. If it gives no answer, some input may have been read, and nothing was written but where that failed.
 ///
 /// # Errors
 ///

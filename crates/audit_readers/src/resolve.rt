@@ -1,4 +1,4 @@
-//! Where an address leads in a dump of a trace.
+//! The walk of an address in a dump of a trace.
 
 ghost use Rattle.std.specs.Prelude.{◌≡◌, ℕ, IfOk, IfErr, List, MatchResult, string_bytes};
 ghost use Rattle.vs_types.specs.Depth.{IsCanonical};
@@ -107,7 +107,7 @@ pub fn resolve_read(
 /// Reads a trace, and writes where the walk of an address ends in a replica's dump, and with steps the entries that it reads. It
 /// tests the spelling of the address, then reads, then tests whether the address is canonical at the trace's depth, then the
 /// replica. The status is 0, or 1 where the input spells no trace. It reads in blocks, and stops as soon as a whole unit has a
-/// fault, or a byte is after the last unit. Where it gives no answer some input may have been read, and nothing was written but
+/// fault, or a byte is after the last unit. If it gives no answer, some input may have been read, and nothing was written but
 /// where that failed.
 ///
 /// # Errors

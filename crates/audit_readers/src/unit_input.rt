@@ -57,11 +57,11 @@ fn feed_units<R: Source>(
 
 /// Reads the input in blocks of at most 4,096 bytes and feeds each to the reader of units: the trace that the input spells, or
 /// the unit that shows why it spells none. It reads nothing after the first refusal, and never more than 70,647,893 bytes, one more than
-/// the greatest trace has. Allocates memory for the trace and for the beginning of one unit, and keeps no other bytes than one block.
+/// the greatest trace has. Allocates memory for the trace, for the beginning of one unit, and for the first 20 and the last 4,096 bytes.
 ///
 /// # Errors
 ///
-/// `CannotRead` where the reader gave an error that is no interruption. That memory ran out is inside the answer.
+/// `CannotRead` if the reader gave an error that is no interruption. Memory that ran out is named inside the answer.
 pub fn read_units<R: Source>(
     alloc: Global,
     reader: &mut R,

@@ -34,7 +34,7 @@ origin_says Nothing = nothing
 origin_says Start = text (codes "the start")
 origin_says Earlier = text (codes "an earlier segment")
 
--- where the look of an address comes from, behind the address
+-- what gave an address its look, behind the address
 unfoldable pub origin_parts : Origin → List Part
 origin_parts origin = words (codes ", last changed by: ") ∷ in_both (codes "changed") (origin_says origin) ∷ words line_end ∷ []
 
@@ -43,9 +43,11 @@ unfoldable pub change_parts : Option PlacedUpdate → Origin → List Part
 change_parts (Some update) origin = words (codes ", ") ∷ in_both (codes "changed") (changed (Some update)) ∷ []
 change_parts None origin = origin_parts origin
 
+-- the parts on an answer that the space does not give, with what gave the address its look
 unfoldable pub other_answer_parts : OtherAnswer → Origin → List Part
 other_answer_parts wrong origin = answer_parts wrong ++ change_parts wrong.changed origin
 
+-- the parts on an address that is translated otherwise, with what gave it its look
 unfoldable pub difference_parts : Difference → Origin → List Part
 difference_parts wrong origin = unlike_parts wrong ++ change_parts wrong.changed origin
 
@@ -63,28 +65,32 @@ allowed_says (formats.BadEvent index) = allowed (formats.BadEvent index)
 allowed_says (formats.BadFrame replica index) = allowed (formats.BadFrame replica index)
 allowed_says formats.Trailing = allowed formats.Trailing
 
+-- the part on what is allowed
 unfoldable pub allowed_parts : Format → List Part
 allowed_parts fault = in_lines (allowed_says fault) ∷ in_json (codes "format") (allowed fault) ∷ []
 
--- where a segment begins, and a unit
+-- the begin of a segment, and a unit
 unfoldable pub begin_parts : ℕ → TraceUnit → List Part
 begin_parts begins it = fault_is (codes "Format") ∷ words (codes "the segment begins at byte ") ∷ in_both (codes "begins") (count begins)
     ∷ words line_end ∷ in_both (codes "unit") (unit it) ∷ []
 
--- where the segment begins, the unit, how many of its bytes there are, and the first of them; and what is allowed there
+-- the begin of the segment, the unit, how many of its bytes there are, and the first of them; and what is allowed there
 unfoldable pub bad_segment_parts : BadSegment → List Part
 bad_segment_parts bad = (begin_parts bad.begins bad.unit.unit
     ++ read_parts (sum_up bad.begins bad.unit.offset) bad.unit.read.items (unit_size bad.unit.unit)) ++ allowed_parts bad.unit.fault
 
+-- the parts on a frame of the start that is not reached
 unfoldable pub start_stray_parts : ℕ → List Part
 start_stray_parts number = stray_frame_parts (codes "StartStray") number
 
+-- the parts on a page of the start that ends too high
 unfoldable pub start_beyond_parts : StartBeyond → List Part
 start_beyond_parts wrong = fault_is (codes "StartBeyond") ∷ words (codes "the start: ")
     ∷ in_both (codes "found") (walk (Mapped wrong.page.phys wrong.page.size wrong.page.rights)) ∷ words line_end
     ∷ in_both (codes "path") (steps wrong.path.items) ∷ words (codes "its page ends above 0x8000000000000\n")
     ∷ in_json (codes "address") (address wrong.page.base) ∷ []
 
+-- the parts on an address that the start translates otherwise
 unfoldable pub start_differs_parts : StartDiffers → List Part
 start_differs_parts wrong = ((fault_is (codes "StartDiffers") ∷ words (codes "the start: ") ∷ [])
     ++ look_parts wrong.found wrong.path.items wrong.wanted wrong.address) ++ origin_parts wrong.origin
@@ -99,6 +105,7 @@ window_parts touch = fault_is (codes "Stale") ∷ in_both (codes "call") (call t
 unfoldable pub moment_line : Moment → List ℕ
 moment_line moment = codes "after " ++ (decimal moment.entries ++ (codes ": " ++ (answer_text moment.look ++ line_end)))
 
+-- the same as an object
 abbrev pub moment_data : Moment → Data
 moment_data moment = object
     (member (codes "entries") (number_data moment.entries)
@@ -144,8 +151,10 @@ chain_counts_parts counts = words (codes "calls: ") ∷ in_both (codes "calls") 
     ∷ in_both (codes "dumps") (count counts.dumps) ∷ words (codes "\nreplicas: ") ∷ in_both (codes "replicas") (count counts.replicas)
     ∷ words (codes "\npages: ") ∷ in_both (codes "pages") (count counts.pages) ∷ words line_end ∷ []
 
+-- the same as lines
 abbrev pub chain_counts_lines : ChainCounts → List ℕ
 chain_counts_lines counts = parts_text (chain_counts_parts counts)
 
+-- the same as an object
 abbrev pub chain_counts_data : ChainCounts → Data
 chain_counts_data counts = parts_data (chain_counts_parts counts)

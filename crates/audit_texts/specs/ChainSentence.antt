@@ -19,17 +19,21 @@ segment_reason bad formats.BadMagic = codes "they don't begin with NRVS"
 segment_reason bad formats.BadVersion = codes "their version is 0x" ++ (bytes_text bad.read.items ++ codes ", and not 1")
 segment_reason bad fault = reason_text bad fault
 
+-- the sentence on a bad unit of a segment
 abbrev pub bad_segment_sentence : BadUnit → List ℕ
 bad_segment_sentence bad = codes "These bytes are no segment: " ++ (segment_reason bad bad.fault ++ codes ".")
 
+-- the sentence on a frame of the start that is not reached
 abbrev pub start_stray_sentence : ℕ → List ℕ
 start_stray_sentence frame =
     codes "The start holds frame " ++ (hexadecimal frame ++ codes " as a table, and no table leads to it.")
 
+-- the sentence on a page of the start that ends too high
 abbrev pub start_beyond_sentence : StartBeyond → List ℕ
 start_beyond_sentence wrong =
     codes "At " ++ (hexadecimal wrong.page.base ++ codes " the start has a page that ends above 0x8000000000000.")
 
+-- the sentence on an address that the start translates otherwise
 abbrev pub start_differs_sentence : StartDiffers → List ℕ
 start_differs_sentence wrong = codes "At " ++ (hexadecimal wrong.address ++ (codes " the start says `" ++ (walk_words wrong.found
     ++ (codes "`, but after the segment before it the address space says `" ++ (answer_text wrong.wanted ++ codes "`.")))))
@@ -38,6 +42,7 @@ start_differs_sentence wrong = codes "At " ++ (hexadecimal wrong.address ++ (cod
 abbrev pub window_text : ℕ → ℕ → List ℕ
 window_text first last = decimal first ++ (codes " to " ++ (decimal last ++ codes " entries of the log"))
 
+-- the sentence on a touch that is stale
 abbrev pub stale_sentence : StaleTouch → List ℕ
 stale_sentence touch = codes "Touch " ++ (decimal touch.call.event ++ (codes " was answered `" ++ (answer_text touch.reply.answer
     ++ (codes "`, but it may see only " ++ (window_text touch.first touch.last

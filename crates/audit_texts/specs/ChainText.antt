@@ -16,7 +16,7 @@ abbrev pub right_lines : ℕ → List (List ℕ) → List ℕ
 right_lines number [] = []
 right_lines number (order ∷ more) = segment_lines number order ++ right_lines (number + 1) more
 
--- of these none are printed where it is quiet
+-- none of these are printed if it is quiet
 abbrev pub shown_lines : Bool → ℕ → List (List ℕ) → List ℕ
 shown_lines quiet number orders = if quiet then [] else right_lines number orders
 

@@ -96,76 +96,93 @@ unfoldable pub owner_parts : Owner → List Part
 owner_parts (Dump replica) = replica_parts replica
 owner_parts Start = []
 
+-- the parts on a bad unit
 unfoldable pub bad_unit_parts : BadUnit → List Part
 bad_unit_parts bad = ((fault_is (codes "Format") ∷ in_both (codes "unit") (unit bad.unit) ∷ [])
     ++ read_parts bad.offset bad.read.items (unit_size bad.unit)) ++ (in_both (codes "format") (allowed bad.fault) ∷ [])
 
+-- the parts on two calls of one thread that are open at once
 unfoldable pub open_parts : OpenCalls → List Part
 open_parts calls = fault_is (codes "ThreadOpen") ∷ in_both (codes "first") (call calls.first)
     ∷ in_both (codes "second") (call calls.second) ∷ []
 
+-- the parts on a reply to no earlier call
 unfoldable pub stray_reply_parts : StrayReply → List Part
 stray_reply_parts stray = fault_is (codes "NoSuchCall") ∷ in_both (codes "reply") (reply stray.reply)
     ∷ in_both (codes "named") (event stray.reply.call stray.named) ∷ []
 
+-- the parts on two replies to a call
 unfoldable pub two_replies_parts : TwoReplies → List Part
 two_replies_parts replies = fault_is (codes "AnsweredTwice") ∷ in_both (codes "call") (call replies.call)
     ∷ in_both (codes "first") (reply replies.first) ∷ in_both (codes "second") (reply replies.second) ∷ []
 
+-- the parts on a place that has no update
 unfoldable pub no_update_parts : NoUpdate → List Part
 no_update_parts wrong = fault_is (codes "NotAnUpdate") ∷ words (codes "place ") ∷ in_both (codes "place") (count wrong.place)
     ∷ words (codes " has ") ∷ in_both (codes "call") (count wrong.call) ∷ words line_end
     ∷ in_both (codes "named") (event wrong.call wrong.named) ∷ []
 
+-- the parts on an update at two places
 unfoldable pub two_places_parts : TwoPlaces → List Part
 two_places_parts places = fault_is (codes "PlacedTwice") ∷ words (codes "places ") ∷ in_both (codes "first") (count places.first)
     ∷ words (codes " and ") ∷ in_both (codes "second") (count places.second) ∷ words line_end
     ∷ in_both (codes "call") (call places.call) ∷ []
 
+-- the parts on a reply that names another place
 unfoldable pub misplaced_parts : Misplaced → List Part
 misplaced_parts wrong = fault_is (codes "NotPlaced") ∷ in_both (codes "call") (call wrong.call)
     ∷ in_both (codes "reply") (reply wrong.reply) ∷ words (codes "its place: ") ∷ in_both (codes "own") (place wrong.own)
     ∷ words (codes "\nthe call there: ") ∷ in_both (codes "there") (place wrong.there) ∷ words line_end ∷ []
 
+-- the parts on a read that saw more entries than there are
 unfoldable pub past_end_parts : PastEnd → List Part
 past_end_parts wrong = fault_is (codes "PastLog") ∷ in_both (codes "call") (call wrong.call) ∷ in_both (codes "reply") (reply wrong.reply)
     ∷ words (codes "entries of the log: ") ∷ in_both (codes "places") (count wrong.places) ∷ words line_end ∷ []
 
+-- the parts on a call that comes too early
 unfoldable pub early_parts : EarlyCall → List Part
 early_parts early = fault_is (codes "Early") ∷ in_both (codes "call") (call early.call) ∷ in_both (codes "own") (own early.own)
     ∷ words (codes "entries before it: ") ∷ in_both (codes "entries") (count early.entries) ∷ words (codes "\nknown when it was made: ")
     ∷ in_both (codes "floor") (count early.floor) ∷ words line_end ∷ in_both (codes "reply") (reply early.reply)
     ∷ in_both (codes "answered") (call early.answered) ∷ []
 
+-- the parts on an answer that the space does not give
 unfoldable pub other_answer_parts : OtherAnswer → List Part
 other_answer_parts wrong = answer_parts wrong ++ changed_parts wrong.changed
 
+-- the parts on a dump that has applied more entries than there are
 unfoldable pub long_prefix_parts : LongPrefix → List Part
 long_prefix_parts wrong = fault_is (codes "PrefixPastLog") ∷ words (codes "applied: ") ∷ in_both (codes "applied") (count wrong.applied)
     ∷ words (codes "\nentries of the log: ") ∷ in_both (codes "places") (count wrong.places) ∷ words line_end
     ∷ in_json (codes "replica") (count wrong.replica) ∷ []
 
+-- the parts on a dump that has applied too few entries
 unfoldable pub short_prefix_parts : ShortPrefix → List Part
 short_prefix_parts wrong = fault_is (codes "PrefixShort") ∷ words (codes "applied: ") ∷ in_both (codes "applied") (count wrong.applied)
     ∷ words (codes "\nknown there: ") ∷ in_both (codes "known") (count wrong.known) ∷ words line_end
     ∷ in_both (codes "reply") (reply wrong.reply) ∷ in_both (codes "call") (call wrong.call)
     ∷ in_json (codes "replica") (count wrong.replica) ∷ []
 
+-- the parts on a frame that is missing
 unfoldable pub missing_parts : MissingTable → List Part
 missing_parts wrong = missing_frame_parts (of_owner wrong.owner (codes "MissingFrame") (codes "StartMissing")) wrong.path.items wrong.frame
     (of_owner wrong.owner (codes ", which the dump doesn't have\n") (codes ", which the start doesn't have\n")) ++ owner_parts wrong.owner
 
+-- the parts on a frame that is reached twice
 unfoldable pub shared_parts : SharedTable → List Part
 shared_parts wrong = shared_frame_parts (of_owner wrong.owner (codes "SharedFrame") (codes "StartShared")) wrong.first.items wrong.second.items wrong.frame
     ++ owner_parts wrong.owner
 
+-- the parts on an entry with a reserved bit set
 unfoldable pub reserved_parts : ReservedEntry → List Part
 reserved_parts wrong = reserved_entry_parts (of_owner wrong.owner (codes "ReservedBit") (codes "StartReserved")) wrong.path.items wrong.entry wrong.bit
     ++ owner_parts wrong.owner
 
+-- the parts on a frame that is not reached
 unfoldable pub stray_parts : StrayTable → List Part
 stray_parts wrong = stray_frame_parts (codes "StrayFrame") wrong.frame ++ replica_parts wrong.replica
 
+-- the parts on an address that is translated otherwise
 unfoldable pub difference_parts : Difference → List Part
 difference_parts wrong = unlike_parts wrong ++ changed_parts wrong.changed
 

@@ -13,6 +13,7 @@ use Rattle.vs_text.specs.Words.{hexadecimal}
 use Rattle.audit_texts.specs.Text.{answer_text}
 use Rattle.audit_texts.specs.EvidenceText.{asked_text}
 
+-- a number, as a number of JSON
 abbrev pub number_data : ℕ → Data
 number_data n = number (unsigned n)
 
@@ -29,9 +30,11 @@ called_data event replica thread asked = object
     (member (codes "request") (string asked)
     (member (codes "thread") (number_data thread) no_members))))
 
+-- a recorded call
 abbrev pub call_data : RecordedCall → Data
 call_data call = called_data call.event call.replica call.thread (asked_text call.touch call.request)
 
+-- a recorded reply
 abbrev pub reply_data : RecordedReply → Data
 reply_data reply = object
     (member (codes "answer") (string (answer_text reply.answer))
@@ -60,6 +63,7 @@ changed_data (Some update) = object
     (member (codes "call") (call_data update.call)
     (member (codes "place") (number_data update.place) no_members))
 
+-- an entry of a table
 abbrev pub step_data : TableEntry → Data
 step_data step = object
     (member (codes "frame") (number_data step.frame)
@@ -67,5 +71,6 @@ step_data step = object
     (member (codes "level") (number_data step.level)
     (member (codes "word") (string (hexadecimal step.word)) no_members))))
 
+-- the entries on a way
 abbrev pub way_data : List TableEntry → Data
 way_data steps = array (items_of (map step_data steps))

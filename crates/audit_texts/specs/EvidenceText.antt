@@ -120,6 +120,7 @@ byte_text byte = digits 16 false (byte / 16) ++ digits 16 false (byte % 16)
 abbrev pub bytes_text : List ℕ → List ℕ
 bytes_text bytes = flat_map byte_text (take 24 bytes)
 
+-- what was read of a unit, if anything was
 unfoldable pub read_text : List ℕ → List ℕ
 read_text [] = codes "none"
 read_text (byte ∷ bytes) = bytes_text (byte ∷ bytes)

@@ -41,6 +41,7 @@ abbrev pub told_explanation : Bool → Explanation → List ℕ
 told_explanation true explanation = explanation_json explanation
 told_explanation false explanation = explanation_text explanation
 
+-- the exit status: 0 for a yes, 1 for a no
 abbrev pub explanation_status : Explanation → ℕ
 explanation_status (Yes order counts) = 0
 explanation_status (No fault shown) = 1

@@ -8,6 +8,7 @@ use Rattle.nr_explain.specs.declared.fields.FieldFault.{FieldFault}
 use Rattle.nr_explain.specs.declared.fields.FieldFault.TheVariants.{NotBelow, NotCanonical, NotMultiple, Beyond}
 use Rattle.nr_explain.specs.declared.fields.BadField.{BadField}
 
+-- the name of a field of an event
 unfoldable pub name_text : EventField → List ℕ
 name_text Tag = codes "its tag is "
 name_text Replica = codes "its replica is "
@@ -34,12 +35,14 @@ value_text field value = decimal value
 unfoldable pub limit_text : ℕ → List ℕ
 limit_text limit = if limit == 1 then codes ", and not 0" else codes ", and not below " ++ decimal limit
 
+-- why a field isn't what it may be
 unfoldable pub why_text : FieldFault → List ℕ
 why_text (NotBelow limit) = limit_text limit
 why_text (NotCanonical levels) = codes ", which isn't canonical with " ++ (decimal levels ++ codes " levels")
 why_text (NotMultiple bytes) = codes ", which is no multiple of " ++ hexadecimal bytes
 why_text Beyond = codes ", and its page ends above 0x8000000000000"
 
+-- a field, its value, and why it isn't what it may be
 unfoldable pub field_text : BadField → List ℕ
 field_text bad = name_text bad.field ++ (value_text bad.field bad.value ++ why_text bad.fault)
 

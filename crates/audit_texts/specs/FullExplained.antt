@@ -50,6 +50,7 @@ full_data (No fault shown) dumps = object
     (member (codes "sentence") (string (sentence_text shown))
     (member (codes "verdict") (string (codes "no " ++ fault_text fault)) no_members))))
 
+-- the object as a text
 abbrev pub full_json : FullExplanation → List ℕ
 full_json full = compact_text (full_data full.explanation full.dumps.items) ++ line_end
 

@@ -20,9 +20,11 @@ unfoldable pub range_line : PageRange → List ℕ
 range_line range =
     hexadecimal range.first.base ++ (space ++ (hexadecimal (range_end range) ++ (space ++ mapping_text range.first.size range.first.phys range.first.rights)))
 
+-- a line for each page
 abbrev pub page_lines : List Page → List ℕ
 page_lines pages = flat_map page_line pages
 
+-- a line for each range
 abbrev pub range_lines : List PageRange → List ℕ
 range_lines ranges = flat_map range_line ranges
 

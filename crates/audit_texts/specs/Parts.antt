@@ -89,13 +89,14 @@ says_data (allowed it) = string (format_text it)
 says_data (reserved it) = string (reserved_text it)
 says_data (text it) = string it
 
--- where it is printed: words in the lines alone, a fact in the lines, in both or in JSON, where it has a name
+-- a part of what is printed: words in the lines alone, or a fact in the lines, in both or in JSON, with its name there
 pub data Part : Type 0 where
   words : List ℕ → Part
   in_lines : Says → Part
   in_both : List ℕ → Says → Part
   in_json : List ℕ → Says → Part
 
+-- the text of a part in the lines
 abbrev pub part_text : Part → List ℕ
 part_text (words it) = it
 part_text (in_lines it) = says_text it
@@ -150,6 +151,7 @@ says_of (spoken.Allowed it) = allowed it
 says_of (spoken.Reserved it) = reserved it
 says_of (spoken.Text it) = text it.now
 
+-- the part that a value of the code is
 abbrev pub part_of : Spelled → Part
 part_of (Words it) = words it.now
 part_of (InLines it) = in_lines (says_of it)

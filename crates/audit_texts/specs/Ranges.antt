@@ -17,6 +17,7 @@ range_end range = range.first.base + range_bytes range
 abbrev pub page_after : PageRange → Page
 page_after range = record range.first { base = range_end range; phys = range.first.phys + range_bytes range }
 
+-- the range of one page
 abbrev pub alone : Page → PageRange
 alone page = record { first = page; count = 1 }
 
@@ -29,6 +30,7 @@ abbrev pub pages_from : Page → ℕ → List Page
 pages_from page zero = []
 pages_from page (suc count) = page ∷ pages_from (page_after (alone page)) count
 
+-- the pages of a range
 abbrev pub pages_of : PageRange → List Page
 pages_of range = pages_from range.first range.count
 

@@ -44,13 +44,15 @@ noun number one more = if number == 1 then one else more
 abbrev pub count_text : ℕ → List ℕ → List ℕ → List ℕ
 count_text number one more = decimal number ++ (space ++ noun number one more)
 
+-- so many entries
 abbrev pub entries_text : ℕ → List ℕ
 entries_text number = count_text number (codes "entry") (codes "entries")
 
+-- so many updates
 abbrev pub updates_text : ℕ → List ℕ
 updates_text number = count_text number (codes "update") (codes "updates")
 
--- where bytes end in a unit
+-- the unit in which bytes end
 abbrev pub cut_text : BadUnit → List ℕ
 cut_text bad = codes "they end in " ++ (unit_text bad.unit ++ (codes ", of whose " ++ (decimal (unit_size bad.unit)
     ++ (codes " bytes there are " ++ decimal (length bad.read.items)))))
@@ -85,9 +87,11 @@ reason_text bad (formats.BadEvent index) = event_text index bad.field
 reason_text bad (formats.BadFrame replica index) = frame_text replica index
 reason_text bad formats.Trailing = codes "more bytes follow the last unit"
 
+-- the sentence on a unit that is bad
 abbrev pub bad_unit_sentence : BadUnit → List ℕ
 bad_unit_sentence bad = codes "These bytes are no trace: " ++ (reason_text bad bad.fault ++ codes ".")
 
+-- the sentence on two calls of one thread that are open at once
 abbrev pub open_sentence : OpenCalls → List ℕ
 open_sentence calls = codes "Thread " ++ (decimal calls.second.thread ++ (codes " makes call " ++ (decimal calls.second.event
     ++ (codes " while its call " ++ (decimal calls.first.event ++ codes " has no reply yet.")))))
@@ -99,10 +103,12 @@ stray_text (Some (Call replica thread request)) = codes "that call is made later
 stray_text (Some (Touch replica thread address mode access)) = codes "that touch is made later"
 stray_text (Some (Reply call at answer)) = codes "that event is a reply"
 
+-- the sentence on a reply to no earlier call
 abbrev pub stray_reply_sentence : StrayReply → List ℕ
 stray_reply_sentence stray = codes "Event " ++ (decimal stray.reply.event ++ (codes " replies to call " ++ (decimal stray.reply.call
     ++ (codes ", which is no call before it: " ++ (stray_text stray.named ++ codes ".")))))
 
+-- the sentence on two replies to a call
 abbrev pub two_replies_sentence : TwoReplies → List ℕ
 two_replies_sentence replies = codes "Event " ++ (decimal replies.second.event ++ (codes " answers call " ++ (decimal replies.call.event
     ++ (codes " again: event " ++ (decimal replies.first.event ++ codes " had answered it.")))))
@@ -114,10 +120,12 @@ unlogged_text (Some (Call replica thread request)) = codes "that call only reads
 unlogged_text (Some (Touch replica thread address mode access)) = codes "that event is a touch"
 unlogged_text (Some (Reply call at answer)) = codes "that event is a reply"
 
+-- the sentence on a place that has no update
 abbrev pub no_update_sentence : NoUpdate → List ℕ
 no_update_sentence wrong = codes "Place " ++ (decimal wrong.place ++ (codes " of the log has the number " ++ (decimal wrong.call
     ++ (codes ", which is no update: " ++ (unlogged_text wrong.named ++ codes ".")))))
 
+-- the sentence on an update at two places
 abbrev pub two_places_sentence : TwoPlaces → List ℕ
 two_places_sentence places = codes "Call " ++ (decimal places.call.event ++ (codes " is in the log twice: at place " ++ (decimal places.first
     ++ (codes ", and again at place " ++ (decimal places.second ++ codes ".")))))
@@ -127,10 +135,12 @@ unfoldable pub there_text : Option ℕ → List ℕ
 there_text None = codes "no such place"
 there_text (Some call) = codes "call " ++ (decimal call ++ codes " there")
 
+-- the sentence on a reply that names another place
 abbrev pub misplaced_sentence : Misplaced → List ℕ
 misplaced_sentence wrong = codes "Event " ++ (decimal wrong.reply.event ++ (codes " says that call " ++ (decimal wrong.call.event
     ++ (codes " is at place " ++ (decimal wrong.reply.at ++ (codes " of the log, but the log has " ++ (there_text wrong.there ++ codes ".")))))))
 
+-- the sentence on a read that saw more entries than there are
 abbrev pub past_end_sentence : PastEnd → List ℕ
 past_end_sentence wrong = codes "Event " ++ (decimal wrong.reply.event ++ (codes " says that call " ++ (decimal wrong.call.event
     ++ (codes " saw " ++ (entries_text wrong.reply.at ++ (codes " of the log, which has " ++ (decimal wrong.places ++ codes ".")))))))
@@ -141,19 +151,23 @@ stands_text (Update action) entries = codes "is at place " ++ decimal entries
 stands_text (Resolve address) entries = codes "was answered from " ++ entries_text entries
 stands_text (Access address mode access) entries = codes "was answered from " ++ entries_text entries
 
+-- the sentence on a call that comes too early
 abbrev pub early_sentence : EarlyCall → List ℕ
 early_sentence early = codes "Call " ++ (decimal early.call.event ++ (space ++ (stands_text early.call.request early.entries
     ++ (codes " of the log, but before it was made a reply had shown " ++ (decimal early.floor ++ codes ".")))))
 
+-- the sentence on an answer that the space does not give
 abbrev pub other_answer_sentence : OtherAnswer → List ℕ
 other_answer_sentence wrong = codes "Call " ++ (decimal wrong.call.event ++ (codes " was answered `" ++ (answer_text wrong.reply.answer
     ++ (codes "`, but after the " ++ (updates_text wrong.reply.at
     ++ (codes " before it the address space answers `" ++ (answer_text wrong.wanted ++ codes "`.")))))))
 
+-- the sentence on a dump that has applied more entries than there are
 abbrev pub long_prefix_sentence : LongPrefix → List ℕ
 long_prefix_sentence wrong = codes "The dump of replica " ++ (decimal wrong.replica ++ (codes " says that it has applied "
     ++ (entries_text wrong.applied ++ (codes ", but the log has " ++ (decimal wrong.places ++ codes ".")))))
 
+-- the sentence on a dump that has applied too few entries
 abbrev pub short_prefix_sentence : ShortPrefix → List ℕ
 short_prefix_sentence wrong = codes "The dump of replica " ++ (decimal wrong.replica ++ (codes " has applied "
     ++ (entries_text wrong.applied ++ (codes ", but a reply given there shows " ++ (decimal wrong.known ++ codes ".")))))
@@ -163,23 +177,28 @@ unfoldable pub leads_text : List TableEntry → Owner → List ℕ
 leads_text [] owner = codes "The root of " ++ (owner_text owner ++ codes " is")
 leads_text (step ∷ steps) owner = codes "An entry of the tables of " ++ (owner_text owner ++ codes " leads to")
 
+-- the sentence on a frame that is missing
 abbrev pub missing_sentence : MissingTable → List ℕ
 missing_sentence wrong = leads_text wrong.path.items wrong.owner ++ (codes " frame " ++ (hexadecimal wrong.frame
     ++ (codes ", which " ++ (of_owner wrong.owner (codes "the dump") (codes "the start") ++ codes " doesn't have."))))
 
+-- the sentence on a frame that is reached twice
 abbrev pub shared_sentence : SharedTable → List ℕ
 shared_sentence wrong = codes "The tables of " ++ (owner_text wrong.owner ++ (codes " reach frame " ++ (hexadecimal wrong.frame
     ++ codes " twice: a change on one way is seen on the other.")))
 
+-- the sentence on an entry with a reserved bit set
 abbrev pub reserved_sentence : ReservedEntry → List ℕ
 reserved_sentence wrong = codes "Entry " ++ (decimal wrong.entry.index ++ (codes " of frame " ++ (hexadecimal wrong.entry.frame
     ++ (codes " of " ++ (owner_text wrong.owner ++ (codes " has the reserved bit " ++ (decimal wrong.bit
     ++ codes " set: a processor faults there.")))))))
 
+-- the sentence on a frame that is not reached
 abbrev pub stray_sentence : StrayTable → List ℕ
 stray_sentence wrong = codes "The dump of replica " ++ (decimal wrong.replica ++ (codes " holds frame " ++ (hexadecimal wrong.frame
     ++ codes " as a table, and no table leads to it.")))
 
+-- the sentence on an address that is translated otherwise
 abbrev pub difference_sentence : Difference → List ℕ
 difference_sentence wrong = codes "At " ++ (hexadecimal wrong.address ++ (codes " the tables of replica " ++ (decimal wrong.replica
     ++ (codes " say `" ++ (walk_words wrong.found ++ (codes "`, but after " ++ (updates_text wrong.applied

@@ -12,6 +12,7 @@ use Rattle.nr_trace.specs.declared.fault.Format.TheVariants as formats
 use Rattle.nr_trace.specs.declared.fault.Fault.{Fault}
 use Rattle.nr_trace.specs.declared.fault.Fault.TheVariants as faults
 
+-- the end of a line: LF
 abbrev pub line_end : List ℕ
 line_end = codes "\n"
 
@@ -76,7 +77,7 @@ abbrev pub verdict_line : Verdict → List ℕ
 verdict_line (Yes order) = codes "yes\n"
 verdict_line (No fault) = no_text fault
 
--- where a walk ends
+-- the end of a walk
 unfoldable pub walk_words : Walk → List ℕ
 walk_words NotMapped = codes "not mapped"
 walk_words Reserved = codes "reserved"

@@ -1,4 +1,4 @@
-//! Where the parts of what is said go: into lines, or into a JSON object.
+//! The end for the parts of what is said: lines, or a JSON object.
 
 ghost use Rattle.std.specs.Prelude.{◌≡◌, OnOk, map, string_bytes};
 ghost use Rattle.serde_json.specs.View.{members_view};

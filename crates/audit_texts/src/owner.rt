@@ -1,4 +1,4 @@
-//! Whose tables they are, in words.
+//! The owner of tables, in words.
 
 ghost use Rattle.std.specs.Prelude.{◌≡◌, IfOk, string_bytes};
 ghost use Rattle.audit_texts.specs.Owners.{of_owner, owner_text};
@@ -17,7 +17,7 @@ pub(crate) fn of_owner(owner: Owner, dumps: &'static str, starts: &'static str) 
     }
 }
 
-/// Whose tables they are.
+/// The owner of the tables.
 #[tactic(auto, unfolding(crate::specs::Owners::owner_text))]
 pub(crate) fn owner_text(alloc: Global, owner: Owner) -> Result<String, AllocError>
     ensures { IfOk result (λ text. string_bytes text ≡ owner_text owner) }

@@ -29,6 +29,14 @@ pub(crate) fn format_text(alloc: Global, fault: Format) -> Result<String, AllocE
     }
 }
 
+/// The text of a fault of the format: its number, its name, and its numbers.
+fn format_fault_text(alloc: Global, fault: Format) -> Result<String, AllocError>
+    ensures { IfOk result (λ text. string_bytes text ≡ codes "1 Format " ++ format_text fault) }
+{
+    let name = format_text(alloc, fault)?;
+    format!(in alloc; "1 Format {name}")
+}
+
 /// The name of a fault, before it its number and behind it where it is. Allocates the text.
 ///
 /// # Errors
@@ -39,10 +47,7 @@ pub fn fault_text(alloc: Global, fault: Fault) -> Result<String, AllocError>
     ensures { IfOk result (λ text. string_bytes text ≡ fault_text fault) }
 {
     match fault {
-        Fault::Format(fault) => {
-            let name = format_text(alloc, fault)?;
-            format!(in alloc; "1 Format {name}")
-        }
+        Fault::Format(fault) => format_fault_text(alloc, fault),
         Fault::ThreadOpen(index) => format!(in alloc; "2 ThreadOpen {index}"),
         Fault::NoSuchCall(index) => format!(in alloc; "3 NoSuchCall {index}"),
         Fault::AnsweredTwice(index) => format!(in alloc; "4 AnsweredTwice {index}"),

@@ -53,6 +53,7 @@ HasStartFault before segment fault =
 abbrev pub BeginsRight : Option Space → Recording → Type 0
 BeginsRight before segment = (fault : Fault) → HasStartFault before segment fault → ⊥
 
+-- the segment has a start with this fault, and with none that is earlier
 pub record BeginsWrong (before : Option Space) (segment : Recording) (fault : Fault) : Type 0 where
   pub holds : HasStartFault before segment fault
   pub none_earlier : (other : Fault) → HasStartFault before segment other → Earlier segment other fault → ⊥

@@ -33,7 +33,7 @@ abbrev pub IsVerdictOf : List ℕ → Verdict → Type 0
 IsVerdictOf bytes (Yes order) = (trace : Recording) × Spells bytes trace × IsFaultless trace × (order ≡ recorded_order trace)
 IsVerdictOf bytes (No fault) = IsFirstOf bytes fault
 
--- where the verdict is yes, its order has the property
+-- if the verdict is yes, its order has the property
 abbrev pub IfYes : (List ℕ → Type 0) → Verdict → Type 0
 IfYes P (Yes order) = P order
 IfYes P (No fault) = ⊤

@@ -34,7 +34,7 @@ use vs_types::{Fail, Memory};
 /// once, and keeps what came before what; each answer is that of one sequential address space, from the space on with which the
 /// segment begins; each dump that is there translates every canonical address as that space does after so many updates as the
 /// replica had applied; and each answered touch was answered as its address was at some moment of that order which no flush had
-/// ended before the touch began. That it is refused does not say that no other order explains it.
+/// ended before the touch began. A refusal does not say that no other order explains it.
 ///
 /// Allocates memory beside the trace: at most 16 bytes for each event and 4 for each thread, or where there are more threads than
 /// events an entry of a map for each thread that makes a call; where there are touches, 8 bytes more for each event, the touches, and
@@ -64,7 +64,7 @@ pub fn judge_segment(
 }
 
 /// Whether a trace is right: `Yes` with the recorded order of its calls where none of the faults holds, else `No` with the first.
-/// Of a segment the same, where it is the first one of its chain.
+/// The same for a segment that is the first one of its chain.
 ///
 /// Takes what `judge_segment` takes, of which it is the case that no segment comes before: `Yes` says what that says.
 ///

@@ -1,4 +1,4 @@
-//! Where replies say that their calls are.
+//! The places at which replies say that their calls are.
 
 ghost use Rattle.std.specs.Prelude.{◌≡◌, ◌≢◌, ◌<◌, ◌↔◌, IsTrue, MatchOption, Some, length, slice_get};
 ghost use Rattle.vs_types.specs.declared.answer.Answer.{Answer};

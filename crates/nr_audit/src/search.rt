@@ -21,7 +21,7 @@ use std::alloc::Global;
 use vs_plain::PlainSpace;
 use vs_types::{Fail, REPLICAS};
 
-/// The passes over a trace or a segment, one after another, up to the first fault from the start on. Where there is none, gives the
+/// The passes over a trace or a segment, one after another, up to the first fault from the start on. If there is none, gives the
 /// recorded order and the space after the whole log.
 pub(crate) fn search(
     alloc: Global,

@@ -1,7 +1,6 @@
 -- What is read of the log, and of a touch.
 use Rattle.std.proofs.Common.{◌≡◌, ℕ, List, Some, get_or, slice_get, sym, subst}
 use Rattle.std.proofs.lemmas.Option.{slice_get-get_or, slice_get_within}
-use Rattle.vs_types.specs.declared.access.Access as accesses
 use Rattle.nr_trace.specs.Recording.{Recording}
 
 -- the log has at a place what is read there

@@ -52,7 +52,7 @@ HasStart segment P = (start : Image) × (segment.start ≡ Some start) × P star
 
 -- ---- touches
 
--- of the moments after so many entries these are listed: the first one, and each at which the address looks otherwise than after one entry less
+-- the moments after so many entries of which these are listed: the first one, and each at which the address looks otherwise than after one entry less
 pub record AreLooks (start : Space) (segment : Recording) (address first last : ℕ) (looks : List Moment) : Type 0 where
   pub within : All (λ moment. (first ≤ moment.entries) × (moment.entries ≤ last)) looks
   pub are : All (λ moment. moment.look ≡ looks_from start segment address moment.entries) looks

@@ -60,7 +60,7 @@ IsExplanationFrom came bytes (No number fault shown) =
 abbrev pub Explains : ReaderState → List ℕ → ChainExplanation → Type 0
 Explains seen rest explanation = IsExplanationFrom seen.state (seen.bytes ++ rest) explanation
 
--- of the bytes of a chain
+-- the explanation of the bytes of a chain
 abbrev pub IsExplanationOfChain : List ℕ → ChainExplanation → Type 0
 IsExplanationOfChain bytes explanation = IsExplanationFrom None bytes explanation
 

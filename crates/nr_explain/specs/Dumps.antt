@@ -41,7 +41,7 @@ abbrev pub IsToldOfDump : Recording → DumpExplanation → Type 0
 IsToldOfDump trace (Sound replica) = HasSoundDump trace replica
 IsToldOfDump trace (Faulty replica fault shown) = (replica_of fault ≡ Some replica) × IsFirstOfItsDump trace fault × IsEvidence trace fault shown
 
--- of which replica's dump it is
+-- the replica whose dump it is
 abbrev pub told_replica : DumpExplanation → ℕ
 told_replica (Sound replica) = replica
 told_replica (Faulty replica fault shown) = replica

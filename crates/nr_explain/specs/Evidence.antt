@@ -14,7 +14,7 @@ use Rattle.nr_trace.specs.Orders.{answer_in, before, floor, known_by, recorded_o
 use Rattle.nr_trace.specs.declared.fault.Fault.{Fault}
 use Rattle.nr_trace.specs.declared.fault.Fault.TheVariants as faults
 use Rattle.nr_explain.specs.Facts.{IsCallOf, IsReplyOf, IsFirstReplyTo, response, entries_read, looks_from, IsLastChangeFrom, address_about, IsPath}
-use Rattle.nr_explain.specs.Facts.{HasReservedWord, IsReservedBit}
+use Rattle.nr_explain.specs.Facts.{HasReservedWord, IsLowestReservedBit}
 use Rattle.nr_explain.specs.declared.trace.evidence.TableEntry.{TableEntry}
 use Rattle.nr_explain.specs.declared.trace.evidence.OpenCalls.{OpenCalls}
 use Rattle.nr_explain.specs.declared.trace.evidence.StrayReply.{StrayReply}
@@ -124,6 +124,7 @@ pub record IsOtherAnswerFrom (start : Space) (trace : Recording) (wrong : OtherA
   pub stands : StandsAfter trace wrong.call.event wrong.reply.at
   pub changed : IsLastChangeFrom start trace wrong.address wrong.reply.at wrong.changed
 
+-- the same from no pages on
 abbrev pub IsOtherAnswer : Recording → OtherAnswer → Type 0
 IsOtherAnswer trace wrong = IsOtherAnswerFrom no_pages trace wrong
 
@@ -162,10 +163,10 @@ abbrev pub IsSharedTable : Depth → Image → SharedTable → Type 0
 IsSharedTable depth image wrong = StepsLeadTo depth image wrong.frame wrong.first.items
     × StepsLeadTo depth image wrong.frame wrong.second.items × (wrong.second.items ≢ wrong.first.items)
 
--- the entries lead to a table, and the word that it has at an index has a reserved bit set, at its level: this one
+-- the entries lead to a table, and the word that it has at an index has a reserved bit set, at its level: the lowest is this one
 abbrev pub IsReservedEntry : Depth → Image → ReservedEntry → Type 0
 IsReservedEntry depth image wrong = IsRootPath depth image wrong.entry.level wrong.entry.frame wrong.path.items
-    × HasReservedWord image.frames wrong.entry × IsReservedBit wrong.entry.level wrong.entry.word wrong.bit
+    × HasReservedWord image.frames wrong.entry × IsLowestReservedBit wrong.entry.level wrong.entry.word wrong.bit
 
 -- the tables do not lead to the frame
 abbrev pub IsStrayTable : Recording → StrayTable → Type 0
@@ -181,6 +182,7 @@ pub record IsDifferenceFrom (start : Space) (trace : Recording) (wrong : Differe
   pub differs : wrong.found ≢ as_walk wrong.wanted
   pub changed : IsLastChangeFrom start trace wrong.address wrong.applied wrong.changed
 
+-- the same from no pages on
 abbrev pub IsDifference : Recording → Difference → Image → Type 0
 IsDifference trace wrong dump = IsDifferenceFrom no_pages trace wrong dump
 

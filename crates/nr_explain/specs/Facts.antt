@@ -51,7 +51,7 @@ abbrev pub LooksSameFrom : Space → Recording → ℕ → ℕ → ℕ → Type 
 LooksSameFrom start trace address first last = (places : ℕ) → first ≤ places → places ≤ last
     → looks_from start trace address places ≡ looks_from start trace address last
 
--- of the places below an end, the last one whose update changed how the address looks; or none, where none did
+-- the last one of the places below an end whose update changed how the address looks; or none, where none did
 abbrev pub IsLastChangeFrom : Space → Recording → ℕ → ℕ → Option PlacedUpdate → Type 0
 IsLastChangeFrom start trace address end None = LooksSameFrom start trace address 0 end
 IsLastChangeFrom start trace address end (Some update) =
@@ -59,7 +59,7 @@ IsLastChangeFrom start trace address end (Some update) =
     × (looks_from start trace address update.place ≢ looks_from start trace address (update.place + 1))
     × LooksSameFrom start trace address (update.place + 1) end
 
--- the address that an answer is about: the base that it names, where it names one, else what the call asks for
+-- the address that a call asks for
 abbrev pub asked_address : Query → ℕ
 asked_address (Update (Map page)) = page.base
 asked_address (Update (Unmap base)) = base
@@ -67,6 +67,7 @@ asked_address (Update (Protect base rights)) = base
 asked_address (Resolve address) = address
 asked_address (Access address mode access) = address
 
+-- the address that an answer is about: the base that it names, if it names one, else what the call asks for
 abbrev pub address_about : Query → Answer → ℕ
 address_about request (answers.Overlap base) = base
 address_about request (answers.Inside base) = base
@@ -120,8 +121,13 @@ pub record HasReservedWord (memory : Memory) (step : TableEntry) : Type 0 where
   pub read : slice_index words step.index ≡ step.word
   pub reserved : meaning step.level step.word ≡ entry.Reserved
 
--- the bit is set in the word, and reserved in an entry of this level: of one that maps a page any from 13 to below the bits of an
--- address in the page, of one that maps none bit 7
+-- the bit is set in the word, and reserved in an entry of this level. In one that maps a page it is any from 13 to below the bits of an
+-- address in the page, in one that maps none bit 7
 pub record IsReservedBit (level word bit : ℕ) : Type 0 where
   pub set : bit_at word bit ≡ 1
   pub reserved : MatchBool (is_leaf level word) ((13 ≤ bit) × (bit < 3 + 9 * level)) (bit ≡ 7)
+
+-- it is the lowest such bit of the word
+pub record IsLowestReservedBit (level word bit : ℕ) : Type 0 where
+  pub is : IsReservedBit level word bit
+  pub lowest : (other : ℕ) → IsReservedBit level word other → bit ≤ other

@@ -24,13 +24,16 @@ use Rattle.nr_explain.specs.declared.fields.BadField.{BadField}
 abbrev pub number_8 : List ℕ → ℕ → ℕ
 number_8 bytes at = slice_index bytes at
 
+-- the number of the two bytes from this one on, the greater one first
 abbrev pub number_16 : List ℕ → ℕ → ℕ
 number_16 bytes at = from_be_bytes w16 (number_8 bytes at ∷ number_8 bytes (at + 1) ∷ [])
 
+-- the number of the four bytes from this one on, the greatest first
 abbrev pub number_32 : List ℕ → ℕ → ℕ
 number_32 bytes at =
     from_be_bytes w32 (number_8 bytes at ∷ number_8 bytes (at + 1) ∷ number_8 bytes (at + 2) ∷ number_8 bytes (at + 3) ∷ [])
 
+-- the number of the eight bytes from this one on, the greatest first
 abbrev pub number_64 : List ℕ → ℕ → ℕ
 number_64 bytes at = from_be_bytes w64 (number_8 bytes at ∷ number_8 bytes (at + 1) ∷ number_8 bytes (at + 2) ∷ number_8 bytes (at + 3)
     ∷ number_8 bytes (at + 4) ∷ number_8 bytes (at + 5) ∷ number_8 bytes (at + 6) ∷ number_8 bytes (at + 7) ∷ [])
@@ -43,14 +46,17 @@ is_segment header = number_8 header 3 == 83
 unfoldable pub depth_of : List ℕ → Depth
 depth_of header = if number_8 header 6 == 4 then Four else Five
 
+-- the first kind of a request that the version of a header doesn't know
 unfoldable pub kinds_of : List ℕ → ℕ
 kinds_of header = if is_segment header then 6 else (if number_16 header 4 == 1 then 4 else 5)
 
+-- the first answer that the version of a header doesn't know
 unfoldable pub answers_of : List ℕ → ℕ
 answers_of header = if is_segment header then 10 else (if number_16 header 4 == 1 then 8 else 10)
 
 -- ---- what may be wrong with a field
 
+-- a field, its value, and what is wrong with it
 abbrev pub fault_of : EventField → ℕ → FieldFault → Option BadField
 fault_of field value fault = Some (record { field = field; value = value; fault = fault })
 
@@ -62,7 +68,7 @@ limited field value limit = if nat_lt value limit then None else fault_of field 
 unfoldable pub canonical : Depth → ℕ → Option BadField
 canonical depth address = if is_canonical depth address then None else fault_of Address address (NotCanonical (levels depth))
 
--- where a page can't begin
+-- an address at which a page can't begin
 unfoldable pub multiple : EventField → ℕ → PageSize → Option BadField
 multiple field value size = if value % bytes_of size == 0 then None else fault_of field value (NotMultiple (bytes_of size))
 
@@ -77,6 +83,7 @@ first otherwise second = option_or first second
 
 -- ---- calls
 
+-- the size of a code
 unfoldable pub size_of : ℕ → PageSize
 size_of code = if code == 0 then K4 else (if code == 1 then M2 else G1)
 
@@ -85,6 +92,7 @@ unfoldable pub size_fault : ℕ → ℕ → Option BadField
 size_fault kind size =
     if kind == 0 then limited Size size 3 else (if kind == 4 || kind == 5 then limited Access size 3 else limited Size size 1)
 
+-- what is wrong with the rights of a call: an access and a touch have the mode there
 unfoldable pub rights_fault : ℕ → ℕ → Option BadField
 rights_fault kind rights =
     if kind == 0 || kind == 2 then limited Rights rights 8
@@ -101,6 +109,7 @@ unfoldable pub physical_fault : ℕ → PageSize → ℕ → Option BadField
 physical_fault kind size physical =
     if kind == 0 then multiple Physical physical size otherwise within physical size else limited Physical physical 1
 
+-- the first field of a call that isn't what it may be
 unfoldable pub call_fault : List ℕ → List ℕ → Option BadField
 call_fault header unit =
     let kind = number_8 unit 4 in
@@ -116,12 +125,15 @@ call_fault header unit =
 unfoldable pub sizes_of : ℕ → ℕ
 sizes_of answer = if answer == 3 || answer == 7 then 3 else 1
 
+-- the limit of the rights of an answer: 8, or 1 if it has none
 unfoldable pub rights_of : ℕ → ℕ
 rights_of answer = if answer == 3 || answer == 6 || answer == 7 then 8 else 1
 
+-- what is wrong with the value of an answer: done, not mapped and changed have none
 unfoldable pub value_fault : ℕ → ℕ → Option BadField
 value_fault answer value = if answer == 0 || answer == 4 || answer == 6 then limited Value value 1 else None
 
+-- the first field of a reply that isn't what it may be
 unfoldable pub reply_fault : List ℕ → List ℕ → Option BadField
 reply_fault header unit =
     let answer = number_8 unit 1 in
@@ -137,7 +149,7 @@ event_fault header unit =
     if number_8 unit 0 == 0 then call_fault header unit
     else (if number_8 unit 0 == 1 then reply_fault header unit else limited Tag (number_8 unit 0) 2)
 
--- that of a unit with this fault, where it is an event
+-- the field of a unit with this fault, if it is an event
 unfoldable pub field_fault : Format → List ℕ → List ℕ → Option BadField
 field_fault (BadEvent index) header unit = event_fault header unit
 field_fault fault header unit = None

@@ -26,12 +26,15 @@ pub record ReaderState : Type 0 where
   pub state : Option ChainState
   pub bytes : List ℕ
 
+-- what is kept of the last segment
 abbrev pub kept_in : Option ChainState → Option Kept
 kept_in came = option_map (λ last. last.kept) came
 
+-- the layout of the last segment
 abbrev pub layout_in : Option ChainState → Option Layout
 layout_in came = layout_before (kept_in came)
 
+-- the space after the last segment
 abbrev pub space_in : Option ChainState → Option Space
 space_in came = space_before (kept_in came)
 
@@ -41,17 +44,21 @@ space_in came = space_before (kept_in came)
 abbrev pub sum_up : ℕ → ℕ → ℕ
 sum_up m n = min (m + n) (2 ^ 64 - 1)
 
+-- whether an event is a touch
 abbrev pub is_touch : Event → Bool
 is_touch (Call replica thread request) = false
 is_touch (Reply call at answer) = false
 is_touch (Touch replica thread address mode access) = true
 
+-- whether a dump has a frame
 abbrev pub is_there : Image → Bool
 is_there dump = nat_lt 0 (finite.len dump.frames)
 
+-- how much there is before the first segment
 abbrev pub nothing_yet : Sums
 nothing_yet = record { segments = 0; calls = 0; updates = 0; reads = 0; touches = 0; dumps = 0; bytes = 0 }
 
+-- how much there is so far
 abbrev pub sums_in : Option ChainState → Sums
 sums_in None = nothing_yet
 sums_in (Some last) = last.sums
@@ -75,6 +82,7 @@ abbrev pub began_with : Option ChainState → Recording → Option Space
 began_with None segment = option_map (λ start. start_space segment.layout.depth (Some start)) segment.start
 began_with (Some last) segment = last.began
 
+-- what is come to with a segment more, which so many bytes spell
 abbrev pub state_after : Option ChainState → Recording → ℕ → ChainState
 state_after came segment bytes = record {
   kept = kept_after (kept_in came) segment;

@@ -1,5 +1,6 @@
 -- What a parse by clap says of the command that is asked for.
-use Rattle.std.proofs.Common.{◌≡◌, ℕ, Bool, List, Option, Some, sym, refl, subst, codes}
+use Rattle.std.proofs.Common.{◌≡◌, ℕ, Bool, List, Option, None, Some, sym, refl, subst, codes}
+use Rattle.std.specs.Prelude.{IsSomeAnd}
 use Rattle.clap.specs.Words.{Row, Text}
 use Rattle.clap.specs.Walk.{one_of}
 use Rattle.audit_commands.specs.Words.{AsksInspection, IsFlag}
@@ -12,10 +13,11 @@ use Rattle.nrvs.specs.declared.command.Command.TheVariants.{Inspect, Run, Simula
 pub number_of : (least most default : ℕ) (t u : Option Text) (number : ℕ) → t ≡ u → IsNumber least most default t number → IsNumber least most default u number
 number_of least most default t u number same h = subst (λ (text : Option Text). IsNumber least most default text number) same h
 
--- a subcommand of the name asks for an inspection
-pub asks_inspection : (sub : Option (Text × List Row)) (given : Text × List Row) (inspection : Inspection) → sub ≡ Some given
-    → AsksInspection given inspection → Asks sub (Inspect inspection)
-asks_inspection sub given inspection is asks = subst (λ s. Asks s (Inspect inspection)) (sym is) asks
+-- a subcommand that asks for an inspection
+pub asks_known : (sub : Option (Text × List Row)) (inspection : Inspection) → IsSomeAnd sub (λ given. AsksInspection given inspection)
+    → Asks sub (Inspect inspection)
+asks_known None inspection asks = absurd asks
+asks_known (Some given) inspection asks = asks
 
 pub asks_simulate : (sub : Option (Text × List Row)) (rows : List Row) (setup : Setup) (as_trace : Bool) → sub ≡ Some (codes "simulate", rows)
     → IsSetup rows setup → IsFlag (one_of (codes "trace") rows) as_trace → Asks sub (Simulate setup as_trace)

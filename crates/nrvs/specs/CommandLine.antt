@@ -7,7 +7,7 @@ use Rattle.clap.specs.Walk.{one_of}
 use Rattle.clap.specs.declared.builder.value_parser.ValueParser.{ValueParser}
 use Rattle.clap.specs.declared.builder.value_parser.ValueParser.TheVariants as parsers
 use Rattle.clap.specs.declared.builder.action.ArgAction.TheVariants.{SetTrue}
-use Rattle.audit_commands.specs.Words.{AsksInspection, IsFlag, audit_app, explain_app, pages_app, resolve_app}
+use Rattle.audit_commands.specs.Words.{AsksInspection, IsFlag, with_inspections}
 use Rattle.nrvs.specs.declared.runs.setup.Setup.{Setup}
 use Rattle.nrvs.specs.declared.command.Command.{Command}
 use Rattle.nrvs.specs.declared.command.Command.TheVariants.{Inspect, Simulate, Run}
@@ -36,9 +36,11 @@ trace_option = record (new_rule (codes "trace")) { long = Some (codes "trace"); 
 abbrev pub turns_option : Rule
 turns_option = number_option (codes "turns") (parsers.Signed (pos 1) (pos 4294967295)) (codes "100000")
 
+-- the command `simulate`, with its options
 abbrev pub simulate_app : App
 simulate_app = with_rule (with_rule (with_rule (with_rule (new_app (codes "simulate")) levels_option) replicas_option) tables_option) trace_option
 
+-- the command `run`, with its options
 abbrev pub run_app : App
 run_app =
     with_rule (with_rule (with_rule (with_rule (with_rule (new_app (codes "run")) levels_option) replicas_option) tables_option) turns_option) trace_option
@@ -49,10 +51,9 @@ program_app = record (new_app (codes "nrvs")) {
   top = record (new_app (codes "nrvs")).top { has_version = true; subcommand_required = true };
 }
 
+-- the program with all its commands
 abbrev pub command_line : App
-command_line =
-    with_subcommand (with_subcommand (with_subcommand (with_subcommand (with_subcommand (with_subcommand program_app audit_app.top) explain_app.top)
-    resolve_app.top) pages_app.top) simulate_app.top) run_app.top
+command_line = with_subcommand (with_subcommand (with_inspections program_app) simulate_app.top) run_app.top
 
 -- the number that a text is, or the default where it is none below 65,536 and within the limits, or there is none
 abbrev pub IsNumber : ℕ → ℕ → ℕ → Option Text → ℕ → Type 0

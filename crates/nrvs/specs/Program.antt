@@ -15,6 +15,7 @@ pub record Reports {W : Type 0} (IsReport : List ℕ → List ℕ → ℕ → Ty
   pub ends : MatchResult outcome (WritesReport IsReport known (contents old) (contents new)) IsFault
   pub alone : WritesAnswersAlone old new outcome
 
+-- what a command writes, and with which outcome it ends
 abbrev pub RunsCommand : {W : Type 0} → (List ℕ → Option (List ℕ)) → Command → Option (List ℕ) → (W → Option (List ℕ)) → W → W → Result ℕ ProgFault → Type 0
 RunsCommand file_bytes (Inspect inspection) known contents old new outcome = RunsInspection file_bytes inspection known contents old new outcome
 RunsCommand file_bytes (Simulate setup as_trace) known contents old new outcome =

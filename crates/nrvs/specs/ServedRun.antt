@@ -64,7 +64,7 @@ pub record IsRunnable (depth : Depth) (bytes : List ℕ) (script : Script) : Typ
   pub is_script : IsScript depth bytes script
   pub no_step : script.first_step ≡ None
 
--- of `run`: the bytes are a script with no steps, and what came of a run of it is written
+-- the answer of `run`: the bytes are a script with no steps, and what came of a run of it is written
 pub record IsServedRun (setup : Setup) (as_trace : Bool) (bytes text : List ℕ) (status : ℕ) : Type 0 where
   pub script : Script
   pub runnable : IsRunnable setup.depth bytes script

@@ -32,7 +32,7 @@ abbrev pub IsTold : Bool → Recording → List ℕ → ℕ → Type 0
 IsTold true trace text status = (text ≡ spelling trace) × (status ≡ 0)
 IsTold false trace text status = IsAudit (spelling trace) text status
 
--- of `simulate`: the bytes, not too many, are a script, and a recording of the core after its steps is written
+-- the answer of `simulate`: the bytes, not too many, are a script, and a recording of the core after its steps is written
 pub record IsSimulation (setup : Setup) (as_trace : Bool) (bytes text : List ℕ) (status : ℕ) : Type 0 where
   pub script : Script
   pub short : length bytes ≤ 16777216

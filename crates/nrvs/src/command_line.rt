@@ -5,7 +5,7 @@ ghost use Rattle.audit_commands.specs.Words.{IsLocal};
 ghost use Rattle.nrvs.specs.CommandLine.{command_line, levels_option, number_option, replicas_option, run_app, simulate_app};
 ghost use Rattle.nrvs.specs.CommandLine.{tables_option, trace_option, turns_option};
 
-use audit_commands::{VERSION, audit, explain, pages, resolve, with_command};
+use audit_commands::{VERSION, with_command, with_inspections};
 use clap::builder::ValueParser;
 use clap::{Arg, ArgAction, Command};
 use std::alloc::{AllocError, Global};
@@ -137,10 +137,7 @@ pub fn command_line<'a>(alloc: Global) -> Result<Command<'a>, AllocError>
         .version(VERSION)
         .subcommand_required(true)
         .after_help(AFTER_HELP);
-    let line = with_command(line, audit(alloc))?;
-    let line = with_command(line, explain(alloc))?;
-    let line = with_command(line, resolve(alloc))?;
-    let line = with_command(line, pages(alloc))?;
+    let line = with_inspections(alloc, line)?;
     let line = with_command(line, simulate(alloc))?;
     with_command(line, run(alloc))
 }

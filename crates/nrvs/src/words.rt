@@ -10,7 +10,7 @@ ghost use Rattle.nrvs.specs.CommandLine.{command_line, Asks, IsNumber, IsSetup, 
 use crate::command::Command;
 use crate::command_line::command_line;
 use crate::runs::Setup;
-use audit_commands::{NoWords, read_audit, read_explain, read_pages, read_resolve};
+use audit_commands::{NoWords, read_inspection};
 use clap::error::ErrorKind;
 use clap::{ArgMatches, Error};
 use std::alloc::{AllocError, Global};
@@ -73,10 +73,6 @@ fn read_matches<'a>(
         ⊎ IsMisused (subcommand_rows_of matches.now) (kind_of error)) }
 {
     match matches.subcommand() {
-        Some(("audit", given)) => Ok(Command::Inspect(read_audit(alloc, line, given)?)),
-        Some(("explain", given)) => Ok(Command::Inspect(read_explain(given))),
-        Some(("resolve", given)) => Ok(Command::Inspect(read_resolve(given))),
-        Some(("pages", given)) => Ok(Command::Inspect(read_pages(line, given)?)),
         Some(("simulate", given)) => {
             let setup = read_setup(given);
             let as_trace = given.get_flag("trace");
@@ -88,7 +84,7 @@ fn read_matches<'a>(
             let as_trace = given.get_flag("trace");
             Ok(Command::Run(setup, turns, as_trace))
         }
-        _ => Err(line.error(ErrorKind::MissingSubcommand, "a subcommand is required")?),
+        _ => Ok(Command::Inspect(read_inspection(alloc, line, matches)?)),
     }
 }
 

@@ -3,7 +3,7 @@ ghost use Rattle.std.specs.Prelude.{◌≡◌, IfOk};
 ghost use Rattle.clap.specs.Words.{app_of};
 ghost use Rattle.nrvs_audit.specs.CommandLine.{nrvs_audit_line};
 
-use audit_commands::{VERSION, audit, explain, pages, resolve, with_command};
+use audit_commands::{VERSION, with_inspections};
 use clap::Command;
 use std::alloc::{AllocError, Global};
 
@@ -27,8 +27,5 @@ pub fn command_line<'a>(alloc: Global) -> Result<Command<'a>, AllocError>
         .version(VERSION)
         .subcommand_required(true)
         .after_help(AFTER_HELP);
-    let line = with_command(line, audit(alloc))?;
-    let line = with_command(line, explain(alloc))?;
-    let line = with_command(line, resolve(alloc))?;
-    with_command(line, pages(alloc))
+    with_inspections(alloc, line)
 }

@@ -1,5 +1,4 @@
-//! The audit alone: `nrvs_audit audit` says whether a trace is right, `explain` what shows its fault, `resolve` where an address
-//! leads in one of its dumps, `pages` which pages one has, as `nrvs` does, over the audit's crates alone.
+//! The audit alone: the commands of `audit_commands`, as in `nrvs`, over the audit's crates alone.
 #![tactic(auto)]
 
 mod command_line;

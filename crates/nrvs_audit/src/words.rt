@@ -1,35 +1,15 @@
 //! What the program's words ask for.
 
 ghost use Rattle.std.specs.Prelude.{◌≡◌, ◌⊎◌, ◌∷◌, [], IfOk, IfErr, IsSomeAnd, MatchResult, map, string_bytes};
-ghost use Rattle.clap.specs.Words.{fault_of, kind_of, subcommand_of, subcommand_rows_of, HasKind};
+ghost use Rattle.clap.specs.Words.{fault_of, kind_of, subcommand_of, HasKind};
 ghost use Rattle.audit_commands.specs.Words.{kinds_of_no_words, AsksInspection, IsMisused};
 ghost use Rattle.nrvs_audit.specs.CommandLine.{nrvs_audit_line};
 
 use crate::command_line::command_line;
-use audit_commands::{Inspection, NoWords, read_audit, read_explain, read_pages, read_resolve};
+use audit_commands::{Inspection, NoWords, read_inspection};
+use clap::Error;
 use clap::error::ErrorKind;
-use clap::{ArgMatches, Command, Error};
 use std::alloc::{AllocError, Global};
-
-/// What a subcommand and what was given with it ask for, or what is wrong with that.
-fn read_matches<'a>(
-    alloc: Global,
-    line: &mut Command<'a>,
-    matches: &ArgMatches<'a>,
-) -> Result<Inspection<'a>, Error>
-    ensures asks { IfOk result (λ inspection. IsSomeAnd (subcommand_rows_of matches.now)
-        (λ given. AsksInspection given inspection)) }
-    ensures fault { IfErr result (λ error. HasKind (ErrorKind.MissingSubcommand ∷ []) error
-        ⊎ IsMisused (subcommand_rows_of matches.now) (kind_of error)) }
-{
-    match matches.subcommand() {
-        Some(("audit", given)) => read_audit(alloc, line, given),
-        Some(("explain", given)) => Ok(read_explain(given)),
-        Some(("resolve", given)) => Ok(read_resolve(given)),
-        Some(("pages", given)) => read_pages(line, given),
-        _ => Err(line.error(ErrorKind::MissingSubcommand, "a subcommand is required")?),
-    }
-}
 
 /// What the words ask for, or what clap answers to them.
 fn read_words<'a>(alloc: Global, words: &'a [String]) -> Result<Inspection<'a>, Error>
@@ -47,7 +27,7 @@ fn read_words<'a>(alloc: Global, words: &'a [String]) -> Result<Inspection<'a>, 
 {
     let mut line = command_line(alloc)?;
     let matches = line.try_get_matches_from_mut(words)?;
-    read_matches(alloc, &mut line, &matches)
+    read_inspection(alloc, &mut line, &matches)
 }
 
 /// The same, if the words are known.

@@ -162,12 +162,12 @@ pub(crate) fn judge_blocks<R: Source, W: Write>(
 
 /// Reads a chain in blocks of 4,096 bytes, judges each segment as soon as it is whole, and writes its lines; at the end it writes how
 /// many segments there are, or the first wrong one and its first fault. The status is 0 where the chain is right, else 1. It reads
-/// nothing behind the block in which the first fault shows. Where it is `quiet`, it writes the last lines alone.
+/// nothing behind the block in which the first fault shows. If it is `quiet`, it writes the last lines alone.
 ///
 /// The lines of a segment are written before more is read than the block with which it is whole. So wherever it ends, also with a write
 /// that fails, those of all segments that were whole before its last read are written.
 ///
-/// It allocates what one segment says, the space before it, what its judgement takes, and its lines. Where it gives no answer, the lines
+/// It allocates what one segment says, the space before it, what its judgement takes, and its lines. If it gives no answer, the lines
 /// of some segments at the front of the chain may have been written, which are right.
 ///
 /// # Errors

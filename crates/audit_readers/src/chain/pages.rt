@@ -154,7 +154,7 @@ fn start_report(
 /// nothing if there is no start. If the segment has a fault, it writes the last lines of an audit in place of the pages, and the status
 /// is 1. It reads in blocks of 4,096 bytes, and none behind that with which the segment is whole or has a fault of the format.
 ///
-/// It allocates what the segment says, what its judgement takes, and the lines. Where it gives no answer, nothing was written but where
+/// It allocates what the segment says, what its judgement takes, and the lines. If it gives no answer, nothing was written but where
 /// that failed.
 ///
 /// # Errors
@@ -210,10 +210,10 @@ fn end_report(alloc: Global, judged: Judged, as_ranges: bool) -> Result<Report, 
 }
 
 /// Reads a chain in blocks of 4,096 bytes, judges each segment as soon as it is whole, and at the end writes the pages after the last
-/// segment, as `chain_start_io` has those of a start. The status is 0. Where a segment has a fault, it writes the last lines of an audit
+/// segment, as `chain_start_io` has those of a start. The status is 0. If a segment has a fault, it writes the last lines of an audit
 /// in place of the pages, and the status is 1. It reads nothing behind the block in which the first fault shows.
 ///
-/// It allocates what one segment says, the space before it, what its judgement takes, and the lines. Where it gives no answer, nothing
+/// It allocates what one segment says, the space before it, what its judgement takes, and the lines. If it gives no answer, nothing
 /// was written but where that failed.
 ///
 /// # Errors

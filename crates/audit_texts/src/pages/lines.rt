@@ -23,7 +23,7 @@ fn push_mapping(text: &mut String, size: Size, phys: u64, rights: Rights) -> Res
     text.push_str("\n")
 }
 
-/// Adds the line of a page. Where memory runs out a part of it may have been added.
+/// Adds the line of a page. If memory runs out, a part of it may have been added.
 #[tactic(auto, unfolding(crate::specs::Listing::page_line))]
 pub(crate) fn push_page_line(text: &mut String, page: Page) -> Result<(), AllocError>
     ensures { OnOk result (string_bytes text.new ≡ string_bytes text.old ++ page_line page) }
@@ -44,7 +44,7 @@ fn push_end(text: &mut String, range: PageRange) -> Result<(), AllocError>
     }
 }
 
-/// Adds the line of a range. Where memory runs out a part of it may have been added.
+/// Adds the line of a range. If memory runs out, a part of it may have been added.
 #[tactic(auto, unfolding(crate::specs::Listing::range_line))]
 pub(crate) fn push_range_line(text: &mut String, range: PageRange) -> Result<(), AllocError>
     ensures { OnOk result (range_end range ≤ 2 ^ 64

@@ -21,6 +21,7 @@ use crate::chain::spaces::begin;
 use crate::chain::starts::explain_start;
 use crate::chain::touches::stale_touch;
 use crate::tables::dumps::explain_dump;
+use crate::trace::all_dumps::replica_of;
 use crate::trace::explaining::explain;
 use nr_trace::{Fault, Trace};
 use std::alloc::Global;
@@ -69,16 +70,7 @@ fn explain_difference(
 fn is_of_dump(fault: Fault) -> bool
     ensures { result ≡ is_some (replica_of fault) }
 {
-    matches!(
-        fault,
-        Fault::PrefixPastLog(_)
-            | Fault::PrefixShort(_)
-            | Fault::MissingFrame(..)
-            | Fault::SharedFrame(..)
-            | Fault::ReservedBit(..)
-            | Fault::StrayFrame(..)
-            | Fault::Differs(..)
-    )
+    replica_of(fault).is_some()
 }
 
 /// Whether a fault is one that a trace may have too.

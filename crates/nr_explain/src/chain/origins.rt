@@ -1,4 +1,4 @@
-//! Where the look of an address comes from that no update of a segment changed.
+//! What gave an address its look that no update of a segment changed.
 
 ghost use Rattle.std.specs.Prelude.{◌≡◌, ◌↔◌, IsTrue, option_map};
 ghost use Rattle.nr_audit.specs.Start.{first_space};

@@ -34,7 +34,7 @@ fn long_prefix(trace: &Trace, replica: u8) -> LongPrefix
     }
 }
 
-/// A frame that the dump of a replica lacks. Allocates what `missing_table` does.
+/// A frame that the dump of a replica lacks.
 fn missing_in_dump(
     alloc: Global,
     trace: &Trace,
@@ -50,7 +50,7 @@ fn missing_in_dump(
     Ok(Evidence::MissingFrame(wrong))
 }
 
-/// A frame to which the tables of a dump lead twice. Allocates what `shared_table` does.
+/// A frame to which the tables of a dump lead twice.
 fn shared_in_dump(alloc: Global, trace: &Trace, replica: u8, frame: u64) -> Result<Evidence, Memory>
     requires { IsFirstOfItsDump trace.now (SharedFrame replica frame) }
     ensures { IfOk result (IsEvidence trace.now (SharedFrame replica frame)) }
@@ -61,7 +61,7 @@ fn shared_in_dump(alloc: Global, trace: &Trace, replica: u8, frame: u64) -> Resu
     Ok(Evidence::SharedFrame(wrong))
 }
 
-/// An entry of a dump with a reserved bit set. Allocates what `reserved_entry` does.
+/// An entry of a dump with a reserved bit set.
 fn reserved_in_dump(
     alloc: Global,
     trace: &Trace,

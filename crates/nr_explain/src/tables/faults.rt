@@ -50,7 +50,7 @@ pub(crate) fn shared_table(
     })
 }
 
-/// The entries that lead to a table which has a word with a reserved bit set, that word, and such a bit. Allocates them.
+/// The entries that lead to a table which has a word with a reserved bit set, that word, and the lowest such bit. Allocates them.
 pub(crate) fn reserved_entry(
     alloc: Global,
     owner: Owner,

@@ -7,7 +7,7 @@ ghost use Rattle.nr_explain.specs.inside.Ways.{GoesNowhere, GoesOnTo, HasTwoWays
 ghost use Rattle.vs_types.specs.Entry.{meaning};
 ghost use Rattle.vs_types.specs.declared.entry.Meaning.TheVariants.{Reserved};
 ghost use Rattle.nr_explain.specs.Evidence.{IsRootPath, StepsLeadTo};
-ghost use Rattle.nr_explain.specs.Facts.{entries_read, HasReservedWord, IsReservedBit};
+ghost use Rattle.nr_explain.specs.Facts.{entries_read, HasReservedWord, IsLowestReservedBit};
 ghost use Rattle.nr_explain.specs.declared.trace.evidence.TableEntry.{TableEntry};
 
 use crate::trace::evidence::TableEntry;
@@ -206,7 +206,7 @@ pub fn entry_at(dump: &Dump, level: u8, frame: u64, index: u16) -> TableEntry
 pub fn reserved_bit(level: u8, word: u64) -> u8
     requires few_levels { level ≤ MOST_LEVELS }
     requires reserved { meaning level word ≡ Reserved }
-    ensures { IsReservedBit level word result }
+    ensures { IsLowestReservedBit level word result }
 {
     if level > 3 {
         return 7;
@@ -235,7 +235,7 @@ pub fn way_to_reserved(
     ensures frame { IfOk result (λ way. way.1.frame ≡ frame) }
     ensures index { IfOk result (λ way. way.1.index ≡ index) }
     ensures reserved { IfOk result (λ way. HasReservedWord dump.now.frames way.1) }
-    ensures bit { IfOk result (λ way. IsReservedBit way.1.level way.1.word way.2) }
+    ensures bit { IfOk result (λ way. IsLowestReservedBit way.1.level way.1.word way.2) }
 {
     let target = Target {
         frame,

@@ -86,7 +86,7 @@ fn is_other(own: Option<u8>, replica: u8) -> bool
 }
 
 /// The replica whose dump a fault is of.
-fn replica_of(fault: Fault) -> Option<u8>
+pub(crate) fn replica_of(fault: Fault) -> Option<u8>
     ensures { result ≡ replica_of fault }
 {
     match fault {

@@ -158,7 +158,7 @@ pub struct ShortPrefix {
     pub call: RecordedCall,
 }
 
-/// Whose tables they are.
+/// The owner of the tables.
 #[derive(Clone, Copy, Debug, PartialEq, Eq)]
 pub enum Owner {
     /// The dump of this replica.

@@ -34,7 +34,7 @@ fn simulate(alloc: Global, setup: Setup, script: Script) -> Result<Trace, Memory
 
 /// Reads a script, takes the protocol's core through its steps, passing over those that are not enabled, and writes the verdict
 /// on a recording of it; with `as_trace` the bytes of that recording, which it then doesn't judge. The status is 0: no list of
-/// steps makes a fault. It reads at most 16,777,217 bytes. Where it gives no answer, nothing was written but where that failed.
+/// steps makes a fault. It reads at most 16,777,217 bytes. If it gives no answer, nothing was written but where that failed.
 ///
 /// # Errors
 ///

@@ -1,70 +1,12 @@
-use Rattle.std.proofs.Common.{◌∙◌, ◌⊎◌, [], ◌∷◌, ap, inl, inr, refl, subst, Some, codes, sym}
+use Rattle.std.proofs.Common.{◌∙◌, ◌⊎◌, [], ◌∷◌, ap, subst, Some, codes, sym}
 use Rattle.clap.specs.Words.{rows_of, found_of, subcommand_rows_of, kind_of, HasKind}
 use Rattle.clap.specs.declared.error.kind.ErrorKind.TheVariants.{MissingSubcommand}
 use Rattle.clap.proofs.WalkLemmas.{one_text-rows}
-use Rattle.audit_commands.proofs.CommandLines.{entered, flag_of, of_audit, of_pages, passed_on}
+use Rattle.audit_commands.proofs.CommandLines.{entered, flag_of, passed_on}
 use Rattle.audit_commands.specs.Words.{IsMisused}
 use Rattle.nrvs.specs.CommandLine.{IsTurns}
-use Rattle.nrvs.proofs.CommandLines.{asks_inspection, asks_run, asks_simulate}
+use Rattle.nrvs.proofs.CommandLines.{asks_known, asks_run, asks_simulate}
 use Rattle.nrvs.proofs.words.read_matches.Goals as goal
-
-pub returns-in_ok-read_audit-in-Some-audit-default-clause-asks : goal.returns-in_ok-read_audit-in-Some-audit-default-clause-asks
-returns-in_ok-read_audit-in-Some-audit-default-clause-asks c =
-    let arm = c.in-Some-audit-default in
-    let found = found_of arm.given.now in
-    let name_is = ap Some (sym arm.is-audit) ∙ arm.ensures.name in
-    let sub_is = entered _ (codes "audit") (rows_of found) name_is arm.ensures.rows in
-    asks_inspection _ (codes "audit", rows_of found) c.in_ok-read_audit-in-Some-audit-default.field-0 sub_is
-    (inl (refl, c.in_ok-read_audit-in-Some-audit-default.ensures.asks))
-
-pub returns-in_err-read_audit-in-Some-audit-default-clause-fault : goal.returns-in_err-read_audit-in-Some-audit-default-clause-fault
-returns-in_err-read_audit-in-Some-audit-default-clause-fault c =
-    let arm = c.in-Some-audit-default in
-    let found = found_of arm.given.now in
-    let name_is = ap Some (sym arm.is-audit) ∙ arm.ensures.name in
-    let sub_is = entered _ (codes "audit") (rows_of found) name_is arm.ensures.rows in
-    passed_on c.from_residual.result c.in_err-read_audit-in-Some-audit-default.field-0.0
-    (λ e. HasKind (MissingSubcommand ∷ []) e ⊎ IsMisused (subcommand_rows_of c.args.matches.now) (kind_of e))
-    c.from_residual.ensures.1
-    (of_audit c.in_err-read_audit-in-Some-audit-default.field-0.0 (MissingSubcommand ∷ []) (subcommand_rows_of c.args.matches.now) (rows_of found) sub_is
-    c.in_err-read_audit-in-Some-audit-default.ensures.misused)
-
-pub returns-in-Some-explain-default-clause-asks : goal.returns-in-Some-explain-default-clause-asks
-returns-in-Some-explain-default-clause-asks c =
-    let arm = c.in-Some-explain-default in
-    let found = found_of arm.given.now in
-    let name_is = ap Some (sym arm.is-explain) ∙ arm.ensures.name in
-    let sub_is = entered _ (codes "explain") (rows_of found) name_is arm.ensures.rows in
-    asks_inspection _ (codes "explain", rows_of found) c.read_explain.result sub_is (inr (inl (refl, c.read_explain.ensures)))
-
-pub returns-in-Some-resolve-default-clause-asks : goal.returns-in-Some-resolve-default-clause-asks
-returns-in-Some-resolve-default-clause-asks c =
-    let arm = c.in-Some-resolve-default in
-    let found = found_of arm.given.now in
-    let name_is = ap Some (sym arm.is-resolve) ∙ arm.ensures.name in
-    let sub_is = entered _ (codes "resolve") (rows_of found) name_is arm.ensures.rows in
-    asks_inspection _ (codes "resolve", rows_of found) c.read_resolve.result sub_is (inr (inr (inl (refl, c.read_resolve.ensures))))
-
-pub returns-in_ok-read_pages-in-Some-pages-default-clause-asks : goal.returns-in_ok-read_pages-in-Some-pages-default-clause-asks
-returns-in_ok-read_pages-in-Some-pages-default-clause-asks c =
-    let arm = c.in-Some-pages-default in
-    let found = found_of arm.given.now in
-    let name_is = ap Some (sym arm.is-pages) ∙ arm.ensures.name in
-    let sub_is = entered _ (codes "pages") (rows_of found) name_is arm.ensures.rows in
-    asks_inspection _ (codes "pages", rows_of found) c.in_ok-read_pages-in-Some-pages-default.field-0 sub_is
-    (inr (inr (inr (refl, c.in_ok-read_pages-in-Some-pages-default.ensures.asks))))
-
-pub returns-in_err-read_pages-in-Some-pages-default-clause-fault : goal.returns-in_err-read_pages-in-Some-pages-default-clause-fault
-returns-in_err-read_pages-in-Some-pages-default-clause-fault c =
-    let arm = c.in-Some-pages-default in
-    let found = found_of arm.given.now in
-    let name_is = ap Some (sym arm.is-pages) ∙ arm.ensures.name in
-    let sub_is = entered _ (codes "pages") (rows_of found) name_is arm.ensures.rows in
-    passed_on c.from_residual-in_err-read_pages-in-Some-pages-default.result c.in_err-read_pages-in-Some-pages-default.field-0.0
-    (λ e. HasKind (MissingSubcommand ∷ []) e ⊎ IsMisused (subcommand_rows_of c.args.matches.now) (kind_of e))
-    c.from_residual-in_err-read_pages-in-Some-pages-default.ensures.1
-    (of_pages c.in_err-read_pages-in-Some-pages-default.field-0.0 (MissingSubcommand ∷ []) (subcommand_rows_of c.args.matches.now) (rows_of found) sub_is
-    c.in_err-read_pages-in-Some-pages-default.ensures.misused)
 
 pub returns-in-Some-simulate-default-clause-asks : goal.returns-in-Some-simulate-default-clause-asks
 returns-in-Some-simulate-default-clause-asks c =
@@ -87,3 +29,13 @@ returns-in-Some-run-default-clause-asks c =
     asks_run _ (rows_of found) c.read_setup-setup-in-Some-run-default.result c.read_turns-turns.result
     c.get_flag-as_trace-in-Some-run-default.result sub_is c.read_setup-setup-in-Some-run-default.ensures turns
     (flag_of _ _ _ (one_text-rows found (codes "trace")) flag.none flag.value flag.other)
+
+pub returns-in_ok-read_inspection-in_default-clause-asks : goal.returns-in_ok-read_inspection-in_default-clause-asks
+returns-in_ok-read_inspection-in_default-clause-asks c =
+    asks_known (subcommand_rows_of c.args.matches.now) c.in_ok-read_inspection-in_default.field-0 c.in_ok-read_inspection-in_default.ensures.asks
+
+pub returns-in_err-read_inspection-in_default-clause-fault : goal.returns-in_err-read_inspection-in_default-clause-fault
+returns-in_err-read_inspection-in_default-clause-fault c =
+    passed_on c.from_residual.result c.in_err-read_inspection-in_default.field-0.0
+    (λ e. HasKind (MissingSubcommand ∷ []) e ⊎ IsMisused (subcommand_rows_of c.args.matches.now) (kind_of e))
+    c.from_residual.ensures.1 c.in_err-read_inspection-in_default.ensures.fault

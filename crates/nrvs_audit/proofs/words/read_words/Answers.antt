@@ -26,7 +26,7 @@ returns-clause-faultless c =
     let app_is : app_of c.in_ok-line.line ≡ nrvs_audit_line = c.in_ok-line.ensures.app in
     let none = subst (λ (a : App). fault_of a (map (λ word. string_bytes word) c.args.words.now) ≡ []) app_is
     (c.in_ok-matches.ensures.kinds (ap is_simple_and_free app_is)) in
-    IfOk-weaker c.read_matches.result _ _ (λ asked h. none) c.read_matches.ensures.asks
+    IfOk-weaker c.read_inspection.result _ _ (λ asked h. none) c.read_inspection.ensures.asks
 
 pub returns-clause-asks : goal.returns-clause-asks
 returns-clause-asks c =
@@ -34,7 +34,7 @@ returns-clause-asks c =
     let texts = map (λ word. string_bytes word) c.args.words.now in
     let parsed : subcommand_rows_of c.in_ok-matches.matches ≡ subcommand_of nrvs_audit_line texts =
     (c.in_ok-matches.ensures.ok.2 (ap is_simple app_is)).1 ∙ ap (λ (a : App). subcommand_of a texts) app_is in
-    IfOk-weaker c.read_matches.result _ _ (λ asked h. subst (λ s. IsSomeAnd s (λ given. AsksInspection given asked)) parsed h) c.read_matches.ensures.asks
+    IfOk-weaker c.read_inspection.result _ _ (λ asked h. subst (λ s. IsSomeAnd s (λ given. AsksInspection given asked)) parsed h) c.read_inspection.ensures.asks
 
 pub returns-clause-fault : goal.returns-clause-fault
 returns-clause-fault c =
@@ -42,4 +42,4 @@ returns-clause-fault c =
     let texts = map (λ word. string_bytes word) c.args.words.now in
     let parsed : subcommand_rows_of c.in_ok-matches.matches ≡ subcommand_of nrvs_audit_line texts =
     (c.in_ok-matches.ensures.ok.2 (ap is_simple app_is)).1 ∙ ap (λ (a : App). subcommand_of a texts) app_is in
-    IfErr-weaker c.read_matches.result _ _ (λ e h. told_of MissingSubcommand (fault_of nrvs_audit_line texts) e _ _ parsed h) c.read_matches.ensures.fault
+    IfErr-weaker c.read_inspection.result _ _ (λ e h. told_of MissingSubcommand (fault_of nrvs_audit_line texts) e _ _ parsed h) c.read_inspection.ensures.fault

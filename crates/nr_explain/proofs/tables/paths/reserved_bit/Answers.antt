@@ -1,6 +1,9 @@
 use Rattle.std.proofs.Common.{ℕ, ◌+◌, ◌*◌, ◌/◌, ◌%◌, ◌^◌, ◌≤◌, ap, arith}
-use Rattle.nr_explain.proofs.ReservedBits.{low_reserved, shift_is}
+use Rattle.nr_explain.proofs.ReservedBits.{high_reserved, low_reserved, shift_is}
 use Rattle.nr_explain.proofs.tables.paths.reserved_bit.Goals as goal
+
+pub returns-then-level-gt3 : goal.returns-then-level-gt3
+returns-then-level-gt3 c = high_reserved c.args.level c.args.word (omega (arith, c.if-level-gt3.true)) c.requires.reserved
 
 pub returns : goal.returns
 returns c =

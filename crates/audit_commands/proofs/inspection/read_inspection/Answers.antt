@@ -5,7 +5,7 @@ use Rattle.clap.specs.declared.error.kind.ErrorKind.TheVariants.{MissingSubcomma
 use Rattle.std.specs.Prelude.{IsSomeAnd}
 use Rattle.audit_commands.specs.Words.{AsksInspection}
 use Rattle.audit_commands.proofs.CommandLines.{entered, of_audit, of_pages}
-use Rattle.nrvs_audit.proofs.words.read_matches.Goals as goal
+use Rattle.audit_commands.proofs.inspection.read_inspection.Goals as goal
 
 pub returns-in-Some-audit-default-clause-asks : goal.returns-in-Some-audit-default-clause-asks
 returns-in-Some-audit-default-clause-asks c =
