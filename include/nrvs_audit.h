@@ -1,19 +1,19 @@
-/* Whether recorded bytes are those of a right run of an address space: the audit, for C.
+/* The audit for C: whether recorded bytes are those of a right run of an address space.
  *
- * What the call answers is proved: its verdict is that of the audit on just these bytes (crates/nrvs_audit_c/README.md). NRVS_RIGHT says:
+ * The verdict is proved to be that of the audit on just these bytes (crates/nrvs_audit_c/README.md). NRVS_RIGHT means:
  *   - the bytes spell one trace. Each reply answers an earlier call, no call is answered twice, and no thread has two calls open;
- *   - all its answered calls and some unanswered updates are in the order, each once. A call that was answered before another was made
+ *   - all its answered calls and some unanswered updates are in the order, each once. If one call was answered before another was made, it
  *     comes first;
- *   - every answer is what one sequential address space gives there;
+ *   - every answer is what one sequential address space gives at that point;
  *   - each dumped page table translates every address as that space does after as many of the order's updates as the replica had applied.
  *
- * Any bytes may be judged, and no argument is refused but for what a call can't test, which the caller has to keep:
- *   - pointers are not null, aligned as their types are, and to as many elements as is said; none overlaps another. Nobody else writes
- *     what they point to, or reads `order` and `finding`, before the call returns. But `order` may be null if `room` is 0, and `bytes`
- *     if `length` is: this is tested and not proved, since a proof speaks of no null pointer;
- *   - the heap that is linked with the archive does what `rattle_alloc`, `rattle_realloc` and `rattle_dealloc` are said to do below;
+ * Any bytes may be judged, and no argument is refused. What the caller has to keep, since no call can test it:
+ *   - pointers are not null, aligned for their types, and lead to as many elements as stated. What they lead to doesn't overlap. Nobody
+ *     else writes it, or reads `order` and `finding`, before the call returns. But `order` may be null if `room` is 0, and `bytes` if
+ *     `length` is 0: this is tested and not proved, since the proof doesn't cover null pointers;
+ *   - the heap that is linked with the archive does what is said of `rattle_alloc`, `rattle_realloc` and `rattle_dealloc` below;
  *   - the call is not made from a signal handler, nor in the forked child of a process that has threads.
- * It allocates of that heap, frees all of it before it returns, keeps no pointer, and takes no lock.
+ * The call allocates from that heap, frees all of that before it returns, keeps no pointer, and takes no lock.
  */
 #ifndef NRVS_AUDIT_H
 #define NRVS_AUDIT_H
@@ -65,7 +65,7 @@ enum {
 	NRVS_FORMAT_TRAILING = 7
 };
 
-/* A verdict in numbers; what it doesn't name is 0. */
+/* A verdict in numbers; those that it doesn't have are 0. */
 struct nrvs_finding {
 	uint32_t fault;  /* 0 if the bytes are right, else 1 to 17 */
 	uint32_t format; /* of fault 1: 1 to 7 */
@@ -76,26 +76,26 @@ struct nrvs_finding {
 };
 
 /* Judges `length` bytes. For NRVS_RIGHT `finding->calls` is how many calls the order has. If that is at most `room`, they are written to
- * the begin of `order`, each as the index of its event; else nothing is written there. No order has more than 131,072 calls.
+ * `order`, each as the index of its event. Otherwise nothing is written there. No order has more than 131,072 calls.
  */
 uint32_t nrvs_audit(const uint8_t *bytes, size_t length, uint32_t *order, size_t room, struct nrvs_finding *finding);
 
-/* The heap. The archive defines none: beside memcpy, memmove, memset and memcmp it asks whoever links it for these three functions. The
- * toolchain's liblibc_c.a has them over `malloc`, `realloc` and `free`, which are to be those of one allocator that aligns a block to
- * each power of two up to 16 that divides its size; a program may define its own in place of it, as examples/python/heap.c does in some
- * lines. A call frees by `rattle_dealloc` each block that it took, whether it answers or runs out of memory.
+/* The heap. The archive has none: besides memcpy, memmove, memset and memcmp it needs these three functions from whoever links it. The
+ * toolchain's liblibc_c.a has them over `malloc`, `realloc` and `free`. These have to be those of one allocator that aligns a block to each
+ * power of two up to 16 that divides its size. A program may define its own instead, as examples/python/heap.c does in a few lines. With
+ * `rattle_dealloc` a call frees each block that it allocated, whether it answers or runs out of memory.
  */
 
-/* A block: whether there is memory for it, and where. `at` isn't null, also where there is none. */
+/* A block: whether there is memory for it, and where. `at` isn't null, even if there is none. */
 struct rattle_block {
 	bool ok;
 	void *at;
 };
 
-/* A block of so many bytes, 0 too, aligned to `align`: a power of two up to 16. */
+/* Allocates a block of `size` bytes, which may be 0, aligned to `align`: a power of two up to 16. */
 struct rattle_block rattle_alloc(size_t size, size_t align);
 
-/* Makes a block one of so many bytes, and may move it: its first `kept` bytes are as they were. If it can't, the block stays. */
+/* Resizes a block to `size` bytes, and may move it: its first `kept` bytes stay the same. If it can't, the block stays as it is. */
 struct rattle_block rattle_realloc(void *at, size_t kept, size_t size, size_t align);
 
 /* Frees a block. */

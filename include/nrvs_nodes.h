@@ -1,8 +1,9 @@
-/* Node replication for a kernel: a log that the nodes of a machine share, as a machine that asks for one atomic operation at a time.
+/* Node replication for a kernel: a log that a computer's memory nodes share, as a state machine that asks for one atomic operation at a
+ * time.
  *
- * Each node keeps a copy of something, as the page tables of an address space, under a lock of its own. An update is appended to one log,
- * and each node applies all entries in their order. A call holds no memory but the node's struct, no lock and no handle: it ends with one
- * operation on one word that the caller carries out, or with an entry to apply. nrvs_node_run, below, does that for C11 atomics:
+ * Each node keeps a copy of something, such as the page tables of an address space, under a lock of its own. An update is appended to one
+ * log, and each node applies all entries in their order. A call has no memory except the node's struct, no lock and no handle. It returns
+ * one operation on one word, which the caller carries out, or an entry to apply. nrvs_node_run, below, does that with C11 atomics:
  *
  *     lock(me);
  *     code = nrvs_node_update(&node[me], &update, 1);
@@ -11,33 +12,34 @@
  *     reply = node[me].replies[0];
  *     unlock(me);
  *
- * What an entry means is the caller's: two words, of which the second is below 2^57. A reply is two words as well.
+ * What an entry means is up to the caller. It has two words, of which the second is below 2^57. A reply has two words as well.
  *
- * What is promised, where the caller keeps what is listed below (crates/nrvs_nodes_c/README.md has the clauses):
- *   - whatever the order of single operations, there is one log; each node applies a beginning of it, in order, each entry once; an update
- *     is answered at its place, in `replies`, in the order of the updates of its call;
+ * The following is promised, if the caller keeps what is listed further below (crates/nrvs_nodes_c/README.md has the clauses):
+ *   - whatever the order of the single operations is, there is one log. Each node applies a beginning of it, in order, each entry once. An
+ *     update is answered at its place in the log; `replies` has the answers in the order of the call's updates;
  *   - a call that ended before another began comes before it in the log. A read sees all that was completed when it began: it loads
- *     `completed` first, and looks at the node's copy under its lock, once nrvs_node_at is at least that; else it syncs;
- *   - no entry is overwritten that some node has still to take. NRVS_NODE_LAGS names a node just where its word, as it was loaded, leaves no
- *     room: its ring's length behind;
- *   - whatever the others do, a call ends: one of u updates on n nodes after at most (n + 2 u + 7) (e + 1) operations and entries, where its
- *     node takes e entries in it, its own among them, and n + 2 more for each NRVS_NODE_LAGS; a sync after at most 6 e + 5. So a node that
- *     was stopped holds up nobody, until others are 16 entries ahead of it;
- *   - what every node is done with stays so (nrvs_nodes_everywhere). Where each node keeps page tables and applies entries by the plans of
- *     nrvs_plan.h, and flushes its processors before it says so, each node's tables translate as the address space after the entries that
- *     it has applied. A processor finds what the space has after as many entries, or one more while a plan is carried out. Once every node
- *     is done with an unmap, none finds the page any more: so then its frame may be freed;
- *   - the recording of such a run, calls before and replies after, has no fault for nrvs_audit.h.
+ *     `completed` first, and looks at the node's copy under the node's lock, once nrvs_node_at is at least that. Until then it syncs;
+ *   - no entry is overwritten that some node has still to take. NRVS_NODE_LAGS names a node only if its word, as loaded, leaves no room: it
+ *     is a ring's length behind;
+ *   - whatever the others do, a call ends. If it has u updates on n nodes, and its node takes e entries meanwhile, its own included, it
+ *     ends after at most (n + 2 u + 7) (e + 1) operations and entries, and n + 2 more for each NRVS_NODE_LAGS. A sync ends after at most 6
+ *     e + 5. So a stopped node blocks nobody, until others are 16 entries ahead of it;
+ *   - once every node is done with an entry, that stays so (nrvs_nodes_everywhere). Suppose each node keeps page tables, applies entries by
+ *     the plans of nrvs_plan.h, and flushes its processors before it says that it is done. Then each node's tables translate as the address
+ *     space does after the entries that it has applied. A processor finds what the space has after that many entries, or one more while a
+ *     plan is carried out. Once every node is done with an unmap, no processor finds the page any more, so its frame may be freed;
+ *   - if such a run is recorded, calls before the work and replies after it, nrvs_audit.h finds no fault in it.
  *
  * What the caller has to keep, which no call can test:
- *   - each operation is carried out as asked, whole, in one order with all others (sequentially consistent), and its value given to
- *     nrvs_node_told: the word as it was before, of a store any value. Nobody else writes the words. All are 0 at first, and all nodes new;
- *   - from the begin of a call to its end one caller at a time has the node: a lock of its own is held;
+ *   - each operation is carried out as asked, atomically, and in one order with all others (sequentially consistent). nrvs_node_told gets
+ *     its value: the word as it was before, or any value for a store. Nobody else writes the words. At first all words are 0, and all nodes
+ *     are new;
+ *   - from a call's begin to its end no other call uses the node: the node's lock is held;
  *   - the log has fewer than 2^57 - 16 entries;
  *   - an entry is applied to the node's copy, and flushed on its processors, before nrvs_node_applied;
- *   - pointers are not null, aligned as their types are, and to as many elements as is said; each call is given the struct as the call
- *     before left it;
- *   - linking: the archive asks for memcpy, memset and memmove at most.
+ *   - pointers are not null, aligned for their types, and lead to as many elements as stated. Each call gets the struct as the call before
+ *     left it;
+ *   - linking: the archive needs at most memcpy, memset and memmove.
  */
 #ifndef NRVS_NODES_H
 #define NRVS_NODES_H
@@ -52,7 +54,7 @@ extern "C" {
 
 enum { NRVS_MOST_NODES = 64, NRVS_NODE_RING = 16 };
 
-/* What a call returns: what is asked for next, or why it is refused; then nothing changed. */
+/* What a call returns: what it asks for next, or why it is refused. If it is refused, nothing has changed. */
 enum {
 	NRVS_NODE_DONE = 0,     /* nothing: the call is over */
 	NRVS_NODE_LOAD = 1,     /* load the word */
@@ -70,7 +72,7 @@ enum {
 	NRVS_NODE_NO_NODE = 20  /* more than 64 nodes, or a number that isn't below theirs */
 };
 
-/* A word: `head` and `completed` are of all nodes, the others of one. */
+/* A word: `head` and `completed` belong to all nodes, the others to one. */
 enum {
 	NRVS_WORD_HEAD = 0,
 	NRVS_WORD_COMPLETED = 1,
@@ -100,7 +102,7 @@ struct nrvs_node_asked {
 	struct nrvs_node_update entry;
 };
 
-/* The machine of a node: plain numbers. */
+/* The state machine of a node: plain numbers. */
 struct nrvs_node {
 	struct nrvs_node_asked asked;
 	uint64_t applied;     /* how many entries the node has applied */
@@ -109,27 +111,27 @@ struct nrvs_node {
 	uint64_t own[84];     /* the library's */
 };
 
-/* The machine of node `number` of so many nodes, all of whose words are 0. */
+/* Makes the state machine of node `number` of `nodes` nodes, all of whose words are 0. */
 uint32_t nrvs_node_new(struct nrvs_node *node, uint64_t nodes, uint64_t number);
 
 /* Begins a call that appends 1 to 16 updates, one after another in the log. */
 uint32_t nrvs_node_update(struct nrvs_node *node, const struct nrvs_node_update *updates, size_t count);
 
-/* Begins a call that ends at once where the node has applied at least so many entries; else it has applied all that were there when the
- * call loaded the head, which may be fewer.
+/* Begins a call that ends at once if the node has applied at least that many entries. Otherwise it applies all entries that are there when
+ * the call loads the head, which may be fewer.
  */
 uint32_t nrvs_node_sync(struct nrvs_node *node, uint64_t at_least);
 
-/* Takes what the word was before the operation that was asked for. */
+/* Gets what the word was before the operation that was asked for. */
 uint32_t nrvs_node_told(struct nrvs_node *node, uint64_t value);
 
-/* Takes the reply to the entry that was to be applied. */
+/* Gets the reply to the entry that was to be applied. */
 uint32_t nrvs_node_applied(struct nrvs_node *node, const struct nrvs_node_reply *reply);
 
-/* Whether every node is done with the entry at a place, where the words `done` of all nodes are these. */
+/* Whether every node is done with the entry at a place, given the words `done` of all nodes. */
 bool nrvs_nodes_everywhere(const uint64_t *done, size_t nodes, uint64_t place);
 
-/* How many entries the node has applied; while no call is open they are completed too. */
+/* How many entries the node has applied. While no call is open, these are completed too. */
 static inline uint64_t nrvs_node_at(const struct nrvs_node *node)
 {
 	return node->applied;
@@ -140,7 +142,7 @@ static inline uint64_t nrvs_node_at(const struct nrvs_node *node)
 #elif defined(__STDC_VERSION__) && __STDC_VERSION__ >= 201112L && !defined(__STDC_NO_ATOMICS__) && !defined(__KERNEL__)
 #include <stdatomic.h>
 
-/* The words of all nodes, and those of one: each that several processors write or wait for has cache lines of its own. */
+/* The words of all nodes, and those of one. Each word that several processors write or wait for has cache lines of its own. */
 struct nrvs_log_words {
 	_Alignas(128) _Atomic uint64_t head;
 	_Alignas(128) _Atomic uint64_t completed;
@@ -171,7 +173,7 @@ static inline _Atomic uint64_t *nrvs_word_of(struct nrvs_log_words *words, struc
 	}
 }
 
-/* Carries an operation out: what the word was before; of a store 0, which nrvs_node_told doesn't look at. */
+/* Carries an operation out, and returns what the word was before; for a store 0, which nrvs_node_told ignores. */
 static inline uint64_t nrvs_carry_out(_Atomic uint64_t *word, const struct nrvs_node_asked *asked)
 {
 	uint64_t was = 0;
@@ -194,7 +196,7 @@ static inline uint64_t nrvs_carry_out(_Atomic uint64_t *word, const struct nrvs_
 	}
 }
 
-/* Goes on with a call to its end: NRVS_NODE_DONE, or NRVS_NODE_BROKEN. */
+/* Runs a call to its end: NRVS_NODE_DONE, or NRVS_NODE_BROKEN. */
 static inline uint32_t nrvs_node_run(struct nrvs_node *node, struct nrvs_log_words *words, struct nrvs_node_words *nodes,
 				     struct nrvs_node_reply (*apply)(void *context, const struct nrvs_node_update *entry),
 				     void (*lags)(void *context, uint64_t other), void *context)

@@ -1,8 +1,8 @@
 #!/usr/bin/env python3
 """Compares the words that a reader has to believe with what is said of them. Part 1 of docs/DEFINITIONS.md has in words just the definitions
 on which the two headlines rest, and just the types and constants of the code of which these speak, with their variants, fields and values as
-the code declares them. Each other definition on which a clause of a public call rests has its words in the comment above it, which
-tools/words prints. The faults of DEFINITIONS.md, part 2, and of the man page of explain are those of the code.
+the code declares them. Each other definition on which a clause of a public call rests has a comment of its own above it, which tools/words
+prints. The faults of DEFINITIONS.md, part 2, and of the man page of explain are those of the code.
 
 Compares the public calls of the libraries and their preconditions with the promises of their crates' READMEs; and each line of code that
 such a README shows at its head with the code of the other crates, so that it is compiled and proved there. The crates of the audit depend
@@ -95,30 +95,21 @@ def parameters(lines, at, name):
 
 
 def beside():
-    """What is said beside the definitions of the specs/ folders, by module: the file, what it says of itself, and the comments with the
-    definitions that each is of, with the names of what these take. A definition without a comment shares the one before it; the first of a
-    file, what the file says of itself."""
+    """What is said beside the definitions of the specs/ folders, by module: the file, what it says of itself, and each definition with the
+    names of what it takes and the comment right above it, or nothing."""
     files = {}
     for file in sorted(ROOT.glob("crates/*/specs/**/*.antt")):
         crate = file.relative_to(ROOT / "crates").parts[0]
         module = ".".join(file.relative_to(ROOT / "crates" / crate / "specs").with_suffix("").parts)
-        lines, comment, groups, known = file.read_text().splitlines(), [], [], set()
+        lines, comment, told = file.read_text().splitlines(), [], {}
         front = list(itertools.takewhile(lambda line: line.startswith("-- ") and not line.startswith("-- ----"), lines))
         for at, line in enumerate(lines):
             begins = DEFINES.match(line)
-            if line.startswith("-- ----") or not line and comment is None:
-                comment = []
-            elif line.startswith("-- "):
-                comment = (comment or []) + [line[3:].strip()]
-            elif begins and begins[1] not in known:
-                known.add(begins[1])
-                if comment or not groups:
-                    groups.append((" ".join(comment or []), []))
-                groups[-1][1].append((begins[1], parameters(lines, at, begins[1])))
-                comment = []
-            elif line.startswith("use "):
-                comment = []
-        files[f"{crate}.{module}"] = (file, " ".join(line[3:].strip() for line in front), groups)
+            if begins and begins[1] not in told:
+                told[begins[1]] = (parameters(lines, at, begins[1]), " ".join(comment))
+            if not line.startswith("infix"):
+                comment = comment + [line[3:].strip()] if line.startswith("-- ") and not line.startswith("-- ----") else []
+        files[f"{crate}.{module}"] = (file, " ".join(line[3:].strip() for line in front), told)
     return files
 
 
@@ -553,11 +544,10 @@ def main(words):
     base = {(place, name) for place, name in base if not place.endswith(".Examples")}
     told = read_aloud((ROOT / "docs/DEFINITIONS.md").read_text())
     first = {(place, name) for places, name in told for place in places}
-    commented = {(place, name) for place, (_, about, groups) in beside().items() for comment, those in groups if comment or about
-                 for name, _ in those}
+    commented = {(place, name) for place, (_, _, those) in beside().items() for name, (_, comment) in those.items() if comment}
     missing = sorted(base - first - commented)
     for place, name in missing:
-        print(f"no comment says what it is: {name} ({place})")
+        print(f"no comment of its own says what it is: {name} ({place})")
     others = [(places, name) for places, name in told if not any((place, name) in base for place in places)]
     for places, name in others:
         print(f"read aloud, and no clause rests on it: {name} (of {', '.join(places)})")

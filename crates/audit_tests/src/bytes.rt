@@ -18,7 +18,7 @@ pub const MAPPED: [u8; 120] = [
     1, 7, 0, 7, 0, 0, 0, 2, 0, 0, 0, 1, 0, 0, 0, 0, 0, 0, 0, 0, 0, 0, 0x11, 0x23, // reply
 ];
 
-/// Of each frame of a dump, numbered from 1, the index of the one word that is not 0, and the word.
+/// For each frame of a dump, numbered from 1, the index of the one word that is not 0, and the word.
 pub type Words = &'static [(u64, u64)];
 
 /// A root without a page.

@@ -14,7 +14,7 @@ pub struct Case {
     pub depth: Depth,
     pub root: u64,
     pub frames: &'static [Frame],
-    /// Of each page the base, the size and the physical address.
+    /// The base of each page, the size and the physical address.
     pub pages: &'static [(u64, Size, u64)],
     pub told: Result<(), DumpFault>,
 }

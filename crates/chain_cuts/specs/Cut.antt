@@ -1,4 +1,4 @@
--- Where a run can be cut in two.
+-- Cuts of a run in two.
 use Rattle.std.specs.Prelude.{◌≡◌, ◌↔◌, ℕ, ◌<◌, List, [], ◌∷◌, ⊤, length, map, slice_get, Option, None, Some}
 use Rattle.vs_types.specs.Config.{Layout}
 use Rattle.vs_types.specs.Space.{Space}

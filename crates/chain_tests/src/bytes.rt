@@ -4,7 +4,7 @@ use nr_trace::{Fault, Format};
 use std::alloc::{AllocError, Global};
 use std::process::Abort;
 
-/// Of each frame of a page table, numbered from 1, the index of the one word that is not 0, and the word.
+/// For each frame of a page table, numbered from 1, the index of the one word that is not 0, and the word.
 pub type Words = &'static [(usize, u64)];
 
 /// A part of the bytes of a chain: some bytes, or the frames of a start or a dump.

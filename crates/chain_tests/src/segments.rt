@@ -66,7 +66,7 @@ fn a_first_segment(rt: HostRuntime) {
     let alloc = rt.alloc();
     let segment = segment_of(&rt, alloc, "two segments");
     assert!(rt; found(&rt, alloc, &segment, None) == Ok((2, 1)));
-    // Where the page is mapped already, the answer of the map is wrong.
+    // If the page is mapped already, the answer of the map is wrong.
     let overlaps = Fault::WrongAnswer(0);
     assert!(rt; found_after_page(&rt, alloc, &segment, 0x1000) == Err(overlaps));
 }

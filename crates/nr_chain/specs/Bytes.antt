@@ -12,12 +12,15 @@ use Rattle.nr_audit.specs.Faults.{IsFirstAfter, IsSoundAfter}
 use Rattle.nr_audit.specs.Segments.{last_space}
 use Rattle.nr_trace.specs.declared.fault.Fault.{Fault}
 
+-- the layout of the segment before, if there is one
 abbrev pub layout_before : Option Kept → Option Layout
 layout_before kept = option_map (λ last. last.layout) kept
 
+-- the space after the segment before, if there is one
 abbrev pub space_before : Option Kept → Option Space
 space_before kept = option_map (λ last. last.space) kept
 
+-- what is kept of a segment: its layout and the space after it
 abbrev pub kept_after : Option Kept → Recording → Kept
 kept_after kept segment = record { layout = segment.layout; space = last_space (space_before kept) segment }
 

@@ -25,12 +25,12 @@ abbrev pub GoesOnIn : Depth → Option Image → Space → Type 0
 GoesOnIn depth None space = ⊤
 GoesOnIn depth (Some start) space = TranslatesAs depth start.frames start.root space
 
--- the bytes are right with these orders: they spell one chain of segments; all have one layout, and the events of each are a well-formed
--- history; each segment behind the first goes on in the space after all updates of the segments before it; and of the one run that they
--- are, from the space on in which the first begins: all answered updates and reads and some unanswered updates are in the orders, one after
--- the other, each once; a call answered before another was made comes first; each answer is that of one sequential address space; each dump
--- translates every address as that space does after all updates of the segments before its own and some of its own; and each answered touch
--- was answered as its address was at a moment that no flush had ended before
+-- the bytes are right with these orders: they spell one chain of segments. All have one layout, and the events of each are a well-formed
+-- history. Each segment behind the first goes on in the space after all updates of the segments before it. For the one run that they are,
+-- from the space on in which the first begins, this holds. All answered updates and reads and some unanswered updates are in the orders,
+-- one after the other, each once. A call answered before another was made comes first. Each answer is that of one sequential address space.
+-- Each dump translates every address as that space does after all updates of the segments before its own and some of its own. Each answered
+-- touch was answered as its address was at a moment that no flush had ended before
 pub record IsRightChain (bytes : List ℕ) (orders : List (List ℕ)) : Type 0 where
   pub first : Segment
   pub more : List Segment

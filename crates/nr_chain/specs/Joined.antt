@@ -23,8 +23,8 @@ dump_behind places dump = record { applied = places + dump.applied; root = dump.
 abbrev pub calls_behind : ℕ → List ℕ → List ℕ
 calls_behind events calls = map (λ call. events + call) calls
 
--- two runs one after the other, from the start of the first: the log, the events and the order of the second come behind those of the first, and the dumps
--- are those at the end
+-- two runs one after the other, from the start of the first. The log, the events and the order of the second come behind those of the
+-- first, and the dumps are those at the end
 abbrev pub joined_traces : Recording → Recording → Recording
 joined_traces first second = record {
   version = first.version;

@@ -15,8 +15,8 @@ SpellUpTo kept bytes (segment ∷ more) end =
 abbrev pub ComesTo : Option Kept → List ℕ → Kept → Type 0
 ComesTo kept bytes end = (segments : List Recording) × SpellUpTo kept bytes segments end
 
--- a chain that is spelled by itself may come behind one that has come to this: its first segment is laid out so, and the pages of its start,
--- or none where it has no start, are those of the space
+-- a chain that is spelled by itself may come behind one that has come to this. Its first segment is laid out so, and the pages of its
+-- start, or none if it has no start, are those of the space
 pub record MayFollow (end : Kept) (bytes : List ℕ) : Type 0 where
   pub first : Recording
   pub rest : List ℕ

@@ -9,8 +9,8 @@ use Rattle.nr_trace.specs.Orders.{updates, space_from, recorded_order, HasItsCal
 use Rattle.nr_trace.specs.Laws.{IsFaultlessFrom}
 use Rattle.nr_chain.specs.Joined.{Segment, joined}
 
--- the events are those of threads that wait for each reply that comes: every reply answers an earlier call, a call has one reply at
--- most, and of two calls of one thread a reply to the first comes before the second. A thread whose call has none may make others
+-- the events are those of threads that wait for each reply that comes. Every reply answers an earlier call, a call has one reply at most,
+-- and of two calls of one thread a reply to the first comes before the second. A thread whose call has none may make others
 pub record IsHistory (trace : Recording) : Type 0 where
   pub of_calls : (index : ℕ) (reply : Response) → reply_of trace index ≡ Some reply → (reply.call < index) × IsCall trace reply.call
   pub once : (first second call : ℕ) → Answers trace first call → Answers trace second call → first ≡ second
@@ -36,6 +36,7 @@ pub record IsRightFrom (start : Space) (segment : Segment) : Type 0 where
 abbrev pub space_behind : Space → Segment → Space
 space_behind start segment = space_from start segment.trace segment.trace.log
 
+-- the space behind all of the segments, from a start on
 abbrev pub space_behind_all : Space → List Segment → Space
 space_behind_all start [] = start
 space_behind_all start (segment ∷ more) = space_behind_all (space_behind start segment) more

@@ -21,7 +21,7 @@ abbrev pub IsVerdictOfChain : List ℕ → ChainVerdict → Type 0
 IsVerdictOfChain bytes (Yes orders) = GoesOnSo None bytes orders.items None
 IsVerdictOfChain bytes (No orders fault) = GoesOnSo None bytes orders.items (Some fault)
 
--- where the verdict is yes, its orders have the property
+-- if the verdict is yes, its orders have the property
 abbrev pub IfYes : (List (List ℕ) → Type 0) → ChainVerdict → Type 0
 IfYes P (Yes orders) = P orders.items
 IfYes P (No orders fault) = ⊤

@@ -11,7 +11,7 @@ ghost use Rattle.nr_chain.specs.Joined.{calls_behind, joined, joined_traces, Seg
 ghost use Rattle.nr_chain.specs.Run.{AreFaultlessFrom, AreRightFrom, IsHistory, IsRightRun};
 ghost use Rattle.nr_chain.specs.Run.{space_behind, space_behind_all};
 
-/// Where each segment is right from the space after those before it, the run of them all is right.
+/// If each segment is right from the space after those before it, the run of them all is right.
 pub fn right_segments_are_a_right_run()
     ensures { (start : Space) (first : Segment) (more : List Segment)
         → AreRightFrom start first.trace.layout (first ∷ more) → IsRightRun start first more }

@@ -13,9 +13,10 @@ abbrev pub answer_noted : State → ℕ → ℕ → Option State
 answer_noted state t s =
     by_holder state t (λ thread r replica. by_thread state s (λ other. option_map (with_ready state r replica s other) (noted_for s replica)))
 
--- thread t says that it holds the lock of replica r; and replica r, that thread t holds its lock
+-- thread t says that it holds the lock of replica r
 abbrev pub HoldsLockOf : State → ℕ → ℕ → Type 0
 HoldsLockOf state t r = (thread : Thread) × (slice_get state.threads t ≡ Some thread) × (thread.holds ≡ Some r)
 
+-- replica r says that thread t holds its lock
 abbrev pub HasHolder : State → ℕ → ℕ → Type 0
 HasHolder state r t = (replica : Replica) × (slice_get state.replicas r ≡ Some replica) × (replica.holder ≡ Some t)

@@ -35,13 +35,15 @@ pub record State : Type 0 where
   pub replicas : List Replica
   pub threads : List Thread
 
--- at the start nothing is recorded, in the log, in a batch or in a space; all tails are 0, no call is open and no lock held
+-- a thread that has made no call
 abbrev pub new_thread : List Query → Thread
 new_thread script = record { script = script; stage = Idle; holds = None }
 
+-- a replica that has applied nothing
 abbrev pub new_replica : Replica
 new_replica = record { holder = None; batch = []; placed = false; local = 0; applied = 0; space = no_pages }
 
+-- the state at the start: nothing is recorded, no call is open, and no lock is held
 abbrev pub start : Layout → List (List Query) → State
 start layout scripts = record {
   layout = layout;
@@ -68,5 +70,6 @@ has_applied_all replica = replica.applied == replica.local
 abbrev pub with_thread : State → ℕ → Thread → State
 with_thread state t thread = record state { threads = slice_set state.threads t thread }
 
+-- the state with another replica in the place of this number
 abbrev pub with_replica : State → ℕ → Replica → State
 with_replica state r replica = record state { replicas = slice_set state.replicas r replica }

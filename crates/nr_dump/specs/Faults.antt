@@ -31,6 +31,7 @@ pub record IsFirstOfDump (depth : Depth) (dump : Image) (space : Space) (fault :
   pub holds : HoldsOfDump depth dump space fault
   pub none_earlier : (other : DumpFault) → HoldsOfDump depth dump space other → rank_in_dump other < rank_in_dump fault → ⊥
 
+-- no fault holds of the dump
 abbrev pub HasNoFault : Depth → Image → Space → Type 0
 HasNoFault depth dump space = (fault : DumpFault) → HoldsOfDump depth dump space fault → ⊥
 

@@ -47,13 +47,15 @@ new_actor nodes = record {
   got = [];
 }
 
+-- an update of zeros, where there is none
 abbrev pub no_update : Update
 no_update = record { first = 0; second = 0 }
 
+-- the update of this index
 abbrev pub update_at : List Update → ℕ → Update
 update_at updates index = slice_index_or updates index no_update
 
--- who appended the entry before an update of its batch
+-- the node that appended the entry before an update of its batch
 abbrev pub link_of : ℕ → Actor → ℕ → ℕ
 link_of n a index = if index == 0 then a.last else n
 
@@ -132,23 +134,28 @@ pub record MayApply (a : Actor) : Type 0 where
   pub next : a.from ≡ a.applied
   pub some : 0 < length a.got
 
+-- it has applied the first entry that it has
 abbrev pub applies : Actor → Actor
 applies a = record a { applied = a.applied + 1; from = a.from + 1; got = drop 1 a.got }
 
--- it begins a call, and ends it: it has no updates, or they are all applied, and completed
+-- it may begin a call of 1 to 16 updates: no other with updates is open
 abbrev pub MayBegin : Actor → List Update → Type 0
 MayBegin a batch = (a.batch ≡ []) × (1 ≤ length batch) × (length batch ≤ 16)
 
+-- it has begun a call
 abbrev pub begins : Actor → List Update → Actor
 begins a batch = record a { batch = batch; standing = None; firsts = 0; seconds = 0 }
 
+-- a call of so many updates may end: it has none, or they are all applied, and completed
 abbrev pub MayEndAt : Option ℕ → ℕ → ℕ → ℕ → Type 0
 MayEndAt None count applied published = count ≡ 0
 MayEndAt (Some first) count applied published = (first + count ≤ applied) × (first + count ≤ published)
 
+-- its call may end
 abbrev pub MayEnd : Actor → Type 0
 MayEnd a = MayEndAt a.standing (length a.batch) a.applied a.published
 
+-- it has ended its call
 abbrev pub ends : Actor → Actor
 ends a = record a { batch = []; standing = None; firsts = 0; seconds = 0 }
 
@@ -157,5 +164,6 @@ abbrev pub is_own_at : Option ℕ → ℕ → ℕ → Bool
 is_own_at None count applied = false
 is_own_at (Some first) count applied = nat_le first applied && nat_lt applied (first + count)
 
+-- whether the entry that it applies next is an update of its call
 abbrev pub is_own : Actor → Bool
 is_own a = is_own_at a.standing (length a.batch) a.applied

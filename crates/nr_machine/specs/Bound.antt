@@ -10,6 +10,7 @@ abbrev pub wants_at : Option ℕ → ℕ → Bool
 wants_at None count = nat_lt 0 count
 wants_at (Some first) count = false
 
+-- its call has updates that are not in the log yet
 abbrev pub wants : Node → Bool
 wants node = wants_at node.standing (length node.batch.items)
 
@@ -18,6 +19,7 @@ abbrev pub attempt_of : ℕ → List Update → ℕ
 attempt_of nodes [] = 0
 attempt_of nodes (update ∷ updates) = nodes + 2 * length (update ∷ updates) + 1
 
+-- one attempt to append the updates of its call
 abbrev pub attempt : Node → ℕ
 attempt node = attempt_of node.nodes node.batch.items
 
@@ -42,6 +44,7 @@ left_in phases.Checks node = 2
 left_in phases.Publishes node = 1
 left_in phase node = 0
 
+-- how many operations and entries it asks for at most
 abbrev pub left : Node → ℕ
 left node = left_in node.phase node
 

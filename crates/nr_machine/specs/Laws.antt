@@ -15,10 +15,11 @@ abbrev pub IsWritten : World → ℕ → Type 0
 IsWritten w p = (w.words.first (maker w.log p) (p % 16) ≡ (w.log.entry p).first)
     × (w.words.second (maker w.log p) (p % 16) ≡ packed (w.log.entry p).second (w.log.link p))
 
+-- each entry that some node hasn't taken yet is written so
 abbrev pub AreWritten : ℕ → World → Type 0
 AreWritten nodes w = (r p : ℕ) → r < nodes → w.words.local r ≤ p → p < w.log.tail → IsWritten w p
 
--- where a call ended before another began, all that the first reached is before the position of the second
+-- if a call ended before another began, all that the first reached is before the position of the second
 abbrev pub KeepsPrecedence : List Event → Type 0
 KeepsPrecedence events = (later during between earlier : List Event) (first place reach second position end : ℕ)
     → events ≡ later ++ (Ended second position end ∷ (during ++ (Began second ∷ (between ++ (Ended first place reach ∷ earlier)))))

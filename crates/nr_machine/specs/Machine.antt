@@ -40,10 +40,12 @@ actor_of node = record {
 abbrev pub first_store_of : Node → Operation
 first_store_of node = Store (words.First node.number ((node.seen + node.firsts) % 16)) (update_at node.batch.items node.firsts).first
 
+-- the store of the second word of its next update
 abbrev pub second_store_of : Node → Operation
 second_store_of node = Store (words.Second node.number ((node.seen + node.seconds) % 16))
     (packed (update_at node.batch.items node.seconds).second (link_of node.number (actor_of node) node.seconds))
 
+-- the exchange of the head that appends its updates
 abbrev pub exchange_of : Node → Operation
 exchange_of node =
     Exchange words.Head (packed node.seen node.last) (packed (node.seen + length node.batch.items) node.number)
@@ -66,12 +68,13 @@ asked_in phases.Checks node = Carry (Load words.Completed)
 asked_in phases.Publishes node = Carry (Max words.Completed node.taken)
 asked_in phases.Broken node = Broken
 
+-- what a machine asks for
 abbrev pub asked_by : Node → Asked
 asked_by node = asked_in node.phase node
 
--- what is asked for is a step of the schedule: an operation that may be done, the next entry, or the end of the call, of whose updates and
--- entries all are completed then. A node is said to lag where it is the last one that was asked how many entries it has taken, and those that
--- were asked have taken fewer than the updates of the call need
+-- what is asked for is a step of the schedule: an operation that may be done, the next entry, or the end of the call. At the end all
+-- updates and entries of the call are completed. A node is said to lag if it is the last one that was asked how many entries it has taken,
+-- and those that were asked have taken fewer than the updates of the call need
 abbrev pub MayAsk : ℕ → ℕ → Actor → Asked → Type 0
 MayAsk nodes n a (Carry operation) = MayDo nodes n a operation
 MayAsk nodes n a (Apply update) = MayApply a × (update ≡ update_at a.got 0)
@@ -90,6 +93,7 @@ IsFit nodes a (Load (words.Second r i)) value = value % 128 < nodes
 IsFit nodes a (Exchange word old new) value = (value ≡ old) ⊎ (IsHead nodes a value × (a.seen < value / 128))
 IsFit nodes a operation value = ⊤
 
+-- whether no call is under way
 abbrev pub is_at_rest : Phase → Bool
 is_at_rest phases.Rest = true
 is_at_rest phase = false

@@ -37,11 +37,12 @@ pub record Nodes (State Answer : Type 0) : Type 0 where
   pub answers : ℕ → List Answer
   pub replies : List (Reply State Answer)
 
+-- the replies with that of a call whose updates are in the log
 abbrev pub with_reply : {State Answer : Type 0} → Option ℕ → ℕ → List Update → List Answer → List (Reply State Answer) → List (Reply State Answer)
 with_reply None call batch answers replies = replies
 with_reply (Some first) call batch answers replies = Updated call first batch answers ∷ replies
 
--- who applies an entry makes its node's state the next one, and keeps the answer if the entry is one of its own
+-- a node that applies an entry makes its state the next one, and keeps the answer if the entry is one of its own
 abbrev pub followed : {State Answer : Type 0} → Kind State Answer → Nodes State Answer → Act → Nodes State Answer
 followed kind w (Begins n batch) = record w { world = acted w.world (Begins n batch); answers = with_at w.answers n [] }
 followed kind w (Does n operation) = record w { world = acted w.world (Does n operation) }
@@ -66,10 +67,12 @@ followed kind w (ReadEnds c) =
     let n = (w.world.read c).node in
     record w { world = acted w.world (ReadEnds c); replies = Saw c (w.world.actor n).applied (w.state n) ∷ w.replies }
 
+-- the nodes after the steps of a schedule
 abbrev pub run : {State Answer : Type 0} → Kind State Answer → Nodes State Answer → List Act → Nodes State Answer
 run kind w [] = w
 run kind w (act ∷ acts) = run kind (followed kind w act) acts
 
+-- the nodes before the first step
 abbrev pub at_first : {State Answer : Type 0} → ℕ → Kind State Answer → Nodes State Answer
 at_first nodes kind = record { world = opening nodes; state = λ n. kind.initial; answers = λ n. []; replies = [] }
 
@@ -85,6 +88,7 @@ IsRight kind w (Updated call first batch answers) = (first + length batch ≤ w.
     × ((i : ℕ) → i < length batch → (w.log.call (first + i) ≡ call) × (w.log.entry (first + i) ≡ update_at batch i))
 IsRight kind w (Saw call count state) = (count ≤ w.log.tail) × (state ≡ state_after kind w.log.entry count)
 
+-- each reply is right
 abbrev pub AllRight : {State Answer : Type 0} → Kind State Answer → World → List (Reply State Answer) → Type 0
 AllRight kind w [] = ⊤
 AllRight kind w (reply ∷ replies) = IsRight kind w reply × AllRight kind w replies
@@ -95,6 +99,7 @@ ends_among [] = []
 ends_among (Began call ∷ events) = ends_among events
 ends_among (Ended call position reach ∷ events) = Ended call position reach ∷ ends_among events
 
+-- the ends of the calls that have a reply
 abbrev pub ends_of : {State Answer : Type 0} → List (Reply State Answer) → List Event
 ends_of [] = []
 ends_of (Updated call first batch answers ∷ replies) = Ended call first (first + length batch) ∷ ends_of replies

@@ -26,6 +26,7 @@ with_at f n x m = if m == n then x else f m
 abbrev pub with_word : (ℕ → ℕ → ℕ) → ℕ → ℕ → ℕ → ℕ → ℕ → ℕ
 with_word rings node index value m i = if m == node then (if i == index then value else rings m i) else rings m i
 
+-- what a load of a word gives
 abbrev pub loaded : Words → Word → ℕ
 loaded words Head = words.head
 loaded words Completed = words.completed
@@ -34,6 +35,7 @@ loaded words (Done node) = words.done node
 loaded words (First node index) = words.first node index
 loaded words (Second node index) = words.second node index
 
+-- the words after a store of one
 abbrev pub stored : Words → Word → ℕ → Words
 stored words Head value = record words { head = value }
 stored words Completed value = record words { completed = value }

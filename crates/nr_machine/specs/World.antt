@@ -90,6 +90,7 @@ call_begun w = record w {
   events = Began w.calls ∷ w.events;
 }
 
+-- the events with the end of a call, if it has updates in the log
 abbrev pub with_end : Option ℕ → ℕ → ℕ → List Event → List Event
 with_end None call count events = events
 with_end (Some first) call count events = Ended call first (first + count) ∷ events
@@ -123,6 +124,7 @@ abbrev pub Plays : ℕ → World → List Act → Type 0
 Plays nodes w [] = ⊤
 Plays nodes w (act ∷ acts) = MayAct nodes w act × Plays nodes (acted w act) acts
 
+-- the world after the steps
 abbrev pub played : World → List Act → World
 played w [] = w
 played w (act ∷ acts) = played (acted w act) acts

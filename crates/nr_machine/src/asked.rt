@@ -10,9 +10,9 @@ pub const END: u64 = 0x0200_0000_0000_0000;
 pub enum Asked {
     /// This operation, and then `told` with what the word was before it.
     Carry(Operation),
-    /// That this entry is applied to the node's state and flushed, and then `applied` with its reply.
+    /// To apply this entry to the node's state and flush, and then `applied` with its reply.
     Apply(Update),
-    /// That the node of this number takes entries: it is a ring behind. Then `told` with any value.
+    /// To have the node of this number take entries, since it is a ring behind. Then `told` with any value.
     Lags(u64),
     /// Nothing: the call is over.
     Done,

@@ -106,7 +106,7 @@ impl Node {
         Ok(self.asks())
     }
 
-    /// Takes what the word was before the operation that was asked for; of a node that lags any value. Where neither was asked for,
+    /// Takes what the word was before the operation that was asked for; for a node that lags any value. If neither was asked for,
     /// nothing changes.
     pub fn told(&mut self, value: u64) -> Asked
         requires { IsSound self.old }
@@ -136,7 +136,7 @@ impl Node {
         self.asks()
     }
 
-    /// Takes the reply to the entry that was to be applied. Where none was, nothing changes.
+    /// Takes the reply to the entry that was to be applied. If none was, nothing changes.
     pub fn applied(&mut self, reply: Reply) -> Asked
         requires { IsSound self.old }
         ensures sound { IsSound self.new }

@@ -18,7 +18,7 @@ pub enum Phase {
     Looks,
     /// The load of how many entries the next node has taken.
     Scans,
-    /// That a node takes entries.
+    /// To have a node take entries.
     Lags,
     /// The store of an update's first word, ahead of the tail.
     StoresFirst,
@@ -32,7 +32,7 @@ pub enum Phase {
     LoadsSecond,
     /// The store of how many entries its node has taken.
     Raises,
-    /// That the next entry is applied.
+    /// To have the next entry applied.
     Applies,
     /// The store of how many entries its node has applied and flushed.
     Flushes,
@@ -199,7 +199,7 @@ pub(crate) fn packed(high: u64, low: u64) -> u64
     128 * high + low
 }
 
-/// Where the entry of a place lies in a ring.
+/// The index of a place's entry in a ring.
 pub(crate) fn index_of(place: u64) -> u64
     ensures { result ≡ place % 16 }
 {

@@ -21,10 +21,12 @@ events_of_operation means w n (Exchange word old new) = if loaded w.words word =
 events_of_operation means w n (Store (Local r) value) = if nat_lt (w.words.local r) value then Advance r value ∷ [] else []
 events_of_operation means w n operation = []
 
+-- the events of the log that a step of a schedule makes
 abbrev pub events_of : (Update → LogEntry) → World → Act → List LogEvent
 events_of means w (Does n operation) = events_of_operation means w n operation
 events_of means w act = []
 
+-- the events that the steps of a schedule make, from a world on
 abbrev pub history_from : (Update → LogEntry) → World → List Act → List LogEvent
 history_from means w [] = []
 history_from means w (act ∷ acts) = events_of means w act ++ history_from means (acted w act) acts
@@ -57,5 +59,6 @@ pub record IsScheduleFor (depth : Depth) (means : Update → LogEntry) (nodes : 
   pub meant : AreMeant depth means acts
   pub ends : (played (opening nodes) acts).log.tail ≤ MOST_PLACES
 
+-- the history of the log that a schedule makes
 abbrev pub history : (Update → LogEntry) → ℕ → List Act → List LogEvent
 history means nodes acts = history_from means (opening nodes) acts

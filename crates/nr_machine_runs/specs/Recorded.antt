@@ -33,10 +33,11 @@ space_kind layout means = record {
   initial = no_pages;
 }
 
--- a thread that has no call open, and one that waits for the reply to a call
+-- a thread that has no call open
 abbrev pub idle : Thread
 idle = new_thread []
 
+-- a thread that waits for the reply to a call
 abbrev pub waiting : ℕ → Thread
 waiting call = record idle { stage = Taken call }
 
@@ -71,10 +72,12 @@ MayGive means recorded n given [] = ⊤
 MayGive means recorded n given (update ∷ updates) = IsCallAt recorded n (means update) × (given (means update).call ≡ false)
     × MayGive means recorded n (with_at given (means update).call true) updates
 
+-- the calls whose updates were given to a machine, with these
 abbrev pub given_with : (Update → LogEntry) → (ℕ → Bool) → List Update → ℕ → Bool
 given_with means given [] = given
 given_with means given (update ∷ updates) = given_with means (with_at given (means update).call true) updates
 
+-- the calls whose updates were given to a machine, after a step
 abbrev pub given_by : (Update → LogEntry) → (ℕ → Bool) → Act → ℕ → Bool
 given_by means given (Begins n batch) = given_with means given batch
 given_by means given act = given
@@ -88,12 +91,13 @@ Gives layout means run (Saw c count space) call at answer = (run.reads c ≡ cal
     × (n : ℕ) × (thread : ℕ) × (request : Query) × (slice_get run.events call ≡ Some (events.Call n thread request))
     × (answer ≡ answer_in layout space request)
 
+-- some of the replies gives this to the call
 abbrev pub SomeGives : Layout → (Update → LogEntry) → Run → List (Reply Space Answer) → ℕ → ℕ → Answer → Type 0
 SomeGives layout means run [] call at answer = ⊥
 SomeGives layout means run (reply ∷ replies) call at answer =
     Gives layout means run reply call at answer ⊎ SomeGives layout means run replies call at answer
 
--- what is asked of each note: a thread has one call open, each update is that of a call, each read is for a call at its node, and a reply
+-- what is asked of each note. A thread has one call open, each update is that of a call, each read is for a call at its node, and a reply
 -- says what a machine's reply gave
 abbrev pub MayNote : Layout → (Update → LogEntry) → Run → Note → Type 0
 MayNote layout means run (Calls t r request) = slice_get run.threads t ≡ Some idle
@@ -105,6 +109,7 @@ MayNote layout means run (Reads n call) = MayAct layout.replicas run.nodes.world
 MayNote layout means run (Replies t call at answer) =
     (slice_get run.threads t ≡ Some (waiting call)) × SomeGives layout means run run.nodes.replies call at answer
 
+-- the run with a note more
 abbrev pub noted : Layout → (Update → LogEntry) → Run → Note → Run
 noted layout means run (Calls t r request) = record run {
   events = run.events ++ events.Call r t request ∷ [];
@@ -123,14 +128,17 @@ noted layout means run (Replies t call at answer) = record run {
   threads = slice_set run.threads t idle;
 }
 
+-- each note may come where it is
 abbrev pub MayAll : Layout → (Update → LogEntry) → Run → List Note → Type 0
 MayAll layout means run [] = ⊤
 MayAll layout means run (note ∷ notes) = MayNote layout means run note × MayAll layout means (noted layout means run note) notes
 
+-- the run with all notes
 abbrev pub noted_all : Layout → (Update → LogEntry) → Run → List Note → Run
 noted_all layout means run [] = run
 noted_all layout means run (note ∷ notes) = noted_all layout means (noted layout means run note) notes
 
+-- the run before the first note
 abbrev pub new_run : Layout → (Update → LogEntry) → Run
 new_run layout means = record {
   nodes = at_first layout.replicas (space_kind layout means);
@@ -140,7 +148,7 @@ new_run layout means = record {
   reads = λ c. 0;
 }
 
--- what the core's state has of a run: the events, the log's entries, and of each node how many entries it has applied, and its space
+-- what the core's state has of a node: how many entries it has applied, and its space
 abbrev pub replica_of : Nodes Space Answer → ℕ → Replica
 replica_of nodes r = record {
   holder = None;
@@ -151,6 +159,7 @@ replica_of nodes r = record {
   space = nodes.state r;
 }
 
+-- what the core's state has of a run: the events, the entries of the log, and the nodes
 abbrev pub state_of : Layout → (Update → LogEntry) → Run → State
 state_of layout means run = record {
   layout = layout;

@@ -8,7 +8,7 @@ use std::marker::Model;
 use std::mem::size_of;
 use vs_types::{Answer, Rights, Size};
 
-/// The second word has from this bit on the codes of the answer. That of an entry is below it.
+/// The second word has the codes of the answer from this bit on, and those of an entry below it.
 const CODES_UNIT: u64 = 1 << 56;
 
 /// An entry of the log with what it was answered: the two words of the entry, of which the second has the codes of the answer above its 56

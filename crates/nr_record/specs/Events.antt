@@ -10,7 +10,7 @@ use Rattle.nr_record.specs.Stamps.{AreBelow, Rise}
 abbrev pub HasNotes : List Event → PenState → Type 0
 HasNotes events pen = All (λ item. slice_get events item.stamp ≡ Some item.event) pen.made
 
--- who makes a call
+-- the maker of a call
 abbrev pub caller : Event → Option ℕ
 caller (Call replica thread request) = Some thread
 caller (Touch replica thread address mode access) = Some thread
@@ -22,6 +22,7 @@ thread_of events (Call replica thread request) = Some thread
 thread_of events (Touch replica thread address mode access) = Some thread
 thread_of events (Reply call at answer) = option_and_then caller (slice_get events call)
 
+-- whether an event is one of the thread
 abbrev pub is_of : ℕ → List Event → Event → Bool
 is_of thread events event = option_map_or (λ other. other == thread) (thread_of events event) false
 

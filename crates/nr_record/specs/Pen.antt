@@ -19,7 +19,7 @@ pub record ClockId : Type 0 where
 abbrev pub clock_of : TableId → Plan → ClockId
 clock_of word plan = record { word = word; layout = plan.config; calls = plan.calls }
 
--- the clock that a pen is of, the thread that it records, how many calls it may make, the call that waits for its reply, and what the
+-- the clock that a pen is of, the thread that it records, how many calls it may make, and the call that waits for its reply; and what the
 -- pen was given, each with its stamp, in order
 pub record PenState : Type 0 where
   pub clock : ClockId
@@ -32,6 +32,7 @@ pub record PenState : Type 0 where
 abbrev pub home_of : Layout → ℕ → ℕ
 home_of layout thread = thread % layout.replicas
 
+-- an event with its stamp
 abbrev pub stamped : ℕ → Event → Stamped
 stamped stamp event = record { stamp = stamp; event = event }
 
@@ -39,6 +40,7 @@ stamped stamp event = record { stamp = stamp; event = event }
 abbrev pub call_by : Layout → ℕ → Query → Event
 call_by layout thread request = Call (home_of layout thread) thread request
 
+-- whether an event is a call or a touch
 abbrev pub is_call : Event → Bool
 is_call (Call replica thread request) = true
 is_call (Touch replica thread address mode access) = true
@@ -52,6 +54,7 @@ calls_in made = count_by (λ item. is_call item.event) made
 abbrev pub stamps_of : PenState → List ℕ
 stamps_of pen = map (λ item. item.stamp) pen.made
 
+-- a pen that was given nothing yet
 abbrev pub new_pen : ClockId → ℕ → ℕ → PenState
 new_pen clock thread quota = record { clock = clock; thread = thread; quota = quota; waiting = None; made = [] }
 

@@ -8,8 +8,8 @@ use Rattle.nr_record.specs.Stamps.{times, once_below}
 use Rattle.nr_record.specs.declared.view.Plan.{Plan}
 use Rattle.nr_record.specs.declared.view.View.{View}
 
--- The quotas of all seats add up to the calls that may be made, of which there are at most 65,536, and no seat has drawn more than two
--- stamps for each call of its quota. The word is the number of stamps drawn, and these are the numbers below it, each once
+-- The quotas of all seats add up to the calls that may be made, of which there are at most 65,536. No seat has drawn more than two stamps
+-- for each call of its quota. The word is the number of stamps drawn, and these are the numbers below it, each once
 pub record IsKept (calls : ℕ) (words : List ℕ) (seats : List View) : Type 0 where
   pub one_word : length words ≡ 1
   pub few : calls ≤ LOG_PLACES
@@ -26,6 +26,7 @@ new_view plan = record { plan = plan; quota = plan.calls; stamps = [] }
 abbrev pub left_seat : ℕ → View → View
 left_seat quota seat = record { plan = seat.plan; quota = seat.quota - quota; stamps = seat.stamps }
 
+-- a new seat with so much of the quota, which has drawn nothing
 abbrev pub given : ℕ → View → View
 given quota seat = record { plan = seat.plan; quota = quota; stamps = [] }
 
@@ -43,6 +44,7 @@ pub record HasDrawn (before : View) (stamp : ℕ) (after : View) : Type 0 where
 abbrev pub joint_seat : View → View → View
 joint_seat seat other = record { plan = seat.plan; quota = seat.quota + other.quota; stamps = seat.stamps ++ other.stamps }
 
+-- a seat without a quota and without stamps
 abbrev pub empty_seat : View
 empty_seat = record {
   plan = record { config = record { depth = Four; replicas = 1; threads = 1; tables = 1 }; calls = 0 };

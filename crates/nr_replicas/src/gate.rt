@@ -1,4 +1,4 @@
-//! Where a thread is asked whether it goes on.
+//! The question to a thread whether it goes on.
 /// How far a thread has come with a call.
 #[derive(Clone, Copy, Debug, PartialEq, Eq)]
 pub enum Point {

@@ -178,7 +178,7 @@ impl<J: LogName, K: ReplicasName> Replicas<J, K> {
         }
     }
 
-    /// Takes turns until the thread's slot has an answer, or the thread has answered its update itself: its place. Where it has answered
+    /// Takes turns until the thread's slot has an answer, or the thread has answered its update itself: its place. If it has answered
     /// it itself it is confirmed, and has its answer.
     #[inline(always)]
     fn wait<G: Gate, R: Wait>(
@@ -236,8 +236,8 @@ impl<J: LogName, K: ReplicasName> Replicas<J, K> {
         Err(UpdateFault::Stopped(call))
     }
 
-    /// One attempt at a replica's lock, with at most one append and one catch-up; and the thread's own update, where that answered it.
-    /// Where the log has ended the pass has seen so.
+    /// One attempt at a replica's lock, with at most one append and one catch-up, and the thread's own update if that answered it.
+    /// If the log has ended, the pass has seen so.
     #[inline(always)]
     fn combine<R: Wait>(
         &self,

@@ -76,7 +76,7 @@ pub(crate) fn nodes_of<J: LogName, K: ReplicasName>(
     Ok(nodes)
 }
 
-/// Where a node of this number goes among nodes by rising number.
+/// The index at which a node of this number goes among nodes by rising number.
 fn place_among<J: LogName>(nodes: &[Node<RawArena, J>], number: u8) -> usize
     ensures within { result ≤ length nodes.now }
     ensures before { All (λ node. replica_of node.known.view ≤ number) (take result nodes.now) }

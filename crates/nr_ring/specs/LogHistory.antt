@@ -21,9 +21,11 @@ new_log replicas = record { entries = []; locals = replicate replicas 0 }
 abbrev pub tail : Log → ℕ
 tail log = length log.entries
 
+-- the place up to which a replica has taken entries
 abbrev pub local_of : Log → ℕ → ℕ
 local_of log replica = slice_index log.locals replica
 
+-- the greatest of some numbers, or 0
 abbrev pub greatest : List ℕ → ℕ
 greatest [] = 0
 greatest (x ∷ xs) = max x (greatest xs)
@@ -54,6 +56,7 @@ pub record MayAdvance (log : Log) (replica to : ℕ) : Type 0 where
   pub some : local_of log replica < to
   pub written : to ≤ tail log
 
+-- an event may come next: an append of a batch, or an advance of a replica
 abbrev pub MayFollow : Depth → Log → LogEvent → Type 0
 MayFollow depth log (Append batch) = MayAppend depth log batch
 MayFollow depth log (Advance replica to) = MayAdvance log replica to
@@ -77,13 +80,14 @@ MayGoOn depth log (event ∷ events) = MayFollow depth log event × MayGoOn dept
 abbrev pub IsLogHistory : Depth → ℕ → List LogEvent → Type 0
 IsLogHistory depth replicas events = MayGoOn depth (new_log replicas) events
 
+-- the log of so many replicas after events
 abbrev pub log_after : ℕ → List LogEvent → Log
 log_after replicas events = log_after_events (new_log replicas) events
 
--- why a batch of so many entries is refused by a log of so many places: it would go past its end, or some replica has still to take an
--- entry whose place in the ring the batch needs
+-- a batch of so many entries would go past the end of a log of so many places
 abbrev pub IsEnded : ℕ → Log → ℕ → Type 0
 IsEnded places log n = places < tail log + n
 
+-- some replica has still to take an entry whose place in the ring a batch of so many entries needs
 abbrev pub IsFull : Log → ℕ → Type 0
 IsFull log n = (replica : ℕ) × (replica < length log.locals) × (local_of log replica + RING < tail log + n)

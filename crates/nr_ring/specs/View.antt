@@ -22,6 +22,7 @@ abbrev pub made_from : ℕ → ℕ → List ℕ → List ℕ
 made_from number pass [] = []
 made_from number pass (maker ∷ makers) = if maker == pass then number ∷ made_from (number + 1) pass makers else made_from (number + 1) pass makers
 
+-- the numbers of the events that a pass made, counted from 0
 abbrev pub made_by_pass : ℕ → List ℕ → List ℕ
 made_by_pass pass makers = made_from 0 pass makers
 

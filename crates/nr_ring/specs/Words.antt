@@ -11,7 +11,7 @@ use Rattle.nr_ring.specs.declared.stored.Stored.{Stored}
 use Rattle.nr_ring.specs.declared.view.View.{View}
 use Rattle.nr_ring.specs.declared.words.TheConstants.{CELL_WORDS, TAIL_WORD, COMPLETED_WORD, LOCAL_WORDS, COUNT_WORD, ENTRY_WORDS}
 
--- where the first of the two words of an entry is among the words of its log
+-- the index of the first of the two words of an entry among the words of its log
 abbrev pub word_of : ℕ → ℕ
 word_of place = ENTRY_WORDS + 2 * (place % RING)
 
@@ -45,7 +45,7 @@ pub record IsAppended (log : Log) (batch : List LogEntry) (before after : List �
 abbrev pub new_words : ℕ → List ℕ
 new_words replicas = slice_set (replicate CELL_WORDS 0) COUNT_WORD replicas
 
--- where the first of the two words of an entry is beside the cell, in a ring
+-- the index of the first of the two words of an entry beside the cell, in a ring
 abbrev pub spot : ℕ → ℕ → ℕ
 spot ring place = 2 * RING * ring + 2 * (place % RING)
 
@@ -87,6 +87,7 @@ abbrev pub rings_after : ℕ → List ℕ → LogEvent → List ℕ
 rings_after ring rings (Append batch) = rings ++ replicate (length batch) ring
 rings_after ring rings (Advance replica to) = rings
 
+-- the history and the rings after an event of a pass with this ring
 abbrev pub stored_after_event : ℕ → Stored → LogEvent → Stored
 stored_after_event ring stored event = record { history = stored.history ++ event ∷ []; rings = rings_after ring stored.rings event }
 
@@ -95,7 +96,7 @@ abbrev pub stored_after : ℕ → Stored → List LogEvent → Stored
 stored_after ring stored [] = stored
 stored_after ring stored (event ∷ events) = stored_after ring (stored_after_event ring stored event) events
 
--- of the entries of a batch, the ring of the one before each: the first follows what was there
+-- the ring of the one before each entry of a batch: the first follows what was there
 abbrev pub link : ℕ → ℕ → ℕ → ℕ
 link before ring zero = before
 link before ring (suc i) = ring

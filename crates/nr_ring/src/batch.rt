@@ -78,7 +78,7 @@ pub(crate) fn why_not(head: &[u64; HEAD_WORDS], count: u64, places: u64) -> Appe
     }
 }
 
-/// Where the first of the two words of an entry is, which lies in this ring at this place of the log.
+/// The index of the first of the two words of the entry that lies in this ring at this place of the log.
 fn spot(ring: u64, place: u64) -> usize
     requires { ring < 128 }
     ensures { result ≡ spot ring place }

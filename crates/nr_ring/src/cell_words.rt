@@ -69,7 +69,7 @@ pub fn appends_need_their_batch()
         ⊎ IsOfBatch ring (last_ring x) (tail (log_after replicas x.history)) batch at word }
 {}
 
-/// Where each replica has room for so many entries more, no word is needed at their places, in whatever ring.
+/// If each replica has room for so many entries more, no word is needed at their places, in whatever ring.
 pub fn places_of_a_batch_are_free()
     ensures { (replicas ring count i k : ℕ) (x : Stored) (other : ℕ)
         → AllKeepUp (log_after replicas x.history) count → i < count → k < 2

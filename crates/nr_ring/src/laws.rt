@@ -37,7 +37,7 @@ pub fn equal_tails_mean_no_event()
         → HasSameTails (log_after_events log events) log → events ≡ [] }
 {}
 
-/// Where there was no advance of a replica, its local tail is as it was.
+/// If there was no advance of a replica, its local tail is as it was.
 pub fn local_tails_rise_by_advances()
     ensures { (replicas replica : ℕ) (events seen : List LogEvent)
         → HasSeenAdvances replica events seen

@@ -174,8 +174,8 @@ impl<J: LogName> RingLog<J> {
         self.cell.look_as::<Looking<J>>(pass);
     }
 
-    /// Raises the local tail of the replica that the pass owns to a place, and the completed tail to it where that is lower.
-    /// Where the local tail is there already, nothing is exchanged. It never waits.
+    /// Raises the local tail of the replica that the pass owns to a place, and the completed tail to it if that is lower.
+    /// If the local tail is there already, nothing is exchanged. It never waits.
     ///
     /// # Errors
     ///

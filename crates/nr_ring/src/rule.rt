@@ -140,7 +140,7 @@ impl Join<View> for Gathers {
     ghost spent = { empty_view };
 }
 
-/// That the view is one that a pass has.
+/// The view is one that a pass has.
 pub struct Existing;
 
 impl CellOutcome<View, Stored> for Existing {

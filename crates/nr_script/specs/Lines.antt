@@ -22,6 +22,7 @@ pub record SpellsRequest (depth : Depth) (words : List (List ℕ)) (thread : ℕ
   pub thread_fits : thread < 64
   pub query_is : SpellsQuery depth asks query
 
+-- the words of an act: its name, and its number if it has one
 abbrev pub act_words : Act → List (List ℕ)
 act_words Call = codes "call" ∷ []
 act_words Post = codes "post" ∷ []
@@ -43,6 +44,7 @@ act_number (Collect from) = from
 act_number (Answer to) = to
 act_number act = 0
 
+-- the words are those of an act, whose number is below 64
 pub record SpellsAct (words : List (List ℕ)) (act : Act) : Type 0 where
   pub words_are : words ≡ act_words act
   pub number_fits : act_number act < 64
@@ -58,6 +60,7 @@ pub record SpellsStep (words : List (List ℕ)) (step : Step) : Type 0 where
 abbrev pub IsPassedOver : List ℕ → Type 0
 IsPassedOver line = (line ≡ []) ⊎ ((rest : List ℕ) × (line ≡ codes "#" ++ rest))
 
+-- what a line says: nothing, a request of a thread, or a step
 abbrev pub Says : Depth → List ℕ → Line → Type 0
 Says depth line says.PassedOver = IsPassedOver line
 Says depth line (says.Request thread query) = SpellsRequest depth (words line) thread query

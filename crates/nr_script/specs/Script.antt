@@ -11,18 +11,21 @@ use Rattle.nr_script.specs.declared.line.Line.TheVariants as says
 use Rattle.nr_script.specs.declared.script.Script.{Script}
 use Rattle.nr_script.specs.declared.script.TheConstants.{SCRIPT_STEPS}
 
--- each request with its thread, and each step, in the order of the lines
+-- the request of a line, with its thread, if it has one
 abbrev pub request_in : Line → List (ℕ × Query)
 request_in (says.Request thread query) = (thread, query) ∷ []
 request_in line = []
 
+-- each request with its thread, in the order of the lines
 abbrev pub asked : List Line → List (ℕ × Query)
 asked said = flat_map request_in said
 
+-- the step of a line, if it has one
 abbrev pub step_in : Line → List Step
 step_in (says.Step step) = step ∷ []
 step_in line = []
 
+-- each step, in the order of the lines
 abbrev pub steps_of : List Line → List Step
 steps_of said = flat_map step_in said
 
@@ -34,11 +37,12 @@ thread_count said = fold (λ most it. max most (it.0 + 1)) 1 (asked said)
 abbrev pub requests_by : List Line → ℕ → List Query
 requests_by said thread = map (λ it. it.1) (filter (λ it. it.0 == thread) (asked said))
 
--- the first line that is a step, counted from 1
+-- whether a line is a step
 abbrev pub is_step : Line → Bool
 is_step (says.Step step) = true
 is_step line = false
 
+-- the first line that is a step, counted from 1
 abbrev pub first_step_in : List Line → Option ℕ
 first_step_in said = position_from is_step 1 said
 

@@ -7,7 +7,7 @@ pub trait SlotRule {
     ghost use Rattle.vs_types.specs.declared.op.Op.{Op};
     ghost use Rattle.nr_slots.specs.Updates.{Answered};
 
-    /// Of a thread, the number of its call, and its update.
+    /// A thread's number, that of its call, and its update.
     ghost posted: { ℕ → ℕ → Op → Type 0 };
 
     ghost answered: { Answered → Type 0 };

@@ -4,7 +4,7 @@ ghost use Rattle.std.specs.Prelude.{◌≡◌, ◌≢◌, OnOk, OnErr, IfSome, I
 use crate::answered::Answered;
 use crate::waiting::Waiting;
 
-/// Where one thread puts its update and finds the answer.
+/// The place where one thread puts its update and finds the answer.
 #[derive(Clone, Copy, Debug, PartialEq, Eq)]
 pub enum Slot {
     /// The thread has no update.

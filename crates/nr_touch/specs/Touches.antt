@@ -25,8 +25,8 @@ IsAnsweredBefore trace place event = HasPlaced trace place (λ call. (reply : �
 abbrev pub IsMadeAfter : Recording → ℕ → ℕ → Type 0
 IsMadeAfter trace place event = HasPlaced trace place (λ call. event < call)
 
--- a touch may be answered from the first entries of the log, this many: they have each update that changes how its address looks
--- and was answered before it was made, and none that changes that and was made after it was answered
+-- a touch may be answered from the first entries of the log, this many. They have each update that changes how its address looks and was
+-- answered before it was made. They have none that changes that and was made after it was answered
 pub record IsAllowedPrefix (start : Space) (trace : Recording) (touch : Touch) (n : ℕ) : Type 0 where
   pub within : n ≤ length trace.log
   pub flushed : (place : ℕ) → ChangesLook start trace touch.address place → IsAnsweredBefore trace place touch.made → place < n
@@ -45,8 +45,8 @@ abbrev pub IsOfQuietPage : Space → Recording → Touch → Type 0
 IsOfQuietPage start trace touch = (place : ℕ) → ChangesLook start trace touch.address place
     → IsAnsweredBefore trace place touch.made ⊎ IsMadeAfter trace place touch.answered
 
--- after so many entries an access would be answered that is made and answered as the touch is: they have all that is known by a
--- reply before it was made, and no update that was made after it was answered
+-- after so many entries an access would be answered that is made and answered as the touch is. They have all that is known by a reply
+-- before it was made, and no update that was made after it was answered
 pub record IsOfThePresent (trace : Recording) (touch : Touch) (n : ℕ) : Type 0 where
   pub within : n ≤ length trace.log
   pub known : floor trace touch.made ≤ n

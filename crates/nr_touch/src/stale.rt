@@ -117,7 +117,7 @@ fn changes_of(alloc: Global, changes: &[PlacedChange]) -> Result<Vec<Change>, Me
 /// of the log, so many that they have each update that changes how the address looks and was answered before the touch was made,
 /// and none that changes it and was made after the touch was answered. `None` where each touch is right. Gives the start back too.
 ///
-/// The touches lie in the trace, whose space begins with this start. Of a trace whose log isn't clean nothing is said but that the
+/// The touches lie in the trace, whose space begins with this start. If the trace's log isn't clean, nothing is said but that the
 /// start comes back. It takes time for the events, the log and the touches, and not for the pages of the start: the updates of the
 /// log are done on it, and then undone. Allocates a table of four bytes for each event, and 156 bytes for each update that changes
 /// the space.

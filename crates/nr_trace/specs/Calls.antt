@@ -8,7 +8,7 @@ use Rattle.nr_trace.specs.Recording.{Recording}
 use Rattle.nr_trace.specs.declared.event.Event.{Event}
 use Rattle.nr_trace.specs.declared.event.Event.TheVariants.{Call, Reply, Touch}
 
--- who makes a call, where, and what it asks; and whether it is a touch, an access that a processor made through its TLB
+-- the maker of a call, its replica, and what it asks; and whether it is a touch, an access that a processor made through its TLB
 pub record Invocation : Type 0 where
   pub replica : ℕ
   pub thread : ℕ
@@ -94,8 +94,8 @@ Answers trace index call = IsSome (option_and_then (names call) (reply_of trace 
 abbrev pub Precedes : Recording → ℕ → ℕ → Type 0
 Precedes trace first second = IsCall trace second × (index : ℕ) × (index < second) × Answers trace index first
 
--- the events are those of threads that wait for each reply: every reply answers an earlier call, a call has one reply at most, and of
--- two calls of one thread a reply to the first comes before the second
+-- the events are those of threads that wait for each reply. Every reply answers an earlier call, a call has one reply at most, and of two
+-- calls of one thread a reply to the first comes before the second
 pub record IsWellFormedHistory (trace : Recording) : Type 0 where
   pub of_calls : (index : ℕ) (reply : Response) → reply_of trace index ≡ Some reply → (reply.call < index) × IsCall trace reply.call
   pub once : (first second call : ℕ) → Answers trace first call → Answers trace second call → first ≡ second

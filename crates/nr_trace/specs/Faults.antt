@@ -91,7 +91,7 @@ HasFaultFrom start trace fault = ⊥
 abbrev pub HasFault : Recording → Fault → Type 0
 HasFault trace fault = HasFaultFrom no_pages trace fault
 
--- where a fault is: its pass, then its index in that pass, then its number. A start is looked at behind the format, and touches behind the
+-- the rank of a fault: its pass, then its index in that pass, then its number. A start is looked at behind the format, and touches behind the
 -- answers, which are compared in the recorded order
 abbrev pub rank : Recording → Fault → List ℕ
 rank trace (Format fault) = 1 ∷ 0 ∷ 1 ∷ []
@@ -119,6 +119,7 @@ rank trace (ReservedBit replica number index) = 8 ∷ replica ∷ 15 ∷ []
 rank trace (StrayFrame replica number) = 8 ∷ replica ∷ 16 ∷ []
 rank trace (Differs replica address) = 8 ∷ replica ∷ 17 ∷ []
 
+-- the first fault comes before the second one
 abbrev pub Earlier : Recording → Fault → Fault → Type 0
 Earlier trace first second = slice_cmp nat_cmp (rank trace first) (rank trace second) ≡ Less
 
@@ -127,6 +128,7 @@ pub record IsFirstFrom (start : Space) (trace : Recording) (fault : Fault) : Typ
   pub holds : HasFaultFrom start trace fault
   pub none_earlier : (other : Fault) → HasFaultFrom start trace other → Earlier trace other fault → ⊥
 
+-- the same from no pages on
 abbrev pub IsFirst : Recording → Fault → Type 0
 IsFirst trace fault = IsFirstFrom no_pages trace fault
 

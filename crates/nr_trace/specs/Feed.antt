@@ -23,6 +23,7 @@ abbrev pub fault_of : Fail Refusal → Fail Format
 fault_of Memory = Memory
 fault_of (Refused refusal) = Refused refusal.fault
 
+-- the answer with the fault alone, where it is a refusal
 abbrev pub fault_alone : {A : Type 0} → Result A (Fail Refusal) → Result A (Fail Format)
 fault_alone (Ok value) = Ok value
 fault_alone (Err fail) = Err (fault_of fail)
@@ -42,6 +43,7 @@ pub record IsCutOff (form : Form) (bytes : List ℕ) (refusal : Refusal) : Type 
 abbrev pub LastsAs : Form → List ℕ → Format → Type 0
 LastsAs form bytes fault = (rest : List ℕ) → HasFaultAs form (bytes ++ rest) fault
 
+-- as bytes of a trace they have the fault, whatever comes after them
 abbrev pub HasLastingFault : List ℕ → Format → Type 0
 HasLastingFault bytes fault = LastsAs forms.Trace bytes fault
 
@@ -49,6 +51,7 @@ HasLastingFault bytes fault = LastsAs forms.Trace bytes fault
 abbrev pub IsFaultlessYet : Form → List ℕ → Type 0
 IsFaultlessYet form bytes = (fault : Format) → HasFaultAs form bytes fault → fault ≡ Truncated
 
+-- nothing is wrong with the bytes of a trace yet, but that there may be too few
 abbrev pub HasNoFaultYet : List ℕ → Type 0
 HasNoFaultYet bytes = IsFaultlessYet forms.Trace bytes
 

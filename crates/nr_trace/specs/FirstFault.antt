@@ -64,6 +64,7 @@ pub record IsCounts (version : Version) (numbers : Counts) : Type 0 where
   pub few_events : numbers.events ≤ CALLS
   pub few_start : numbers.start ≤ most_start version
 
+-- the numbers of the head of a dump
 pub record IsDumpHead (version : Version) (head : DumpHead) : Type 0 where
   pub applied : head.applied < 2 ^ 32
   pub some_frame : least_frames version ≤ head.frames
@@ -87,9 +88,11 @@ pub record OfFrames : Type 0 where
   pub number : ℕ → TraceUnit
   pub words : ℕ → TraceUnit
 
+-- the frames of a start
 abbrev pub of_start : OfFrames
 of_start = record { fault = BadStart; number = units.StartNumber; words = units.StartWords }
 
+-- the frames of the dump of a replica
 abbrev pub of_dump : ℕ → OfFrames
 of_dump replica = record { fault = BadFrame replica; number = units.FrameNumber replica; words = units.FrameWords replica }
 
@@ -127,11 +130,12 @@ AtStart zero Behind rest refusal = Behind rest refusal
 AtStart (suc frames) Behind rest refusal =
     AtUnit 8 units.StartRoot None (λ root. root < 2 ^ 64) frame_number (λ _. AtFrames of_start 0 (suc frames) None Behind) rest refusal
 
--- the counts, and how many bytes they have
+-- the unit that has the counts
 abbrev pub counts_unit : Version → TraceUnit
 counts_unit Segment = units.SegmentCounts
 counts_unit version = units.Counts
 
+-- how many bytes the counts have
 abbrev pub counts_bytes : Version → ℕ
 counts_bytes Segment = 18
 counts_bytes version = 14
@@ -180,5 +184,6 @@ HasFaultAs form bytes fault = (unit : TraceUnit) × (left : ℕ) × HasRefusalAs
 abbrev pub HasFormatFault : List ℕ → Format → Type 0
 HasFormatFault bytes fault = HasFaultAs forms.Trace bytes fault
 
+-- the first fault of the bytes as a segment
 abbrev pub HasSegmentFault : Option Layout → List ℕ → Format → Type 0
 HasSegmentFault before bytes fault = HasFaultAs (forms.Segment before) bytes fault

@@ -35,5 +35,6 @@ HasRank trace fault = ⊤
 abbrev pub IsFaultlessFrom : Space → Recording → Type 0
 IsFaultlessFrom start trace = (fault : Fault) → HasFaultFrom start trace fault → ⊥
 
+-- no fault holds from no pages on
 abbrev pub IsFaultless : Recording → Type 0
 IsFaultless trace = IsFaultlessFrom no_pages trace

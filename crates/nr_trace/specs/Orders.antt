@@ -48,7 +48,7 @@ pub record HasItsCalls (trace : Recording) (order : List ℕ) : Type 0 where
   pub answered : (call : ℕ) → IsOrdered trace call → IsAnswered trace call → Contains order call
   pub others : (call : ℕ) → Contains order call → IsAnswered trace call ⊎ IsUpdate trace call
 
--- of two members, one that was answered before the other was made comes first
+-- a member that was answered before another was made comes before it
 abbrev pub KeepsPrecedence : Recording → List ℕ → Type 0
 KeepsPrecedence trace order = (first second : ℕ) → Contains order first → Contains order second → Precedes trace first second
     → Contains (before second order) first
@@ -68,11 +68,12 @@ pub record IsLegalFrom (start : Space) (trace : Recording) (order : List ℕ) : 
   pub precedence : KeepsPrecedence trace order
   pub answers : HasAnswersFrom start trace order
 
+-- a legal order from no pages on
 abbrev pub IsLegalOrder : Recording → List ℕ → Type 0
 IsLegalOrder trace order = IsLegalFrom no_pages trace order
 
--- the dump of a replica fits an order: it translates as the space after the first updates, as many as it has applied, and
--- among these are all on which an answer given at the replica rests
+-- the dump of a replica fits an order. It translates as the space after the first updates, as many as it has applied, and among these are
+-- all on which an answer given at the replica rests
 pub record FitsFrom (start : Space) (trace : Recording) (order : List ℕ) (replica : ℕ) (dump : Image) : Type 0 where
   pub enough : dump.applied ≤ length (updates trace order)
   pub translates : TranslatesAs trace.layout.depth dump.frames dump.root (space_from start trace (take dump.applied (updates trace order)))
@@ -81,6 +82,7 @@ pub record FitsFrom (start : Space) (trace : Recording) (order : List ℕ) (repl
   pub own_reads : (call earlier : ℕ) (made : Invocation) → call_of trace call ≡ Some made → made.replica ≡ replica → IsRead trace call → IsAnswered trace call
       → IsUpdate trace earlier → Contains (before call order) earlier → Contains (take dump.applied (updates trace order)) earlier
 
+-- the dump of a replica fits the order, which begins with no pages
 abbrev pub FitsOrder : Recording → List ℕ → ℕ → Image → Type 0
 FitsOrder trace order replica dump = FitsFrom no_pages trace order replica dump
 

@@ -29,6 +29,7 @@ HasFrames version dump =
     (least_frames version ≤ finite.len dump.frames) × (finite.len dump.frames ≤ most_frames version)
     × (finite.len dump.frames ≡ 0 → (dump.applied ≡ 0) × (dump.root ≡ 0))
 
+-- the dump lacks frames, or has more than the version allows
 abbrev pub LacksFrames : Version → Image → Type 0
 LacksFrames version dump = HasFrames version dump → ⊥
 

@@ -15,7 +15,7 @@ use Rattle.nr_trace.specs.declared.version.Version.TheVariants.{Segment}
 use Rattle.nr_trace.specs.declared.event.Event.{Event}
 use Rattle.nr_trace.specs.declared.event.Event.TheVariants.{Call, Reply, Touch}
 
--- the version of the format, the layout of the service, the page table with which the run begins where that is given, the call number at
+-- the version of the format, the layout of the service, and the page table with which the run begins if that is given; the call number at
 -- each place of the log, the events in order, and a dump of each replica
 pub record Recording : Type 0 where
   pub version : Version

@@ -91,7 +91,7 @@ pub fn recorded_order_is_legal()
         → IsLegalFrom start trace (recorded_order trace) }
 {}
 
-/// Of two faults that hold of a trace from a start on, one is earlier, or they are one.
+/// If two faults hold of a trace from a start on, one is earlier, or they are one.
 pub fn faults_are_ordered()
     ensures { (start : Space) (trace : Recording) (first second : Fault) → HasRank trace first
         → HasRank trace second → HasFaultFrom start trace first → HasFaultFrom start trace second
@@ -143,7 +143,7 @@ pub fn recorded_order_by_entries()
         ≡ space_from start trace (take n trace.log) }
 {}
 
-/// Of two wrong answers the one whose call comes before the other's is earlier.
+/// The earlier one of two wrong answers is that whose call comes before the other's.
 pub fn earlier_wrong_answer()
     ensures { (start : Space) (trace : Recording) (i j : ℕ) → HasCleanLog trace
         → HasFaultFrom start trace (WrongAnswer i) → HasFaultFrom start trace (WrongAnswer j)

@@ -20,6 +20,7 @@ with_dump fault replica number word = record { fault = fault; format = 0; index 
 abbrev pub with_format : ℕ → ℕ → ℕ → Finding
 with_format format replica index = record { fault = 1; format = format; index = index; replica = replica; number = 0; calls = 0 }
 
+-- the numbers of a fault of the format
 unfoldable pub format_numbers : Format → Finding
 format_numbers formats.Truncated = with_format 1 0 0
 format_numbers formats.BadMagic = with_format 2 0 0
@@ -58,7 +59,7 @@ fault_numbers (faults.StartBeyond base) = with_dump 22 0 base 0
 fault_numbers (faults.StartDiffers address) = with_dump 23 0 address 0
 fault_numbers (faults.Stale call) = with_index 24 call
 
--- of yes how many calls the order has; of no the numbers of the fault
+-- how many calls the order of a yes has; the numbers of the fault of a no
 abbrev pub finding_of : Verdict → Finding
 finding_of (Yes order) = record { fault = 0; format = 0; index = 0; replica = 0; number = 0; calls = length order }
 finding_of (No fault) = fault_numbers fault

@@ -12,7 +12,7 @@ use nr_trace::{Fault, Format};
 pub struct Finding {
     /// 0 where the trace is right, else the number of the fault: 1 to 17.
     pub fault: u32,
-    /// Of fault 1 what is wrong with the bytes: 1 to 7.
+    /// What is wrong with the bytes, for fault 1: 1 to 7.
     pub format: u32,
     /// The index of an event, a call, a place of the log, or a frame or word of a dump.
     pub index: u32,

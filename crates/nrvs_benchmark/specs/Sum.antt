@@ -6,9 +6,11 @@ use Rattle.vs_types.specs.declared.page.Size.{Size}
 use Rattle.vs_types.specs.declared.answer.Answer.{Answer}
 use Rattle.vs_types.specs.declared.answer.Answer.TheVariants.{Done, Overlap, Full, Removed, NotMapped, Inside, Changed, Mapped, Allowed, Fault}
 
+-- 1 for true, 0 for false
 abbrev bit : Bool → ℕ
 bit b = if b then 1 else 0
 
+-- the number of rights: write 1, user 2, exec 4
 abbrev pub rights_number : Rights → ℕ
 rights_number rights = bit rights.write + 2 * bit rights.user + 4 * bit rights.exec
 

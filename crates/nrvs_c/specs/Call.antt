@@ -11,7 +11,7 @@ use Rattle.nrvs_c.specs.Table.{depth_in, lent_table, IsOpen, IsUsable}
 use Rattle.nrvs_c.specs.declared.reply.Reply.{Reply}
 use Rattle.nrvs_c.specs.declared.table.Table.{Table}
 
--- where the handle was made over as much memory, its page table is in it
+-- if the handle was made over as much memory, its page table is in it
 abbrev pub IsSound : Table → List (List ℕ) → List FrameMark → Type 0
 IsSound handle words marks = IsUsable handle words marks → IsOpen handle words marks
 

@@ -5,6 +5,7 @@ use Rattle.vs_types.specs.declared.answer.Answer.{Answer}
 use Rattle.vs_types.specs.declared.answer.Answer.TheVariants.{Done, Overlap, Full, Removed, NotMapped, Inside, Changed, Mapped, Allowed, Fault}
 use Rattle.nrvs_c.specs.declared.reply.Reply.{Reply}
 
+-- a reply with a number alone
 abbrev numbered_reply : Answer → ℕ → Reply
 numbered_reply answer number = record { code = answer_code answer; size = 0; rights = 0; number = number }
 

@@ -28,8 +28,8 @@ is_in_range handle =
     && nat_le handle.base handle.root && nat_lt handle.root (handle.base + handle.taken)
     && (nat_eq handle.given 0 || nat_lt handle.last handle.taken)
 
--- what is wrong with a handle and as much memory: 1 where it has no magic word or isn't in range, so was never made, 3 where it was made
--- over another number of frames, 4 where there are fewer marks than frames, and else 0
+-- what is wrong with a handle and as much memory. 1: it has no magic word or isn't in range, so was never made. 3: it was made over another
+-- number of frames. 4: there are fewer marks than frames. Else 0
 abbrev pub lent_status : Table → List (List ℕ) → List FrameMark → ℕ
 lent_status handle words marks =
     if nat_eq handle.magic MADE && is_in_range handle then

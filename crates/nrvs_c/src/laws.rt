@@ -10,7 +10,7 @@ ghost use Rattle.nrvs_c.specs.Flags.{IsLentSameButFlags};
 ghost use Rattle.nrvs_c.specs.Table.{lent_status, lent_table};
 ghost use Rattle.nrvs_c.specs.declared.table.Table.{Table};
 
-/// A processor that walks the tables sets the accessed flag and the dirty flag in entries that are present. Where these flags
+/// A processor that walks the tables sets the accessed flag and the dirty flag in entries that are present. If these flags
 /// change in the words lent, and nothing else, a handle can be used with them if it could before, its page table is in them,
 /// and it is that of the same space.
 pub fn flags_keep_the_table()

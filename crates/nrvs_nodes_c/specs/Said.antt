@@ -11,6 +11,7 @@ use Rattle.nr_machine.specs.declared.words.Word.TheVariants.{Head, Completed, Lo
 use Rattle.nr_machine.specs.Actor.{no_update}
 use Rattle.nrvs_nodes_c.specs.declared.said.Said.{Said}
 
+-- the numbers of a word alone
 abbrev numbered : ℕ → ℕ → ℕ → Said
 numbered word node index = record { code = 0; word = word; node = node; index = index; value = 0; new_value = 0; entry = no_update }
 

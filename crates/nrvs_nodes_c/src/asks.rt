@@ -101,7 +101,7 @@ pub(crate) fn packed(high: u64, low: u64) -> u64
     128 * high + low
 }
 
-/// Where the entry of a place lies in a ring.
+/// The index of a place's entry in a ring.
 fn index_of(place: u64) -> u64
     ensures { result ≡ place % 16 }
 {

@@ -10,7 +10,7 @@ use nr_machine::{Asked, Operation, Update, Word};
 pub struct Said {
     /// 0 nothing, 1 a load, 2 a store, 3 an exchange, 4 a maximum, 5 that an entry is applied, 6 that a node takes entries, 7 broken.
     pub code: u32,
-    /// Of the word: 0 head, 1 completed, 2 local, 3 done, 4 and 5 the first and second word of an entry.
+    /// Which word: 0 head, 1 completed, 2 local, 3 done, 4 and 5 the first and second word of an entry.
     pub word: u32,
     /// The number of the word's node, or of the one that lags.
     pub node: u64,

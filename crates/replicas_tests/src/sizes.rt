@@ -90,7 +90,7 @@ fn as_many_tables_as_can_be(rt: HostRuntime) {
     }
 }
 
-/// Where there is a table too few a map is answered how many it takes, at each replica.
+/// If there is a table too few, a map is answered how many it takes, at each replica.
 fn map_with_too_few<R: Wait + Abort + Threads + Sync>(
     rt: &R,
     alloc: Global,

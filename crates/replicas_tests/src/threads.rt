@@ -228,7 +228,7 @@ fn drawn_config(draws: &mut Draws, replicas: u8, threads: u16) -> Result<Config,
     Config::new(depth, replicas, threads, tables)
 }
 
-/// A script of drawn calls for each thread. Where some are to stop, one in eight has few turns.
+/// A script of drawn calls for each thread. If some are to stop, one in eight has few turns.
 fn drawn_scripts(
     rt: &impl Abort,
     alloc: Global,

@@ -85,7 +85,7 @@ fn meet_a_full_ring<R: Wait + Abort + Threads + Sync>(
     .assert(rt, alloc);
 }
 
-/// Where the ring is full each replica catches up in a turn of its own, by number; then come a poll, the batch, and the poll that finds
+/// If the ring is full, each replica catches up in a turn of its own, by number; then come a poll, the batch, and the poll that finds
 /// the answer.
 #[test]
 fn full_ring_takes_a_turn_for_each_replica(rt: HostRuntime) {

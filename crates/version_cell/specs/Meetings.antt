@@ -3,7 +3,7 @@ use Rattle.std.specs.Prelude.{◌≡◌, ◌⊎◌, ℕ, ◌<◌, ◌≤◌, Lis
 use mathlib.Core.Option.{some}
 use lib.ListN.{get_elem?}
 
--- of the values that two passes saw last, the one that has come further: that of the greater code
+-- the one of the values that two passes saw last that has come further: that of the greater code
 abbrev pub HaveComeFurther : {X : Type 0} → (X → ℕ) → X → X → X → Type 0
 HaveComeFurther code first second value = ((code first < code second) × (value ≡ second)) ⊎ ((code second ≤ code first) × (value ≡ first))
 

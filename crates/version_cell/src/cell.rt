@@ -189,7 +189,7 @@ impl<V, X, P: CellRule<V, X>, const H: usize> VersionCell<V, X, P, H> {
         made
     }
 
-    /// Hands one pass what another has seen: it takes in a part that is cut off the other's view. Where the other's value has come
+    /// Hands one pass what another has seen: it takes in a part that is cut off the other's view. If the other's value has come
     /// further, it is then its own. It looks at nothing, and waits for nobody.
     pub fn meet_as<S: Split<V> + Join<V>, M: CellOutcome<V, X>>(
         &self,

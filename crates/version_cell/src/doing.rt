@@ -7,7 +7,7 @@ pub struct Doing<V, X> {
     pub value: X,
     /// Whether it saw that value at its own last look or exchange, and not by meeting another.
     pub fresh: bool,
-    /// Where the words that belong to it begin.
+    /// The index at which the words that belong to it begin.
     pub from: u64,
     /// What lies in them.
     pub own: LinkedList<u64>,

@@ -1,4 +1,4 @@
-//! Where things lie in the table of a cell.
+//! The places of things in the table of a cell.
 
 /// A word that is never written. A pass loads it where it takes a step that looks at nothing.
 pub(crate) const STILL: usize = 0;

@@ -6,6 +6,7 @@ use Rattle.vs_types.specs.declared.frame.TheConstants.{FRAME_WORDS}
 use Rattle.vs_types.specs.declared.limits.TheConstants.{TABLES}
 use Rattle.vs_types.specs.Frame.{IsFrame}
 
+-- the frames in use, by index, each with its words
 abbrev pub Store : Type 0
 Store = finite.FinMap nat_cmp (List ℕ)
 
@@ -33,7 +34,7 @@ note_of notes index = unwrap_or (finite.get notes index) 0
 abbrev pub Lenders : Type 0
 Lenders = List ℕ
 
--- where a store is: the number of frame 0, how many frames there are, in use or not, and who lent it its memory
+-- the place of a store: the number of frame 0, how many frames there are, in use or not, and who lent it its memory
 pub record StorePlace : Type 0 where
   pub base : ℕ
   pub size : ℕ

@@ -17,7 +17,7 @@ pub trait FrameStore {
     /// The note of each frame in use, by index: a small number of its owner's.
     ghost notes: { Self → Notes };
 
-    /// Where it is: the number of frame 0, how many frames there are, and who lent it its memory. No call changes it.
+    /// Its place: the number of frame 0, how many frames there are, and who lent it its memory. No call changes it.
     ghost place: { Self → StorePlace };
 
     /// How many frames there are, in use or not: 0 to 4,096.

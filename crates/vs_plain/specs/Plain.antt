@@ -6,6 +6,7 @@ use Rattle.vs_types.specs.declared.depth.Depth.{Depth}
 use Rattle.vs_types.specs.declared.op.Action.{Action}
 use Rattle.vs_types.specs.declared.answer.Answer.{Answer}
 
+-- a space, its depth, and the most tables that it may have
 pub record BoundedSpace : Type 0 where
   pub depth : Depth
   pub limit : ℕ

@@ -3,7 +3,7 @@
 /// The length of a path: an index for each level that there can be, of which 0 is of none.
 pub(crate) const PATH_LENGTH: usize = 6;
 
-/// Where a descent through the tables ends.
+/// The end of a descent through the tables.
 #[derive(Clone, Copy)]
 pub(crate) struct Descent {
     /// The frame numbers of the tables on the path, by level.

@@ -13,6 +13,7 @@ use Rattle.vs_text.specs.Words.{access_text, hexadecimal, mode_text, rights_text
 use Rattle.vs_text.specs.declared.name.Name.{Name}
 use Rattle.vs_text.specs.declared.name.Name.TheVariants as names
 
+-- the name of a kind of request
 abbrev pub name_text : Name → List ℕ
 name_text names.Map = codes "map"
 name_text names.Unmap = codes "unmap"
@@ -20,6 +21,7 @@ name_text names.Protect = codes "protect"
 name_text names.Resolve = codes "resolve"
 name_text names.Access = codes "access"
 
+-- the kind of a request
 abbrev pub name_of : Query → Name
 name_of (queries.Update (Map page)) = names.Map
 name_of (queries.Update (Unmap base)) = names.Unmap

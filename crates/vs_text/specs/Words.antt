@@ -20,6 +20,7 @@ parts separator text = slice_split (λ byte. byte == separator) text
 abbrev pub words : List ℕ → List (List ℕ)
 words text = parts 32 text
 
+-- the sign between two words: one space
 abbrev pub space : List ℕ
 space = codes " "
 
@@ -39,6 +40,7 @@ pub record SpellsAddress (word : List ℕ) (address : ℕ) : Type 0 where
 abbrev pub hexadecimal : ℕ → List ℕ
 hexadecimal address = codes "0x" ++ digits 16 false address
 
+-- as a size is written: 4K, 2M or 1G
 abbrev pub size_text : Size → List ℕ
 size_text K4 = codes "4K"
 size_text M2 = codes "2M"
@@ -56,10 +58,12 @@ rights_text rights = mark rights.write (codes "w") ++ (mark rights.user (codes "
 abbrev pub page_text : ℕ → Size → Rights → List ℕ
 page_text phys size rights = hexadecimal phys ++ (space ++ (size_text size ++ (space ++ rights_text rights)))
 
+-- as a mode is written: s or u
 abbrev pub mode_text : Mode → List ℕ
 mode_text Supervisor = codes "s"
 mode_text User = codes "u"
 
+-- as what an access does is written: r, w or x
 abbrev pub access_text : Access → List ℕ
 access_text Read = codes "r"
 access_text Write = codes "w"

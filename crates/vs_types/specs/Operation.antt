@@ -41,6 +41,7 @@ base_fault depth base =
     else if not (base % 4096 == 0) then Some Unaligned
     else None
 
+-- the first thing that is wrong with an action
 abbrev pub action_fault : Depth → Action → Option BadOp
 action_fault depth (Map page) = page_fault depth page
 action_fault depth (Unmap base) = base_fault depth base

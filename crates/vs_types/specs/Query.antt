@@ -24,6 +24,7 @@ IsSomeQuery query = (depth : Depth) × IsQuery depth query
 abbrev address_fault : Depth → ℕ → Option BadOp
 address_fault depth address = if not (is_canonical depth address) then Some NotCanonical else None
 
+-- the first thing that is wrong with a query
 abbrev pub query_fault : Depth → Query → Option BadOp
 query_fault depth (Update action) = action_fault depth action
 query_fault depth (Resolve address) = address_fault depth address

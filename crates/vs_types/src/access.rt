@@ -11,7 +11,7 @@ ghost use Rattle.vs_types.specs.declared.page.Size.{Size};
 use crate::answer::Answer;
 use crate::page::Rights;
 
-/// Who makes an access (Intel SDM volume 3A, chapter "Paging": supervisor-mode and user-mode accesses).
+/// The maker of an access (Intel SDM volume 3A, chapter "Paging": supervisor-mode and user-mode accesses).
 #[derive(Clone, Copy, Debug, PartialEq, Eq)]
 pub enum Mode {
     /// The kernel.

@@ -1,4 +1,4 @@
-//! That memory ran out, alone or among the faults of a call.
+//! Memory that ran out, alone or among the faults of a call.
 ghost use Rattle.std.specs.Prelude.{◌≡◌};
 ghost use Rattle.vs_types.specs.declared.refusal.Fail.TheVariants as fails;
 

@@ -31,7 +31,7 @@ pub data Visit : Type 0 where
 abbrev pub canonical_from : Depth → ℕ → ℕ
 canonical_from depth bits = if nat_lt bits (half_bytes depth) then bits else bits + (2 ^ 64 - 2 * half_bytes depth)
 
--- where a table is: its frame, the translated bits at which it begins, and what the entries above it allow
+-- the place of a table: its frame, the translated bits at which it begins, and what the entries above it allow
 pub record ReachedTable : Type 0 where
   pub number : ℕ
   pub start : ℕ
@@ -51,6 +51,7 @@ entry_visits depth level table index below (entry.Leaf phys own) =
 entry_visits depth level table index below (entry.Table number own) =
     below (record { number = number; start = table.start + index * entry_bytes level; rights = intersection table.rights own })
 
+-- the visits of the words of a table, or none if the frame is missing
 abbrev pub words_visits : Option (List ℕ) → (List ℕ → List Visit) → List Visit
 words_visits None go = []
 words_visits (Some words) go = go words
@@ -67,10 +68,12 @@ table_visits depth memory (suc level) table =
 abbrev pub traversal : Depth → Memory → ℕ → List Visit
 traversal depth memory root = table_visits depth memory (levels depth) (record { number = root; start = 0; rights = all_rights })
 
+-- the frame that a visit reaches, if it is one of a frame
 abbrev pub reached_by : Visit → Option ℕ
 reached_by (OfFrame number) = Some number
 reached_by _ = None
 
+-- the page that a visit finds, if it is one of a leaf
 abbrev pub found_by : Visit → Option Page
 found_by (OfLeaf page) = Some page
 found_by _ = None
@@ -96,6 +99,7 @@ visit_fault memory earlier (OfFrame number) =
 visit_fault memory earlier (OfLeaf page) = None
 visit_fault memory earlier (OfReservedBit number index) = Some (Reserved number index)
 
+-- the first fault, or else the second one
 abbrev or_else : Option WalkFault → Option WalkFault → Option WalkFault
 or_else (Some fault) other = Some fault
 or_else None other = other

@@ -27,7 +27,7 @@ enum Span {
 }
 
 /// The page table of a replica as it was after some entries of the log. It keeps its frames by rising number. The numbers
-/// are in one list, and the words of all frames in another. Of a frame with many zeros only the other words are kept, and
+/// are in one list, and the words of all frames in another. A frame with many zeros has only its other words kept, and
 /// the index of each in its frame.
 #[derive(Debug, Drop)]
 pub struct Dump {

@@ -42,11 +42,11 @@ pub(crate) struct NextWord {
     pub(crate) index: usize,
     /// The word, or 0 where there is none.
     pub(crate) word: u64,
-    /// Where the one after it lies among those that are kept, if the frame is kept so.
+    /// The index of the one after it among those that are kept, if the frame is kept so.
     pub(crate) next_place: usize,
 }
 
-/// Where the first of these places lies that is `start` or above. The search is over at once where that is `guess`.
+/// The index of the first of these places that is `start` or above. The search is over at once if that is `guess`.
 fn place_from(places: &[u16], start: usize, guess: usize) -> usize
     requires start { start ≤ FRAME_WORDS }
     requires rise { Rise 0 places.now FRAME_WORDS }
@@ -145,7 +145,7 @@ impl<'a> FrameWords<'a> {
         }
     }
 
-    /// That there are 512. It does nothing: a call that reads a field shows it.
+    /// Shows that there are 512. It does nothing: a call that reads a field shows it.
     fn has_512(&self)
         ensures { length self.now ≡ FRAME_WORDS }
     {

@@ -28,7 +28,7 @@ impl Dump {
     /// The dump of the page table whose root is the frame of number `root`, after `applied` entries of the log: just the
     /// frames that are reached from there, each with its words. Allocates memory for them.
     ///
-    /// Where the traversal meets no fault, at most 65,535 frames may be reached, with numbers below 2^40.
+    /// If the traversal meets no fault, at most 65,535 frames may be reached, with numbers below 2^40.
     ///
     /// # Errors
     ///

@@ -26,7 +26,7 @@ pub fn translates_as_one_space()
         → TranslatesAs depth memory root t → s ≡ t }
 {}
 
-/// Where a memory translates as a space, no walk of a canonical address meets a reserved bit or a frame that is missing.
+/// If a memory translates as a space, no walk of a canonical address meets a reserved bit or a frame that is missing.
 pub fn spaces_translate_without_fault()
     ensures reserved { (depth : Depth) (memory : Memory) (root : ℕ) (space : Space) (address : ℕ)
         → TranslatesAs depth memory root space
@@ -37,7 +37,7 @@ pub fn spaces_translate_without_fault()
 {}
 
 /// The walk of a canonical address ends as the found page that covers it says, and with no mapping where none does: at
-/// each address where the traversal meets no fault, and else where the walk meets none. Where it meets one, no found page
+/// each address if the traversal meets no fault, and else if the walk meets none. If it meets one, no found page
 /// covers the address.
 pub fn found_pages_are_the_walks()
     ensures faultless { (depth : Depth) (memory : Memory) (root address : ℕ) → AreWhole memory
@@ -74,8 +74,8 @@ pub fn found_pages_rise()
         → IsTrue (covers q address) → p ≡ q }
 {}
 
-/// The first frame that is reached is the root. Where the traversal meets no fault, each frame that is reached is in the
-/// memory, and none is reached twice. Where that is so and no reserved bit is met, there is no fault.
+/// The first frame that is reached is the root. If the traversal meets no fault, each frame that is reached is in the
+/// memory, and none is reached twice. If that is so and no reserved bit is met, there is no fault.
 pub fn reached_once()
     ensures root_first { (depth : Depth) (memory : Memory) (root : ℕ) → (others : List ℕ)
         × (reached (traversal depth memory root) ≡ root ∷ others) }
@@ -114,8 +114,8 @@ pub fn faults_are_met()
         × Contains (reached (traversal depth memory root)) number }
 {}
 
-/// Where the first fault of the traversal is a frame that is missing or a reserved bit, the walk of some canonical
-/// address ends there. Where there is no fault, no walk meets one. A frame that is reached twice ends no walk.
+/// If the first fault of the traversal is a frame that is missing or a reserved bit, the walk of some canonical
+/// address ends there. If there is no fault, no walk meets one. A frame that is reached twice ends no walk.
 pub fn faults_are_walked()
     ensures missing { (depth : Depth) (memory : Memory) (root number : ℕ) → AreWhole memory
         → walk_fault depth memory root ≡ Some (faults.Missing number)
@@ -132,7 +132,7 @@ pub fn faults_are_walked()
 {}
 
 /// Without a fault of the traversal, a memory translates as the space whose pages, by rising base, are those that are
-/// found. Where it translates as a space, the pages that are found are those of the space, and the first fault, if there
+/// found. If it translates as a space, the pages that are found are those of the space, and the first fault, if there
 /// is one, is a frame that is reached twice. Without a fault and with all found pages below physical 2^51 there is such a
 /// space.
 pub fn found_pages_are_the_space()

@@ -28,7 +28,7 @@ pub trait PageVisitor {
             → HasTaken self.new (pages ++ page ∷ [])) };
 }
 
-/// Where a table is: its level, its frame, the translated bits at which it begins, and what the entries above it
+/// The place of a table: its level, its frame, the translated bits at which it begins, and what the entries above it
 /// allow.
 #[derive(Clone, Copy)]
 struct TablePosition {

@@ -6,7 +6,7 @@ ghost use Rattle.vs_walk.specs.Walk.{walk};
 use crate::frames::Frames;
 use vs_types::{Depth, Entry, Meaning, Rights, Size, index_at};
 
-/// Where a walk through the tables ends (Intel SDM volume 3A, chapter "Paging").
+/// The end of a walk through the tables (Intel SDM volume 3A, chapter "Paging").
 #[derive(Clone, Copy, Debug, PartialEq, Eq)]
 pub enum Walk {
     /// An entry is absent.
@@ -30,7 +30,7 @@ pub enum WalkFault {
     Reserved(u64, u16),
 }
 
-/// Where the walk of a canonical address ends that begins at the table in the frame of number `root`. It allocates no
+/// The end of the walk of a canonical address that begins at the table in the frame of number `root`. It allocates no
 /// memory.
 pub fn translate<F: Frames>(frames: &F, root: u64, depth: Depth, address: u64) -> Walk
     requires { IsCanonical depth address }

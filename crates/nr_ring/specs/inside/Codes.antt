@@ -37,6 +37,7 @@ for_each of number (suc more) = of number ∷ for_each of (number + 1) more
 abbrev pub locals_in : List ℕ → List ℕ
 locals_in head = for_each (λ replica. slice_index head (LOCAL_WORDS + replica)) 0 REPLICAS
 
+-- the code of a log: of its tail, of the local tails of its replicas, and of how many these are
 abbrev pub code_of_log : Log → ℕ
 code_of_log log = code_of (tail log) (for_each (local_of log) 0 REPLICAS) (length log.locals)
 

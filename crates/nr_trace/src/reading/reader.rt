@@ -32,7 +32,7 @@ pub(crate) struct Parts {
     pub(crate) dumps: Vec<Dump>,
 }
 
-/// Whose dump is coming.
+/// The replica whose dump is coming.
 #[derive(Clone, Copy)]
 pub(crate) enum Owner {
     /// It is the start; so many places and events come after it.

@@ -9,7 +9,7 @@ use std::time::Clock;
 use vs_arena::{FRAME_WORDS, FrameMark, LentArena, RawArena, VecArena};
 use vs_types::Depth;
 
-/// Where the frames of the page table lie.
+/// The memory in which the frames of the page table lie.
 #[derive(Clone, Copy)]
 enum Store {
     /// In a vector.
@@ -40,7 +40,7 @@ struct Wanted {
     depth: Depth,
 }
 
-/// The first word is the number of rounds, up to 65,535, or one round where there is none. Where there are more, the first isn't timed.
+/// The first word is the number of rounds, up to 65,535, or one round if there is none. If there are more, the first isn't timed.
 /// After it `raw` asks for frames in one block of memory, or `lent` for frames that are lent, and then `five` for five levels.
 fn parse_words(words: &[String]) -> Result<Wanted, ProgFault> {
     let (rounds, (store, depth)) = match words {

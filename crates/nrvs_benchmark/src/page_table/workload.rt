@@ -64,7 +64,7 @@ impl Workload {
         }
     }
 
-    /// Where the page of this number begins. Sparse pages go by multiples of an odd number, over the 2^36 places of 4 KiB or the
+    /// The address at which the page of this number begins. Sparse pages go by multiples of an odd number, over the 2^36 places of 4 KiB or the
     /// 2^18 gibibytes that there are.
     fn base(self, number: u16, size: Size) -> u64 {
         let n = u64::from(number);

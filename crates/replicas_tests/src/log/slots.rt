@@ -18,7 +18,7 @@ enum Does {
     PostsInVain,
     /// Its update is answered.
     Answers,
-    /// That is refused.
+    /// This is refused.
     AnswersAgain,
     /// Another answer to its call is refused.
     AnswersInVain,
@@ -117,7 +117,7 @@ static NO_THREAD: [Step; 2] = [
     Step::Each(0, 1, &[Does::AnswersAgain]),
 ];
 
-/// What a thread posts and is answered. Of the threads 0 to 63 each has a call, an operation, a place and an answer of its own;
+/// What a thread posts and is answered. Each of the threads 0 to 63 has a call, an operation, a place and an answer of its own;
 /// thread 0 has call 0 and the last place, thread 63 place 0.
 fn of_thread(rt: &impl Abort, thread: u16) -> Answered {
     let number = thread.min(63);

@@ -1,4 +1,4 @@
-//! Where threads wait for one another, so that they go on at the same time.
+//! A line at which threads wait for one another, so that they go on at the same time.
 use crossbeam_utils::Backoff;
 use std::sync::Wait;
 use std::sync::atomic::{AtomicU64, Ordering};

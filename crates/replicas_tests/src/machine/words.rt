@@ -8,7 +8,7 @@ use std::cmp;
 /// The words: two of all nodes, two of each, and two of each entry of the rings.
 pub type Words = [u64; 138];
 
-/// Where a word lies.
+/// The place of a word.
 fn index(word: Word) -> usize
     ensures { result < 138 }
 {
