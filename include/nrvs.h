@@ -119,11 +119,11 @@ enum { NRVS_READ = 0, NRVS_STORE = 1, NRVS_FETCH = 2 };
 enum {
 	NRVS_DONE = 0,       /* the page was added */
 	NRVS_OVERLAP = 1,    /* a page is in the way; number: the least base of one */
-	NRVS_FULL = 2,       /* the page would need this many tables, and there are fewer frames */
+	NRVS_FULL = 2,       /* number: how many tables there would be with the page, which are more than the frames */
 	NRVS_REMOVED = 3,    /* number: the physical address that the page had; its size and rights */
 	NRVS_NOT_MAPPED = 4, /* no page covers the address */
 	NRVS_INSIDE = 5,     /* a page covers the address and begins at this one */
-	NRVS_CHANGED = 6,    /* rights: those from before */
+	NRVS_CHANGED = 6,    /* rights: the old ones */
 	NRVS_MAPPED = 7,     /* number: the physical address; the page's size and rights */
 	NRVS_ALLOWED = 8,    /* number: the physical address */
 	NRVS_FAULT = 9       /* number: the error code of the page fault */
@@ -134,15 +134,15 @@ enum {
 #ifndef NRVS_OK /* the 0 of nrvs_trace.h */
 	NRVS_OK = 0,
 #endif
-	NRVS_NO_TABLE = 1,       /* nrvs_table_new never made the handle: it has no magic word, or a number that none has */
+	NRVS_NO_TABLE = 1,       /* nrvs_table_new never made the handle: the magic word is missing, or a number is out of range */
 	NRVS_BAD_LEVELS = 2,     /* neither 4 nor 5 */
-	NRVS_BAD_FRAMES = 3,     /* no frame, or more than 4,096; of a handle that was made, another number than it was made with */
+	NRVS_BAD_FRAMES = 3,     /* no frame, or more than 4,096; or not the number with which the handle was made */
 	NRVS_BAD_MARKS = 4,      /* fewer marks than frames */
 	NRVS_BAD_BASE = 5,       /* the last frame's number isn't below 2^40 */
 	NRVS_BAD_SIZE = 6,       /* the number means no size */
-	NRVS_BAD_RIGHTS = 7,     /* .. for no rights */
-	NRVS_BAD_MODE = 8,       /* .. for no mode */
-	NRVS_BAD_ACCESS = 9,     /* .. for no access */
+	NRVS_BAD_RIGHTS = 7,     /* the number means no rights: it is above 7 */
+	NRVS_BAD_MODE = 8,       /* the number means no mode */
+	NRVS_BAD_ACCESS = 9,     /* the number means no access */
 	NRVS_NOT_CANONICAL = 10, /* the address isn't canonical with these levels */
 	NRVS_UNALIGNED = 11,     /* it is no multiple of the page's size, or of 4,096 */
 	NRVS_PHYS_UNALIGNED = 12, /* the physical address is no multiple of the page's size */
@@ -168,7 +168,7 @@ uint32_t nrvs_table_protect(NRVS_LENT, uint64_t base, uint32_t rights, struct nr
 /* Translates an address: NRVS_MAPPED or NRVS_NOT_MAPPED. */
 uint32_t nrvs_table_resolve(NRVS_SHOWN, uint64_t address, struct nrvs_reply *reply);
 
-/* Whether an access is allowed, and where that is: NRVS_ALLOWED or NRVS_FAULT. */
+/* Whether an access is allowed, and which physical address it reaches: NRVS_ALLOWED or NRVS_FAULT. */
 uint32_t nrvs_table_access(NRVS_SHOWN, uint64_t address, uint32_t mode, uint32_t access, struct nrvs_reply *reply);
 
 /* How many tables there are, including the root. */

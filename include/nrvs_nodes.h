@@ -34,7 +34,7 @@
  *   - each operation is carried out as asked, atomically, and in one order with all others (sequentially consistent). nrvs_node_told gets
  *     its value: the word as it was before, or any value for a store. Nobody else writes the words. At first all words are 0, and all nodes
  *     are new;
- *   - from a call's begin to its end no other call uses the node: the node's lock is held;
+ *   - from the beginning of a call to its end no other call uses the node: the node's lock is held;
  *   - the log has fewer than 2^57 - 16 entries;
  *   - an entry is applied to the node's copy, and flushed on its processors, before nrvs_node_applied;
  *   - pointers are not null, aligned for their types, and lead to as many elements as stated. Each call gets the struct as the call before
@@ -59,11 +59,11 @@ enum {
 	NRVS_NODE_DONE = 0,     /* nothing: the call is over */
 	NRVS_NODE_LOAD = 1,     /* load the word */
 	NRVS_NODE_STORE = 2,    /* store `value` */
-	NRVS_NODE_EXCHANGE = 3, /* compare with `value` and, where it is equal, store `new_value` */
+	NRVS_NODE_EXCHANGE = 3, /* compare with `value`, and if equal, store `new_value` */
 	NRVS_NODE_MAX = 4,      /* store the greater of the word and `value` */
 	NRVS_NODE_APPLY = 5,    /* apply `entry`, then nrvs_node_applied */
-	NRVS_NODE_LAGS = 6,     /* have node `node` sync, or wait till it does; then nrvs_node_told with any value */
-	NRVS_NODE_BROKEN = 7,   /* nothing ever again: given a value that no word has, or the log is at its end */
+	NRVS_NODE_LAGS = 6,     /* have node `node` sync, or wait until it does; then nrvs_node_told with any value */
+	NRVS_NODE_BROKEN = 7,   /* nothing ever again: it got a value that the word cannot have had, or the log is full */
 	NRVS_NODE_REFUSED = 16, /* and above: a refusal */
 	NRVS_NODE_BUSY = 16,    /* the call before isn't over */
 	NRVS_NODE_EMPTY = 17,   /* no update */
@@ -95,7 +95,7 @@ struct nrvs_node_reply {
 struct nrvs_node_asked {
 	uint32_t code;      /* as the call returned it */
 	uint32_t word;      /* NRVS_WORD_HEAD .. */
-	uint64_t node;      /* whose word; or who lags */
+	uint64_t node;      /* whose word; or which node lags */
 	uint64_t index;     /* 0 to 15 */
 	uint64_t value;
 	uint64_t new_value;

@@ -22,8 +22,8 @@
  *     if (plan.flush != NRVS_FLUSH_NOTHING)
  *             shoot_down(plan.flush, plan.flush_base, plan.flush_size);        // on every processor that uses this table
  *     for (i = 0; i < plan.unlinked_count; i++)
- *             free_frame(plan.unlinked[i]);                                    // only now; and where no store is planned, those given.
- *                                                                              // By a join, a collapse and a prune its words aren't 0:
+ *             free_frame(plan.unlinked[i]);                                    // only now; if no store is planned, free those given.
+ *                                                                              // After a join, a collapse or a prune its words aren't 0:
  *                                                                              // clear them
  *     return plan.reply.code == NRVS_DONE ? 0 : ..;
  *
@@ -131,7 +131,7 @@
  *     a page, nor unmap parts of one: unmap, flush and map instead. Address bits that encrypt memory (AMD's C, TDX's shared) aren't
  *     supported: links have none;
  *   - the archive: XMM registers and linking are as in nrvs.h. The stack is aligned to 16 and has 6 KiB left, or 8 KiB for ranges: some 5
- *     and 7.3 KiB are used, whatever is asked for. Nothing is kept below RSP. There are jumps by tables, but no calls by register. They
+ *     and 7.3 KiB are used, whatever is asked for. Nothing is kept below RSP. There are jump tables, but no calls through registers. They
  *     aren't marked for CET, so CR4.CET is 0.
  *
  */
@@ -150,11 +150,11 @@ struct nrvs_target {
 	uint32_t levels;    /* 4 or 5 */
 	uint32_t phys_bits; /* how many bits a physical address has: 36 to 52 */
 	uint32_t pinned;    /* tables that entries of this level and above lead to stay linked, as where other roots lead to them; 0: none.
-			     * `levels`: those to which the root leads; 1: all [highest_link], and an unmap looks at no entry off the way
+			     * `levels`: those to which the root leads; 1: all [highest_link], and an unmap looks at no entry off the walk
 			     * (read in the code) */
 };
 
-/* A word that is to be stored: word `index` of a frame is `old_word`, and becomes `new_word`. */
+/* A store: word `index` of a frame is `old_word`, and becomes `new_word`. */
 struct nrvs_store {
 	uint64_t frame;
 	uint64_t index;
@@ -175,22 +175,22 @@ struct nrvs_fill {
 
 enum { NRVS_MOST_STORES = 5, NRVS_MOST_UNLINKED = 4 };
 
-/* A plan, and how far it is made. What most plans have, with one store, lies in the first 128 bytes. */
+/* A plan, finished or not. What most plans need (those with one store) lies in the first 128 bytes. */
 struct nrvs_plan {
 	uint64_t frame;           /* after NRVS_SEE: the frame whose words are to be shown */
-	struct nrvs_reply reply;  /* after NRVS_PLANNED: what the call answers; it and all that follows */
+	struct nrvs_reply reply;  /* this and all that follows is set after NRVS_PLANNED: what the call answers */
 	uint64_t bits;            /* of NRVS_REMOVED, NRVS_CHANGED, NRVS_MAPPED: the page's attributes, flags 5 and 6 among them [`told`];
 				   * of NRVS_EMPTY an address, of NRVS_RESERVED an index */
 	uint32_t flush;           /* NRVS_FLUSH_NOTHING .. */
 	uint32_t flush_size;      /* of the page, or of the range: NRVS_4K .. */
 	uint64_t flush_base;      /* its first address */
 	uint64_t unlinked_count;
-	uint64_t fills;           /* 1 where a frame is filled before the stores, else 0 */
+	uint64_t fills;           /* 1 if a frame is filled before the stores, else 0 */
 	uint64_t store_count;
 	uint64_t way[2];          /* the library's */
 	struct nrvs_store stores[NRVS_MOST_STORES];
 	uint64_t unlinked[NRVS_MOST_UNLINKED];
-	struct nrvs_fill fill;    /* the frame that is filled, and its words; written only where `fills` is 1 */
+	struct nrvs_fill fill;    /* the frame that is filled, and its words; written only if `fills` is 1 */
 	uint64_t own[19];         /* the library's */
 };
 
@@ -225,12 +225,12 @@ enum {
 	NRVS_NO_FRAME = 10,    /* none was given; those that were are free */
 	NRVS_FRAME_RANGE = 11, /* number: a frame that was given, and lies beyond phys_bits; all that were given are free */
 	NRVS_NARROW = 12,      /* the entries that lead to the page's table allow less than the page is to allow [WantsMore] */
-	NRVS_EMPTY = 13,       /* number: the frame of a table where the page would be mapped, none of whose entries is present; they may
-				* be other than 0, as of pages on disk. bits: an address on its way: nrvs_plan_prune of it unlinks the table,
-				* unless that stays by `pinned` [LiesOverEmpty, already]. Behind it a page may be overlapped */
+	NRVS_EMPTY = 13,       /* a table lies where the page would be mapped, and none of its entries is present (they may be other than 0,
+				* as of swapped pages). number: its frame. bits: an address whose walk ends in it: nrvs_plan_prune of that
+				* unlinks the table, unless `pinned` keeps it [LiesOverEmpty, already]. Then a map may still overlap a page */
 	NRVS_RESERVED = 14,    /* of each call below. number: the frame of a word; bits: its index. It links to a frame beyond phys_bits
-				* [LeadsBeyond], or has another reserved bit set: that never, where the caller keeps what is listed above
-				* [reply]. That a call over frames follows no such link was read in the code */
+				* [LeadsBeyond], or has another reserved bit set: never, if the caller keeps what is listed above [reply].
+				* We read in the code that a call over frames follows no such link */
 	NRVS_MISPLACED = 15,   /* the physical address is no multiple of the size of the page that is there, or that is to be there: a remap's
 				* [remap_refusal], a join's [join_refusal], a collapse's [collapse_refusal] */
 	NRVS_BEYOND = 16,      /* the page would not lie below physical 2^51 and 2^phys_bits [remap_refusal, collapse_refusal] */
@@ -401,7 +401,7 @@ uint32_t nrvs_plan_again(struct nrvs_plan *plan, uint64_t index, uint64_t found)
  * [NRVS_PLANNED].
  */
 struct nrvs_run {
-	uint64_t frame;        /* after NRVS_RUN and NRVS_HARVEST: the table; it and all up to `covered` */
+	uint64_t frame;        /* this and all up to `covered` is set after NRVS_RUN and NRVS_HARVEST: the table */
 	uint64_t index;        /* of the first word */
 	uint64_t count;        /* how many words: index + count is at most 512 */
 	uint64_t keep;         /* word i of them becomes (word & keep) + first_word + i * step [IsRunTold: words] */
