@@ -1,5 +1,5 @@
-//! An auditor in plain Rust, with no proof, for the traces of `unverified_run`: four levels, 4,096 tables, pages of 4 KiB, no access. It
-//! reads the bytes, replays the recorded order on one page table, and compares each dump with that.
+//! An auditor in plain Rust, with no proof, for the traces of `unverified_run`, and for segments without a start: four levels, 4,096
+//! tables, pages of 4 KiB, no access. It reads the bytes, replays the recorded order on one page table, and compares each dump with that.
 use super::replicas::table::{Answer, Op, Space};
 
 const NO_CALL: u32 = u32::MAX;
@@ -55,11 +55,13 @@ fn read_dump<'a>(bytes: &mut &'a [u8], places: usize) -> Option<Dump<'a>> {
 }
 
 fn read(mut bytes: &[u8]) -> Option<Trace<'_>> {
-    let head = take(&mut bytes, 20)?;
+    let is_segment = bytes.starts_with(b"NRVS");
+    let head = take(&mut bytes, if is_segment { 24 } else { 20 })?;
     let (replicas, threads) = (head[7] as usize, half(head, 8) as usize);
     let log: Vec<u32> = take(&mut bytes, 4 * word(head, 12) as usize)?.chunks(4).map(|place| word(place, 0)).collect();
     let events = take(&mut bytes, 24 * word(head, 16) as usize)?.as_chunks().0;
-    let known = head.starts_with(b"NRVT\0\x01\x04") && half(head, 10) == 4096;
+    let magic = head.starts_with(b"NRVT\0\x01\x04") || head.starts_with(b"NRVS\0\x01\x04") && word(head, 20) == 0;
+    let known = magic && half(head, 10) == 4096;
     if !known || !events.iter().all(|event| event[0] == 1 || is_call(event, replicas, threads)) {
         return None;
     }
@@ -160,11 +162,24 @@ impl Dump<'_> {
     }
 }
 
-/// The order of a right run's calls, or what is not right.
-pub fn judge(bytes: &[u8]) -> Result<Vec<u32>, &'static str> {
+/// The address space before a segment, and how many pages it has.
+pub struct Pages {
+    space: Space,
+    count: usize,
+}
+
+impl Pages {
+    pub fn none() -> Pages {
+        Pages { space: Space::new(4), count: 0 }
+    }
+}
+
+/// The order of the calls of a right run, or of a right segment from these pages on, which become those behind it; or what is not right.
+pub fn judge(bytes: &[u8], pages: &mut Pages) -> Result<Vec<u32>, &'static str> {
     let trace = read(bytes).ok_or("format")?;
     let found = pair(&trace)?;
-    let (mut order, mut space, mut pages) = (Vec::with_capacity(trace.events.len()), Space::new(4), 0);
+    let mut order = Vec::with_capacity(trace.events.len());
+    let Pages { space, count } = pages;
     for place in 0..=trace.log.len() {
         let mut read = found.last_read[place];
         while read != NO_CALL {
@@ -176,7 +191,7 @@ pub fn judge(bytes: &[u8]) -> Result<Vec<u32>, &'static str> {
             read = found.read_before[read as usize];
         }
         for dump in trace.dumps.iter().filter(|dump| dump.applied == place) {
-            if dump.pages(&space, dump.root, 4, 0, 7) != Some(pages) {
+            if dump.pages(space, dump.root, 4, 0, 7) != Some(*count) {
                 return Err("dump");
             }
         }
@@ -184,8 +199,8 @@ pub fn judge(bytes: &[u8]) -> Result<Vec<u32>, &'static str> {
         let call = trace.events.get(number as usize).filter(|call| call[0] == 0).ok_or("log")?;
         let answer = space.apply(op_of(call).ok_or("log")?);
         match answer {
-            Answer::Done => pages += 1,
-            Answer::Removed(..) => pages -= 1,
+            Answer::Done => *count += 1,
+            Answer::Removed(..) => *count -= 1,
             _ => {}
         }
         let reply = found.reply[number as usize];

@@ -312,6 +312,16 @@ impl<L: Log, const KEEPS: bool> Replicas<L, KEEPS> {
         self.catch_up_all();
         self.log.tail()
     }
+
+    /// Gives the replicas a new log, once they have applied all of the old one; the page tables stay.
+    pub fn cut(&mut self) {
+        self.log = L::new(self.replicas.len());
+        for replica in &mut self.replicas {
+            let node = replica.node.value.get_mut();
+            node.applied = 0;
+            node.told.clear();
+        }
+    }
 }
 
 /// What a thread did: how many reads and updates, and the sum of the physical addresses that it read.

@@ -1,8 +1,10 @@
 //! A script's threads on the replicated page table in plain Rust, with no proof, recorded, to compare with `nrvs run`:
 //!     rustc -O -C target-cpu=x86-64-v2 benchmarks/unverified_run.rs
-//!     ./unverified_run tuned|same REPLICAS answers|judged|trace <SCRIPT
+//!     ./unverified_run tuned|same REPLICAS answers|judged|trace [SEGMENT] <SCRIPT
+//!     ./unverified_run script LINES
 //! The first word is the design, as in `unverified_replicas`. It makes the trace, and prints the answers by thread and then by call, or
-//! the bytes of the trace; with `judged` it audits these bytes too, and says so. The script has pages of 4 KiB and no access.
+//! the bytes of the trace; with `judged` it audits these bytes too, and says so. The script has pages of 4 KiB and no access. With SEGMENT
+//! it may have any length, and is run in segments of so many requests by 64 threads. `script` prints one of so many requests by 8 threads.
 #[allow(dead_code)]
 #[path = "unverified_replicas.rs"]
 mod replicas;
@@ -10,10 +12,10 @@ mod replicas;
 mod audit;
 
 use replicas::table::{Answer, Op};
-use replicas::unverified_log::{Apart, Log, OneCell};
+use replicas::unverified_log::{Apart, Log, OneVersion};
 use replicas::Replicas;
 use std::fmt::Write as _;
-use std::io::{Read, Write};
+use std::io::{BufRead, BufWriter, Write};
 use std::sync::atomic::{AtomicU64, Ordering};
 
 #[derive(Clone, Copy)]
@@ -58,9 +60,14 @@ fn script(text: &str) -> Vec<Vec<Request>> {
     scripts
 }
 
-/// Makes a thread's calls, each with a stamp before it and one after it.
-fn work<L: Log, const KEEPS: bool>(service: &Replicas<L, KEEPS>, clock: &AtomicU64, thread: usize, requests: &[Request]) -> Vec<Made> {
-    let mut made = Vec::with_capacity(requests.len());
+/// Makes a thread's calls, each with a stamp before it and one after it, and adds them to those that it made.
+fn work<L: Log, const KEEPS: bool>(
+    service: &Replicas<L, KEEPS>,
+    clock: &AtomicU64,
+    thread: usize,
+    requests: &[Request],
+    mut made: Vec<Made>,
+) -> Vec<Made> {
     for request in requests {
         let called = clock.fetch_add(1, Ordering::AcqRel);
         let (at, answer) = match *request {
@@ -118,7 +125,8 @@ fn reply_bytes(made: &Made) -> [u8; 24] {
     bytes
 }
 
-fn trace<L: Log, const KEEPS: bool>(service: &mut Replicas<L, KEEPS>, runs: &[Vec<Made>]) -> Vec<u8> {
+/// The bytes of a trace, or of a segment without a start.
+fn trace<L: Log, const KEEPS: bool>(service: &mut Replicas<L, KEEPS>, runs: &[Vec<Made>], is_segment: bool) -> Vec<u8> {
     let count: usize = runs.iter().map(|made| 2 * made.len()).sum();
     let (mut log, mut events) = (vec![0u32; service.settle() as usize], vec![[0; 24]; count]);
     for (thread, made) in runs.iter().enumerate() {
@@ -130,12 +138,13 @@ fn trace<L: Log, const KEEPS: bool>(service: &mut Replicas<L, KEEPS>, runs: &[Ve
             events[each.replied as usize] = reply_bytes(each);
         }
     }
-    let mut bytes = b"NRVT\0\x01\x04".to_vec();
+    let mut bytes = if is_segment { b"NRVS\0\x01\x04" } else { b"NRVT\0\x01\x04" }.to_vec();
     bytes.push(service.replicas.len() as u8);
     bytes.extend((runs.len() as u16).to_be_bytes());
     bytes.extend(4096u16.to_be_bytes());
     bytes.extend((log.len() as u32).to_be_bytes());
     bytes.extend((count as u32).to_be_bytes());
+    bytes.extend(&[0; 4][..if is_segment { 4 } else { 0 }]);
     bytes.extend(log.iter().flat_map(|call| call.to_be_bytes()));
     bytes.extend(events.as_flattened());
     service.replicas.iter_mut().for_each(|replica| replica.dump(&mut bytes));
@@ -166,38 +175,88 @@ fn text(runs: &[Vec<Made>]) -> String {
     text
 }
 
-/// What is shown of a run of the scripts.
-fn run<L: Log, const KEEPS: bool>(replicas: usize, shown: &str, scripts: &[Vec<Request>]) -> Vec<u8> {
-    let mut service = Replicas::<L, KEEPS>::new(replicas, scripts.len());
+/// Runs the scripts: what is shown of that.
+fn run<L: Log, const KEEPS: bool>(
+    service: &mut Replicas<L, KEEPS>,
+    scripts: &[Vec<Request>],
+    shown: &str,
+    segment: Option<&mut audit::Pages>,
+) -> Vec<u8> {
     let clock = AtomicU64::new(0);
     let runs: Vec<Vec<Made>> = std::thread::scope(|scope| {
-        let (service, clock) = (&service, &clock);
-        let start = |(thread, requests)| scope.spawn(move || work(service, clock, thread, requests));
-        let threads: Vec<_> = scripts.iter().map(Vec::as_slice).enumerate().map(start).collect();
+        let (service, clock) = (&*service, &clock);
+        // Allocated before the threads begin: what a thread allocates itself stays in a region for threads.
+        let room: Vec<Vec<Made>> = scripts.iter().map(|requests| Vec::with_capacity(requests.len())).collect();
+        let start = |((thread, requests), made)| scope.spawn(move || work(service, clock, thread, requests, made));
+        let threads: Vec<_> = scripts.iter().map(Vec::as_slice).enumerate().zip(room).map(start).collect();
         threads.into_iter().map(|thread| thread.join().unwrap()).collect()
     });
-    let bytes = trace(&mut service, &runs);
+    let bytes = trace(service, &runs, segment.is_some());
     if shown == "trace" {
         return bytes;
     }
-    let mut text = text(&runs);
     if shown == "judged" {
-        let order = audit::judge(&bytes).expect("a right run");
+        let mut none = audit::Pages::none();
+        let order = audit::judge(&bytes, segment.unwrap_or(&mut none)).expect("a right run");
         assert!(order.len() >= runs.iter().map(Vec::len).sum());
-        text += "verified\n";
     }
-    text.into_bytes()
+    text(&runs).into_bytes()
+}
+
+/// The next so many lines of a script.
+fn lines(input: &mut impl BufRead, most: usize) -> String {
+    let mut lines = String::new();
+    for _ in 0..most {
+        if input.read_line(&mut lines).expect("a script") == 0 {
+            break;
+        }
+    }
+    lines
+}
+
+/// Runs a script: all of it, or segment by segment.
+fn run_all<L: Log, const KEEPS: bool>(replicas: usize, shown: &str, most: Option<usize>) {
+    let (mut input, mut output) = (std::io::stdin().lock(), std::io::stdout());
+    let mut scripts = script(&lines(&mut input, most.unwrap_or(usize::MAX)));
+    let threads = if most.is_some() { 64 } else { scripts.len() };
+    let mut service = Replicas::<L, KEEPS>::new(replicas, threads);
+    let mut pages = audit::Pages::none();
+    while !scripts.is_empty() {
+        scripts.resize_with(threads, Vec::new);
+        let segment = most.map(|_| &mut pages);
+        output.write_all(&run(&mut service, &scripts, shown, segment)).expect("an output");
+        service.cut();
+        scripts = script(&lines(&mut input, most.unwrap_or(usize::MAX)));
+    }
+    if shown == "judged" {
+        output.write_all(b"verified\n").expect("an output");
+    }
+}
+
+/// Prints a script: half of its requests resolve a drawn address of 4,096 pages, the others map, protect or unmap a drawn page.
+fn print_script(count: usize) -> std::io::Result<()> {
+    let mut output = BufWriter::new(std::io::stdout());
+    let mut state = 1u64;
+    for _ in 0..count {
+        state = state.wrapping_mul(6_364_136_223_846_793_005).wrapping_add(1_442_695_040_888_963_407);
+        let (thread, kind, page) = (state >> 61, (state >> 32) % 6, (state >> 40) % 4096 * 4096);
+        match kind {
+            0 => writeln!(output, "{thread} map 4K {page:#x} {:#x} wux", (state >> 48) % 4096 * 4096)?,
+            1 => writeln!(output, "{thread} protect {page:#x} w-x")?,
+            2 => writeln!(output, "{thread} unmap {page:#x}")?,
+            _ => writeln!(output, "{thread} resolve {:#x}", page + (state >> 52))?,
+        }
+    }
+    output.flush()
 }
 
 fn main() {
     let words: Vec<String> = std::env::args().collect();
-    let [_, design, replicas, shown] = words.as_slice() else { panic!("tuned|same REPLICAS answers|judged|trace") };
-    let mut lines = String::new();
-    std::io::stdin().read_to_string(&mut lines).expect("a script");
-    let (scripts, replicas) = (script(&lines), replicas.parse().expect("a number of replicas"));
-    let shown = match design.as_str() {
-        "same" => run::<OneCell, true>(replicas, shown, &scripts),
-        _ => run::<Apart, false>(replicas, shown, &scripts),
-    };
-    std::io::stdout().write_all(&shown).expect("an output");
+    let number = |n: usize| words.get(n).map(|word| word.parse::<usize>().expect("a number"));
+    match words.get(1).map(String::as_str) {
+        Some("script") => print_script(number(2).expect("LINES")).expect("an output"),
+        Some("same") => run_all::<OneVersion, true>(number(2).expect("REPLICAS"), &words[3], number(4)),
+        Some("tuned") => run_all::<Apart, false>(number(2).expect("REPLICAS"), &words[3], number(4)),
+        _ => panic!("tuned|same REPLICAS answers|judged|trace [SEGMENT], or script LINES"),
+    }
 }

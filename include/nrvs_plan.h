@@ -130,9 +130,9 @@
  *     an executable page's size may raise a machine check (IA32_ARCH_CAPABILITIES, PSCHANGE_MC_NO is 0), don't split, join or collapse such
  *     a page, nor unmap parts of one: unmap, flush and map instead. Address bits that encrypt memory (AMD's C, TDX's shared) aren't
  *     supported: links have none;
- *   - the archive: XMM registers and linking are as in nrvs.h. The stack is aligned to 16 and has 6 KiB left, or 8 KiB for ranges: some 5
- *     and 7.3 KiB are used, whatever is asked for. Nothing is kept below RSP. There are jump tables, but no calls through registers. They
- *     aren't marked for CET, so CR4.CET is 0.
+ *   - the archive: XMM registers and linking are as in nrvs.h. The stack is aligned to 16 and has 6 KiB left, or 8 KiB for ranges: at most
+ *     4.5 and 5.6 KiB are used, whatever is asked for. Nothing is kept below RSP. There are jump tables, but no calls through registers.
+ *     They aren't marked for CET, so CR4.CET is 0.
  *
  */
 #ifndef NRVS_PLAN_H

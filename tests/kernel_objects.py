@@ -38,11 +38,11 @@ class Function:
         return used
 
     def called(self) -> set[str]:
-        """The functions that it calls or ends in."""
+        """The functions that it calls or ends in, also by a conditional jump."""
         names = set()
         for mnemonic, operands in self.rows:
             found = re.search(r"<(.+?)(?:\+0x[0-9a-f]+)?>$", operands)
-            if mnemonic.startswith(("call", "jmp")) and found and found.group(1) != self.name:
+            if mnemonic.startswith(("call", "j")) and found and found.group(1) != self.name:
                 names.add(found.group(1))
         return names
 
@@ -63,8 +63,8 @@ def functions(path: str) -> dict[str, Function]:
             now.rows.append((row.group(1), COMMENT.sub("", row.group(2)).strip()))
         elif moved and now and moved.group(1) in ("R_X86_64_PLT32", "R_X86_64_PC32"):
             mnemonic, operands = now.rows[-1]
-            if mnemonic.startswith(("call", "jmp")):
-                now.rows[-1] = (mnemonic, f"<{moved.group(2)}>")
+            if mnemonic.startswith(("call", "j")):
+                now.rows[-1] = (mnemonic, f"<{moved.group(2).removeprefix('.text.')}>")
     return found
 
 

@@ -3,7 +3,7 @@ _nrvs() {
   local word=${COMP_WORDS[COMP_CWORD]} previous=${COMP_WORDS[COMP_CWORD - 1]} options=
   case $previous in
     --levels) COMPREPLY=($(compgen -W '4 5' -- "$word")); return ;;
-    --replica | --replicas | --tables | --turns | --address) return ;;
+    --replica | --replicas | --tables | --turns | --segment | --address) return ;;
   esac
   if [ "$COMP_CWORD" -eq 1 ]; then
     COMPREPLY=($(compgen -W 'audit explain resolve pages simulate run help --help --version' -- "$word"))
@@ -15,7 +15,7 @@ _nrvs() {
     resolve) options='--address --replica --steps' ;;
     pages) options='--replica --ranges --chain --start --end' ;;
     simulate) options='--levels --replicas --tables --trace' ;;
-    run) options='--levels --replicas --tables --turns --trace' ;;
+    run) options='--levels --replicas --tables --turns --chain --segment --trace' ;;
     help) COMPREPLY=($(compgen -W 'audit explain resolve pages simulate run' -- "$word")); return ;;
   esac
   # a word that begins no option is a file's name, which bash completes itself

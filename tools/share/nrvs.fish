@@ -24,3 +24,5 @@ complete -c nrvs -n '__fish_seen_subcommand_from simulate run' -l replicas -x -d
 complete -c nrvs -n '__fish_seen_subcommand_from simulate run' -l tables -x -d 'The most tables of each replica'
 complete -c nrvs -n '__fish_seen_subcommand_from simulate run' -l trace -d 'Prints the trace itself'
 complete -c nrvs -n '__fish_seen_subcommand_from run' -l turns -x -d 'The most turns of each call'
+complete -c nrvs -n '__fish_seen_subcommand_from run' -l chain -d 'Runs a script of any length in segments'
+complete -c nrvs -n '__fish_seen_subcommand_from run' -l segment -x -d 'The requests of a segment'

@@ -24,6 +24,8 @@ mod scripts;
 #[cfg(test)]
 mod scripts_in_pieces;
 #[cfg(test)]
+mod scripts_in_portions;
+#[cfg(test)]
 mod scripts_read;
 #[cfg(test)]
 mod serve;

@@ -5,3 +5,4 @@ pub mod Shares
 pub mod OneReading
 pub mod OneScript
 pub mod LinesFed
+pub mod Portions

@@ -8,7 +8,7 @@ use Rattle.std.proofs.lemmas.Bool.Decides.{nat_tests}
 use Rattle.std.proofs.Common.{Option}
 use Rattle.vs_types.specs.Finds.{Finds}
 use Rattle.vs_types.specs.declared.depth.Depth.{Depth}
-use Rattle.nr_script.specs.Lines.{Says}
+use Rattle.nr_script.specs.Lines.{lines, Says}
 use Rattle.nr_script.specs.declared.line.Line.{Line}
 use Rattle.nr_script.specs.Fed.{EndsIn, EndsLine, GoesOn}
 use Rattle.nr_script.specs.inside.Left.{HasNoEnd}
@@ -125,3 +125,7 @@ ended depth old piece index said begun within before here says =
           ∙ ap (λ (them : List (List ℕ)). lines_before ++ them) (slice_split_at p line 10 [] none refl)
           ∙ sym (append_assoc lines_before (line ∷ []) ([] ∷ []));
     }
+
+-- where the lines of a text end in one that has begun, those of the text with more are those before it, and those of it with more
+pub lines_go_on : (text more begun : List ℕ) (before : List (List ℕ)) → EndsIn text before begun → lines (text ++ more) ≡ before ++ lines (begun ++ more)
+lines_go_on text more begun before is = goes_on_with (λ byte. byte == 10) more text before begun is

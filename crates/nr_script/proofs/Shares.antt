@@ -140,3 +140,10 @@ scripts_of depth bytes script layout is deep many =
           subst Q (sym deep) (All-from_recursion (All (IsQuery depth)) (map (requests_by said) (range_with_len 0 count))
           (each_well_formed depth (asked said) 0 count all));
     })
+
+-- what a thread asks in lines is well formed
+pub well_formed_requests : (depth : Depth) (texts : List (List ℕ)) (said : List Line) (thread : ℕ) → AllZip (Says depth) texts said
+    → All (IsQuery depth) (requests_by said thread)
+unfolding share
+well_formed_requests depth texts said thread all =
+    All-from_recursion (IsQuery depth) (share (asked said) thread) (well_formed_share depth (asked said) thread (all_asked depth texts said all))

@@ -2,3 +2,4 @@
 pub mod Left
 pub mod InWords
 pub mod Reading
+pub mod Gathering

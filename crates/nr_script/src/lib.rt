@@ -2,15 +2,18 @@
 #![tactic(auto)]
 
 pub mod examples;
+mod gathering;
 pub mod laws;
 mod line;
 mod line_feed;
 mod number;
 mod parts;
+mod portion;
 mod reading;
 mod script;
 mod step;
 
 pub use line::Line;
 pub use line_feed::{Fed, LineFeed};
+pub use portion::PortionFeed;
 pub use script::{BadLine, SCRIPT_BYTES, SCRIPT_REQUESTS, SCRIPT_STEPS, Script, read_script};

@@ -6,8 +6,9 @@ use Rattle.clap.specs.Walk.{one_of}
 use Rattle.audit_commands.specs.Words.{AsksInspection, IsFlag}
 use Rattle.audit_commands.specs.declared.inspection.Inspection.{Inspection}
 use Rattle.nrvs.specs.declared.runs.setup.Setup.{Setup}
-use Rattle.nrvs.specs.CommandLine.{Asks, IsNumber, IsSetup, IsTurns}
-use Rattle.nrvs.specs.declared.command.Command.TheVariants.{Inspect, Run, Simulate}
+use Rattle.nrvs.specs.CommandLine.{Asks, AsksRun, IsNumber, IsSetup}
+use Rattle.nrvs.specs.declared.command.Command.{Command}
+use Rattle.nrvs.specs.declared.command.Command.TheVariants.{Inspect, Run, RunChain, Simulate}
 
 -- the same text has the same number
 pub number_of : (least most default : ℕ) (t u : Option Text) (number : ℕ) → t ≡ u → IsNumber least most default t number → IsNumber least most default u number
@@ -23,6 +24,12 @@ pub asks_simulate : (sub : Option (Text × List Row)) (rows : List Row) (setup :
     → IsSetup rows setup → IsFlag (one_of (codes "trace") rows) as_trace → Asks sub (Simulate setup as_trace)
 asks_simulate sub rows setup as_trace is laid flag = subst (λ s. Asks s (Simulate setup as_trace)) (sym is) (refl, laid, flag)
 
-pub asks_run : (sub : Option (Text × List Row)) (rows : List Row) (setup : Setup) (turns : ℕ) (as_trace : Bool) → sub ≡ Some (codes "run", rows)
-    → IsSetup rows setup → IsTurns (one_of (codes "turns") rows) turns → IsFlag (one_of (codes "trace") rows) as_trace → Asks sub (Run setup turns as_trace)
-asks_run sub rows setup turns as_trace is laid counted flag = subst (λ s. Asks s (Run setup turns as_trace)) (sym is) (refl, laid, counted, flag)
+pub asks_run : (sub : Option (Text × List Row)) (rows : List Row) (command : Command) → sub ≡ Some (codes "run", rows) → AsksRun rows command
+    → Asks sub command
+asks_run sub rows command is asks = subst (λ s. Asks s command) (sym is) (by_command command asks)
+  where
+    by_command : (command : Command) → AsksRun rows command → Asks (Some (codes "run", rows)) command
+    by_command (Inspect inspection) asks = absurd asks
+    by_command (Simulate setup as_trace) asks = absurd asks
+    by_command (Run setup turns as_trace) asks = (refl, asks)
+    by_command (RunChain setup chain) asks = (refl, asks)

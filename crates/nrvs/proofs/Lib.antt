@@ -3,3 +3,7 @@ pub mod WholeInput
 pub mod Simulations
 pub mod ServedRuns
 pub mod RunTexts
+pub mod ServedChains
+pub mod ServedFaults
+pub mod ServedPieces
+pub mod ServedBlocks

@@ -3,6 +3,9 @@ pub mod CommandLine
 pub mod RunText
 pub mod Simulation
 pub mod ServedRun
+pub mod ServedChain
+-- models and loops
+pub mod inside
 pub use Rattle.vs_types.specs.Config
 pub use Rattle.vs_types.specs.Depth
 pub use Rattle.vs_types.specs.Refusal

@@ -20,9 +20,13 @@ said_line thread said = decimal thread ++ (space ++ (said_text said ++ line_end)
 abbrev pub thread_lines : ℕ × List Said → List ℕ
 thread_lines (thread, said) = flat_map (said_line thread) said
 
--- the lines of all threads, the first of which is thread 0; and that the run is verified
+-- the lines of all threads, the first of which is thread 0
+abbrev pub said_lines : List (List Said) → List ℕ
+said_lines said = flat_map thread_lines (enumerate_from 0 said)
+
+-- the lines of all threads, and that the run is verified
 abbrev pub verified_text : List (List Said) → List ℕ
-verified_text said = flat_map thread_lines (enumerate_from 0 said) ++ codes "verified\n"
+verified_text said = said_lines said ++ codes "verified\n"
 
 -- the line of a run that is refused, with the first fault of its trace
 abbrev pub refused_text : Fault → List ℕ

@@ -1,6 +1,6 @@
 //! What the program can be asked to do.
 
-use crate::runs::Setup;
+use crate::runs::{ChainSetup, Setup};
 use audit_commands::Inspection;
 
 /// What the program can be asked to do.
@@ -12,4 +12,6 @@ pub enum Command<'a> {
     Simulate(Setup, bool),
     /// Run the threads of the script, each call with up to so many turns; and write the trace instead of the answers.
     Run(Setup, u32, bool),
+    /// Run the threads of a script of any length in segments.
+    RunChain(Setup, ChainSetup),
 }

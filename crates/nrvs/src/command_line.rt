@@ -2,8 +2,8 @@
 ghost use Rattle.std.specs.Prelude.{◌≡◌, false, IfOk};
 ghost use Rattle.clap.specs.Words.{app_of, rule_of};
 ghost use Rattle.audit_commands.specs.Words.{IsLocal};
-ghost use Rattle.nrvs.specs.CommandLine.{command_line, levels_option, number_option, replicas_option, run_app, simulate_app};
-ghost use Rattle.nrvs.specs.CommandLine.{tables_option, trace_option, turns_option};
+ghost use Rattle.nrvs.specs.CommandLine.{chain_option, command_line, levels_option, number_option, replicas_option, run_app};
+ghost use Rattle.nrvs.specs.CommandLine.{segment_option, simulate_app, tables_option, trace_option, turns_option};
 
 use audit_commands::{VERSION, with_command, with_inspections};
 use clap::builder::ValueParser;
@@ -84,6 +84,28 @@ fn turns<'a>(alloc: Global) -> Arg<'a>
     number(alloc, "turns", parser, "100000", help)
 }
 
+/// Whether the run is made in segments.
+fn chain<'a>(alloc: Global) -> Arg<'a>
+    ensures rule { rule_of result ≡ chain_option }
+    ensures local { result.global ≡ false }
+{
+    let help = "Reads a script of any length, and runs it in segments, which are one chain";
+    Arg::new(alloc, "chain")
+        .long("chain")
+        .action(ArgAction::SetTrue)
+        .help(help)
+}
+
+/// The most requests of a segment.
+fn segment<'a>(alloc: Global) -> Arg<'a>
+    ensures rule { rule_of result ≡ segment_option }
+    ensures local { result.global ≡ false }
+{
+    let parser = ValueParser::signed(1, 65_536);
+    let help = "With --chain, the most requests of a segment: 1 to 65536";
+    number(alloc, "segment", parser, "65536", help)
+}
+
 /// Whether the trace is printed.
 fn trace<'a>(alloc: Global, help: &'a str) -> Arg<'a>
     ensures rule { rule_of result ≡ trace_option }
@@ -121,6 +143,8 @@ fn run<'a>(alloc: Global) -> Result<Command<'a>, AllocError>
         .arg(replicas(alloc))?
         .arg(tables(alloc))?
         .arg(turns(alloc))?
+        .arg(chain(alloc))?
+        .arg(segment(alloc))?
         .arg(trace(alloc, "Prints the trace of the run instead of the answers"))
 }
 

@@ -4,7 +4,7 @@ ghost use Rattle.audit_commands.specs.Tasks.{EndsWith, Runs};
 ghost use Rattle.nrvs.specs.Program.{RunsCommand};
 
 use crate::command::Command;
-use crate::runs::{run_io, simulate_io};
+use crate::runs::{run_chain_io, run_io, simulate_io};
 use audit_commands::{FilesByName, exit_status, run_inspection, tell_outcome, tell_refusal};
 use audit_readers::{Input, ProgFault};
 use clap::Error;
@@ -37,6 +37,11 @@ fn try_run<T: FilesByName + Threads + Wait + Sync, R: Read + Drop, W: Write, E: 
         }
         Ok(Command::Run(setup, turns, as_trace)) => {
             let outcome = run_io(rt, alloc, &mut input, output, setup, turns, as_trace);
+            tell_outcome(alloc, &outcome, None, input.error(), errors);
+            outcome
+        }
+        Ok(Command::RunChain(setup, chain)) => {
+            let outcome = run_chain_io(rt, alloc, &mut input, output, setup, chain);
             tell_outcome(alloc, &outcome, None, input.error(), errors);
             outcome
         }

@@ -5,11 +5,11 @@ ghost use Rattle.vs_types.specs.declared.limits.TheConstants.{MOST_LEVELS};
 ghost use Rattle.vs_types.specs.Depth.{levels};
 ghost use Rattle.clap.specs.Words.{fault_of, found_of, kind_of, one_text, rows_of, subcommand_of, subcommand_rows_of, HasKind};
 ghost use Rattle.audit_commands.specs.Words.{kinds_of_no_words, IsMisused};
-ghost use Rattle.nrvs.specs.CommandLine.{command_line, Asks, IsNumber, IsSetup, IsTurns};
+ghost use Rattle.nrvs.specs.CommandLine.{command_line, Asks, AsksRun, IsNumber, IsSegmentSize, IsSetup, IsTurns};
 
 use crate::command::Command;
 use crate::command_line::command_line;
-use crate::runs::Setup;
+use crate::runs::{ChainSetup, Setup};
 use audit_commands::{NoWords, read_inspection};
 use clap::error::ErrorKind;
 use clap::{ArgMatches, Error};
@@ -48,6 +48,18 @@ fn read_turns(given: &ArgMatches<'_>) -> u32
     }
 }
 
+/// The most requests of a segment: what was given, where it is from 1 to 65,536, or the default.
+fn read_segment(given: &ArgMatches<'_>) -> u32
+    ensures size { IsSegmentSize (one_text (found_of given.now) (codes "segment")) result }
+    ensures low { 1 ≤ result }
+    ensures high { result ≤ 65536 }
+{
+    match given.get_one::<u32>("segment") {
+        Some(most) if 1 <= most && most <= 65_536 => most,
+        _ => 65_536,
+    }
+}
+
 /// How a simulation or a run is laid out.
 fn read_setup(given: &ArgMatches<'_>) -> Setup
     ensures { IsSetup (rows_of (found_of given.now)) result }
@@ -59,6 +71,28 @@ fn read_setup(given: &ArgMatches<'_>) -> Setup
         depth,
         replicas: replicas as u8,
         tables,
+    }
+}
+
+/// A run, or one in segments.
+fn read_run<'a>(given: &ArgMatches<'_>) -> Command<'a>
+    ensures { AsksRun (rows_of (found_of given.now)) result }
+{
+    let setup = read_setup(given);
+    let turns = read_turns(given);
+    let as_trace = given.get_flag("trace");
+    if given.get_flag("chain") {
+        let most = read_segment(given);
+        Command::RunChain(
+            setup,
+            ChainSetup {
+                turns,
+                most,
+                as_trace,
+            },
+        )
+    } else {
+        Command::Run(setup, turns, as_trace)
     }
 }
 
@@ -78,12 +112,7 @@ fn read_matches<'a>(
             let as_trace = given.get_flag("trace");
             Ok(Command::Simulate(setup, as_trace))
         }
-        Some(("run", given)) => {
-            let setup = read_setup(given);
-            let turns = read_turns(given);
-            let as_trace = given.get_flag("trace");
-            Ok(Command::Run(setup, turns, as_trace))
-        }
+        Some(("run", given)) => Ok(read_run(given)),
         _ => Ok(Command::Inspect(read_inspection(alloc, line, matches)?)),
     }
 }

@@ -1,7 +1,7 @@
 //! What `run` prints.
 ghost use Rattle.std.specs.Prelude.{◌≡◌, ◌++◌, IfOk, OnOk, map, string_bytes};
 ghost use Rattle.std.specs.List.{flat_map};
-ghost use Rattle.nrvs.specs.RunText.{said_line, refused_text, said_text, verified_text};
+ghost use Rattle.nrvs.specs.RunText.{said_line, said_lines, refused_text, said_text, verified_text};
 
 use audit_texts::{fault_text, push_answer};
 use itoa::Buffer;
@@ -40,15 +40,24 @@ fn push_thread(text: &mut String, thread: usize, said: &[Said]) -> Result<(), Al
     Ok(())
 }
 
-/// The lines of a verified run. Allocates memory for the text.
-pub(crate) fn verified_text(alloc: Global, threads: &[Vec<Said>]) -> Result<String, AllocError>
+/// The lines of all threads' calls. Allocates memory for the text.
+pub(crate) fn said_lines(alloc: Global, threads: &[Vec<Said>]) -> Result<String, AllocError>
     ensures { IfOk result (λ text.
-        string_bytes text ≡ verified_text (map (λ said. said.items) threads.now)) }
+        string_bytes text ≡ said_lines (map (λ said. said.items) threads.now)) }
 {
     let mut text = String::new(alloc);
     for (thread, said) in threads.iter().enumerate() {
         push_thread(&mut text, thread, said.as_slice())?;
     }
+    Ok(text)
+}
+
+/// The lines of a verified run. Allocates memory for the text.
+pub(crate) fn verified_text(alloc: Global, threads: &[Vec<Said>]) -> Result<String, AllocError>
+    ensures { IfOk result (λ text.
+        string_bytes text ≡ verified_text (map (λ said. said.items) threads.now)) }
+{
+    let mut text = said_lines(alloc, threads)?;
     text.push_str("verified\n")?;
     Ok(text)
 }

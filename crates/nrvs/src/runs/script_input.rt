@@ -42,7 +42,7 @@ fn read_blocks<R: Source>(
 }
 
 /// Why bytes are no script.
-fn script_fault(fail: Fail<BadLine>) -> ProgFault
+pub(crate) fn script_fault(fail: Fail<BadLine>) -> ProgFault
     ensures { result ≡ script_fault fail }
 {
     match fail {

@@ -14,7 +14,9 @@ returns c =
     let two = with_option c.in_ok-arg-2.ensures one c.replicas.ensures.rule c.replicas.ensures.local in
     let three = with_option c.in_ok-arg-3.ensures two c.tables.ensures.rule c.tables.ensures.local in
     let four = with_option c.in_ok-arg-4.ensures three c.turns.ensures.rule c.turns.ensures.local in
+    let five = with_option c.in_ok-arg-5.ensures four c.chain.ensures.rule c.chain.ensures.local in
+    let six = with_option c.in_ok-arg-6.ensures five c.segment.ensures.rule c.segment.ensures.local in
     record {
-      app = IfOk-weaker c.arg-5.result _ _ (λ command h. (with_option h four c.trace.ensures.rule c.trace.ensures.local).app_is) c.arg-5.ensures;
-      local = IfOk-weaker c.arg-5.result _ _ (λ command h. (with_option h four c.trace.ensures.rule c.trace.ensures.local).local) c.arg-5.ensures;
+      app = IfOk-weaker c.arg-7.result _ _ (λ command h. (with_option h six c.trace.ensures.rule c.trace.ensures.local).app_is) c.arg-7.ensures;
+      local = IfOk-weaker c.arg-7.result _ _ (λ command h. (with_option h six c.trace.ensures.rule c.trace.ensures.local).local) c.arg-7.ensures;
     }

@@ -1,10 +1,9 @@
-use Rattle.std.proofs.Common.{◌∙◌, ◌⊎◌, [], ◌∷◌, ap, subst, Some, codes, sym}
+use Rattle.std.proofs.Common.{◌∙◌, ◌⊎◌, [], ◌∷◌, ap, Some, codes, sym}
 use Rattle.clap.specs.Words.{rows_of, found_of, subcommand_rows_of, kind_of, HasKind}
 use Rattle.clap.specs.declared.error.kind.ErrorKind.TheVariants.{MissingSubcommand}
 use Rattle.clap.proofs.WalkLemmas.{one_text-rows}
 use Rattle.audit_commands.proofs.CommandLines.{entered, flag_of, passed_on}
 use Rattle.audit_commands.specs.Words.{IsMisused}
-use Rattle.nrvs.specs.CommandLine.{IsTurns}
 use Rattle.nrvs.proofs.CommandLines.{asks_known, asks_run, asks_simulate}
 use Rattle.nrvs.proofs.words.read_matches.Goals as goal
 
@@ -24,11 +23,7 @@ returns-in-Some-run-default-clause-asks c =
     let found = found_of arm.given.now in
     let name_is = ap Some (sym arm.is-run) ∙ arm.ensures.name in
     let sub_is = entered _ (codes "run") (rows_of found) name_is arm.ensures.rows in
-    let turns = subst (λ t. IsTurns t c.read_turns-turns.result) (one_text-rows found (codes "turns")) c.read_turns-turns.ensures in
-    let flag = c.get_flag-as_trace-in-Some-run-default.ensures in
-    asks_run _ (rows_of found) c.read_setup-setup-in-Some-run-default.result c.read_turns-turns.result
-    c.get_flag-as_trace-in-Some-run-default.result sub_is c.read_setup-setup-in-Some-run-default.ensures turns
-    (flag_of _ _ _ (one_text-rows found (codes "trace")) flag.none flag.value flag.other)
+    asks_run _ (rows_of found) c.read_run.result sub_is c.read_run.ensures
 
 pub returns-in_ok-read_inspection-in_default-clause-asks : goal.returns-in_ok-read_inspection-in_default-clause-asks
 returns-in_ok-read_inspection-in_default-clause-asks c =

@@ -3,7 +3,7 @@ use Rattle.std.specs.List.{flat_map}
 use Rattle.nr_serve.specs.declared.said.Said.{Said}
 use Rattle.nrvs.specs.RunText.{said_line, thread_lines}
 use Rattle.nrvs.proofs.RunTexts.{lines_of, next_lines}
-use Rattle.nrvs.proofs.runs.run_text.verified_text.Goals as goal
+use Rattle.nrvs.proofs.runs.run_text.said_lines.Goals as goal
 
 pub loop-thread-preserved : goal.loop-thread-preserved
 loop-thread-preserved c =
