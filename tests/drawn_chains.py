@@ -80,6 +80,7 @@ class Segment:
     needs: list[int] = field(default_factory=list)          # by replica: entries that its dump has to have
     looks: dict[int, str] = field(default_factory=dict)     # by touch: of which moments its answer is
     is_closed: bool = False                         # each call has a reply
+    earlier: list["Segment"] = field(default_factory=list)   # the segments before it
 
     def replies(self):
         """By call: the index of the reply to it."""
@@ -114,6 +115,13 @@ def allowed(segment, call, end):
 def answer_at(segment, call, n):
     asked = segment.events[call]
     return segment.moments[n].access(asked.address, asked.size, asked.rights)
+
+
+def lingering(segment, call):
+    """What the touch may still be answered from segments before it, if updates are open there; it may be more than that."""
+    asked = segment.events[call]
+    spaces = [space for each in segment.earlier if not each.is_closed for space in each.moments]
+    return {space.access(asked.address, asked.size, asked.rights) for space in spaces}
 
 
 # ---- a segment ----
@@ -270,6 +278,7 @@ def chain(draw, least=1, starts=(), dumps=()):
         for _ in range(draw.choice([0, 6, 25, 60])):
             making.step(names)
         made = making.finish(draw.random() < 0.5)
+        made.earlier = segments[:]
         made.start = tables_of(pages, layout.levels, draw) if has_start else None
         for replica in range(layout.replicas):
             applied = draw.randint(made.needs[replica], len(made.log))

@@ -141,11 +141,24 @@ def words_of_tables(name, shown):
 
 # ---- a stale touch ----
 
-def of_stale(trace, start, number):
-    """How many entries of the log it may see, and how its address looks after them."""
+def lingering(joined, entries, address):
+    """How the address may still be found to look behind so many entries: as before a change that was never answered, nor was a later one."""
+    places, seen = joined.changes([address])[address] if joined else ([], [])
+    left = []
+    for place, page in reversed([(place, seen[k]) for k, place in enumerate(places) if place < entries]):
+        if joined.entries[place].answered < chains.NEVER:
+            break
+        left.append(page)
+    return left[::-1]
+
+
+def of_stale(trace, start, number, left):
+    """How many entries of the log it may see, how its address looks after them, and how it may still look behind the segments before."""
     replied = {each.call: i for i, each in enumerate(trace.events) if isinstance(each, Reply)}
     address, end = trace.events[number].address, replied[number]
-    places, _ = chains.changes_of(trace, start, [address])[address]
+    alone = chains.Joined(start)
+    alone.add(trace)
+    places, _ = alone.changes([address])[address]
     first = max([place + 1 for place in places if replied.get(trace.log[place], end) < number], default=0)
     last = min([place for place in places if trace.log[place] > end], default=len(trace.log))
     seen = []
@@ -154,15 +167,20 @@ def of_stale(trace, start, number):
         for each in trace.log[:entries]:
             space.apply(trace.events[each])
         seen.append({"entries": entries, "look": looks(space, address)})
-    return {"call": event_fact(trace, number), "reply": event_fact(trace, end), "first": first, "last": last, "looks": seen}
+    shown = {"call": event_fact(trace, number), "reply": event_fact(trace, end), "first": first, "last": last, "looks": seen}
+    if left and first == 0:
+        shown["earlier"] = [evidence.answer_words(chains.allow(trace, page, traces.Call(0, 0, traces.RESOLVE, 0, 0, address, 0), traces.RESOLVE))
+                            for page in left]
+    return shown
 
 
 def words_of_stale(shown):
     first, last, told = shown["first"], shown["last"], shown["reply"]["answer"]
     return (f"Touch {shown['call']['event']} was answered `{told}`, but it may see only {first} to {last} entries of the log, and after none "
-            "of these its address looks so.",
+            "of these its address looks so." + (
+                " Nor does it in what earlier segments leave, whose updates were never answered." if "earlier" in shown else ""),
             [event_line(shown["call"]), event_line(shown["reply"]), f"entries seen at least: {first}", f"entries seen at most: {last}",
-             *(f"after {each['entries']}: {each['look']}" for each in shown["looks"])])
+             *(f"before the segment: {look}" for look in shown.get("earlier", ())), *(f"after {each['entries']}: {each['look']}" for each in shown["looks"])])
 
 
 # ---- a fault that a trace may have too ----
@@ -190,6 +208,7 @@ class Chain:
     def __init__(self, data):
         self.data, self.position, self.number = data, 0, 0
         self.before = self.space = None             # the trace and the space of the segment before
+        self.joined, self.entries = None, 0         # the run so far, and how many entries it has
         self.first = self.has_start = None          # the space with which the chain begins, and whether it has a start
         self.counts = dict.fromkeys(("calls", "updates", "reads", "touches", "dumps", "replicas", "pages"), 0)
 
@@ -209,7 +228,8 @@ class Chain:
     def pass_over(self, segment):
         """Goes on behind a segment; raises its first fault."""
         self.begin(segment)
-        order, self.space = chains.check_segment(segment, self.space and self.space.copy())
+        order, self.space, self.joined = chains.check_segment(segment, self.space and self.space.copy(), self.joined)
+        self.entries = len(self.joined.entries)
         updates = len(segment.trace.log)
         for words, more in (("calls", len(order)), ("updates", updates), ("reads", len(order) - updates), ("touches", len(segment.touches)),
                             ("dumps", sum(dump is not None for dump in segment.trace.dumps))):
@@ -227,7 +247,8 @@ class Chain:
             return of_start(segment, self.space, self.origin, name, numbers)
         start = self.begin(segment)
         if name == "Stale":
-            shown = of_stale(segment.trace, start, *numbers)
+            address = segment.trace.events[numbers[0]].address
+            shown = of_stale(segment.trace, start, *numbers, lingering(self.joined, self.entries, address))
             return shown, *words_of_stale(shown)
         return of_segment(segment, start, self.origin, name, numbers)
 

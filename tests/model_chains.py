@@ -18,6 +18,8 @@ FAULTS = "StartMissing StartShared StartReserved StartStray StartBeyond StartDif
 traces.FAULTS.extend(fault for fault in FAULTS if fault not in traces.FAULTS)
 
 Segment = collections.namedtuple("Segment", "trace start touches ends")  # ends: the index of the first byte behind it
+Entry = collections.namedtuple("Entry", "call called answered")  # of the joined log, and its events in the joined run; answered may be NEVER
+NEVER = float("inf")
 
 
 class Reader:
@@ -119,72 +121,91 @@ def looks(space, address):
     return None if base is None else (base,) + space.pages[base]
 
 
-def check_touches(segment, start):
-    """Each answered touch is answered as its address was after some entries of the log that are still allowed."""
+class Joined:
+    """The segments so far, as one run: the space with which the first begins, all entries, and how many events there were."""
+
+    def __init__(self, begin):
+        self.begin, self.entries, self.events = begin.copy(), [], 0
+
+    def add(self, trace):
+        """A further segment, whose first event has the number `first` in the joined run."""
+        self.first = self.events
+        self.replied = {each.call: i for i, each in enumerate(trace.events) if isinstance(each, Reply)}
+        for number in trace.log:
+            answered = self.first + self.replied[number] if number in self.replied else NEVER
+            self.entries.append(Entry(trace.events[number], self.first + number, answered))
+        self.events += len(trace.events)
+
+    def changes(self, addresses):
+        """Of each address the places of the entries that change how it looks, and how it looks at first and after each of them."""
+        changes = {address: ([], [looks(self.begin, address)]) for address in addresses}
+        space = self.begin.copy()
+        for place, entry in enumerate(self.entries):
+            gone = looks(space, entry.call.address)
+            space.apply(entry.call)
+            page = gone or looks(space, entry.call.address)
+            if page is None:
+                continue
+            low, high = (bisect.bisect_left(addresses, end) for end in (page[0], page[0] + traces.SIZES[page[1]]))
+            for address in addresses[low:high]:
+                places, seen = changes[address]
+                now = looks(space, address)
+                if now != seen[-1]:
+                    places.append(place)
+                    seen.append(now)
+        return changes
+
+    def window(self, places, called, answered):
+        """The moments, counted in changes, from which something that was called and answered so may be answered."""
+        least = max([k + 1 for k, place in enumerate(places) if self.entries[place].answered < called], default=0)
+        most = min([k for k, place in enumerate(places) if self.entries[place].called > answered], default=len(places))
+        return least, most
+
+def check_touches(segment, joined):
+    """Each answered touch is answered as its address was at a moment of the joined run that is allowed."""
     trace = segment.trace
-    replied = {each.call: i for i, each in enumerate(trace.events) if isinstance(each, Reply)}
-    answered = sorted(segment.touches & replied.keys())
-    changes = changes_of(trace, start, sorted({trace.events[number].address for number in answered}))
+    answered = sorted(segment.touches & joined.replied.keys())
+    changes = joined.changes(sorted({trace.events[number].address for number in answered}))
     for number in answered:
-        call, end = trace.events[number], replied[number]
+        call, reply = trace.events[number], trace.events[joined.replied[number]]
         places, seen = changes[call.address]           # how it looks before the first of these places, and after each
-        least = max([k + 1 for k, place in enumerate(places) if replied.get(trace.log[place], end) < number], default=0)
-        most = min([k for k, place in enumerate(places) if trace.log[place] > end], default=len(places))
-        if not any(allow(trace, page, call) == trace.events[end].answer for page in seen[least:most + 1]):
+        least, most = joined.window(places, joined.first + number, joined.first + joined.replied[number])
+        if not any(allow(trace, page, call) == reply.answer for page in seen[least:most + 1]):
             raise Fault("Stale", number)
 
 
-def changes_of(trace, start, addresses):
-    """Of each address the places of the updates that change how it looks, and how it looks at first and after each of them."""
-    changes = {address: ([], [looks(start, address)]) for address in addresses}
-    space = start.copy()
-    for place, number in enumerate(trace.log):
-        call = trace.events[number]
-        gone = looks(space, call.address)
-        space.apply(call)
-        page = gone or looks(space, call.address)
-        if page is None:
-            continue
-        low, high = (bisect.bisect_left(addresses, end) for end in (page[0], page[0] + traces.SIZES[page[1]]))
-        for address in addresses[low:high]:
-            places, seen = changes[address]
-            now = looks(space, address)
-            if now != seen[-1]:
-                places.append(place)
-                seen.append(now)
-    return changes
-
-
-def allow(trace, page, call):
+def allow(trace, page, call, kind=traces.ACCESS):
     """What an access is answered where this page covers its address, or none does."""
     space = Space(trace.levels, trace.tables)
     if page:
         space.add(*page)
-    return space.look(call._replace(kind=traces.ACCESS))
+    return space.look(call._replace(kind=kind))
 
 
-def check_segment(segment, space):
-    """The order, and the space after the whole log; raises the first fault."""
+def check_segment(segment, space, joined):
+    """The order, and the space after the whole log, and the run so far; raises the first fault."""
     start = space_at_begin(segment, space)
     traces.check_calls(segment.trace)
     trace = without_touches(segment)
     order, replies = traces.check_history(trace, start)
-    check_touches(segment, start)
+    joined = joined or Joined(start)
+    joined.add(segment.trace)
+    check_touches(segment, joined)
     for r in range(trace.replicas):
         if trace.dumps[r]:
             traces.check_replica(trace, r, replies, start)
     for number in trace.log:
         start.apply(trace.events[number])
-    return order, start
+    return order, start, joined
 
 
 def verdict(data, quiet=False):
     """What `nrvs audit --chain` prints of the bytes, and its status."""
-    lines, position, number, before, space = [], 0, 0, None, None
+    lines, position, number, before, space, joined = [], 0, 0, None, None, None
     while position < len(data) or number == 0:
         try:
             segment = read_segment(data, position, before)
-            order, space = check_segment(segment, space)
+            order, space, joined = check_segment(segment, space, joined)
         except Fault as fault:
             return "\n".join(lines + [f"segment {number}", str(fault)]) + "\n", 1
         if not quiet:

@@ -105,7 +105,7 @@ def shown_start(data, as_ranges=False):
     """What `nrvs pages --chain --start` prints, and its status: the first segment is judged, and its start shown."""
     try:
         segment = chains.read_segment(data, 0, None)
-        chains.check_segment(segment, None)
+        chains.check_segment(segment, None, None)
     except Fault as fault:
         return f"segment 0\n{fault}\n", 1
     return text_of(pages_of(segment.trace, segment.start) if segment.start else [], as_ranges), 0
@@ -113,11 +113,11 @@ def shown_start(data, as_ranges=False):
 
 def shown_end(data, as_ranges=False):
     """What `nrvs pages --chain --end` prints, and its status: all segments are judged, and the space after them shown."""
-    position, number, before, space = 0, 0, None, None
+    position, number, before, space, joined = 0, 0, None, None, None
     while position < len(data) or number == 0:
         try:
             segment = chains.read_segment(data, position, before)
-            _, space = chains.check_segment(segment, space)
+            _, space, joined = chains.check_segment(segment, space, joined)
         except Fault as fault:
             return f"segment {number}\n{fault}\n", 1
         position, before, number = segment.ends, segment.trace, number + 1

@@ -6,7 +6,7 @@ a chain with a fault of the format in its segment k, and that line. Both raise N
 import struct
 
 import recording
-from drawn_chains import TOUCH, Call, Reply, allowed, answer_at, spelled, tables_of, units
+from drawn_chains import TOUCH, Call, Reply, allowed, answer_at, lingering, spelled, tables_of, units
 from recording import BYTES, MAP, UNMAP
 
 
@@ -143,7 +143,7 @@ def stale_as(kind):
         for call, end in segment.replies().items():
             if segment.events[call].kind == TOUCH:
                 moments = allowed(segment, call, end)
-                fitting = {answer_at(segment, call, n) for n in moments}
+                fitting = {answer_at(segment, call, n) for n in moments} | lingering(segment, call)
                 others = {"over": range(moments[0]), "foreseen": range(moments[-1] + 1, len(segment.moments)), "none": ()}[kind]
                 drawn = changed_answer(draw, segment.events[end].answer)
                 answers = [drawn] if kind == "none" else sorted(answer_at(segment, call, n) for n in others)

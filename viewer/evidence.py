@@ -217,6 +217,8 @@ def of_stale(trace, shown):
     calls, address, replied = {number: "is stale"}, trace.events[shown["call"]["event"]].address, trace.first_replies
     facts = [f"Too late: {trace.call_text(number)}.",
              f"It may see {first} to {last} entries of the log, which has {len(trace.log)}."]
+    for look in shown.get("earlier", ()):
+        facts.append(f"Behind the segments before, {address:#x} may still look so: `{look}`.")
     for each in looks:
         facts.append(f"After {each['entries']} of them {address:#x} looks so: `{each['look']}`.")
     if first:

@@ -15,6 +15,7 @@ use Rattle.clap.specs.declared.error.kind.ErrorKind.{ErrorKind}
 use Rattle.clap.specs.declared.error.kind.ErrorKind.TheVariants.{OutOfMemory}
 use Rattle.clap.specs.declared.parser.matches.SubCommand.{SubCommand}
 use Rattle.clap.specs.declared.parser.matches.ArgMatches.TheViews.{out-SubCommand}
+use Rattle.audit_texts.specs.declared.chain.style.Style.{Style}
 use Rattle.audit_commands.specs.Words.{AsksAudit, AsksTraces, HasSeveralFiles, IsFlag, IsLocal, IsMisuse, IsMisused, IsPagesMisuse, IsReplica}
 use Rattle.audit_commands.specs.declared.inspection.Inspection.{Inspection}
 use Rattle.audit_commands.specs.declared.inspection.Inspection.TheVariants.{One, Each}
@@ -118,30 +119,31 @@ flag_is {t = t} is same = subst (IsFlag t) same is
 
 -- an audit of traces
 pub asks_traces : (rows : List Row) (asked : Inspection) → IsFlag (one_of (codes "chain") rows) false → IsFlag (one_of (codes "quiet") rows) false
-    → AsksTraces rows asked → AsksAudit rows asked
-asks_traces rows (One Audit input) chain quiet asks = (chain, quiet, asks)
-asks_traces rows (One (Explain as_json with_dumps) input) chain quiet asks = absurd asks
-asks_traces rows (One (Resolve word replica with_steps) input) chain quiet asks = absurd asks
-asks_traces rows (One (Pages replica as_ranges) input) chain quiet asks = absurd asks
-asks_traces rows (One (AuditChain still) input) chain quiet asks = absurd asks
-asks_traces rows (One (ExplainChain as_json) input) chain quiet asks = absurd asks
-asks_traces rows (One (PagesOfChain point as_ranges) input) chain quiet asks = absurd asks
-asks_traces rows (Each names) chain quiet asks = (chain, quiet, asks)
+    → IsFlag (one_of (codes "progress") rows) false → AsksTraces rows asked → AsksAudit rows asked
+asks_traces rows (One (Audit as_json) input) chain quiet still asks = (chain, quiet, still, asks)
+asks_traces rows (One (Explain as_json with_dumps) input) chain quiet still asks = absurd asks
+asks_traces rows (One (Resolve word replica with_steps) input) chain quiet still asks = absurd asks
+asks_traces rows (One (Pages replica as_ranges) input) chain quiet still asks = absurd asks
+asks_traces rows (One (AuditChain style watched) input) chain quiet still asks = absurd asks
+asks_traces rows (One (ExplainChain as_json) input) chain quiet still asks = absurd asks
+asks_traces rows (One (PagesOfChain point as_ranges) input) chain quiet still asks = absurd asks
+asks_traces rows (Each as_json names) chain quiet still asks = (chain, quiet, still, asks)
 
 -- of one chain
-pub asks_chain : (rows : List Row) (task : Task) (input : Option (Bor (List ℕ))) (quiet : Bool) → IsFlag (one_of (codes "chain") rows) true
-    → IsFlag (one_of (codes "quiet") rows) quiet → AsksTraces rows (One task input) → AsksAudit rows (One (AuditChain quiet) input)
-asks_chain rows Audit input quiet chain still asks = (chain, still, asks)
-asks_chain rows (Explain as_json with_dumps) input quiet chain still asks = absurd asks
-asks_chain rows (Resolve word replica with_steps) input quiet chain still asks = absurd asks
-asks_chain rows (Pages replica as_ranges) input quiet chain still asks = absurd asks
-asks_chain rows (AuditChain own) input quiet chain still asks = absurd asks
-asks_chain rows (ExplainChain as_json) input quiet chain still asks = absurd asks
-asks_chain rows (PagesOfChain point as_ranges) input quiet chain still asks = absurd asks
+pub asks_chain : (rows : List Row) (task : Task) (input : Option (Bor (List ℕ))) (style : Style) (watched : Bool)
+    → IsFlag (one_of (codes "chain") rows) true → IsFlag (one_of (codes "quiet") rows) style.quiet → IsFlag (one_of (codes "json") rows) style.as_json
+    → IsFlag (one_of (codes "progress") rows) watched → AsksTraces rows (One task input) → AsksAudit rows (One (AuditChain style watched) input)
+asks_chain rows (Audit own) input style watched chain still json shown asks = (chain, still, json, shown, asks.1)
+asks_chain rows (Explain as_json with_dumps) input style watched chain still json shown asks = absurd asks
+asks_chain rows (Resolve word replica with_steps) input style watched chain still json shown asks = absurd asks
+asks_chain rows (Pages replica as_ranges) input style watched chain still json shown asks = absurd asks
+asks_chain rows (AuditChain own seen) input style watched chain still json shown asks = absurd asks
+asks_chain rows (ExplainChain as_json) input style watched chain still json shown asks = absurd asks
+asks_chain rows (PagesOfChain point as_ranges) input style watched chain still json shown asks = absurd asks
 
 -- several files
 pub several_files : (rows : List Row) (asked : Inspection) → AsksTraces rows asked
     → ((task : Task) (input : Option (Bor (List ℕ))) → asked ≡ One task input → ⊥) → HasSeveralFiles rows
 several_files rows (One task input) asks none = absurd (none task input refl)
-several_files rows (Each names) asks none =
-    (map (λ name. name.now) names.items, asks.0, subst (λ (n : ℕ). 2 ≤ n) (sym (length-map names.items (λ (name : Bor (List ℕ)). name.now))) asks.1)
+several_files rows (Each as_json names) asks none =
+    (map (λ name. name.now) names.items, asks.1, subst (λ (n : ℕ). 2 ≤ n) (sym (length-map names.items (λ (name : Bor (List ℕ)). name.now))) asks.2)

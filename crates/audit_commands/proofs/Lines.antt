@@ -1,5 +1,5 @@
 -- What is said of several files, one after another.
-use Rattle.std.proofs.Common.{◌≡◌, ◌∙◌, ◌++◌, ◌+◌, ◌<◌, ℕ, Bor, List, [], ◌∷◌, Option, ap, ap₂, append-nil, arith, get_or}
+use Rattle.std.proofs.Common.{◌≡◌, ◌∙◌, ◌++◌, ◌+◌, ◌<◌, ℕ, Bool, Bor, List, [], ◌∷◌, Option, ap, ap₂, append-nil, arith, get_or}
 use Rattle.std.proofs.Common.{length, map, max, refl, subst, sym, take, inl, inr}
 use Rattle.std.specs.List.{concat}
 use Rattle.std.specs.Io.KnownBytes.{Appends}
@@ -20,20 +20,21 @@ worst-append [] status = max-zero status ∙ sym (zero-max status)
 worst-append (first ∷ rest) status = ap (λ n. max first n) (worst-append rest status) ∙ max_in_turn first (worst rest) status
 
 -- no file yet
-pub no_file : (file_bytes : List ℕ → Option (List ℕ)) (known : Option (List ℕ)) → AuditsEach file_bytes [] known known 0
-no_file file_bytes known = record { lines = []; names_are = refl; each = All-nil (IsFileLine file_bytes); written = Appends-nil known; status_is = refl }
+pub no_file : (as_json : Bool) (file_bytes : List ℕ → Option (List ℕ)) (known : Option (List ℕ)) → AuditsEach as_json file_bytes [] known known 0
+no_file as_json file_bytes known =
+    record { lines = []; names_are = refl; each = All-nil (IsFileLine as_json file_bytes); written = Appends-nil known; status_is = refl }
 
 -- and one more
-pub one_more_file : (file_bytes : List ℕ → Option (List ℕ)) (names : List (List ℕ)) (name : List ℕ) (old now new : Option (List ℕ)) (status one : ℕ)
-    → AuditsEach file_bytes names old now status → AuditsOne file_bytes name now new one
-    → AuditsEach file_bytes (names ++ name ∷ []) old new (max status one)
-one_more_file file_bytes names name old now new status one so_far next =
+pub one_more_file : (as_json : Bool) (file_bytes : List ℕ → Option (List ℕ)) (names : List (List ℕ)) (name : List ℕ) (old now new : Option (List ℕ)) (status one : ℕ)
+    → AuditsEach as_json file_bytes names old now status → AuditsOne as_json file_bytes name now new one
+    → AuditsEach as_json file_bytes (names ++ name ∷ []) old new (max status one)
+one_more_file as_json file_bytes names name old now new status one so_far next =
     let line = next.line in
     record {
       lines = so_far.lines ++ line ∷ [];
       names_are = map-append (λ (it : FileLine). it.name) so_far.lines (line ∷ [])
           ∙ ap₂ (λ (l : List (List ℕ)) (n : List ℕ). l ++ n ∷ []) so_far.names_are next.name_is;
-      each = All-push (IsFileLine file_bytes) so_far.lines line so_far.each next.is_line;
+      each = All-push (IsFileLine as_json file_bytes) so_far.lines line so_far.each next.is_line;
       written = subst (λ (l : List ℕ). Appends old new l)
           (ap (λ (l : List ℕ). concat (map (λ (it : FileLine). it.text) so_far.lines) ++ l) (sym (append-nil line.text))
           ∙ sym (concat-append (map (λ (it : FileLine). it.text) so_far.lines) (line.text ∷ []))
@@ -45,21 +46,21 @@ one_more_file file_bytes names name old now new status one so_far next =
     }
 
 -- the same of the next of these names
-pub next_file : (file_bytes : List ℕ → Option (List ℕ)) (names : List (Bor (List ℕ))) (index : ℕ) (none : Bor (List ℕ)) (old now new : Option (List ℕ))
+pub next_file : (as_json : Bool) (file_bytes : List ℕ → Option (List ℕ)) (names : List (Bor (List ℕ))) (index : ℕ) (none : Bor (List ℕ)) (old now new : Option (List ℕ))
     (status one worst_is : ℕ) → index < length names → worst_is ≡ max status one
-    → AuditsEach file_bytes (map (λ (name : Bor (List ℕ)). name.now) (take index names)) old now status
-    → AuditsOne file_bytes (get_or names index none).now now new one
-    → AuditsEach file_bytes (map (λ (name : Bor (List ℕ)). name.now) (take (index + 1) names)) old new worst_is
-next_file file_bytes names index none old now new status one worst_is within is so_far next =
+    → AuditsEach as_json file_bytes (map (λ (name : Bor (List ℕ)). name.now) (take index names)) old now status
+    → AuditsOne as_json file_bytes (get_or names index none).now now new one
+    → AuditsEach as_json file_bytes (map (λ (name : Bor (List ℕ)). name.now) (take (index + 1) names)) old new worst_is
+next_file as_json file_bytes names index none old now new status one worst_is within is so_far next =
     let name_of : Bor (List ℕ) → List ℕ = λ name. name.now in
-    subst (λ (n : ℕ). AuditsEach file_bytes (map name_of (take (index + 1) names)) old new n) (sym is)
-    (subst (λ (l : List (List ℕ)). AuditsEach file_bytes l old new (max status one)) (sym (map_more name_of names index none within))
-    (one_more_file file_bytes (map name_of (take index names)) (get_or names index none).now old now new status one so_far next))
+    subst (λ (n : ℕ). AuditsEach as_json file_bytes (map name_of (take (index + 1) names)) old new n) (sym is)
+    (subst (λ (l : List (List ℕ)). AuditsEach as_json file_bytes l old new (max status one)) (sym (map_more name_of names index none within))
+    (one_more_file as_json file_bytes (map name_of (take index names)) (get_or names index none).now old now new status one so_far next))
 
 -- a line that was written
-pub line_written : (file_bytes : List ℕ → Option (List ℕ)) (name text : List ℕ) (old new : Option (List ℕ)) (status : ℕ)
-    → IsVerdictLine file_bytes name text status → Appends old new text → AuditsOne file_bytes name old new status
-line_written file_bytes name text old new status is written = record {
+pub line_written : (as_json : Bool) (file_bytes : List ℕ → Option (List ℕ)) (name text : List ℕ) (old new : Option (List ℕ)) (status : ℕ)
+    → IsVerdictLine as_json file_bytes name text status → Appends old new text → AuditsOne as_json file_bytes name old new status
+line_written as_json file_bytes name text old new status is written = record {
   line = record { name = name; text = text; status = status };
   name_is = refl;
   is_line = inl is;
@@ -68,9 +69,9 @@ line_written file_bytes name text old new status is written = record {
 }
 
 -- and a file that has none
-pub no_line : (file_bytes : List ℕ → Option (List ℕ)) (name : List ℕ) (fault : ProgFault) (old new : Option (List ℕ)) (status : ℕ)
-    → status ≡ refusal_status fault → new ≡ old → AuditsOne file_bytes name old new status
-no_line file_bytes name fault old new status is same = record {
+pub no_line : (as_json : Bool) (file_bytes : List ℕ → Option (List ℕ)) (name : List ℕ) (fault : ProgFault) (old new : Option (List ℕ)) (status : ℕ)
+    → status ≡ refusal_status fault → new ≡ old → AuditsOne as_json file_bytes name old new status
+no_line as_json file_bytes name fault old new status is same = record {
   line = record { name = name; text = []; status = status };
   name_is = refl;
   is_line = inr (fault, refl, is);

@@ -15,6 +15,7 @@ use Rattle.audit_readers.specs.declared.fault.ProgFault.{ProgFault}
 use Rattle.audit_readers.specs.ChainAudit.{HasReadFewOfChain, HasWrittenFirst, IsChainAudit}
 use Rattle.audit_readers.specs.ChainPages.{HasReadFewOfStart, IsChainEnd, IsChainStart}
 use Rattle.audit_texts.specs.ChainExplained.{IsChainExplained}
+use Rattle.audit_texts.specs.declared.chain.style.Style.{Style}
 use Rattle.audit_readers.specs.declared.fault.ProgFault.TheVariants.{CannotRead, CannotWrite, Memory}
 use Rattle.audit_readers.specs.PagesAnswers.{IsPages, IsPagesFault}
 use Rattle.audit_commands.specs.declared.inspection.Inspection.{Inspection}
@@ -31,29 +32,29 @@ pub record Answers {W : Type 0} (IsAnswer : List ℕ → List ℕ → ℕ → Ty
   pub alone : WritesAnswersAlone old new outcome
 
 -- the audit of a chain was made of this input, where it is specified; where it has no answer, the lines of right segments were written
-pub record AuditsChain {W : Type 0} (quiet : Bool) (known : Option (List ℕ)) (contents : W
+pub record AuditsChain {W : Type 0} (style : Style) (known : Option (List ℕ)) (contents : W
     → Option (List ℕ)) (old new : W) (outcome : Result ℕ ProgFault) : Type 0 where
-  pub ends : MatchResult outcome (WritesReport (IsChainAudit quiet) known (contents old) (contents new)) IsEndFault
+  pub ends : MatchResult outcome (WritesReport (IsChainAudit style) known (contents old) (contents new)) IsEndFault
   pub first : IfErr outcome (λ fault. fault ≢ CannotWrite
-      → (left : Option (List ℕ)) × HasWrittenFirst quiet known left (contents old) (contents new) fault)
+      → (left : Option (List ℕ)) × HasWrittenFirst style known left (contents old) (contents new) fault)
 
 -- the task was done on an input
 abbrev pub RunsTask : {W : Type 0} → Task → Option (List ℕ) → (W → Option (List ℕ)) → W → W → Result ℕ ProgFault → Type 0
-RunsTask Audit known contents old new outcome = Answers IsAudit IsEndFault known contents old new outcome
+RunsTask (Audit as_json) known contents old new outcome = Answers (IsAudit as_json) IsEndFault known contents old new outcome
 RunsTask (Explain as_json false) known contents old new outcome = Answers (IsExplained as_json) IsEndFault known contents old new outcome
 RunsTask (Explain as_json true) known contents old new outcome = Answers (IsFullyExplained as_json) IsEndFault known contents old new outcome
 RunsTask (Resolve word replica with_steps) known contents old new outcome =
     Answers (IsResolve word.now replica with_steps) (IsResolveFault word.now replica with_steps known) known contents old new outcome
 RunsTask (Pages replica as_ranges) known contents old new outcome =
     Answers (IsPages as_ranges replica) (IsPagesFault as_ranges replica known) known contents old new outcome
-RunsTask (AuditChain quiet) known contents old new outcome = AuditsChain quiet known contents old new outcome
+RunsTask (AuditChain style watched) known contents old new outcome = AuditsChain style known contents old new outcome
 RunsTask (ExplainChain as_json) known contents old new outcome = Answers (IsChainExplained as_json) IsEndFault known contents old new outcome
 RunsTask (PagesOfChain Start as_ranges) known contents old new outcome = Answers (IsChainStart as_ranges) IsEndFault known contents old new outcome
 RunsTask (PagesOfChain End as_ranges) known contents old new outcome = Answers (IsChainEnd as_ranges) IsEndFault known contents old new outcome
 
 -- how much was read for it
 abbrev pub HasReadFewFor : Task → Option (List ℕ) → Option (List ℕ) → Type 0
-HasReadFewFor (AuditChain quiet) old new = HasReadFewOfChain old new
+HasReadFewFor (AuditChain style watched) old new = HasReadFewOfChain old new
 HasReadFewFor (ExplainChain as_json) old new = HasReadFewOfChain old new
 HasReadFewFor (PagesOfChain Start as_ranges) old new = HasReadFewOfStart old new
 HasReadFewFor (PagesOfChain End as_ranges) old new = HasReadFewOfChain old new
@@ -61,7 +62,7 @@ HasReadFewFor _ old new = HasReadFew old new
 
 -- the most that can be read for it
 abbrev pub most_bytes : Task → ℕ
-most_bytes (AuditChain quiet) = 2 ^ 52 - 1
+most_bytes (AuditChain style watched) = 2 ^ 52 - 1
 most_bytes (ExplainChain as_json) = 2 ^ 52 - 1
 most_bytes (PagesOfChain point as_ranges) = 2 ^ 52 - 1
 most_bytes _ = 70647893
@@ -82,27 +83,27 @@ bytes_of file_bytes None = None
 bytes_of file_bytes (Some name) = file_bytes name
 
 -- a text is the line of the verdict on the bytes of the file of this name
-pub record IsVerdictLine (file_bytes : List ℕ → Option (List ℕ)) (name text : List ℕ) (status : ℕ) : Type 0 where
+pub record IsVerdictLine (as_json : Bool) (file_bytes : List ℕ → Option (List ℕ)) (name text : List ℕ) (status : ℕ) : Type 0 where
   pub input : List ℕ
   pub is_read : IsReadOf (bytes_of file_bytes (named_file name)) input
-  pub is_audit : IsNamedAudit name input text status
+  pub is_audit : IsNamedAudit as_json name input text status
 
 -- the line is that of the verdict; or there is none, for a reason that goes to standard error
-abbrev pub IsFileLine : (List ℕ → Option (List ℕ)) → FileLine → Type 0
-IsFileLine file_bytes line = IsVerdictLine file_bytes line.name line.text line.status
+abbrev pub IsFileLine : Bool → (List ℕ → Option (List ℕ)) → FileLine → Type 0
+IsFileLine as_json file_bytes line = IsVerdictLine as_json file_bytes line.name line.text line.status
     ⊎ ((fault : ProgFault) × (line.text ≡ []) × (line.status ≡ refusal_status fault))
 
 -- the line of a file was written; or there is none, and nothing was written but where that failed
-pub record WritesLine {W : Type 0} (file_bytes : List ℕ → Option (List ℕ)) (name : List ℕ) (contents : W
+pub record WritesLine {W : Type 0} (as_json : Bool) (file_bytes : List ℕ → Option (List ℕ)) (name : List ℕ) (contents : W
     → Option (List ℕ)) (old new : W) (outcome : Result ℕ ProgFault) : Type 0 where
-  pub ends : IfOk outcome (λ status. (text : List ℕ) × IsVerdictLine file_bytes name text status × Appends (contents old) (contents new) text)
+  pub ends : IfOk outcome (λ status. (text : List ℕ) × IsVerdictLine as_json file_bytes name text status × Appends (contents old) (contents new) text)
   pub alone : WritesAnswersAlone old new outcome
 
 -- what is said of one of several files was written, and nothing else
-pub record AuditsOne (file_bytes : List ℕ → Option (List ℕ)) (name : List ℕ) (old new : Option (List ℕ)) (status : ℕ) : Type 0 where
+pub record AuditsOne (as_json : Bool) (file_bytes : List ℕ → Option (List ℕ)) (name : List ℕ) (old new : Option (List ℕ)) (status : ℕ) : Type 0 where
   pub line : FileLine
   pub name_is : line.name ≡ name
-  pub is_line : IsFileLine file_bytes line
+  pub is_line : IsFileLine as_json file_bytes line
   pub written : Appends old new line.text
   pub status_is : status ≡ line.status
 
@@ -112,10 +113,10 @@ worst [] = 0
 worst (status ∷ rest) = max status (worst rest)
 
 -- a line of each of these files was written, in their order, and nothing else; the status is the worst of theirs
-pub record AuditsEach (file_bytes : List ℕ → Option (List ℕ)) (names : List (List ℕ)) (old new : Option (List ℕ)) (status : ℕ) : Type 0 where
+pub record AuditsEach (as_json : Bool) (file_bytes : List ℕ → Option (List ℕ)) (names : List (List ℕ)) (old new : Option (List ℕ)) (status : ℕ) : Type 0 where
   pub lines : List FileLine
   pub names_are : map (λ (line : FileLine). line.name) lines ≡ names
-  pub each : All (IsFileLine file_bytes) lines
+  pub each : All (IsFileLine as_json file_bytes) lines
   pub written : Appends old new (concat (map (λ (line : FileLine). line.text) lines))
   pub status_is : status ≡ worst (map (λ (line : FileLine). line.status) lines)
 
@@ -125,8 +126,8 @@ abbrev pub RunsInspection : {W : Type 0} → (List ℕ → Option (List ℕ)) �
 RunsInspection file_bytes (One task None) known contents old new outcome = RunsTask task known contents old new outcome
 RunsInspection file_bytes (One task (Some name)) known contents old new outcome =
     RunsTaskOnFile task (file_bytes name.now) contents old new outcome
-RunsInspection file_bytes (Each names) known contents old new outcome =
-    MatchResult outcome (AuditsEach file_bytes (map (λ (name : Bor (List ℕ)). name.now) names.items) (contents old) (contents new))
+RunsInspection file_bytes (Each as_json names) known contents old new outcome =
+    MatchResult outcome (AuditsEach as_json file_bytes (map (λ (name : Bor (List ℕ)). name.now) names.items) (contents old) (contents new))
     (λ fault. fault ≡ CannotWrite)
 
 -- help or the version was asked for, which go to the output

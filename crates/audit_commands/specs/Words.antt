@@ -72,7 +72,9 @@ steps_option = record (new_rule (codes "steps")) { long = Some (codes "steps"); 
 
 -- the command `audit`, with its options and files
 abbrev pub audit_app : App
-audit_app = with_rule (with_rule (with_rule (new_app (codes "audit")) chain_option) quiet_option) files_argument
+audit_app =
+    with_rule (with_rule (with_rule (with_rule (with_rule (new_app (codes "audit")) json_option) chain_option) quiet_option)
+    (flag_option (codes "progress"))) files_argument
 
 -- the command `explain`, with its options and file
 abbrev pub explain_app : App
@@ -127,21 +129,23 @@ HasSeveralFiles rows = (names : List Text) × (all_of (codes "file") rows ≡ So
 
 -- the files that were named ask for an audit of one trace, or, where they are several, of each
 abbrev pub AsksTraces : List Row → Inspection → Type 0
-AsksTraces rows (One Audit input) = HasOneInput rows input
-AsksTraces rows (Each names) = (all_of (codes "file") rows ≡ Some (map (λ name. name.now) names.items)) × (2 ≤ length names.items)
+AsksTraces rows (One (Audit as_json) input) = IsFlag (one_of (codes "json") rows) as_json × HasOneInput rows input
+AsksTraces rows (Each as_json names) = IsFlag (one_of (codes "json") rows) as_json × (all_of (codes "file") rows ≡ Some (map (λ name. name.now) names.items)) × (2 ≤ length names.items)
 AsksTraces rows _ = ⊥
 
 -- what was given with `audit` asks for this: with --chain for an audit of one chain
 abbrev pub AsksAudit : List Row → Inspection → Type 0
-AsksAudit rows (One (AuditChain quiet) input) =
-    IsFlag (one_of (codes "chain") rows) true × IsFlag (one_of (codes "quiet") rows) quiet × HasOneInput rows input
-AsksAudit rows inspection =
-    IsFlag (one_of (codes "chain") rows) false × IsFlag (one_of (codes "quiet") rows) false × AsksTraces rows inspection
+AsksAudit rows (One (AuditChain style watched) input) = IsFlag (one_of (codes "chain") rows) true × IsFlag (one_of (codes "quiet") rows) style.quiet
+    × IsFlag (one_of (codes "json") rows) style.as_json × IsFlag (one_of (codes "progress") rows) watched × HasOneInput rows input
+AsksAudit rows inspection = IsFlag (one_of (codes "chain") rows) false × IsFlag (one_of (codes "quiet") rows) false
+    × IsFlag (one_of (codes "progress") rows) false × AsksTraces rows inspection
 
--- it is misused, though clap has nothing against it: more than one chain is named, or it is to be quiet of no chain
+-- it is misused, though clap has nothing against it: more than one chain is named, or it is to be quiet of no chain, or to show how far it
+-- has come with none
 abbrev pub IsMisuse : List Row → ErrorKind → Type 0
 IsMisuse rows kind.TooManyValues = IsFlag (one_of (codes "chain") rows) true × HasSeveralFiles rows
-IsMisuse rows kind.MissingRequiredArgument = IsFlag (one_of (codes "chain") rows) false × IsFlag (one_of (codes "quiet") rows) true
+IsMisuse rows kind.MissingRequiredArgument = IsFlag (one_of (codes "chain") rows) false
+    × (IsFlag (one_of (codes "quiet") rows) true ⊎ IsFlag (one_of (codes "progress") rows) true)
 IsMisuse rows _ = ⊥
 
 -- with `explain`: with --chain for an explanation of one chain, and --all says nothing then
@@ -154,7 +158,7 @@ AsksExplain rows (One (ExplainChain as_json) input) =
     × (option_map (λ name. name.now) input ≡ input_of (first_of (codes "file") rows))
 AsksExplain rows _ = ⊥
 
--- with `resolve`
+-- with `resolve`: for where an address leads in a dump of one trace
 abbrev pub AsksResolve : List Row → Inspection → Type 0
 AsksResolve rows (One (Resolve address replica with_steps) input) = (unwrap_or (first_of (codes "address") rows) [] ≡ address.now)
     × IsReplica (one_of (codes "replica") rows) replica × IsFlag (one_of (codes "steps") rows) with_steps

@@ -8,6 +8,7 @@ ghost use Rattle.audit_commands.specs.Words.{IsFlag, IsMisuse, IsMisused, IsPage
 ghost use Rattle.audit_commands.specs.Words.{input_of, named_file};
 
 use crate::task::{ChainPoint, Task};
+use audit_texts::Style;
 use clap::error::ErrorKind;
 use clap::{ArgMatches, Command, Error};
 use std::alloc::{AllocError, Global};
@@ -17,8 +18,8 @@ use std::alloc::{AllocError, Global};
 pub enum Inspection<'a> {
     /// A task on one input: the file of this name, or standard input.
     One(Task<'a>, Option<&'a str>),
-    /// An audit of each of these files, a line each; `-` is standard input.
-    Each(Vec<&'a str>),
+    /// An audit of each of these files, a line each, and whether as JSON; `-` is standard input.
+    Each(bool, Vec<&'a str>),
 }
 
 /// The file of this name, or none where it is `-`, which is standard input.
@@ -43,15 +44,16 @@ fn input_of<'a>(given: &ArgMatches<'a>) -> Option<&'a str>
 fn read_traces<'a>(alloc: Global, given: &ArgMatches<'a>) -> Result<Inspection<'a>, AllocError>
     ensures { IfOk result (AsksTraces (rows_of (found_of given.now))) }
 {
+    let as_json = is_given(given, "json");
     match given.get_raw("file") {
         Some(names) => {
             if 1 < names.len() {
                 let names = Vec::from_slice(alloc, names)?;
-                return Ok(Inspection::Each(names));
+                return Ok(Inspection::Each(as_json, names));
             }
-            Ok(Inspection::One(Task::Audit, input_of(given)))
+            Ok(Inspection::One(Task::Audit(as_json), input_of(given)))
         }
-        None => Ok(Inspection::One(Task::Audit, input_of(given))),
+        None => Ok(Inspection::One(Task::Audit(as_json), input_of(given))),
     }
 }
 
@@ -59,7 +61,8 @@ fn read_traces<'a>(alloc: Global, given: &ArgMatches<'a>) -> Result<Inspection<'
 ///
 /// # Errors
 ///
-/// `TooManyValues` where several chains are named, `MissingRequiredArgument` where it is to be quiet of no chain; out of memory.
+/// `TooManyValues` where several chains are named, `MissingRequiredArgument` where it is to be quiet of no chain, or to show how far it has
+/// come with none; out of memory.
 fn read_audit<'a>(
     alloc: Global,
     line: &mut Command<'a>,
@@ -71,10 +74,13 @@ fn read_audit<'a>(
 {
     let asked = read_traces(alloc, given)?;
     let quiet = given.get_flag("quiet");
+    let watched = is_given(given, "progress");
     if given.get_flag("chain") {
         match asked {
             Inspection::One(_, input) => {
-                return Ok(Inspection::One(Task::AuditChain(quiet), input));
+                let as_json = is_given(given, "json");
+                let style = Style { as_json, quiet };
+                return Ok(Inspection::One(Task::AuditChain(style, watched), input));
             }
             _ => {
                 let several = line.error(
@@ -91,6 +97,13 @@ fn read_audit<'a>(
             "--quiet is for --chain alone",
         )?;
         return Err(alone);
+    }
+    if watched {
+        let unchained = line.error(
+            ErrorKind::MissingRequiredArgument,
+            "--progress is for --chain alone",
+        )?;
+        return Err(unchained);
     }
     Ok(asked)
 }

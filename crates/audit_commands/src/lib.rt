@@ -5,6 +5,7 @@
 mod files;
 mod host_words;
 mod inspection;
+mod meter;
 mod refusal;
 mod running;
 mod task;
@@ -13,6 +14,7 @@ mod words;
 pub use files::FilesByName;
 pub use host_words::{NoWords, program_words};
 pub use inspection::{Inspection, read_inspection};
+pub use meter::Meter;
 pub use refusal::{exit_status, tell_outcome, tell_refusal};
 pub use running::run_inspection;
 pub use task::{ChainPoint, Task};

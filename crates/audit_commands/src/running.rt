@@ -10,13 +10,13 @@ use crate::files::FilesByName;
 use crate::inspection::Inspection;
 use crate::refusal::{refused_status, remark, tell_outcome};
 use crate::task::{CHAIN, IS_CHAIN, Task};
-use audit_readers::{Input, ProgFault, named_audit_io};
+use audit_readers::{Input, ProgFault, Progress, named_audit_io};
 use std::alloc::Global;
 use std::io::{Read, Write};
 
 /// Does the task on an input, and says on the errors why it has no answer, and that it begins as a chain and is no trace, or as a trace and
 /// is no chain.
-fn run_task<R: Read, W: Write, E: Write>(
+fn run_task<R: Read, W: Write, E: Write + Progress>(
     alloc: Global,
     task: Task<'_>,
     name: Option<&str>,
@@ -29,7 +29,11 @@ fn run_task<R: Read, W: Write, E: Write>(
 {
     let word = task.word();
     let (magic, text) = task.other_form();
-    let outcome = task.run(alloc, input, output);
+    if task.is_watched() {
+        errors.start();
+    }
+    let outcome = task.run(alloc, input, output, errors);
+    errors.end();
     let about = match outcome {
         Err(ProgFault::BadAddress) => word,
         _ => name,
@@ -42,7 +46,7 @@ fn run_task<R: Read, W: Write, E: Write>(
 }
 
 /// Does the task on the file of this name.
-fn run_on_file<F: FilesByName, W: Write, E: Write>(
+fn run_on_file<F: FilesByName, W: Write, E: Write + Progress>(
     files: &F,
     alloc: Global,
     task: Task<'_>,
@@ -70,16 +74,17 @@ fn run_on_file<F: FilesByName, W: Write, E: Write>(
 /// as a chain.
 fn write_own_line<R: Read, W: Write, E: Write>(
     alloc: Global,
+    as_json: bool,
     name: &str,
     input: &mut Input<R>,
     output: &mut W,
     errors: &mut E,
 ) -> Result<u8, ProgFault>
-    ensures ok { IfOk result (WritesReport (IsNamedAudit name.now) (R.remaining input.old.reader)
+    ensures ok { IfOk result (WritesReport (IsNamedAudit as_json name.now) (R.remaining input.old.reader)
         (W.contents output.old) (W.contents output.new)) }
     ensures alone { WritesAnswersAlone output.old output.new result }
 {
-    let outcome = named_audit_io(alloc, input, output, name);
+    let outcome = named_audit_io(alloc, input, output, name, as_json);
     if !matches!(outcome, Err(ProgFault::CannotWrite)) {
         tell_outcome(alloc, &outcome, Some(name), input.error(), errors);
     }
@@ -93,20 +98,22 @@ fn write_own_line<R: Read, W: Write, E: Write>(
 fn write_line<F: FilesByName, R: Read, W: Write, E: Write>(
     files: &F,
     alloc: Global,
+    as_json: bool,
     name: &str,
     input: &mut Input<R>,
     output: &mut W,
     errors: &mut E,
 ) -> Result<u8, ProgFault>
-    ensures { WritesLine (F.file_bytes files.now) name.now W.contents output.old output.new result }
+    ensures { WritesLine as_json (F.file_bytes files.now) name.now W.contents output.old output.new
+        result }
 {
     if name == "-" {
-        return write_own_line(alloc, name, input, output, errors);
+        return write_own_line(alloc, as_json, name, input, output, errors);
     }
     match files.open(name) {
         Ok(file) => {
             let mut opened = Input::new(file);
-            write_own_line(alloc, name, &mut opened, output, errors)
+            write_own_line(alloc, as_json, name, &mut opened, output, errors)
         }
         Err(error) => {
             let outcome = Err(ProgFault::CannotRead);
@@ -120,17 +127,18 @@ fn write_line<F: FilesByName, R: Read, W: Write, E: Write>(
 fn audit_one<F: FilesByName, R: Read, W: Write, E: Write>(
     files: &F,
     alloc: Global,
+    as_json: bool,
     name: &str,
     input: &mut Input<R>,
     output: &mut W,
     errors: &mut E,
 ) -> Result<u8, ProgFault>
     ensures ok { IfOk result
-        (AuditsOne (F.file_bytes files.now) name.now (W.contents output.old)
+        (AuditsOne as_json (F.file_bytes files.now) name.now (W.contents output.old)
         (W.contents output.new)) }
     ensures err { IfErr result (λ fault. fault ≡ ProgFault.CannotWrite) }
 {
-    match write_line(files, alloc, name, input, output, errors) {
+    match write_line(files, alloc, as_json, name, input, output, errors) {
         Ok(status) => Ok(status),
         Err(fault) => refused_status(fault),
     }
@@ -140,18 +148,20 @@ fn audit_one<F: FilesByName, R: Read, W: Write, E: Write>(
 fn audit_each<F: FilesByName, R: Read, W: Write, E: Write>(
     files: &F,
     alloc: Global,
+    as_json: bool,
     names: &[&str],
     input: &mut Input<R>,
     output: &mut W,
     errors: &mut E,
 ) -> Result<u8, ProgFault>
-    ensures ok { IfOk result (AuditsEach (F.file_bytes files.now) (map (λ name. name.now) names.now)
+    ensures ok { IfOk result
+        (AuditsEach as_json (F.file_bytes files.now) (map (λ name. name.now) names.now)
         (W.contents output.old) (W.contents output.new)) }
     ensures err { IfErr result (λ fault. fault ≡ ProgFault.CannotWrite) }
 {
     let mut worst = 0u8;
     for name in names {
-        let status = audit_one(files, alloc, *name, input, output, errors)?;
+        let status = audit_one(files, alloc, as_json, *name, input, output, errors)?;
         worst = worst.max(status);
     }
     Ok(worst)
@@ -159,13 +169,13 @@ fn audit_each<F: FilesByName, R: Read, W: Write, E: Write>(
 
 /// Makes the inspection, of standard input or of the files that are named. If there is no answer, the reason is written to the errors,
 /// behind the name of the file or the word that is wrong, and with the error of an input that can't be read. A line there also says that
-/// a chain was read as a trace, or a trace as a chain. The files are taken one after the other, each in the memory that its task needs.
+/// a chain was read as a trace, or a trace as a chain. How far the audit of a chain has come is shown there too. The files are taken one after the other, each in the memory that its task needs.
 ///
 /// # Errors
 ///
 /// One input: `CannotRead` if the file couldn't be opened, and those of `Task::run`. Several files:
 /// `CannotWrite`.
-pub fn run_inspection<F: FilesByName, R: Read, W: Write, E: Write>(
+pub fn run_inspection<F: FilesByName, R: Read, W: Write, E: Write + Progress>(
     files: &F,
     alloc: Global,
     inspection: Inspection<'_>,
@@ -179,8 +189,9 @@ pub fn run_inspection<F: FilesByName, R: Read, W: Write, E: Write>(
     match inspection {
         Inspection::One(task, None) => run_task(alloc, task, None, input, output, errors),
         Inspection::One(task, Some(name)) => run_on_file(files, alloc, task, name, output, errors),
-        Inspection::Each(names) => {
-            let outcome = audit_each(files, alloc, names.as_slice(), input, output, errors);
+        Inspection::Each(as_json, names) => {
+            let names = names.as_slice();
+            let outcome = audit_each(files, alloc, as_json, names, input, output, errors);
             tell_outcome(alloc, &outcome, None, None, errors);
             outcome
         }

@@ -1,9 +1,10 @@
 //! What can be asked of one trace or of one chain, and which engine answers it.
 
 use audit_readers::{
-    ProgFault, Source, audit_chain_io, audit_io, chain_end_io, chain_start_io, explain_all_io,
-    explain_chain_io, explain_io, pages_io, resolve_io,
+    ProgFault, Progress, Source, audit_chain_io, audit_io, chain_end_io, chain_start_io,
+    explain_all_io, explain_chain_io, explain_io, pages_io, resolve_io,
 };
+use audit_texts::Style;
 use std::alloc::Global;
 use std::io::Write;
 
@@ -30,16 +31,16 @@ pub enum ChainPoint {
 /// What can be asked of one trace or of one chain.
 #[derive(Debug, Drop)]
 pub enum Task<'a> {
-    /// Judge a trace.
-    Audit,
+    /// Judge a trace; as JSON.
+    Audit(bool),
     /// Judge it, and show the evidence of its fault; as JSON; and what is wrong with the other dumps.
     Explain(bool, bool),
     /// Walk at this address, as the command line spells it, in the dump of this replica; and list the entries that are read.
     Resolve(&'a str, u8, bool),
     /// List the pages of the dump of this replica; and as ranges.
     Pages(u8, bool),
-    /// Judge a chain; and print nothing of the segments that are right.
-    AuditChain(bool),
+    /// Judge a chain; how that is printed; and show how far it has come.
+    AuditChain(Style, bool),
     /// Judge it, and show the evidence of its first fault, or how much it has; as JSON.
     ExplainChain(bool),
     /// List the pages at this point of it; and as ranges.
@@ -61,24 +62,30 @@ impl<'a> Task<'a> {
     /// How an input of the other form begins, and what is said of it.
     pub(crate) fn other_form(&self) -> (&'static [u8; 4], &'static str) {
         match self {
-            Task::Audit | Task::Explain(_, _) | Task::Pages(_, _) => (CHAIN, IS_CHAIN),
+            Task::Audit(_) | Task::Explain(_, _) | Task::Pages(_, _) => (CHAIN, IS_CHAIN),
             Task::Resolve(_, _, _) => (CHAIN, NO_TRACE),
-            Task::AuditChain(_) | Task::ExplainChain(_) | Task::PagesOfChain(_, _) => {
+            Task::AuditChain(_, _) | Task::ExplainChain(_) | Task::PagesOfChain(_, _) => {
                 (TRACE, IS_TRACE)
             }
         }
     }
 
-    /// Does the task on the input, and gives the exit status.
+    /// Whether it is to be shown how far it has come.
+    pub(crate) fn is_watched(&self) -> bool {
+        matches!(self, Task::AuditChain(_, true))
+    }
+
+    /// Does the task on the input, and gives the exit status. The progress gets how far the audit of a chain has come.
     ///
     /// # Errors
     ///
     /// Those of `audit_io`, of `explain_io`, of `resolve_io`, of `pages_io`, or of those of chains.
-    pub fn run<R: Source, W: Write>(
+    pub fn run<R: Source, W: Write, P: Progress>(
         self,
         alloc: Global,
         reader: &mut R,
         writer: &mut W,
+        progress: &mut P,
     ) -> Result<u8, ProgFault>
         ensures runs { RunsTask self.entry (R.remaining reader.old) W.contents writer.old writer.new
             result }
@@ -87,14 +94,14 @@ impl<'a> Task<'a> {
             (R.remaining reader.new) (R.last_read reader.new) result }
     {
         match self {
-            Task::Audit => audit_io(alloc, reader, writer),
+            Task::Audit(as_json) => audit_io(alloc, reader, writer, as_json),
             Task::Explain(as_json, false) => explain_io(alloc, reader, writer, as_json),
             Task::Explain(as_json, true) => explain_all_io(alloc, reader, writer, as_json),
             Task::Resolve(address, replica, with_steps) => {
                 resolve_io(alloc, reader, writer, address, replica, with_steps)
             }
             Task::Pages(replica, as_ranges) => pages_io(alloc, reader, writer, replica, as_ranges),
-            Task::AuditChain(quiet) => audit_chain_io(alloc, reader, writer, quiet),
+            Task::AuditChain(style, _) => audit_chain_io(alloc, reader, writer, style, progress),
             Task::ExplainChain(as_json) => explain_chain_io(alloc, reader, writer, as_json),
             Task::PagesOfChain(ChainPoint::Start, as_ranges) => {
                 chain_start_io(alloc, reader, writer, as_ranges)

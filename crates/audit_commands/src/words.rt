@@ -73,10 +73,15 @@ fn audit<'a>(alloc: Global) -> Result<Command<'a>, AllocError>
     let chain =
         "The input is a chain: prints whether its segments are right, each as soon as it is read";
     let quiet = "With --chain: prints nothing of the segments that are right";
+    let progress =
+        "With --chain: shows on standard error how far it has come, if that is a terminal";
+    let json = "Prints a JSON object on a line: for each file, or for each segment and at the end";
     Command::new(alloc, "audit")
         .about("Prints whether a trace is right")
+        .arg(flag(alloc, "json", json))?
         .arg(flag(alloc, "chain", chain))?
         .arg(flag(alloc, "quiet", quiet))?
+        .arg(flag(alloc, "progress", progress))?
         .arg(files(alloc))
 }
 

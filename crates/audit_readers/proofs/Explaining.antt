@@ -6,7 +6,7 @@ use Rattle.std.proofs.lemmas.List.{append-nil, append_assoc, length-append}
 use Rattle.nr_trace.specs.Recording.{Recording}
 use Rattle.nr_trace.specs.FirstFault.{HasSegmentFault}
 use Rattle.nr_trace.specs.declared.fault.Format.TheVariants.{Truncated}
-use Rattle.nr_explain.specs.Progress.{ReaderState, kept_in, layout_in}
+use Rattle.nr_explain.specs.Progress.{ChainState, ReaderState, layout_in, run_in, IsSeenOf}
 use Rattle.nr_explain.specs.ChainExplanation.{Explains, FeedsReader, GoesOnTo, IsExplanationFrom, IsExplanationOfChain}
 use Rattle.nr_explain.specs.declared.chain.reader.ReaderStep.TheVariants.{More}
 use Rattle.nr_explain.proofs.Feeding.{explains_on, goes_and, goes_with}
@@ -25,9 +25,11 @@ pub record IsExplaining (known left : Option (List ℕ)) (chain : ReaderState) (
   pub read : List ℕ
   pub many : 2 ^ 52 - 1 ≤ room + length read
   pub consumed : Consumes known left read
+  pub last : Option ChainState
+  pub seen : IsSeenOf last chain.state
   pub segments : List Recording
-  pub goes_on : GoesOnTo None read segments chain.state chain.bytes
-  pub short : HasSegmentFault (layout_in chain.state) chain.bytes Truncated
+  pub goes_on : GoesOnTo None read segments last chain.bytes
+  pub short : HasSegmentFault (layout_in last) chain.bytes Truncated
 
 pub explaining_starts : (known : Option (List ℕ)) (chain : ReaderState) → chain ≡ record { state = None; bytes = [] }
     → IsExplaining known known chain MOST_BLOCKS
@@ -37,6 +39,8 @@ explaining_starts known chain is =
       read = [];
       many = omega arith;
       consumed = Consumes-nil known;
+      last = None;
+      seen = tt;
       segments = [];
       goes_on = (refl, refl);
       short = none_short None;
@@ -45,15 +49,17 @@ explaining_starts known chain is =
 
 -- a block was read and taken
 pub explaining_goes_on : (known left new : Option (List ℕ)) (chain next : ReaderState) (block : List ℕ) (room less : ℕ)
-    → IsExplaining known left chain room → Consumes left new block → 1 ≤ length block → less + 1 ≡ room → (block ≡ [] → ⊥)
-    → FeedsReader chain block (More next) → IsExplaining known new next less
-explaining_goes_on known left new chain next block room less here lost size one some ((more, on), short) = record {
+    → (here : IsExplaining known left chain room) → Consumes left new block → 1 ≤ length block → less + 1 ≡ room → (block ≡ [] → ⊥)
+    → FeedsReader here.last chain block (More next) → IsExplaining known new next less
+explaining_goes_on known left new chain next block room less here lost size one some (more, last, on, seen, short) = record {
   read = here.read ++ block;
   many = many_more (length here.read) (length block) _ room less here.many size one (length-append here.read block);
   consumed = Consumes-trans known left new here.read block here.consumed lost;
+  last = last;
+  seen = seen;
   segments = here.segments ++ more;
-  goes_on = goes_and None chain.state next.state (here.read ++ block) (chain.bytes ++ block) next.bytes here.segments more
-      (goes_with None chain.state here.read chain.bytes block here.segments here.goes_on) on;
+  goes_on = goes_and None here.last last (here.read ++ block) (chain.bytes ++ block) next.bytes here.segments more
+      (goes_with None here.last here.read chain.bytes block here.segments here.goes_on) on;
   short = short some;
 }
 
@@ -61,13 +67,13 @@ explaining_goes_on known left new chain next block room less here lost size one 
 few_more : {room : ℕ} (known left new : Option (List ℕ)) (chain : ReaderState) (block : List ℕ) → IsExplaining known left chain room → Consumes left new block
     → length block ≤ 4096 → HasReadFewOfChain known new
 few_more known left new chain block here lost size =
-    let (found, ends, early) = ends_yet (kept_in chain.state) chain.bytes here.short in
+    let (found, ends, early) = ends_yet (run_in here.last) chain.bytes here.short in
     record {
       before = here.read;
       block = block;
       read = Consumes-trans known left new here.read block here.consumed lost;
       orders = orders_in here.segments;
-      right_yet = (found, goes_on_so None chain.state here.read chain.bytes here.segments found here.goes_on ends, early);
+      right_yet = (found, goes_on_so None here.last here.read chain.bytes here.segments found here.goes_on ends, early);
       one_block = size;
     }
 
@@ -88,7 +94,7 @@ explains_too_late last here none =
 
 -- nothing is left to read
 pub explained_at_end : {room : ℕ} (known left new : Option (List ℕ)) (chain : ReaderState) (block : List ℕ) (explanation : ChainExplanation)
-    → IsExplaining known left chain room → Consumes left new block → block ≡ [] → IsAtEnd new → Explains chain [] explanation
+    → (here : IsExplaining known left chain room) → Consumes left new block → block ≡ [] → IsAtEnd new → Explains here.last chain [] explanation
     → HasExplained known explanation
 explained_at_end known left new chain block explanation here lost none end explains =
     let lost_none = subst (Consumes left new) none lost in
@@ -96,13 +102,13 @@ explained_at_end known left new chain block explanation here lost none end expla
     record {
       input = here.read;
       is_read = whole_read known new here.read consumed end;
-      is_explanation = explains_on None chain.state here.read chain.bytes here.segments explanation here.goes_on
-          (subst (λ (bytes : List ℕ). IsExplanationFrom chain.state bytes explanation) (append-nil chain.bytes) explains);
+      is_explanation = explains_on None here.last here.read chain.bytes here.segments explanation here.goes_on
+          (subst (λ (bytes : List ℕ). IsExplanationFrom here.last bytes explanation) (append-nil chain.bytes) explains);
     }
 
 -- the fault shows in a block, whatever comes behind it
 pub explained_in_block : {room : ℕ} (known left new : Option (List ℕ)) (chain : ReaderState) (block : List ℕ) (explanation : ChainExplanation)
-    → IsExplaining known left chain room → Consumes left new block → ((rest : List ℕ) → Explains chain (block ++ rest) explanation)
+    → (here : IsExplaining known left chain room) → Consumes left new block → ((rest : List ℕ) → Explains here.last chain (block ++ rest) explanation)
     → HasExplained known explanation
 explained_in_block known left new chain block explanation here lost explains =
     let (behind, is) = whole_with known new (here.read ++ block) (Consumes-trans known left new here.read block here.consumed lost) in
@@ -110,6 +116,6 @@ explained_in_block known left new chain block explanation here lost explains =
       input = (here.read ++ block) ++ behind;
       is_read = is;
       is_explanation = subst (λ (bytes : List ℕ). IsExplanationOfChain bytes explanation) (sym (append_assoc here.read block behind))
-          (explains_on None chain.state (here.read ++ (block ++ behind)) (chain.bytes ++ (block ++ behind)) here.segments explanation
-          (goes_with None chain.state here.read chain.bytes (block ++ behind) here.segments here.goes_on) (explains behind));
+          (explains_on None here.last (here.read ++ (block ++ behind)) (chain.bytes ++ (block ++ behind)) here.segments explanation
+          (goes_with None here.last here.read chain.bytes (block ++ behind) here.segments here.goes_on) (explains behind));
     }

@@ -1,5 +1,5 @@
 -- What the commands answer to bytes: a text and a status.
-use Rattle.std.specs.Prelude.{◌≡◌, ◌≤◌, ◌+◌, ◌⊎◌, ◌++◌, ℕ, Bool, true, false, List, codes, flat_map, length, Option, Some, IfSome, Result, slice_get}
+use Rattle.std.specs.Prelude.{◌≡◌, ◌≤◌, ◌+◌, ◌⊎◌, ◌++◌, ℕ, Bool, true, false, List, flat_map, length, Option, Some, IfSome, Result, slice_get}
 use Rattle.std.specs.Io.KnownBytes.{Appends, Consumes}
 use Rattle.vs_types.specs.Depth.{IsCanonical, levels}
 use Rattle.vs_types.specs.declared.depth.Depth.{Depth}
@@ -18,24 +18,25 @@ use Rattle.nr_audit.specs.declared.verdict.Verdict.{Verdict}
 use Rattle.nr_explain.specs.Facts.{entries_read}
 use Rattle.nr_explain.specs.Units.{ReadsUnits}
 use Rattle.nr_explain.specs.declared.units.Unread.{Unread}
-use Rattle.audit_texts.specs.Text.{no_text, verdict_line, verdict_text, walk_text}
+use Rattle.audit_texts.specs.AuditJson.{named_verdict, told_verdict}
+use Rattle.audit_texts.specs.Text.{no_text, walk_text}
 use Rattle.audit_texts.specs.EvidenceText.{step_line}
 use Rattle.vs_text.specs.Words.{SpellsAddress}
 
 -- the answer of `audit`: the text and the status are those of the verdict of these bytes; where it is yes they are right with its order
-pub record IsAudit (bytes text : List ℕ) (status : ℕ) : Type 0 where
+pub record IsAudit (as_json : Bool) (bytes text : List ℕ) (status : ℕ) : Type 0 where
   pub verdict : Verdict
   pub is_verdict : IsVerdictOf bytes verdict
   pub right : IfYes (AreRightWith bytes) verdict
-  pub text_is : text ≡ verdict_text verdict
+  pub text_is : text ≡ told_verdict as_json verdict
   pub status_is : status ≡ verdict_status verdict
 
--- the answer of `audit` for one file of several: the file's name, a colon and the first line of the verdict of these bytes
-pub record IsNamedAudit (name bytes text : List ℕ) (status : ℕ) : Type 0 where
+-- the answer of `audit` for one file of several: the line with the file's name of the verdict of these bytes
+pub record IsNamedAudit (as_json : Bool) (name bytes text : List ℕ) (status : ℕ) : Type 0 where
   pub verdict : Verdict
   pub is_verdict : IsVerdictOf bytes verdict
   pub right : IfYes (AreRightWith bytes) verdict
-  pub text_is : text ≡ name ++ (codes ": " ++ verdict_line verdict)
+  pub text_is : text ≡ named_verdict as_json name verdict
   pub status_is : status ≡ verdict_status verdict
 
 -- the end of the walk of an address in a dump, and with steps the entries that it reads

@@ -1,5 +1,5 @@
 -- What the audit of a chain answers to bytes, how much it reads, and what it has written where it gives no answer.
-use Rattle.std.specs.Prelude.{◌≡◌, ◌≤◌, ◌⊎◌, ◌++◌, ℕ, Bool, List, [], length, Option, None, Some, unwrap_or}
+use Rattle.std.specs.Prelude.{◌≡◌, ◌≤◌, ◌⊎◌, ◌++◌, ℕ, List, [], length, Option, None, Some, unwrap_or}
 use Rattle.std.specs.Io.KnownBytes.{Appends, Consumes}
 use Rattle.nr_trace.specs.declared.fault.Fault.TheVariants.{Format}
 use Rattle.nr_trace.specs.declared.fault.Format.TheVariants.{Truncated}
@@ -9,14 +9,15 @@ use Rattle.nr_chain.specs.Headline.{IsRightChain}
 use Rattle.audit_readers.specs.declared.fault.ProgFault.{ProgFault}
 use Rattle.audit_readers.specs.declared.fault.ProgFault.TheVariants.{CannotRead}
 use Rattle.audit_texts.specs.ChainText.{chain_status, chain_text, shown_lines}
+use Rattle.audit_texts.specs.declared.chain.style.Style.{Style}
 
 -- the text and the status are those of what is found of these bytes; where no fault is, they are right with these orders
-pub record IsChainAudit (quiet : Bool) (bytes text : List ℕ) (status : ℕ) : Type 0 where
+pub record IsChainAudit (style : Style) (bytes text : List ℕ) (status : ℕ) : Type 0 where
   pub orders : List (List ℕ)
   pub found : Option Fault
   pub goes_on : GoesOnSo None bytes orders found
   pub right : found ≡ None → IsRightChain bytes orders
-  pub text_is : text ≡ chain_text quiet orders found
+  pub text_is : text ≡ chain_text style orders found
   pub status_is : status ≡ chain_status found
 
 -- the bytes are those of right segments with these orders, and perhaps of one that is not whole, and has no fault but that
@@ -24,11 +25,11 @@ abbrev pub AreRightYet : List ℕ → List (List ℕ) → Type 0
 AreRightYet bytes orders = (found : Option Fault) × GoesOnSo None bytes orders found × ((found ≡ None) ⊎ (found ≡ Some (Format Truncated)))
 
 -- a text that goes with the status, on what was read, was written after what was there, and nothing else
-pub record AuditsWhatIsRead (quiet : Bool) (known left old new : Option (List ℕ)) (status : ℕ) : Type 0 where
+pub record AuditsWhatIsRead (style : Style) (known left old new : Option (List ℕ)) (status : ℕ) : Type 0 where
   pub read : List ℕ
   pub consumed : Consumes known left read
   pub text : List ℕ
-  pub is_audit : IsChainAudit quiet read text status
+  pub is_audit : IsChainAudit style read text status
   pub written : Appends old new text
 
 -- how much was read: nothing is wrong yet with the bytes before the last block
@@ -42,18 +43,18 @@ pub record HasReadFewOfChain (old new : Option (List ℕ)) : Type 0 where
 
 -- no answer: the lines of right segments at the front of what was read were written, and nothing else; where the input
 -- failed, of all segments that were whole
-pub record HasWrittenFirst (quiet : Bool) (known left old new : Option (List ℕ)) (fault : ProgFault) : Type 0 where
+pub record HasWrittenFirst (style : Style) (known left old new : Option (List ℕ)) (fault : ProgFault) : Type 0 where
   pub front : List ℕ
   pub rest : List ℕ
   pub read : Consumes known left (front ++ rest)
   pub whole : fault ≡ CannotRead → rest ≡ []
   pub orders : List (List ℕ)
   pub right_yet : AreRightYet front orders
-  pub written : Appends old new (shown_lines quiet 0 orders)
+  pub written : Appends old new (shown_lines style 0 orders)
 
 -- however much was written: the lines of all segments that were whole before the last read, and perhaps more behind them; so many bytes
 -- were in that read, none where it gave an error
-pub record HasWrittenAtOnce (quiet : Bool) (known left : Option (List ℕ)) (last : Option ℕ) (old new : Option (List ℕ)) : Type 0 where
+pub record HasWrittenAtOnce (style : Style) (known left : Option (List ℕ)) (last : Option ℕ) (old new : Option (List ℕ)) : Type 0 where
   pub before : List ℕ
   pub block : List ℕ
   pub read : Consumes known left (before ++ block)
@@ -61,4 +62,4 @@ pub record HasWrittenAtOnce (quiet : Bool) (known left : Option (List ℕ)) (las
   pub orders : List (List ℕ)
   pub right_yet : AreRightYet before orders
   pub more : List ℕ
-  pub written : Appends old new (shown_lines quiet 0 orders ++ more)
+  pub written : Appends old new (shown_lines style 0 orders ++ more)

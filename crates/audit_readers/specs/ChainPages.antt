@@ -9,7 +9,7 @@ use Rattle.nr_audit.specs.Faults.{IsSoundAfter}
 use Rattle.nr_audit.specs.Start.{first_space}
 use Rattle.nr_trace.specs.declared.fault.Fault.{Fault}
 use Rattle.nr_chain.specs.Bytes.{BeginsWith, GoesOnSo}
-use Rattle.nr_chain.specs.Fed.{Kept}
+use Rattle.nr_joined.specs.Run.{Run, end_of}
 use Rattle.nr_chain.specs.Headline.{IsRightChain}
 use Rattle.nr_chain.specs.Parts.{ComesTo}
 use Rattle.audit_texts.specs.Listing.{pages_text}
@@ -36,10 +36,10 @@ pub record ShowsEnd (as_ranges : Bool) (bytes text : List ℕ) (status : ℕ) : 
   pub orders : List (List ℕ)
   pub goes_on : GoesOnSo None bytes orders None
   pub right : IsRightChain bytes orders
-  pub last : Kept
+  pub last : Run
   pub comes : ComesTo None bytes last
-  pub is_space : IsSpace last.layout.depth last.space
-  pub text_is : text ≡ pages_text as_ranges (pages last.space)
+  pub is_space : IsSpace last.trace.layout.depth (end_of last)
+  pub text_is : text ≡ pages_text as_ranges (pages (end_of last))
   pub status_is : status ≡ 0
 
 -- the answer of `pages --start`: the text is that of the start; or the first segment has a fault

@@ -19,6 +19,8 @@ pub use Rattle.nr_audit.specs.Verdict
 pub use Rattle.nr_audit.specs.Headline
 pub use Rattle.nr_explain.specs.Explanation
 pub use Rattle.audit_texts.specs.Text
+pub use Rattle.audit_texts.specs.AuditJson
 pub use Rattle.audit_texts.specs.Explained
 pub use Rattle.audit_texts.specs.Listing
+pub use Rattle.audit_texts.specs.ChainJson
 pub use Rattle.audit_texts.specs.ChainText

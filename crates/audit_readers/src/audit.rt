@@ -1,9 +1,8 @@
 //! The verdict on a trace: judged, and printed.
 
-ghost use Rattle.std.specs.Prelude.{◌≡◌, ◌++◌, ℕ, IfOk, IfErr, List, codes, string_bytes};
+ghost use Rattle.std.specs.Prelude.{◌≡◌, ℕ, IfOk, IfErr, List, string_bytes};
 ghost use Rattle.nr_trace.specs.Feed.{Reads};
 ghost use Rattle.nr_audit.specs.Verdict.{verdict_status};
-ghost use Rattle.audit_texts.specs.Text.{verdict_line};
 ghost use Rattle.audit_readers.specs.Refusals.{IsEndFault, WritesAnswersAlone};
 ghost use Rattle.audit_readers.specs.Answers.{HasReadFew, IsAudit, IsNamedAudit, WritesReport};
 ghost use Rattle.audit_readers.specs.Ends.{RefusesUnreadable};
@@ -13,10 +12,10 @@ use crate::fault::ProgFault;
 use crate::report::Report;
 use crate::source::Source;
 use crate::unit_input::read_trace;
-use audit_texts::{verdict_line, verdict_text};
+use audit_texts::{named_verdict, told_verdict};
 use nr_audit::{Verdict, judge_read};
 use nr_trace::{Format, Trace};
-use std::alloc::{AllocError, Global};
+use std::alloc::Global;
 use std::io::Write;
 use vs_types::{Fail, Memory};
 
@@ -29,27 +28,31 @@ fn status_of(verdict: &Verdict) -> u8
     }
 }
 
-/// What `audit` answers to what was read of an input: the text of its verdict, and 0 where it is a right trace, else 1.
-/// Allocates memory for the judgement and the text.
+/// What `audit` answers to what was read of an input: the lines of its verdict, or its JSON object on a line, and 0 where it is a right
+/// trace, else 1. Allocates memory for the judgement, the object and the text.
 ///
 /// # Errors
 ///
 /// `Memory` where a growth of memory was refused, here or as the input was read.
-pub fn audit_read(alloc: Global, read: Result<Trace, Fail<Format>>) -> Result<Report, Memory>
-    ensures { (bytes : List ℕ) → Reads bytes read
-        → IfOk result (λ report. IsAudit bytes (string_bytes report.text) report.status) }
+pub fn audit_read(
+    alloc: Global,
+    read: Result<Trace, Fail<Format>>,
+    as_json: bool,
+) -> Result<Report, Memory>
+    ensures { (bytes : List ℕ) → Reads bytes read → IfOk result (λ report.
+        IsAudit as_json bytes (string_bytes report.text) report.status) }
 {
     let verdict = judge_read(alloc, read)?;
-    let text = verdict_text(alloc, &verdict)?;
+    let text = told_verdict(alloc, as_json, &verdict)?;
     Ok(Report {
         text,
         status: status_of(&verdict),
     })
 }
 
-/// Reads a trace in blocks, judges it, and writes the verdict; the status is 0 where it is right, else 1. It stops reading
-/// as soon as a whole unit has a fault, or a byte comes after the last unit. If it gives no answer, some input may have been
-/// read, and nothing was written but where that failed.
+/// Reads a trace in blocks, judges it, and writes the verdict, as lines or as a JSON object on a line; the status is 0 where it is right,
+/// else 1. It stops reading as soon as a whole unit has a fault, or a byte comes after the last unit. If it gives no answer, some input may
+/// have been read, and nothing was written but where that failed.
 ///
 /// # Errors
 ///
@@ -58,9 +61,10 @@ pub fn audit_io<R: Source, W: Write>(
     alloc: Global,
     reader: &mut R,
     writer: &mut W,
+    as_json: bool,
 ) -> Result<u8, ProgFault>
-    ensures ok { IfOk result (WritesReport IsAudit (R.remaining reader.old) (W.contents writer.old)
-        (W.contents writer.new)) }
+    ensures ok { IfOk result (WritesReport (IsAudit as_json) (R.remaining reader.old)
+        (W.contents writer.old) (W.contents writer.new)) }
     ensures err { IfErr result IsEndFault }
     ensures alone { WritesAnswersAlone writer.old writer.new result }
     ensures few { HasReadFew (R.remaining reader.old) (R.remaining reader.new) }
@@ -68,17 +72,8 @@ pub fn audit_io<R: Source, W: Write>(
         (R.last_read reader.new) result }
 {
     let read = read_trace(alloc, reader)?;
-    let report = audit_read(alloc, read)?;
+    let report = audit_read(alloc, read, as_json)?;
     write_report(writer, &report)
-}
-
-/// The line of a file: its name, a colon and the first line of the verdict.
-fn named_line(alloc: Global, name: &str, verdict: &Verdict) -> Result<String, AllocError>
-    ensures { IfOk result (λ text.
-        string_bytes text ≡ name.now ++ (codes ": " ++ verdict_line verdict.now)) }
-{
-    let line = verdict_line(alloc, verdict)?;
-    format!(in alloc; "{name}: {line}")
 }
 
 /// What `audit` answers to what was read of one of several files: its line, and the status of its verdict. Needs the memory of
@@ -91,20 +86,21 @@ pub fn named_audit_read(
     alloc: Global,
     name: &str,
     read: Result<Trace, Fail<Format>>,
+    as_json: bool,
 ) -> Result<Report, Memory>
     ensures { (bytes : List ℕ) → Reads bytes read → IfOk result (λ report.
-        IsNamedAudit name.now bytes (string_bytes report.text) report.status) }
+        IsNamedAudit as_json name.now bytes (string_bytes report.text) report.status) }
 {
     let verdict = judge_read(alloc, read)?;
-    let text = named_line(alloc, name, &verdict)?;
+    let text = named_verdict(alloc, as_json, name, &verdict)?;
     Ok(Report {
         text,
         status: status_of(&verdict),
     })
 }
 
-/// Reads a trace as `audit_io` does, judges it, and writes a line: this name, a colon and the first line of the verdict. Needs the memory
-/// of `audit_io`.
+/// Reads a trace as `audit_io` does, judges it, and writes a line: this name, a colon and the first line of the verdict, or the JSON object
+/// of the verdict with this name. Needs the memory of `audit_io`.
 ///
 /// # Errors
 ///
@@ -114,8 +110,9 @@ pub fn named_audit_io<R: Source, W: Write>(
     reader: &mut R,
     writer: &mut W,
     name: &str,
+    as_json: bool,
 ) -> Result<u8, ProgFault>
-    ensures ok { IfOk result (WritesReport (IsNamedAudit name.now) (R.remaining reader.old)
+    ensures ok { IfOk result (WritesReport (IsNamedAudit as_json name.now) (R.remaining reader.old)
         (W.contents writer.old) (W.contents writer.new)) }
     ensures err { IfErr result IsEndFault }
     ensures alone { WritesAnswersAlone writer.old writer.new result }
@@ -124,6 +121,6 @@ pub fn named_audit_io<R: Source, W: Write>(
         (R.last_read reader.new) result }
 {
     let read = read_trace(alloc, reader)?;
-    let report = named_audit_read(alloc, name, read)?;
+    let report = named_audit_read(alloc, name, read, as_json)?;
     write_report(writer, &report)
 }

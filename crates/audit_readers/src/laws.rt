@@ -1,6 +1,6 @@
 //! Laws of what the engines print. Each function does nothing: its clauses say what holds of all bytes.
 
-ghost use Rattle.std.specs.Prelude.{◌≡◌, ◌++◌, ℕ, Bool, List, None, Some, slice_get, true};
+ghost use Rattle.std.specs.Prelude.{◌≡◌, ◌++◌, ℕ, Bool, List, None, Some, slice_get};
 ghost use Rattle.vs_walk.specs.Dump.{Image};
 ghost use Rattle.vs_walk.specs.Traversal.{walk_fault};
 ghost use Rattle.vs_walk.specs.declared.walk.WalkFault.{WalkFault};
@@ -9,10 +9,12 @@ ghost use Rattle.nr_trace.specs.Recording.{Recording};
 ghost use Rattle.nr_trace.specs.Spelling.{Spells};
 ghost use Rattle.nr_chain.specs.Bytes.{GoesOnSo};
 ghost use Rattle.nr_chain.specs.Headline.{IsRightChain};
+ghost use Rattle.nr_joined.specs.Run.{end_of};
 ghost use Rattle.nr_audit.specs.Start.{first_space};
 ghost use Rattle.audit_readers.specs.ChainAudit.{IsChainAudit};
 ghost use Rattle.audit_readers.specs.ChainPages.{IsChainEnd, IsChainStart, ShowsEnd, ShowsStart, TellsFault};
 ghost use Rattle.audit_readers.specs.PagesAnswers.{dump_fault};
+ghost use Rattle.audit_texts.specs.ChainText.{quiet_lines};
 
 /// What is printed of a chain, and its status, is a function of its bytes.
 pub fn a_chain_has_one_text()
@@ -31,21 +33,23 @@ pub fn a_chain_has_one_text()
 pub fn parts_with_equal_ends_are_right_as_one()
     ensures spaces { (as_ranges : Bool) (front back text : List ℕ) (status same : ℕ)
         (end : ShowsEnd as_ranges front text status) (start : ShowsStart as_ranges back text same)
-        → start.first.layout ≡ end.last.layout → end.last.space ≡ first_space None start.first }
+        → start.first.layout ≡ end.last.trace.layout
+        → end_of end.last ≡ first_space None start.first }
     ensures right { (as_ranges : Bool) (front back text : List ℕ) (status same : ℕ)
         (others : List (List ℕ)) (end : ShowsEnd as_ranges front text status)
-        (start : ShowsStart as_ranges back text same) → start.first.layout ≡ end.last.layout
+        (start : ShowsStart as_ranges back text same) → start.first.layout ≡ end.last.trace.layout
         → GoesOnSo None back others None → IsRightChain (front ++ back) (end.orders ++ others) }
     ensures ends { (as_ranges : Bool) (front back text last : List ℕ) (status same : ℕ)
         (end : ShowsEnd as_ranges front text status) (start : ShowsStart as_ranges back text same)
-        → start.first.layout ≡ end.last.layout → ShowsEnd as_ranges back last 0
+        → start.first.layout ≡ end.last.trace.layout → ShowsEnd as_ranges back last 0
         → ShowsEnd as_ranges (front ++ back) last 0 }
 {}
 
 /// For a chain that is refused the last lines of its audit are printed.
 pub fn refused_chains_are_told_as_audited()
     ensures { (orders : List (List ℕ)) (bytes text : List ℕ) (status : ℕ)
-        → TellsFault orders bytes text status → IsChainAudit true bytes text status }
+        → TellsFault orders bytes text status
+        → IsChainAudit quiet_lines bytes text status }
 {}
 
 /// The fault that is named of a dump is one that the trace has, in the words of the audit.

@@ -1,12 +1,14 @@
 //! Traces whose address space doesn't begin empty.
 
 ghost use Rattle.std.specs.Prelude.{◌≡◌};
+ghost use Rattle.nr_audit.specs.Segments.{FitsPast};
 
 use crate::audit::trace_of;
 use crate::audit_cases::{
     Case, EMPTY, EMPTY_LATE, Event, MAPPED, NOT_MAPPED, PAGE_EARLY, RESOLVE, RIGHT, UNMAP,
 };
-use nr_audit::{Order, judge_segment};
+use nr_audit::{Order, Past, judge_segment};
+use nr_touch::Tail;
 use nr_trace::{Fault, Trace, read};
 use std::alloc::Global;
 use std::process::Abort;
@@ -95,6 +97,18 @@ fn space_with_page(rt: &impl Abort, alloc: Global, trace: &Trace) -> PlainSpace
     space
 }
 
+/// What is left where the space before a trace is this one, and no address lingers to look otherwise.
+fn past_of(alloc: Global, trace: &Trace, space: PlainSpace) -> Past
+    requires depth { space.depth ≡ trace.now.layout.depth }
+    requires limit { space.limit ≡ trace.now.layout.tables }
+    ensures { FitsPast trace.now.layout result }
+{
+    Past {
+        space,
+        tail: Tail::none(alloc),
+    }
+}
+
 /// The trace of a case.
 fn read_case(rt: &impl Abort, alloc: Global, case: &Case) -> Trace {
     read(alloc, &trace_of(rt, alloc, case)).expect(rt, "a trace")
@@ -104,12 +118,12 @@ fn read_case(rt: &impl Abort, alloc: Global, case: &Case) -> Trace {
 fn expect_case(
     rt: &impl Abort,
     case: &Case,
-    judged: Result<(Order, PlainSpace), Fail<Fault>>,
+    judged: Result<(Order, Past), Fail<Fault>>,
 ) -> Option<PlainSpace> {
     match judged {
-        Ok((order, space)) => {
+        Ok((order, past)) => {
             assert!(rt; Ok(order.calls()) == case.verdict, "{}", case.name);
-            Some(space)
+            Some(past.space)
         }
         Err(Fail::Refused(fault)) => {
             assert!(rt; Err(fault) == case.verdict, "{}", case.name);
@@ -125,7 +139,8 @@ fn begun_with_a_page(rt: HostRuntime) {
     for (case, left) in &BEGUN_WITH_A_PAGE {
         let trace = read_case(&rt, alloc, case);
         let start = space_with_page(&rt, alloc, &trace);
-        let judged = judge_segment(alloc, &trace, Some(start));
+        let before = past_of(alloc, &trace, start);
+        let judged = judge_segment(alloc, &trace, Some(before));
         if let Some(space) = expect_case(&rt, case, judged) {
             let pages = space.pages().expect(&rt, "memory");
             assert_eq!(&rt; pages.len(), *left, "{}", case.name);
@@ -146,10 +161,11 @@ fn after(
     ensures depth { result.depth ≡ trace.now.layout.depth }
     ensures limit { result.limit ≡ trace.now.layout.tables }
 {
-    match judge_segment(alloc, trace, Some(start)) {
-        Ok((order, space)) => {
+    let before = past_of(alloc, trace, start);
+    match judge_segment(alloc, trace, Some(before)) {
+        Ok((order, past)) => {
             assert!(rt; order.calls() == calls);
-            space
+            past.space
         }
         Err(_) => panic!(rt; "the trace is right"),
     }

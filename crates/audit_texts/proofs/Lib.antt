@@ -1,5 +1,7 @@
 pub mod UnitTexts
 pub mod NoFloats
+pub mod AuditNoFloats
+pub mod FaultTexts
 pub mod Puts
 pub mod ChainNoFloats
 pub mod Joining

@@ -2,6 +2,7 @@
 use Rattle.std.specs.Prelude.{ℕ, ◌++◌, List, [], ◌∷◌, codes, decimal, flat_map, fold, map, Option, Some, None}
 use Rattle.serde_json.specs.Data.{Data, Members, array, member, no_members, object, put, string}
 use Rattle.serde_json.specs.View.{items_of}
+use Rattle.vs_types.specs.declared.answer.Answer.{Answer}
 use Rattle.vs_walk.specs.declared.walk.Walk.TheVariants.{Mapped}
 use Rattle.nr_trace.specs.declared.fault.Format.{Format}
 use Rattle.nr_trace.specs.declared.fault.Format.TheVariants as formats
@@ -105,11 +106,19 @@ window_parts touch = fault_is (codes "Stale") ∷ in_both (codes "call") (call t
 unfoldable pub moment_line : Moment → List ℕ
 moment_line moment = codes "after " ++ (decimal moment.entries ++ (codes ": " ++ (answer_text moment.look ++ line_end)))
 
--- the same as an object
+-- how an address looked at a moment, as a JSON object
 abbrev pub moment_data : Moment → Data
 moment_data moment = object
     (member (codes "entries") (number_data moment.entries)
     (member (codes "look") (string (answer_text moment.look)) no_members))
+
+-- how an address may still be found to look behind the segments before
+unfoldable pub earlier_line : Answer → List ℕ
+earlier_line look = codes "before the segment: " ++ (answer_text look ++ line_end)
+
+-- how an address may still look from before the segment, as a JSON string
+abbrev pub earlier_data : Answer → Data
+earlier_data look = string (answer_text look)
 
 -- the facts of the evidence, but for the moments of a touch
 unfoldable pub segment_parts : SegmentEvidence → List Part
@@ -130,18 +139,39 @@ unfoldable pub looks_of : SegmentEvidence → List Moment
 looks_of (shown.Stale touch) = touch.looks.items
 looks_of _ = []
 
+-- the looks of its address that linger behind the segments before
+unfoldable pub earlier_of : SegmentEvidence → List Answer
+earlier_of (shown.Stale touch) = touch.earlier.items
+earlier_of _ = []
+
 -- the lines of the evidence
 abbrev pub segment_evidence_text : SegmentEvidence → List ℕ
-segment_evidence_text evidence = parts_text (segment_parts evidence) ++ flat_map moment_line (looks_of evidence)
+segment_evidence_text evidence =
+    (parts_text (segment_parts evidence) ++ flat_map earlier_line (earlier_of evidence)) ++ flat_map moment_line (looks_of evidence)
 
 -- the members with the moments of a touch
 unfoldable pub with_looks : SegmentEvidence → Members → Members
 with_looks (shown.Stale touch) members = put (codes "looks") (array (items_of (map moment_data touch.looks.items))) members
 with_looks _ members = members
 
+-- the members with an array of these looks
+unfoldable pub with_array : List Answer → Members → Members
+with_array looks members = put (codes "earlier") (array (items_of (map earlier_data looks))) members
+
+-- the members with these looks, where there are some
+unfoldable pub put_earlier : List Answer → Members → Members
+put_earlier [] members = members
+put_earlier (look ∷ more) members = with_array (look ∷ more) members
+
+-- the members with the looks that linger
+unfoldable pub with_earlier : SegmentEvidence → Members → Members
+with_earlier (shown.Stale touch) members = put_earlier touch.earlier.items members
+with_earlier _ members = members
+
 -- the evidence as JSON
 abbrev pub segment_evidence_data : SegmentEvidence → Data
-segment_evidence_data evidence = object (with_looks evidence (fold put_part no_members (segment_parts evidence)))
+segment_evidence_data evidence =
+    object (with_earlier evidence (with_looks evidence (fold put_part no_members (segment_parts evidence))))
 
 -- how much a right chain has
 unfoldable pub chain_counts_parts : ChainCounts → List Part
@@ -151,10 +181,10 @@ chain_counts_parts counts = words (codes "calls: ") ∷ in_both (codes "calls") 
     ∷ in_both (codes "dumps") (count counts.dumps) ∷ words (codes "\nreplicas: ") ∷ in_both (codes "replicas") (count counts.replicas)
     ∷ words (codes "\npages: ") ∷ in_both (codes "pages") (count counts.pages) ∷ words line_end ∷ []
 
--- the same as lines
+-- the counts of a right chain, as lines
 abbrev pub chain_counts_lines : ChainCounts → List ℕ
 chain_counts_lines counts = parts_text (chain_counts_parts counts)
 
--- the same as an object
+-- the counts of a right chain, as a JSON object
 abbrev pub chain_counts_data : ChainCounts → Data
 chain_counts_data counts = parts_data (chain_counts_parts counts)

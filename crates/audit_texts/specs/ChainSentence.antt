@@ -1,5 +1,6 @@
 -- The sentence of a fault of a chain.
-use Rattle.std.specs.Prelude.{ℕ, ◌++◌, List, [], codes, decimal}
+use Rattle.std.specs.Prelude.{ℕ, ◌++◌, ◌==◌, if◌then◌else◌, List, [], length, codes, decimal}
+use Rattle.vs_types.specs.declared.answer.Answer.{Answer}
 use Rattle.vs_text.specs.Words.{hexadecimal}
 use Rattle.nr_trace.specs.declared.fault.Format.{Format}
 use Rattle.nr_trace.specs.declared.fault.Format.TheVariants as formats
@@ -42,11 +43,15 @@ start_differs_sentence wrong = codes "At " ++ (hexadecimal wrong.address ++ (cod
 abbrev pub window_text : ℕ → ℕ → List ℕ
 window_text first last = decimal first ++ (codes " to " ++ (decimal last ++ codes " entries of the log"))
 
+-- that none of the looks which linger behind the segments before is that of the answer
+unfoldable pub earlier_words : List Answer → List ℕ
+earlier_words looks = if length looks == 0 then [] else codes " Nor does it in what earlier segments leave, whose updates were never answered."
+
 -- the sentence on a touch that is stale
 abbrev pub stale_sentence : StaleTouch → List ℕ
 stale_sentence touch = codes "Touch " ++ (decimal touch.call.event ++ (codes " was answered `" ++ (answer_text touch.reply.answer
     ++ (codes "`, but it may see only " ++ (window_text touch.first touch.last
-    ++ codes ", and after none of these its address looks so.")))))
+    ++ (codes ", and after none of these its address looks so." ++ earlier_words touch.earlier.items))))))
 
 -- the sentence of the evidence
 unfoldable pub segment_sentence : SegmentEvidence → List ℕ

@@ -221,10 +221,10 @@ counts_parts counts = words (codes "calls: ") ∷ in_both (codes "calls") (count
     ∷ words (codes "\nreplicas: ") ∷ in_both (codes "replicas") (count counts.replicas) ∷ words (codes "\npages: ")
     ∷ in_both (codes "pages") (count counts.pages) ∷ words line_end ∷ []
 
--- its lines
+-- the counts of a right trace, as lines
 abbrev pub counts_lines : Counts → List ℕ
 counts_lines counts = parts_text (counts_parts counts)
 
--- as JSON
+-- the counts of a right trace, as a JSON object
 abbrev pub counts_data : Counts → Data
 counts_data counts = parts_data (counts_parts counts)

@@ -30,11 +30,11 @@ called_data event replica thread asked = object
     (member (codes "request") (string asked)
     (member (codes "thread") (number_data thread) no_members))))
 
--- a recorded call
+-- a recorded call, as a JSON object
 abbrev pub call_data : RecordedCall → Data
 call_data call = called_data call.event call.replica call.thread (asked_text call.touch call.request)
 
--- a recorded reply
+-- a recorded reply, as a JSON object
 abbrev pub reply_data : RecordedReply → Data
 reply_data reply = object
     (member (codes "answer") (string (answer_text reply.answer))

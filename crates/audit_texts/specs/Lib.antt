@@ -6,8 +6,10 @@ pub mod Sentence
 pub mod EvidenceJson
 pub mod Parts
 pub mod Evidence
+pub mod AuditJson
 pub mod Explained
 pub mod FullExplained
+pub mod ChainJson
 pub mod ChainText
 pub mod ChainEvidence
 pub mod ChainSentence

@@ -43,7 +43,7 @@ pub data Says : Type 0 where
   reserved : ℕ → Says
   text : List ℕ → Says
 
--- in the lines
+-- the text of a fact, as it comes in the lines
 unfoldable pub says_text : Says → List ℕ
 says_text nothing = codes "none"
 says_text (call it) = call_line it
@@ -66,7 +66,7 @@ says_text (allowed it) = format_lines it
 says_text (reserved it) = reserved_text it
 says_text (text it) = it
 
--- in JSON
+-- the value of a fact, as it comes in JSON
 unfoldable pub says_data : Says → Data
 says_data nothing = null
 says_data (call it) = call_data it

@@ -21,11 +21,11 @@ page_after range = record range.first { base = range_end range; phys = range.fir
 abbrev pub alone : Page → PageRange
 alone page = record { first = page; count = 1 }
 
--- with that page
+-- a range with one page more: the one that would go on with it
 abbrev pub longer : PageRange → PageRange
 longer range = record range { count = range.count + 1 }
 
--- its pages
+-- so many consecutive pages, from this one on
 abbrev pub pages_from : Page → ℕ → List Page
 pages_from page zero = []
 pages_from page (suc count) = page ∷ pages_from (page_after (alone page)) count

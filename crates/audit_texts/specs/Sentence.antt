@@ -44,11 +44,11 @@ noun number one more = if number == 1 then one else more
 abbrev pub count_text : ℕ → List ℕ → List ℕ → List ℕ
 count_text number one more = decimal number ++ (space ++ noun number one more)
 
--- so many entries
+-- a number of entries, as a sentence has it
 abbrev pub entries_text : ℕ → List ℕ
 entries_text number = count_text number (codes "entry") (codes "entries")
 
--- so many updates
+-- a number of updates, as a sentence has it
 abbrev pub updates_text : ℕ → List ℕ
 updates_text number = count_text number (codes "update") (codes "updates")
 

@@ -84,7 +84,7 @@ walk_words Reserved = codes "reserved"
 walk_words Missing = codes "missing"
 walk_words (Mapped phys size rights) = codes "mapped " ++ page_text phys size rights
 
--- its line
+-- the line of a walk's end
 abbrev pub walk_text : Walk → List ℕ
 walk_text ends = walk_words ends ++ line_end
 

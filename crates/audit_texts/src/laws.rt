@@ -1,4 +1,4 @@
-//! Laws of the definitions in `specs/`. Each function does nothing: its clauses say what holds of all pages and dumps.
+//! Laws of the definitions in `specs/`. Each function does nothing: its clauses say what holds of all pages, dumps and faults.
 
 ghost use Rattle.std.specs.Prelude.{◌≡◌, ◌↔◌, ◌<◌, ℕ, List, Bool, All, IsTrue, flat_map};
 ghost use Rattle.vs_types.specs.Space.{pages, IsSpace, Space};
@@ -6,9 +6,12 @@ ghost use Rattle.vs_types.specs.declared.depth.Depth.{Depth};
 ghost use Rattle.vs_types.specs.declared.page.Page.{Page};
 ghost use Rattle.vs_walk.specs.Dump.{Image, IsDump};
 ghost use Rattle.vs_walk.specs.Walk.{TranslatesAs};
+ghost use Rattle.nr_trace.specs.declared.fault.Fault.{Fault};
+ghost use Rattle.audit_texts.specs.AuditJson.{named_fault_text};
 ghost use Rattle.audit_texts.specs.Dumps.{dump_text, IsFaultless, TranslateAlike};
 ghost use Rattle.audit_texts.specs.Listing.{pages_text};
 ghost use Rattle.audit_texts.specs.Ranges.{pages_of, ranges_of, same_page, AreParted};
+ghost use Rattle.audit_texts.specs.Text.{fault_text};
 
 /// The ranges of some pages have these pages, in their order, each once; each has one at least; and none goes on with the one before
 /// it: pages are joined just where they follow one another.
@@ -40,4 +43,9 @@ pub fn spaces_have_texts()
     ensures equal { (as_ranges : Bool) (depth : Depth) (s t : Space)
         → IsSpace depth s → IsSpace depth t
         → pages_text as_ranges (pages s) ≡ pages_text as_ranges (pages t) → s ≡ t }
+{}
+
+/// The number, the name and the numbers that JSON has of a fault are those of its text, in this order, with spaces between them.
+pub fn json_names_faults_as_the_text()
+    ensures { (fault : Fault) → fault_text fault ≡ named_fault_text fault }
 {}

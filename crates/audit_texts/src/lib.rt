@@ -3,6 +3,7 @@
 #![tactic(auto)]
 
 mod answer;
+mod audit_json;
 mod chain;
 mod evidence;
 mod explanation;
@@ -23,8 +24,10 @@ mod text;
 mod units;
 
 pub use answer::{answer_text, push_answer};
+pub use audit_json::{named_verdict, told_verdict};
 pub use chain::explanation::told_chain;
-pub use chain::text::{end_lines, segment_lines};
+pub use chain::style::Style;
+pub use chain::text::{end_lines, segment_lines, told_end, told_segment};
 pub use evidence::put_evidence;
 pub use explanation::told_explanation;
 pub use fact_json::{Members, put_text};

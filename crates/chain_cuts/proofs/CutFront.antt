@@ -17,13 +17,13 @@ use Rattle.nr_trace.proofs.LawsOfCalls.{answered_stands, behind_its_call, call_w
 use Rattle.nr_trace.proofs.LawsOfCalls.{ordered_from_made}
 use Rattle.nr_trace.proofs.LawsOfOrder.{member_stands, standing_is_member}
 use Rattle.nr_trace.proofs.LawsOfPrecedence.{known_of_read}
-use Rattle.chain_cuts.specs.Cut.{IsClosed, without_dumps}
-use Rattle.nr_chain.specs.Joined.{calls_behind, joined_traces}
-use Rattle.nr_chain.proofs.Lists.{before_left, before_in}
-use Rattle.nr_chain.proofs.Orders.{space_left}
-use Rattle.nr_chain.proofs.Parts.{call_left, reply_left, HasEarlierCalls, answers_left, answers_to_left, reply_to_left, is_call_left}
-use Rattle.nr_chain.proofs.Parts.{is_update_left, is_update_from_left}
-use Rattle.nr_chain.proofs.Places.{is_read_from_left, placed_left, placed_in, placed_before, PlacedRight, stands_left, known_left, floor_above, knows_more}
+use Rattle.chain_cuts.specs.Cut.{without_dumps, IsCutAt}
+use Rattle.nr_joined.specs.Joined.{calls_behind, joined_traces}
+use Rattle.nr_joined.proofs.Lists.{before_left, before_in}
+use Rattle.nr_joined.proofs.Orders.{space_left}
+use Rattle.nr_joined.proofs.Parts.{call_left, reply_left, HasEarlierCalls, answers_left, answers_to_left, reply_to_left, is_call_left}
+use Rattle.nr_joined.proofs.Parts.{is_update_left, is_update_from_left}
+use Rattle.nr_joined.proofs.Places.{is_read_from_left, placed_left, placed_in, placed_before, PlacedRight, stands_left, known_left, floor_above, knows_more}
 use Rattle.nr_chain.proofs.Recorded.{recorded_both}
 
 -- a call that comes after some entries is one of the run
@@ -37,7 +37,7 @@ before_within trace clean call other i =
     let (n, l, h) = member_stands trace other clean (before_in other call (recorded_order trace) i) in
     stands_within trace other n h
 
-module _ (start : Space) (first second : Recording) (closed : IsClosed first) (faultless : IsFaultlessFrom start (joined_traces first second)) where
+module _ (start : Space) (first second : Recording) (closed : IsCutAt first second) (faultless : IsFaultlessFrom start (joined_traces first second)) where
   abbrev whole : Recording
   whole = joined_traces first second
 

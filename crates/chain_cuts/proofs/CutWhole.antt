@@ -18,21 +18,21 @@ use Rattle.nr_trace.specs.declared.fault.Fault.{Fault}
 use Rattle.nr_trace.specs.declared.fault.Fault.TheVariants.{ThreadOpen, NoSuchCall, AnsweredTwice, NotAnUpdate, PlacedTwice, NotPlaced, PastLog, Early}
 use Rattle.nr_trace.specs.declared.fault.Fault.TheVariants.{WrongAnswer, PrefixPastLog, PrefixShort, MissingFrame, SharedFrame, ReservedBit, StrayFrame}
 use Rattle.nr_trace.specs.declared.fault.Fault.TheVariants.{Differs}
-use Rattle.nr_trace.proofs.LawsOfCalls.{answers_within, call_within, is_some_from, ordered_from_made, ordered_or_touch, reply_behind_call, reply_is_first, the_some}
+use Rattle.nr_trace.proofs.LawsOfCalls.{answers_within, call_within, ordered_from_made, ordered_or_touch, reply_behind_call, reply_is_first, the_some}
 use Rattle.nr_trace.proofs.LawsOfCalls.{answered_stands, not_both}
 use Rattle.nr_trace.proofs.LawsOfDumps.{clean_if_faultless}
 use Rattle.nr_trace.proofs.LawsOfOrder.{standing_is_member}
 use Rattle.nr_trace.proofs.LawsOfPrecedence.{known_of_update, known_of_read}
-use Rattle.chain_cuts.specs.Cut.{IsClosed, without_dumps}
-use Rattle.nr_chain.specs.Joined.{calls_behind, dump_behind, joined_traces}
-use Rattle.nr_chain.proofs.Lists.{split_at, of_mapped, before_left}
-use Rattle.nr_chain.proofs.Orders.{space_left}
-use Rattle.nr_chain.proofs.Parts.{call_left, call_right, reply_left, reply_from_right, reply_behind, HasEarlierCalls, answered_left}
-use Rattle.nr_chain.proofs.Parts.{answered_right}
-use Rattle.nr_chain.proofs.Parts.{answers_to_left, answers_to_right, reply_to_left, reply_to_right, is_call_from_left, is_call_from_right}
-use Rattle.nr_chain.proofs.Parts.{is_update_left, is_update_from_left, is_update_right, is_update_from_right, is_read_right}
-use Rattle.nr_chain.proofs.Places.{is_read_left, placed_left, placed_right, placed_in, PlacedRight, stood_left, stood_right, known_left, known_right}
-use Rattle.nr_chain.proofs.Places.{KnowsMore, floor_above, knows_more}
+use Rattle.chain_cuts.specs.Cut.{without_dumps, IsCutAt}
+use Rattle.nr_joined.specs.Joined.{calls_behind, dump_behind, joined_traces}
+use Rattle.nr_joined.proofs.Lists.{split_at, of_mapped, before_left}
+use Rattle.nr_joined.proofs.Orders.{space_left}
+use Rattle.nr_joined.proofs.Parts.{call_left, call_right, reply_left, reply_from_right, reply_behind, HasEarlierCalls, answered_left}
+use Rattle.nr_joined.proofs.Parts.{answered_right}
+use Rattle.nr_joined.proofs.Parts.{answers_to_left, answers_to_right, reply_to_left, reply_to_right, is_call_from_left, is_call_from_right}
+use Rattle.nr_joined.proofs.Parts.{is_update_left, is_update_from_left, is_update_right, is_update_from_right, is_read_right}
+use Rattle.nr_joined.proofs.Places.{is_read_left, placed_left, placed_right, placed_in, PlacedRight, stood_left, stood_right, known_left, known_right}
+use Rattle.nr_joined.proofs.Places.{KnowsMore, floor_above, knows_more}
 use Rattle.nr_chain.proofs.Recorded.{recorded_both, places_of_both}
 use Rattle.chain_cuts.proofs.CutFront.{before_within, front_faultless, clean_front}
 use Rattle.chain_cuts.proofs.CutRest.{space_before_right, space_of_prefix, rest_faultless}
@@ -87,7 +87,7 @@ known_within trace index reply clean is = by_kind (ordered_or_touch trace reply.
       omega arith
   by_kind (inr t) = of_touch (operation_of trace reply.call) refl t
 
-module _ (start : Space) (first second : Recording) (same_layout : second.layout ≡ first.layout) (closed : IsClosed first) (clean : HasCleanLog first)
+module _ (start : Space) (first second : Recording) (same_layout : second.layout ≡ first.layout) (closed : IsCutAt first second) (clean : HasCleanLog first)
     (clean_rest : HasCleanLog second) where
   abbrev whole : Recording
   whole = joined_traces first second
@@ -131,12 +131,13 @@ module _ (start : Space) (first second : Recording) (same_layout : second.layout
         not_answered = λ reply m a. h.not_answered reply m (answers_to_left first second reply h.earlier a);
       })
 
-  -- a call of the first run is answered in it
-  no_call_open : (index k : ℕ) (made : Invocation) → k < length first.events → call_of whole k ≡ Some made
+  -- a call of the first run is answered in it, if its thread makes one in the second
+  no_call_open : (index k : ℕ) (made other : Invocation) → k < length first.events → call_of whole k ≡ Some made
+      → call_of whole (length first.events + index) ≡ Some other → made.thread ≡ other.thread
       → ((reply : ℕ) → reply < length first.events + index → Answers whole reply k → ⊥) → ⊥
-  no_call_open index k made l is none =
-      let own = is_some_from (call_of first k) made (sym (call_left first second k l) ∙ is) in
-      let (reply, answers) = closed.answered k own in
+  no_call_open index k made other l is other_is same none =
+      let (reply, answers) =
+      closed.waits k index made other (sym (call_left first second k l) ∙ is) (sym (call_right first second index) ∙ other_is) same in
       let inside = answers_within first reply k answers in
       none reply (omega arith) (answers_to_left first second reply k answers)
 
@@ -146,7 +147,7 @@ module _ (start : Space) (first second : Recording) (same_layout : second.layout
     lower = h.is_earlier
 
     by_side : (h.earlier < length first.events) ⊎ ((k : ℕ) × (h.earlier ≡ length first.events + k)) → ⊥
-    by_side (inl l) = no_call_open index h.earlier h.earlier_made l h.is_earlier_made h.not_answered
+    by_side (inl l) = no_call_open index h.earlier h.earlier_made h.made l h.is_earlier_made h.is_made h.same_thread h.not_answered
     by_side (inr (k, e)) =
         let own_lower : k < index = omega (arith, lower, e) in
         clean_rest.no_thread_open index (record {
@@ -454,7 +455,7 @@ module _ (start : Space) (first second : Recording) (same_layout : second.layout
       whole_faultless (Differs replica address) h = dumps_differ replica address h
       whole_faultless _ h = h
 
-pub cut : (start : Space) (first second : Recording) → second.layout ≡ first.layout → IsClosed first
+pub cut : (start : Space) (first second : Recording) → second.layout ≡ first.layout → IsCutAt first second
     → IsFaultlessFrom start (joined_traces first second)
     ↔ (IsFaultlessFrom start (without_dumps first) × IsFaultlessFrom (space_from start first first.log) second)
 cut start first second same_layout closed = (

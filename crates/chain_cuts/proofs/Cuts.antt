@@ -1,65 +1,22 @@
--- A run that is cut in several places, no call being open there.
-use Rattle.std.proofs.Common.{◌≡◌, ℕ, ◌+◌, ◌<◌, ◌⊎◌, inl, inr, List, [], ◌∷◌, ◌++◌, length, slice_get, Some, ap₂, sym, ◌∙◌, subst, arith}
+-- A run that is cut in several places.
+use Rattle.std.proofs.Common.{◌≡◌, ℕ, ◌+◌, List, [], ◌∷◌, ◌++◌, length, ap₂, sym, ◌∙◌, subst}
 use Rattle.std.specs.Prelude.{⊤}
-use Rattle.std.proofs.lemmas.Option.{slice_get-map}
 use Rattle.vs_types.specs.Config.{Layout}
 use Rattle.vs_types.specs.Space.{Space}
-use Rattle.nr_trace.specs.Recording.{IsThere, Recording}
-use Rattle.nr_trace.specs.Calls.{IsCall, Answers}
 use Rattle.nr_trace.specs.Orders.{recorded_order}
 use Rattle.nr_trace.specs.Laws.{IsFaultlessFrom}
 use Rattle.nr_trace.proofs.LawsOfDumps.{clean_if_faultless}
-use Rattle.chain_cuts.specs.Cut.{HasNoDumps, IsClosed, AreCut, AreRecorded}
-use Rattle.nr_chain.specs.Joined.{Segment, calls_behind, dump_behind, joined_traces, both, joined}
+use Rattle.chain_cuts.specs.Cut.{AreCut, AreRecorded, HasNoDumps, IsCutAt}
+use Rattle.nr_joined.specs.Joined.{calls_behind, joined_traces}
+use Rattle.nr_chain.specs.Joined.{Segment, both, joined}
 use Rattle.nr_chain.specs.Run.{space_behind, AreFaultlessFrom}
-use Rattle.nr_chain.proofs.Lists.{of_mapped, split_at}
-use Rattle.nr_chain.proofs.Orders.{space_both}
-use Rattle.nr_chain.proofs.Parts.{answers_to_left, answers_to_right, is_call_left, is_call_right}
-use Rattle.nr_chain.proofs.Places.{PlacedRight, placed_in}
-use Rattle.nr_chain.proofs.Recorded.{events_of_both, recorded_both}
+use Rattle.nr_joined.proofs.Orders.{space_both}
+use Rattle.nr_chain.proofs.Recorded.{recorded_both}
 use Rattle.chain_cuts.proofs.CutRest.{log_within}
 use Rattle.chain_cuts.proofs.CutWhole.{cut}
 use Rattle.chain_cuts.proofs.SameRuns.{faultless_without, without_faultless}
 
--- two closed runs are closed as one
-module _ (first second : Recording) (before : IsClosed first) (behind : IsClosed second) where
-  answered : (call : ℕ) → IsCall (joined_traces first second) call → (index : ℕ) × Answers (joined_traces first second) index call
-  answered call h = by_side (split_at (length first.events) call) where
-    by_side : (call < length first.events) ⊎ ((k : ℕ) × (call ≡ length first.events + k)) → (index : ℕ) × Answers (joined_traces first second) index call
-    by_side (inl l) =
-        let (index, answers) = before.answered call (is_call_left first second call l h) in
-        (index, answers_to_left first second index call answers)
-    by_side (inr (k, e)) =
-        let own = is_call_right first second k (subst (λ (c : ℕ). IsCall (joined_traces first second) c) e h) in
-        let (index, answers) = behind.answered k own in
-        let there = answers_to_right first second index k answers in
-        (length first.events + index, subst (λ (c : ℕ). Answers (joined_traces first second) (length first.events + index) c) (sym e) there)
-
-  own : (place call : ℕ) → slice_get (joined_traces first second).log place ≡ Some call → call < length (joined_traces first second).events
-  own place call is = by_side (placed_in first second place call is) where
-    events : length (joined_traces first second).events ≡ length first.events + length second.events
-    events = events_of_both first second
-
-    by_side : (slice_get first.log place ≡ Some call) ⊎ PlacedRight first second place call → call < length (joined_traces first second).events
-    by_side (inl here) = let l = before.own place call here in omega (arith, l, events)
-    by_side (inr (at, e, c, c_is, same)) = let l = behind.own at c c_is in omega (arith, l, same, events)
-
-  pub closed_both : IsClosed (joined_traces first second)
-  closed_both = record { answered = answered; own = own }
-
--- no dump is there of two runs if none is of the second
-none_of_both : (first second : Recording) → HasNoDumps second → HasNoDumps (joined_traces first second)
-none_of_both first second none replica dump is there =
-    let (own, own_is, same) = of_mapped (dump_behind (length first.log)) (slice_get second.dumps replica) dump
-    (sym (slice_get-map (dump_behind (length first.log)) second.dumps replica) ∙ is) in
-    none replica own own_is (subst IsThere (sym same) there)
-
-pub cut_joined : (first next : Segment) (more : List Segment) → IsClosed first.trace → AreCut next more → AreCut (both first next) more
-cut_joined first next [] closed cuts = tt
-cut_joined first next (after ∷ more) closed (next_closed, none, cuts) =
-    (closed_both first.trace next.trace closed next_closed, none_of_both first.trace next.trace none, cuts)
-
-module _ (start : Space) (first next : Segment) (same_layout : next.trace.layout ≡ first.trace.layout) (closed : IsClosed first.trace)
+module _ (start : Space) (first next : Segment) (same_layout : next.trace.layout ≡ first.trace.layout) (closed : IsCutAt first.trace next.trace)
     (none : HasNoDumps first.trace) where
   pub faultless_both : IsFaultlessFrom start first.trace → IsFaultlessFrom (space_behind start first) next.trace
       → IsFaultlessFrom start (joined_traces first.trace next.trace)
@@ -90,7 +47,7 @@ pub whole_from_segments : (start : Space) (layout : Layout) (first : Segment) (m
 whole_from_segments start layout first [] cuts (has_layout, faultless, recorded, none_more) = (faultless, recorded)
 whole_from_segments start layout first (next ∷ more) (closed, none, cuts) (has_layout, front, recorded, (next_layout, rest, next_recorded, others)) =
     let same_layout : next.trace.layout ≡ first.trace.layout = next_layout ∙ sym has_layout in
-    whole_from_segments start layout (both first next) more (cut_joined first next more closed cuts) (
+    whole_from_segments start layout (both first next) more cuts (
       has_layout,
       faultless_both start first next same_layout closed none front rest,
       order_of_both start first next same_layout closed none front recorded next_recorded,
@@ -111,7 +68,7 @@ clean_from_whole : (start : Space) (layout : Layout) (first : Segment) (more : L
 clean_from_whole start layout first [] cuts has faultless = (faultless, tt)
 clean_from_whole start layout first (next ∷ more) (closed, none, cuts) (has_layout, (next_layout, others)) faultless =
     let same_layout : next.trace.layout ≡ first.trace.layout = next_layout ∙ sym has_layout in
-    let (whole, rest) = clean_from_whole start layout (both first next) more (cut_joined first next more closed cuts) (has_layout, others) faultless in
+    let (whole, rest) = clean_from_whole start layout (both first next) more cuts (has_layout, others) faultless in
     let (front, behind) = faultless_apart start first next same_layout closed none whole in
     (front, (behind, subst (λ (space : Space). AreClean space more) (space_of_both start first next same_layout closed none front) rest))
 

@@ -9,7 +9,9 @@ use Rattle.nr_trace.specs.Laws.{IsFaultlessFrom}
 use Rattle.nr_trace.specs.declared.fault.Fault.{Fault}
 use Rattle.nr_trace.specs.declared.fault.Fault.TheVariants.{ThreadOpen, WrongAnswer, PrefixPastLog, PrefixShort, MissingFrame, SharedFrame, ReservedBit}
 use Rattle.nr_trace.specs.declared.fault.Fault.TheVariants.{StrayFrame, Differs}
-use Rattle.nr_audit.specs.Start.{first_space}
+use Rattle.nr_joined.specs.Run.{Run}
+use Rattle.nr_touch.specs.Touches.{IsRightBehind}
+use Rattle.nr_audit.specs.Start.{begins_in}
 use Rattle.nr_audit.specs.Touches.{HasTouch, HasRightTouches}
 use Rattle.nr_audit.specs.Faults.{IsSoundAfter}
 use Rattle.nr_audit.proofs.Judgements.{begins_of, faultless_of, sound_by}
@@ -71,38 +73,43 @@ module _ (trace : Recording) (some others : List Image) where
   same_fault start among (Differs replica address) (dump, is, there, h) = (dump, among replica dump there is, there, h)
   same_fault start among fault h = h
 
-  same_touches : (start : Space) → HasRightTouches start with_some → HasRightTouches start with_others
-  same_touches start right touch has =
-      let own : HasTouch with_some touch =
-      record { asks = has.asks; reply = has.reply; is_reply = has.is_reply; of_it = has.of_it; answer = has.answer } in
-      let (n, allowed, answered) = right touch own in
-      (n, record { within = allowed.within; flushed = allowed.flushed; not_foreseen = allowed.not_foreseen }, answered)
+  same_touches : (before : Option Run) (start : Space) → HasRightTouches before start with_some → HasRightTouches before start with_others
+  same_touches before start right touch has = as_right before (right touch own) where
+    own : HasTouch with_some touch
+    own = record { asks = has.asks; reply = has.reply; is_reply = has.is_reply; of_it = has.of_it; answer = has.answer }
 
-  same_begin : (before : Option Space) → first_space before with_some ≡ first_space before with_others
+    as_right : (b : Option Run) → IsRightBehind b start with_some touch → IsRightBehind b start with_others touch
+    as_right None (n, allowed, answered) =
+        (n, record { within = allowed.within; flushed = allowed.flushed; not_foreseen = allowed.not_foreseen }, answered)
+    as_right (Some run) (n, allowed, answered) =
+        (n, record { within = allowed.within; flushed = allowed.flushed; not_foreseen = allowed.not_foreseen }, answered)
+
+  same_begin : (before : Option Run) → begins_in before with_some ≡ begins_in before with_others
   same_begin None = refl
-  same_begin (Some space) = refl
+  same_begin (Some run) = refl
 
-same_sound : (before : Option Space) (trace : Recording) (some others : List Image) → AreAmong others some
+same_sound : (before : Option Run) (trace : Recording) (some others : List Image) → AreAmong others some
     → IsSoundAfter before (record trace { dumps = some }) → IsSoundAfter before (record trace { dumps = others })
 same_sound before trace some others among sound =
     sound_by before (record trace { dumps = others }) (begins_of before (record trace { dumps = some }) sound.faultless) clean touches where
       start : Space
-      start = first_space before (record trace { dumps = some })
+      start = begins_in before (record trace { dumps = some })
 
-      begin : start ≡ first_space before (record trace { dumps = others })
+      begin : start ≡ begins_in before (record trace { dumps = others })
       begin = same_begin trace some others before
 
-      touches : HasRightTouches (first_space before (record trace { dumps = others })) (record trace { dumps = others })
+      touches : HasRightTouches before (begins_in before (record trace { dumps = others })) (record trace { dumps = others })
       touches =
-          subst (λ (space : Space). HasRightTouches space (record trace { dumps = others })) begin (same_touches trace some others start sound.touches)
+          subst (λ (space : Space). HasRightTouches before space (record trace { dumps = others })) begin
+          (same_touches trace some others before start sound.touches)
 
-      clean : IsFaultlessFrom (first_space before (record trace { dumps = others })) (record trace { dumps = others })
+      clean : IsFaultlessFrom (begins_in before (record trace { dumps = others })) (record trace { dumps = others })
       clean fault h =
           faultless_of before (record trace { dumps = some }) sound.faultless fault
           (same_fault trace others some start among fault (subst (λ (space : Space). HasFaultFrom space (record trace { dumps = others }) fault) (sym begin) h))
 
 -- the same run is sound
-pub sound_as_same : (before : Option Space) (first second : Recording) → IsSameRun first second → IsSoundAfter before first → IsSoundAfter before second
+pub sound_as_same : (before : Option Run) (first second : Recording) → IsSameRun first second → IsSoundAfter before first → IsSoundAfter before second
 sound_as_same before first second alike sound =
     subst (λ (trace : Recording). IsSoundAfter before (record trace { dumps = second.dumps })) alike.same
     (same_sound before first first.dumps second.dumps (λ replica dump there. (alike.dumps replica dump there).1) sound)

@@ -1,7 +1,8 @@
--- Where a run that is cut in two has right touches, so have the two, if no call is open at the cut.
-use Rattle.std.proofs.Common.{◌≡◌, ℕ, zero, suc, ◌+◌, ◌-◌, ◌<◌, ◌≤◌, ◌⊎◌, inl, inr, length, option_map, ap, sym, ◌∙◌, subst}
+-- A run that is cut in two has right touches just where the two have.
+use Rattle.std.proofs.Common.{◌≡◌, ℕ, zero, suc, ◌+◌, ◌-◌, ◌<◌, ◌≤◌, ◌⊎◌, inl, inr, length, map, Option, Some, None, option_map, ap, sym, ◌∙◌, subst}
 use Rattle.std.proofs.Common.{arith}
 use Rattle.std.proofs.lemmas.Bool.{cases_lt}
+use Rattle.std.proofs.lemmas.List.{length-append, length-map}
 use Rattle.std.proofs.lemmas.Option.{slice_get_within}
 use Rattle.vs_types.specs.Space.{Space}
 use Rattle.vs_types.specs.Step.{allow, allow_in_page}
@@ -9,20 +10,21 @@ use Rattle.vs_types.proofs.Lists.{item_of}
 use Rattle.nr_trace.specs.Recording.{Recording}
 use Rattle.nr_trace.specs.Laws.{HasCleanLog}
 use Rattle.nr_trace.specs.Orders.{space_from}
-use Rattle.nr_trace.proofs.LawsOfCalls.{answers_within, placed_is_update, reply_behind_call, reply_below, update_is_call}
-use Rattle.nr_touch.specs.Touches.{page_after, ChangesLook, IsAnsweredBefore, IsMadeAfter, IsRightTouch}
+use Rattle.nr_trace.proofs.LawsOfCalls.{reply_behind_call, reply_below}
+use Rattle.nr_joined.specs.Run.{Run, run_with, IsOrderly}
+use Rattle.nr_touch.specs.Touches.{page_after, touch_behind, ChangesLook, IsRightTouch}
 use Rattle.nr_touch.specs.declared.touch.Touch.{Touch}
 use Rattle.nr_touch.proofs.QuietPages.{same_look}
 use Rattle.nr_audit.specs.Touches.{HasTouch, HasRightTouches}
-use Rattle.chain_cuts.specs.Cut.{IsClosed}
-use Rattle.nr_chain.specs.Joined.{joined_traces}
-use Rattle.chain_cuts.proofs.CutRest.{log_within}
-use Rattle.nr_chain.proofs.Lists.{split_at}
-use Rattle.nr_chain.proofs.Orders.{AreOf}
-use Rattle.nr_chain.proofs.Parts.{touch_left, touch_right, reply_behind, reply_left, reply_right, answers_to_left}
-use Rattle.nr_chain.proofs.Parts.{answers_to_right}
-use Rattle.nr_chain.proofs.Places.{placed_left, placed_right}
-use Rattle.nr_chain.proofs.Touched.{touch_behind, whole_log, space_front, look_front, look_rest, changes_to_front, changes_to_rest, touches_both}
+use Rattle.chain_cuts.specs.Cut.{MayCome}
+use Rattle.nr_joined.specs.Joined.{event_behind, joined_traces}
+use Rattle.nr_joined.proofs.Associated.{joined_associate}
+use Rattle.nr_joined.proofs.Orderly.{clean_is_orderly, orderly_both, own_calls}
+use Rattle.nr_joined.proofs.Orders.{AreOf}
+use Rattle.nr_joined.proofs.Parts.{touch_left, touch_right, reply_behind, reply_left, reply_right, answers_to_left}
+use Rattle.nr_joined.proofs.Places.{placed_left, placed_right}
+use Rattle.nr_touch.proofs.Behind.{whole_log, space_front, look_front, changes_to_front}
+use Rattle.nr_chain.proofs.Touched.{of_one, right_front, touches_both, OfOne}
 
 -- an address looks the same after two prefixes if no place between them changes how it looks
 same_after : (start : Space) (trace : Recording) (address n k : ℕ)
@@ -42,20 +44,17 @@ same_between start trace address n m le none =
     let it : n + (m - n) ≡ m = omega arith in
     same_after start trace address n (m - n) (λ place low high. none place low (omega arith)) ∙ ap (page_after start trace address) it
 
-module _ (start : Space) (first second : Recording) (same_layout : second.layout ≡ first.layout) (closed : IsClosed first) (clean : HasCleanLog first) where
+-- ---- a touch of the first run
+
+module _ (start : Space) (first second : Recording) (same_layout : second.layout ≡ first.layout) (orderly : IsOrderly first) where
   abbrev whole : Recording
   whole = joined_traces first second
 
-  abbrev between : Space
-  between = space_from start first first.log
-
-  -- ---- a touch of the first run
+  own : AreOf first first.log
+  own = own_calls first orderly
 
   front_right : (touch : Touch) → touch.answered < length first.events → IsRightTouch start whole touch → IsRightTouch start first touch
   front_right touch answered_within (n, allowed, answered) = by_side (cases_lt (length first.log) n) where
-    own : AreOf first first.log
-    own = log_within start first second same_layout clean
-
     within : n ≤ length first.log → IsRightTouch start first touch
     within le = (
       n,
@@ -107,77 +106,16 @@ module _ (start : Space) (first second : Recording) (same_layout : second.layout
     by_side (inl l) = past l
     by_side (inr le) = within le
 
-  -- ---- a touch of the second run
+-- ---- the touches of the one and of the other are touches of both
 
-  rest_right : (touch : Touch) → IsRightTouch start whole (touch_behind (length first.events) touch) → IsRightTouch between second touch
-  rest_right touch (n, allowed, answered) = by_side (split_at (length first.log) n) where
-    own : AreOf first first.log
-    own = log_within start first second same_layout clean
-
-    flushed : (place : ℕ) → ChangesLook between second touch.address place → IsAnsweredBefore second place touch.made → length first.log + place < n
-    flushed place changes (call, placed, (reply, before, answers)) =
-        allowed.flushed (length first.log + place) (changes_to_rest start first second same_layout own touch.address place changes) (
-          length first.events + call,
-          placed_right first second place call placed,
-          (length first.events + reply, omega arith, answers_to_right first second reply call answers),
-        )
-
-    not_foreseen : (place : ℕ) → ChangesLook between second touch.address place → IsMadeAfter second place touch.answered → n ≤ length first.log + place
-    not_foreseen place changes (call, placed, after) =
-        allowed.not_foreseen (length first.log + place) (changes_to_rest start first second same_layout own touch.address place changes)
-        (length first.events + call, placed_right first second place call placed, omega arith)
-
-    within : (k : ℕ) → n ≡ length first.log + k → IsRightTouch between second touch
-    within k at = (
-      k,
-      record {
-        within = let long = whole_log start first second same_layout own in omega (arith, allowed.within);
-        flushed = λ place changes answered. let low = flushed place changes answered in omega arith;
-        not_foreseen = λ place changes made. let late = not_foreseen place changes made in omega arith;
-      },
-      answered
-          ∙ ap (allow_in_page touch.address touch.mode touch.access)
-          (ap (page_after start whole touch.address) at ∙ look_rest start first second same_layout own touch.address k),
-    )
-
-    -- what comes before the cut was answered before the touch was made
-    unchanged : (place : ℕ) → n ≤ place → place < length first.log → ChangesLook start whole touch.address place → ⊥
-    unchanged place low high changes =
-        let (call, is) = item_of first.log place high in
-        let (reply, answers) = closed.answered call (update_is_call first call (placed_is_update first place call clean is)) in
-        let inside : reply < length first.events = answers_within first reply call answers in
-        let early : place < n = allowed.flushed place changes
-        (call, placed_left first second place call is, (reply, omega arith, answers_to_left first second reply call answers)) in
-        omega arith
-
-    early : n < length first.log → IsRightTouch between second touch
-    early l = (
-      0,
-      record {
-        within = omega arith;
-        flushed = λ place changes answered. let low = flushed place changes answered in absurd (omega arith);
-        not_foreseen = λ place changes made. omega arith;
-      },
-      answered
-          ∙ ap (allow_in_page touch.address touch.mode touch.access)
-          (same_between start whole touch.address n (length first.log) (omega arith) unchanged
-          ∙ ap (page_after start whole touch.address) (let it : length first.log ≡ length first.log + 0 = omega arith in it)
-          ∙ look_rest start first second same_layout own touch.address 0),
-    )
-
-    by_side : (n < length first.log) ⊎ ((k : ℕ) × (n ≡ length first.log + k)) → IsRightTouch between second touch
-    by_side (inl l) = early l
-    by_side (inr (k, at)) = within k at
-
-  -- ---- the touches of the one and of the other are touches of both
-
+module _ (first second : Recording) (clean : HasCleanLog first) where
   asked_first : (touch : Touch) → HasTouch first touch → (touch.made < length first.events) × (touch.answered < length first.events)
   asked_first touch has =
       let behind = reply_behind_call first touch.answered has.reply clean has.is_reply in
       let inside = reply_below first touch.answered has.reply has.is_reply in
       (omega (arith, behind.0, has.of_it), inside)
 
-  has_front : (touch : Touch) → HasTouch first touch → HasTouch whole touch
+  has_front : (touch : Touch) → HasTouch first touch → HasTouch (joined_traces first second) touch
   has_front touch has =
       let (made_within, answered_within) = asked_first touch has in
       record {
@@ -188,7 +126,7 @@ module _ (start : Space) (first second : Recording) (same_layout : second.layout
         answer = has.answer;
       }
 
-  has_rest : (touch : Touch) → HasTouch second touch → HasTouch whole (touch_behind (length first.events) touch)
+  has_rest : (touch : Touch) → HasTouch second touch → HasTouch (joined_traces first second) (touch_behind (length first.events) touch)
   has_rest touch has = record {
     asks = touch_right first second touch.made ∙ has.asks;
     reply = reply_behind (length first.events) (length first.log) has.reply;
@@ -198,13 +136,72 @@ module _ (start : Space) (first second : Recording) (same_layout : second.layout
     answer = has.answer;
   }
 
-  pub touches_apart : HasRightTouches start whole → HasRightTouches start first × HasRightTouches between second
-  touches_apart right = (
-    λ touch has. front_right touch (asked_first touch has).1 (right touch (has_front touch has)),
-    λ touch has. rest_right touch (right (touch_behind (length first.events) touch) (has_rest touch has)),
-  )
+-- ---- behind a run
 
-  pub touches_as_one : HasRightTouches start first × HasRightTouches between second → HasRightTouches start whole
-  touches_as_one (front, rest) =
-      touches_both start first second same_layout (log_within start first second same_layout clean)
-      (λ index reply is. (reply_behind_call first index reply clean is).0) front rest
+many_events : (first second : Recording) → length (joined_traces first second).events ≡ length first.events + length second.events
+many_events first second =
+    length-append first.events (map (event_behind (length first.events) (length first.log)) second.events)
+    ∙ ap (λ (n : ℕ). length first.events + n) (length-map second.events (event_behind (length first.events) (length first.log)))
+
+same_touch : (first second : Recording) (touch : Touch)
+    → touch_behind (length first.events) (touch_behind (length second.events) touch) ≡ touch_behind (length (joined_traces first second).events) touch
+same_touch first second touch =
+    let number : (k : ℕ) → length first.events + (length second.events + k) ≡ length (joined_traces first second).events + k =
+    λ k. omega (arith, many_events first second) in
+    λ i. record touch { made = number touch.made i; answered = number touch.answered i }
+
+module _ (start : Space) (first second : Recording) (same_layout : second.layout ≡ first.layout) (clean : HasCleanLog first) where
+  abbrev between : Space
+  between = space_from start first first.log
+
+  orderly : IsOrderly first
+  orderly = clean_is_orderly first clean
+
+  pub touches_apart : (before : Option Run) → MayCome before first.layout → HasRightTouches before start (joined_traces first second)
+      → HasRightTouches before start first × HasRightTouches (Some (run_with before start first)) between second
+  touches_apart None may right = (
+    λ touch has. front_right start first second same_layout orderly touch (asked_first first second clean touch has).1
+        (right touch (has_front first second clean touch has)),
+    λ touch has. right (touch_behind (length first.events) touch) (has_rest first second clean touch has),
+  )
+  touches_apart (Some run) (run_orderly, layout) right = (
+    λ touch has.
+        let inside = (asked_first first second clean touch has).1 in
+        front_right run.start front second (same_layout ∙ layout) (orderly_both run.trace first run_orderly orderly)
+        (touch_behind (length run.trace.events) touch) (omega (arith, inside, many_events run.trace first))
+        (subst (λ (r : Recording). IsRightTouch run.start r (touch_behind (length run.trace.events) touch)) (sym (joined_associate run.trace first second))
+        (right touch (has_front first second clean touch has))),
+    λ touch has.
+        subst (IsRightTouch run.start (joined_traces front second)) (same_touch run.trace first touch)
+        (subst (λ (r : Recording). IsRightTouch run.start r (touch_behind (length run.trace.events) (touch_behind (length first.events) touch)))
+        (sym (joined_associate run.trace first second))
+        (right (touch_behind (length first.events) touch) (has_rest first second clean touch has))),
+  ) where
+    front : Recording
+    front = joined_traces run.trace first
+
+  pub touches_as_one : (before : Option Run) → MayCome before first.layout
+      → HasRightTouches before start first × HasRightTouches (Some (run_with before start first)) between second
+      → HasRightTouches before start (joined_traces first second)
+  touches_as_one None may (front, rest) touch has =
+      touches_both start first second same_layout (own_calls first orderly) orderly.earlier front rest touch has
+  touches_as_one (Some run) (run_orderly, layout) (right, rest) touch has = by_side (of_one start first second same_layout (own_calls first orderly) orderly.earlier touch has) where
+    front : Recording
+    front = joined_traces run.trace first
+
+    front_orderly : IsOrderly front
+    front_orderly = orderly_both run.trace first run_orderly orderly
+
+    back : (t : Touch) → IsRightTouch run.start (joined_traces front second) t → IsRightTouch run.start (joined_traces run.trace (joined_traces first second)) t
+    back t is = subst (λ (r : Recording). IsRightTouch run.start r t) (joined_associate run.trace first second) is
+
+    by_side : OfOne start first second same_layout (own_calls first orderly) orderly.earlier touch
+        → IsRightTouch run.start (joined_traces run.trace (joined_traces first second)) (touch_behind (length run.trace.events) touch)
+    by_side (inl (l, of_first)) =
+        back (touch_behind (length run.trace.events) touch)
+        (right_front run.start front second (same_layout ∙ layout) (own_calls front front_orderly) front_orderly.earlier
+        (touch_behind (length run.trace.events) touch) (omega (arith, l, many_events run.trace first)) (right touch of_first))
+    by_side (inr (mine, of_second, same)) =
+        subst (λ (t : Touch). IsRightTouch run.start (joined_traces run.trace (joined_traces first second)) (touch_behind (length run.trace.events) t)) same
+        (back (touch_behind (length run.trace.events) (touch_behind (length first.events) mine))
+        (subst (IsRightTouch run.start (joined_traces front second)) (sym (same_touch run.trace first mine)) (rest mine of_second)))

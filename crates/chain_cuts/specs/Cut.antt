@@ -1,19 +1,24 @@
 -- Cuts of a run in two.
-use Rattle.std.specs.Prelude.{◌≡◌, ◌↔◌, ℕ, ◌<◌, List, [], ◌∷◌, ⊤, length, map, slice_get, Option, None, Some}
+use Rattle.std.specs.Prelude.{◌≡◌, ◌↔◌, ℕ, ◌<◌, List, [], ◌∷◌, ⊤, length, map, slice_get, Option, None, Some, IfSome}
 use Rattle.vs_types.specs.Config.{Layout}
-use Rattle.vs_types.specs.Space.{Space}
 use Rattle.vs_walk.specs.Dump.{Image}
 use Rattle.nr_trace.specs.Recording.{IsThere, Recording}
-use Rattle.nr_trace.specs.Calls.{IsCall, Answers}
+use Rattle.nr_trace.specs.Calls.{Invocation, call_of, Answers}
 use Rattle.nr_trace.specs.Orders.{recorded_order}
 use Rattle.nr_audit.specs.Faults.{IsSoundAfter}
-use Rattle.nr_audit.specs.Segments.{last_space}
-use Rattle.nr_chain.specs.Joined.{Segment}
+use Rattle.nr_joined.specs.Run.{Run, IsOrderly}
+use Rattle.nr_audit.specs.Segments.{run_after}
+use Rattle.nr_chain.specs.Joined.{Segment, both}
 
--- no call of the run is open at its end, since each has a reply, and its log has no calls but its own: so that another may begin there
-pub record IsClosed (trace : Recording) : Type 0 where
-  pub answered : (call : ℕ) → IsCall trace call → (index : ℕ) × Answers trace index call
-  pub own : (place call : ℕ) → slice_get trace.log place ≡ Some call → call < length trace.events
+-- a run may be cut between the two: a thread with a call open at the cut makes none behind it, and the log before it has no calls but those before it
+pub record IsCutAt (first second : Recording) : Type 0 where
+  pub waits : (call next : ℕ) (made other : Invocation) → call_of first call ≡ Some made → call_of second next ≡ Some other → made.thread ≡ other.thread
+      → (index : ℕ) × Answers first index call
+  pub own : (place call : ℕ) → slice_get first.log place ≡ Some call → call < length first.events
+
+-- a segment of this layout may come behind the run, if there is one: that is orderly, and laid out so
+abbrev pub MayCome : Option Run → Layout → Type 0
+MayCome before layout = IfSome before (λ run. IsOrderly run.trace × (layout ≡ run.trace.layout))
 
 -- the run without its dumps
 abbrev pub without_dumps : Recording → Recording
@@ -29,10 +34,10 @@ pub record IsSameRun (first second : Recording) : Type 0 where
   pub dumps : (replica : ℕ) (dump : Image) → IsThere dump
       → (slice_get first.dumps replica ≡ Some dump) ↔ (slice_get second.dumps replica ≡ Some dump)
 
--- the segments of a run that is cut where no call is open, and of which dumps are taken at its end
+-- the segments of a run that is cut so, and of which dumps are taken at its end
 abbrev pub AreCut : Segment → List Segment → Type 0
 AreCut first [] = ⊤
-AreCut first (next ∷ more) = IsClosed first.trace × HasNoDumps first.trace × AreCut next more
+AreCut first (next ∷ more) = IsCutAt first.trace next.trace × HasNoDumps first.trace × AreCut (both first next) more
 
 -- each segment has the layout, and its order is the one that it records
 abbrev pub AreRecorded : Layout → List Segment → Type 0
@@ -45,9 +50,9 @@ HaveNoStarts [] = ⊤
 HaveNoStarts (segment ∷ more) = (segment.trace.start ≡ None) × HaveNoStarts more
 
 -- each segment is sound behind those before it
-abbrev pub AreSoundAfter : Option Space → List Segment → Type 0
+abbrev pub AreSoundAfter : Option Run → List Segment → Type 0
 AreSoundAfter before [] = ⊤
-AreSoundAfter before (segment ∷ more) = IsSoundAfter before segment.trace × AreSoundAfter (Some (last_space before segment.trace)) more
+AreSoundAfter before (segment ∷ more) = IsSoundAfter before segment.trace × AreSoundAfter (Some (run_after before segment.trace)) more
 
 -- the orders of some segments
 abbrev pub orders_of : List Segment → List (List ℕ)

@@ -1,7 +1,8 @@
 //! The engines of chains, over ends that give little at a time, or that fail.
 
 use crate::bytes::NOTHING_RECORDED;
-use audit_readers::{Input, ProgFault, audit_chain_io, chain_end_io, chain_start_io};
+use audit_readers::{Input, ProgFault, Unwatched, audit_chain_io, chain_end_io, chain_start_io};
+use audit_texts::Style;
 use std::alloc::Global;
 use std::io::{Chain, Error, ErrorKind, Read, Write};
 use std::process::Abort;
@@ -47,19 +48,58 @@ impl Write for TakesOne {
     }
 }
 
-// The reads until one fails, whether it is quiet, the status, none where there is no answer, and what is written.
-static CASES: [(usize, bool, Option<u8>, &'static str); 6] = [
+const LINES: Style = Style {
+    as_json: false,
+    quiet: false,
+};
+
+const LAST_LINES: Style = Style {
+    as_json: false,
+    quiet: true,
+};
+
+const JSON: Style = Style {
+    as_json: true,
+    quiet: false,
+};
+
+const LAST_JSON: Style = Style {
+    as_json: true,
+    quiet: true,
+};
+
+// The reads until one fails, how it is printed, the status, none where there is no answer, and what is written.
+static CASES: [(usize, Style, Option<u8>, &'static str); 9] = [
     (
         100,
-        false,
+        LINES,
         Some(0),
         "segment 0\nyes\norder\nsegment 1\nyes\norder\nsegments 2\n",
     ),
-    (100, true, Some(0), "segments 2\n"),
-    (79, false, None, "segment 0\nyes\norder\n"),
-    (40, false, None, "segment 0\nyes\norder\n"),
-    (39, false, None, ""),
-    (79, true, None, ""),
+    (100, LAST_LINES, Some(0), "segments 2\n"),
+    (79, LINES, None, "segment 0\nyes\norder\n"),
+    (40, LINES, None, "segment 0\nyes\norder\n"),
+    (39, LINES, None, ""),
+    (79, LAST_LINES, None, ""),
+    (
+        100,
+        JSON,
+        Some(0),
+        "{\"calls\":0,\"segment\":0,\"verdict\":\"yes\"}\n{\"calls\":0,\"segment\":1,\"verdict\":\"yes\"}\n\
+            {\"segments\":2,\"verdict\":\"segments 2\"}\n",
+    ),
+    (
+        40,
+        JSON,
+        None,
+        "{\"calls\":0,\"segment\":0,\"verdict\":\"yes\"}\n",
+    ),
+    (
+        100,
+        LAST_JSON,
+        Some(0),
+        "{\"segments\":2,\"verdict\":\"segments 2\"}\n",
+    ),
 ];
 
 /// Audits a chain, and holds what it writes and its status against what is expected, none where no read can be made.
@@ -67,12 +107,18 @@ fn audits_to<R: Read + Drop>(
     rt: &impl Abort,
     alloc: Global,
     input: R,
-    quiet: bool,
+    style: Style,
     wanted: (Option<u8>, &str),
 ) {
     let (status, written) = wanted;
     let mut output = Vec::new(alloc);
-    let told = audit_chain_io(alloc, &mut Input::new(input), &mut output, quiet);
+    let told = audit_chain_io(
+        alloc,
+        &mut Input::new(input),
+        &mut output,
+        style,
+        &mut Unwatched,
+    );
     assert!(rt; output.as_slice() == written.as_bytes());
     expect_status(rt, told, status);
 }
@@ -87,26 +133,31 @@ fn expect_status(rt: &impl Abort, told: Result<u8, ProgFault>, wanted: Option<u8
 
 #[test]
 fn chains_in_short_reads(rt: HostRuntime) {
-    for (reads, quiet, status, written) in &CASES {
+    for (reads, style, status, written) in &CASES {
         let wanted = (*status, *written);
-        audits_to(&rt, rt.alloc(), two_segments(*reads), *quiet, wanted);
+        audits_to(&rt, rt.alloc(), two_segments(*reads), *style, wanted);
     }
 }
 
-// Whether it is quiet, and what is written of a segment and the first byte of another.
-static CUT_SHORT: [(bool, &'static str); 2] = [
+// How it is printed, and what is written of a segment and the first byte of another.
+static CUT_SHORT: [(Style, &'static str); 3] = [
     (
-        false,
+        LINES,
         "segment 0\nyes\norder\nsegment 1\nno 1 Format Truncated\n",
     ),
-    (true, "segment 1\nno 1 Format Truncated\n"),
+    (LAST_LINES, "segment 1\nno 1 Format Truncated\n"),
+    (
+        LAST_JSON,
+        "{\"code\":1,\"fault\":\"Format Truncated\",\"numbers\":[],\"segment\":1,\
+            \"verdict\":\"no 1 Format Truncated\"}\n",
+    ),
 ];
 
 #[test]
 fn a_segment_cut_short(rt: HostRuntime) {
-    for (quiet, written) in &CUT_SHORT {
+    for (style, written) in &CUT_SHORT {
         let input = NOTHING.as_slice().chain(&NOTHING[..1]);
-        audits_to(&rt, rt.alloc(), input, *quiet, (Some(1), *written));
+        audits_to(&rt, rt.alloc(), input, *style, (Some(1), *written));
     }
 }
 
@@ -114,7 +165,7 @@ fn a_segment_cut_short(rt: HostRuntime) {
 fn a_second_write_that_fails(rt: HostRuntime) {
     let mut output = TakesOne(Vec::new(rt.alloc()));
     let mut input = Input::new(two_segments(100));
-    let told = audit_chain_io(rt.alloc(), &mut input, &mut output, false);
+    let told = audit_chain_io(rt.alloc(), &mut input, &mut output, LINES, &mut Unwatched);
     assert!(rt; output.0.as_slice() == b"segment 0\nyes\norder\n".as_slice());
     assert!(rt; matches!(told, Err(ProgFault::CannotWrite)));
 }

@@ -39,7 +39,7 @@ fn flush_that_fails(rt: HostRuntime) {
     let alloc = rt.alloc();
     let mut output = FailsAtFlush(Vec::new(alloc));
     let mut input = Input::new(HEAD.as_slice().chain(ROOT.as_slice()));
-    let told = audit_io(alloc, &mut input, &mut output);
+    let told = audit_io(alloc, &mut input, &mut output, false);
     expect(&rt, told, &output, "yes\norder\n");
     let mut output = FailsAtFlush(Vec::new(alloc));
     let mut input = Input::new(HEAD.as_slice().chain(ROOT.as_slice()));

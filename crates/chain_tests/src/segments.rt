@@ -1,10 +1,11 @@
 //! Segments, each by itself.
 
 ghost use Rattle.std.specs.Prelude.{◌≡◌, IfSome};
-ghost use Rattle.nr_audit.specs.Segments.{FitsLayout};
+ghost use Rattle.nr_audit.specs.Segments.{FitsLayout, FitsPast};
 
 use crate::bytes::{CASES, bytes_of};
-use nr_audit::judge_segment;
+use nr_audit::{Past, judge_segment};
+use nr_touch::Tail;
 use nr_trace::{Fault, SegmentFeed, Trace};
 use std::alloc::Global;
 use std::process::Abort;
@@ -40,12 +41,26 @@ fn page_at(rt: &impl Abort, alloc: Global, segment: &Trace, phys: u64) -> PlainS
 /// How many calls the order of a segment has, and how many pages the space after it; or its fault.
 type Found = Result<(usize, usize), Fault>;
 
+/// What is left where the space before a segment is this one, if there is one, and no address lingers to look otherwise.
+fn past_of(alloc: Global, segment: &Trace, before: Option<PlainSpace>) -> Option<Past>
+    requires { IfSome before (FitsLayout segment.now.layout) }
+    ensures { IfSome result (FitsPast segment.now.layout) }
+{
+    match before {
+        Some(space) => Some(Past {
+            space,
+            tail: Tail::none(alloc),
+        }),
+        None => None,
+    }
+}
+
 fn found(rt: &impl Abort, alloc: Global, segment: &Trace, before: Option<PlainSpace>) -> Found
     requires { IfSome before (FitsLayout segment.now.layout) }
 {
-    match judge_segment(alloc, segment, before) {
-        Ok((order, space)) => {
-            let pages = space.pages().expect(rt, "memory");
+    match judge_segment(alloc, segment, past_of(alloc, segment, before)) {
+        Ok((order, past)) => {
+            let pages = past.space.pages().expect(rt, "memory");
             Ok((order.calls().len(), pages.len()))
         }
         Err(Fail::Refused(fault)) => Err(fault),

@@ -1,5 +1,5 @@
 -- The passes one after another: the first fault of a pass, where none of an earlier pass holds, is the first of all.
-use Rattle.std.proofs.Common.{◌≡◌, ℕ, ◌+◌, ◌<◌, ◌≤◌, inl, inr, ◌==◌, refl, subst, arith, lit<}
+use Rattle.std.proofs.Common.{◌≡◌, ℕ, ◌+◌, ◌<◌, ◌≤◌, inl, inr, ◌==◌, Option, refl, subst, arith, lit<}
 use Rattle.std.specs.Prelude.{⊤, MatchBool}
 use Rattle.std.proofs.lemmas.Bool.{cases_lt}
 use Rattle.vs_types.specs.Space.{Space, no_pages}
@@ -16,6 +16,8 @@ use Rattle.vs_types.specs.Refusal.{IfRefused}
 use Rattle.vs_types.specs.declared.refusal.Fail.{Fail}
 use Rattle.vs_types.specs.declared.refusal.Fail.TheVariants.{Memory, Refused}
 use Rattle.nr_audit.specs.inside.Search.{HasFaultOn, HasNoFaultOn, HasNone, HasNoneFrom, IsFirstAmong, IsFirstAmongFrom, IsFirstFromAny, IsFirstOn}
+use Rattle.nr_audit.specs.inside.Search.{HasFaultBehind, IsFirstBehind}
+use Rattle.nr_joined.specs.Run.{Run}
 use Rattle.nr_audit.specs.inside.Passes.{IsCallFault, IsLogFault, IsPositionFault, IsFloorFault, IsAnswerFault, IsTouchFault, IsDumpFault}
 
 -- the faults among these are those of the pass
@@ -75,15 +77,47 @@ pub refused_by_pass : (start : Space) (pass : ℕ) (Among : Fault → Type 0) (t
 refused_by_pass start pass Among trace Memory are none first = tt
 refused_by_pass start pass Among trace (Refused fault) are none first = first_of_pass start pass Among trace fault are none first
 
+-- ---- behind a run
+
+module _ (before : Option Run) (start : Space) (segment : Recording) where
+  -- a fault of the passes before that of touches holds as it does without a run
+  pub early_on : (fault : Fault) → pass_of fault < 7 → HasFaultBehind before start segment fault → HasFaultOn start segment fault
+  early_on (Stale call) low h = absurd (omega arith)
+  early_on _ low h = h
+
+  pub on_behind : (fault : Fault) → HasFaultOn start segment fault → HasFaultBehind before start segment fault
+  on_behind (Stale call) h = absurd h
+  on_behind _ h = h
+
+  -- the first of such a pass, where none of an earlier pass holds, is the first behind a run
+  pub first_early : (fault : Fault) → pass_of fault < 7 → IsFirstOn start segment fault → IsFirstBehind before start segment fault
+  first_early fault low first = record {
+    holds = on_behind fault first.holds;
+    none_earlier = λ other h less.
+        let below = not_later segment other fault less in
+        first.none_earlier other (early_on other (omega (arith, low, below)) h) less;
+  }
+
+  pub refused_early : (pass : ℕ) (Among : Fault → Type 0) (fail : Fail Fault) → pass < 7 → AreOfPass pass Among → HasNoneBefore start pass segment
+      → IfRefused (IsFirstAmongFrom start Among segment) fail → IfRefused (IsFirstBehind before start segment) fail
+  refused_early pass Among Memory low are none first = tt
+  refused_early pass Among (Refused fault) low are none first =
+      let own = are.only fault first.is_among in
+      first_early fault (omega (arith, low, own)) (first_of_pass start pass Among segment fault are none first)
+
 -- what is refused of a history is refused of its trace
-pub refused_of : (start : Space) (history trace : Recording) (fail : Fail Fault) → history ≡ trace → IfRefused (IsFirstOn start history) fail
-    → IfRefused (IsFirstOn start trace) fail
-refused_of start history trace fail same first = subst (λ t. IfRefused (IsFirstOn start t) fail) same first
+pub refused_of : (before : Option Run) (start : Space) (history trace : Recording) (fail : Fail Fault) → history ≡ trace
+    → IfRefused (IsFirstBehind before start history) fail → IfRefused (IsFirstBehind before start trace) fail
+refused_of before start history trace fail same first = subst (λ t. IfRefused (IsFirstBehind before start t) fail) same first
 
 -- or from a space that is the same
-pub refused_on : (one other : Space) (trace : Recording) (fail : Fail Fault) → one ≡ other → IfRefused (IsFirstOn one trace) fail
+pub refused_on : (before : Option Run) (one other : Space) (trace : Recording) (fail : Fail Fault) → one ≡ other
+    → IfRefused (IsFirstBehind before one trace) fail → IfRefused (IsFirstBehind before other trace) fail
+refused_on before one other trace fail same first = subst (λ s. IfRefused (IsFirstBehind before s trace) fail) same first
+
+pub refused_start : (one other : Space) (trace : Recording) (fail : Fail Fault) → one ≡ other → IfRefused (IsFirstOn one trace) fail
     → IfRefused (IsFirstOn other trace) fail
-refused_on one other trace fail same first = subst (λ s. IfRefused (IsFirstOn s trace) fail) same first
+refused_start one other trace fail same first = subst (λ s. IfRefused (IsFirstOn s trace) fail) same first
 
 pub refused_in : (start : Space) (Among : Fault → Type 0) (one other : Recording) (fail : Fail Fault) → one ≡ other
     → IfRefused (IsFirstAmongFrom start Among one) fail → IfRefused (IsFirstAmongFrom start Among other) fail
@@ -101,24 +135,26 @@ pub none_before_from : (start : Space) (trace : Recording) → HasNoneBefore no_
 none_before_from start trace none fault low holds = none fault low (of_any start no_pages trace fault low holds)
 
 pub first_from_any : (trace : Recording) (fault : Fault) → pass_of fault < 6 → IsFirstOn no_pages trace fault → IsFirstFromAny trace fault
-first_from_any trace fault low first = λ start. record {
+first_from_any trace fault low first = λ before start. first_early before start trace fault (omega (arith, low)) (record {
   holds = of_any no_pages start trace fault low first.holds;
   none_earlier = λ other holds earlier.
-      let before = not_later trace other fault earlier in
-      first.none_earlier other (of_any start no_pages trace other (omega arith) holds) earlier;
-}
+      let before_it = not_later trace other fault earlier in
+      first.none_earlier other (of_any start no_pages trace other (omega (arith, low, before_it)) holds) earlier;
+})
 
 -- what such a pass refuses is the first from any start on
-pub refused_from_any : (start : Space) (pass : ℕ) (Among : Fault → Type 0) (trace : Recording) (fail : Fail Fault) → pass < 6 → AreOfPass pass Among
-    → HasNoneBefore no_pages pass trace → IfRefused (IsFirstAmong Among trace) fail → IfRefused (IsFirstOn start trace) fail
-refused_from_any start pass Among trace Memory low are none first = tt
-refused_from_any start pass Among trace (Refused fault) low are none first =
+pub refused_from_any : (before : Option Run) (start : Space) (pass : ℕ) (Among : Fault → Type 0) (trace : Recording) (fail : Fail Fault) → pass < 6
+    → AreOfPass pass Among
+    → HasNoneBefore no_pages pass trace → IfRefused (IsFirstAmong Among trace) fail → IfRefused (IsFirstBehind before start trace) fail
+refused_from_any before start pass Among trace Memory low are none first = tt
+refused_from_any before start pass Among trace (Refused fault) low are none first =
     let own = are.only fault first.is_among in
-    first_from_any trace fault (omega arith) (first_of_pass no_pages pass Among trace fault are none first) start
+    first_from_any trace fault (omega arith) (first_of_pass no_pages pass Among trace fault are none first) before start
 
-pub refused_of_any : (start : Space) (trace : Recording) (fail : Fail Fault) → IfRefused (IsFirstFromAny trace) fail → IfRefused (IsFirstOn start trace) fail
-refused_of_any start trace Memory first = tt
-refused_of_any start trace (Refused fault) first = first start
+pub refused_of_any : (before : Option Run) (start : Space) (trace : Recording) (fail : Fail Fault) → IfRefused (IsFirstFromAny trace) fail
+    → IfRefused (IsFirstBehind before start trace) fail
+refused_of_any before start trace Memory first = tt
+refused_of_any before start trace (Refused fault) first = first before start
 
 -- the faults for which a pass looks
 abbrev IsOfPass : ℕ → Fault → Type 0
@@ -188,6 +224,11 @@ from_touch : (fault : Fault) → IsTouchFault fault → pass_of fault ≡ 7
 from_touch (Stale call) among = refl
 from_touch fault among = absurd among
 
+-- without a run no fault is one of touches
+none_of_touches : (start : Space) (trace : Recording) → HasNoneFrom start IsTouchFault trace
+none_of_touches start trace (Stale call) among holds = holds
+none_of_touches start trace _ among holds = absurd among
+
 pub touch_faults : AreOfPass 7 IsTouchFault
 touch_faults = record { all = λ fault e. subst (λ pass. IsOfPass pass fault) e (own_pass fault); only = from_touch }
 
@@ -250,9 +291,8 @@ module _ (trace : Recording) (calls : HasNone IsCallFault trace) where
             pub after_answers : HasNoneBefore start 7 trace
             after_answers = none_before_next start 6 IsAnswerFault trace answer_faults before_answers answers
 
-            module _ (touches : HasNoneFrom start IsTouchFault trace) where
-              pub after_touches : HasNoneBefore start 8 trace
-              after_touches = none_before_next start 7 IsTouchFault trace touch_faults after_answers touches
+            pub after_touches : HasNoneBefore start 8 trace
+            after_touches = none_before_next start 7 IsTouchFault trace touch_faults after_answers (none_of_touches start trace)
 
-              pub after_dumps : HasNoneFrom start IsDumpFault trace → HasNoneBefore start 9 trace
-              after_dumps dumps = none_before_next start 8 IsDumpFault trace dump_faults after_touches dumps
+            pub after_dumps : HasNoneFrom start IsDumpFault trace → HasNoneBefore start 9 trace
+            after_dumps dumps = none_before_next start 8 IsDumpFault trace dump_faults after_touches dumps

@@ -1,46 +1,71 @@
 -- The verdict on a segment: from the faults of its start, and of what comes behind it.
-use Rattle.std.proofs.Common.{◌≡◌, ℕ, ◌≤◌, IsSome, Option, refl, sym, subst, arith}
+use Rattle.std.proofs.Common.{◌≡◌, ℕ, ◌<◌, ◌≤◌, inl, inr, IsSome, Option, refl, sym, subst, arith}
+use Rattle.std.proofs.lemmas.Bool.{cases_lt}
+use Rattle.vs_types.specs.Refusal.{IfRefused}
+use Rattle.vs_types.specs.declared.refusal.Fail.{Fail}
+use Rattle.vs_types.specs.declared.refusal.Fail.TheVariants.{Memory, Refused}
+use Rattle.nr_joined.specs.Run.{Run}
 use Rattle.vs_types.specs.Space.{Space}
 use Rattle.nr_trace.specs.Recording.{Recording}
 use Rattle.nr_trace.specs.Faults.{Earlier}
-use Rattle.nr_trace.specs.Laws.{IsFaultlessFrom}
+use Rattle.nr_trace.specs.Laws.{HasCleanLog, IsFaultlessFrom}
+use Rattle.nr_trace.specs.declared.fault.Fault.TheVariants.{ThreadOpen, NoSuchCall, AnsweredTwice, NotAnUpdate, PlacedTwice, NotPlaced, PastLog}
 use Rattle.nr_trace.specs.declared.fault.Fault.{Fault}
 use Rattle.nr_trace.specs.declared.fault.Fault.TheVariants.{Format, StartMissing, StartShared, StartReserved, StartStray, StartBeyond, StartDiffers, Stale}
 use Rattle.nr_trace.proofs.LawsOfFaults.{pass as pass_of}
-use Rattle.nr_audit.specs.Start.{first_space, HasStartFault, BeginsRight, BeginsWrong}
+use Rattle.nr_audit.specs.Start.{begins_in, space_before, HasStartFault, BeginsRight, BeginsWrong}
 use Rattle.nr_audit.specs.Faults.{HasFaultAfter, HasNoFaultAfter, IsFirstAfter, IsSoundAfter}
 use Rattle.nr_audit.specs.Touches.{IsStale, HasRightTouches}
 use Rattle.nr_audit.specs.inside.Begun.{HasSomeTouch, IsFirstStale}
-use Rattle.nr_audit.specs.inside.Passes.{IsTouchFault}
-use Rattle.nr_audit.specs.inside.Search.{HasFaultOn, HasNoFaultOn, HasNoneFrom, IsFirstAmongFrom, IsFirstOn}
+use Rattle.nr_audit.specs.inside.Search.{HasFaultBehind, HasFaultOn, HasNoFaultBehind, HasNoFaultOn, IsFirstBehind, IsFirstOn}
 use Rattle.nr_audit.proofs.FirstFaults.{within}
-use Rattle.nr_audit.proofs.FirstOfPasses.{not_later}
+use Rattle.nr_audit.proofs.FirstOfPasses.{early_on, not_later, on_behind, HasNoneBefore}
 use Rattle.nr_audit.proofs.Ranks.{touch_number}
 use Rattle.nr_audit.proofs.Starts.{start_pass}
 
 -- ---- touches
 
 -- right touches are not stale
-pub none_stale : (start : Space) (segment : Recording) → HasRightTouches start segment → HasNoneFrom start IsTouchFault segment
-none_stale start segment right (Stale call) among stale = stale.3 (right stale.0 stale.1)
-none_stale start segment right _ among stale = absurd among
+pub none_stale : (before : Option Run) (start : Space) (segment : Recording) → HasRightTouches before start segment → (call : ℕ) → IsStale before start segment call → ⊥
+none_stale before start segment right call stale = stale.3 (right stale.0 stale.1)
 
--- the stale touch of the lowest number is the first fault of its pass
-pub stale_first : (start : Space) (segment : Recording) (call : ℕ) → IsFirstStale start segment call
-    → IsFirstAmongFrom start IsTouchFault segment (Stale call)
-stale_first start segment call first = record { is_among = tt; holds = first.stale; none_earlier = none } where
-  none : (other : Fault) → IsTouchFault other → HasFaultOn start segment other → Earlier segment other (Stale call) → ⊥
-  none (Stale other) among h less = first.none_lower other (touch_number other call less) h
-  none _ among h less = absurd among
+module _ (before : Option Run) (start : Space) (segment : Recording) where
+  -- where the touches are right, a fault holds as it does without a run
+  module _ (right : HasRightTouches before start segment) where
+    all_on : (fault : Fault) → HasFaultBehind before start segment fault → HasFaultOn start segment fault
+    all_on (Stale call) h = absurd (none_stale before start segment right call h)
+    all_on _ h = h
+
+    pub refused_late : (fail : Fail Fault) → IfRefused (IsFirstOn start segment) fail → IfRefused (IsFirstBehind before start segment) fail
+    refused_late Memory first = tt
+    refused_late (Refused fault) first = record {
+      holds = on_behind before start segment fault first.holds;
+      none_earlier = λ other h less. first.none_earlier other (all_on other h) less;
+    }
+
+    pub none_behind : HasNoFaultOn start segment → HasNoFaultBehind before start segment
+    none_behind none fault h = none fault (all_on fault h)
+
+  -- the stale touch of the lowest number is the first fault where none of an earlier pass holds
+  pub stale_first : (call : ℕ) → HasNoneBefore start 7 segment → IsFirstStale before start segment call → IsFirstBehind before start segment (Stale call)
+  stale_first call none first = record { holds = first.stale; none_earlier = earlier } where
+    earlier : (other : Fault) → HasFaultBehind before start segment other → Earlier segment other (Stale call) → ⊥
+    earlier (Stale other) h less = first.none_lower other (touch_number other call less) h
+    earlier other h less =
+        let below = not_later segment other (Stale call) less in
+        elim (cases_lt (pass_of other) 7) [
+          | inl low ↦ none other low (early_on before start segment other low h)
+          | inr high ↦ omega (arith, below, high)
+        ]
 
 -- a segment without a touch has right touches
-pub no_touches : (start : Space) (segment : Recording) → (HasSomeTouch segment → ⊥) → HasRightTouches start segment
-no_touches start segment none touch has = absurd (none (touch.made, subst IsSome (sym has.asks) refl))
+pub no_touches : (before : Option Run) (start : Space) (segment : Recording) → (HasSomeTouch segment → ⊥) → HasRightTouches before start segment
+no_touches before start segment none touch has = absurd (none (touch.made, subst IsSome (sym has.asks) refl))
 
 -- ---- with the start
 
 -- a fault of a start is one of the segment
-pub of_start : (before : Option Space) (segment : Recording) (fault : Fault) → HasStartFault before segment fault → HasFaultAfter before segment fault
+pub of_start : (before : Option Run) (segment : Recording) (fault : Fault) → HasStartFault (space_before before) segment fault → HasFaultAfter before segment fault
 of_start before segment (StartMissing number) h = h
 of_start before segment (StartShared number) h = h
 of_start before segment (StartReserved number index) h = h
@@ -50,8 +75,8 @@ of_start before segment (StartDiffers address) h = h
 of_start before segment _ h = absurd h.2
 
 -- any other is one behind the start
-behind_start : (before : Option Space) (segment : Recording) (fault : Fault) → BeginsRight before segment → HasFaultAfter before segment fault
-    → HasFaultOn (first_space before segment) segment fault
+behind_start : (before : Option Run) (segment : Recording) (fault : Fault) → BeginsRight (space_before before) segment → HasFaultAfter before segment fault
+    → HasFaultBehind before (begins_in before segment) segment fault
 behind_start before segment (StartMissing number) begins h = absurd (begins (StartMissing number) h)
 behind_start before segment (StartShared number) begins h = absurd (begins (StartShared number) h)
 behind_start before segment (StartReserved number index) begins h = absurd (begins (StartReserved number index) h)
@@ -60,7 +85,7 @@ behind_start before segment (StartBeyond base) begins h = absurd (begins (StartB
 behind_start before segment (StartDiffers address) begins h = absurd (begins (StartDiffers address) h)
 behind_start before segment _ begins h = h
 
-of_behind : (before : Option Space) (segment : Recording) (fault : Fault) → HasFaultOn (first_space before segment) segment fault
+of_behind : (before : Option Run) (segment : Recording) (fault : Fault) → HasFaultBehind before (begins_in before segment) segment fault
     → HasFaultAfter before segment fault
 of_behind before segment (StartMissing number) h = absurd h
 of_behind before segment (StartShared number) h = absurd h
@@ -71,8 +96,8 @@ of_behind before segment (StartDiffers address) h = absurd h
 of_behind before segment _ h = h
 
 -- a segment is sound where its start is right, no fault that a trace may have too holds from its first space on, and its touches are right
-pub sound_by : (before : Option Space) (segment : Recording) → BeginsRight before segment → IsFaultlessFrom (first_space before segment) segment
-    → HasRightTouches (first_space before segment) segment → IsSoundAfter before segment
+pub sound_by : (before : Option Run) (segment : Recording) → BeginsRight (space_before before) segment → IsFaultlessFrom (begins_in before segment) segment
+    → HasRightTouches before (begins_in before segment) segment → IsSoundAfter before segment
 sound_by before segment begins clean right = record { faultless = none; touches = right } where
   none : (fault : Fault) → HasFaultAfter before segment fault → ⊥
   none (StartMissing number) h = begins (StartMissing number) h
@@ -84,33 +109,38 @@ sound_by before segment begins clean right = record { faultless = none; touches 
   none (Stale call) h = h.3 (right h.0 h.1)
   none fault h = clean fault h
 
-pub begins_of : (before : Option Space) (segment : Recording) → HasNoFaultAfter before segment → BeginsRight before segment
+pub begins_of : (before : Option Run) (segment : Recording) → HasNoFaultAfter before segment → BeginsRight (space_before before) segment
 begins_of before segment none fault h = none fault (of_start before segment fault h)
 
-pub faultless_of : (before : Option Space) (segment : Recording) → HasNoFaultAfter before segment → IsFaultlessFrom (first_space before segment) segment
+pub faultless_of : (before : Option Run) (segment : Recording) → HasNoFaultAfter before segment → IsFaultlessFrom (begins_in before segment) segment
 faultless_of before segment none fault h = none fault (within before segment fault h)
 
-module _ (before : Option Space) (segment : Recording) (start : Space) (is : start ≡ first_space before segment) (begins : BeginsRight before segment) where
-  pub sound_after : HasNoFaultOn start segment → HasRightTouches start segment → IsSoundAfter before segment
+module _ (before : Option Run) (segment : Recording) (start : Space) (is : start ≡ begins_in before segment) (begins : BeginsRight (space_before before) segment) where
+  pub sound_after : HasNoFaultBehind before start segment → HasRightTouches before start segment → IsSoundAfter before segment
   sound_after none right = record {
-    faultless = λ fault h. none fault (subst (λ s. HasFaultOn s segment fault) (sym is) (behind_start before segment fault begins h));
-    touches = subst (λ s. HasRightTouches s segment) is right;
+    faultless = λ fault h. none fault (subst (λ s. HasFaultBehind before s segment fault) (sym is) (behind_start before segment fault begins h));
+    touches = subst (λ s. HasRightTouches before s segment) is right;
   }
 
-  pub first_after : (fault : Fault) → IsFirstOn start segment fault → IsFirstAfter before segment fault
+  pub first_after : (fault : Fault) → IsFirstBehind before start segment fault → IsFirstAfter before segment fault
   first_after fault first = record {
-    holds = of_behind before segment fault (subst (λ s. HasFaultOn s segment fault) is first.holds);
+    holds = of_behind before segment fault (subst (λ s. HasFaultBehind before s segment fault) is first.holds);
     none_earlier = λ other h less.
-        first.none_earlier other (subst (λ s. HasFaultOn s segment other) (sym is) (behind_start before segment other begins h)) less;
+        first.none_earlier other (subst (λ s. HasFaultBehind before s segment other) (sym is) (behind_start before segment other begins h)) less;
   }
+
+-- of a space before that is the same
+pub refused_begin : (one other : Option Space) (segment : Recording) (fail : Fail Fault) → one ≡ other → IfRefused (BeginsWrong one segment) fail
+    → IfRefused (BeginsWrong other segment) fail
+refused_begin one other segment fail same wrong = subst (λ (b : Option Space). IfRefused (BeginsWrong b segment) fail) same wrong
 
 -- the first fault of the start is the first of all
-pub start_first : (before : Option Space) (segment : Recording) (fault : Fault) → BeginsWrong before segment fault → IsFirstAfter before segment fault
+pub start_first : (before : Option Run) (segment : Recording) (fault : Fault) → BeginsWrong (space_before before) segment fault → IsFirstAfter before segment fault
 start_first before segment fault wrong = record { holds = of_start before segment fault wrong.holds; none_earlier = none } where
   late : (other : Fault) → Earlier segment other fault → pass_of other ≤ 1
   late other less =
       let low = not_later segment other fault less in
-      let one = start_pass before segment fault wrong.holds in
+      let one = start_pass (space_before before) segment fault wrong.holds in
       omega (arith, low, one)
 
   none : (other : Fault) → HasFaultAfter before segment other → Earlier segment other fault → ⊥
@@ -122,3 +152,17 @@ start_first before segment fault wrong = record { holds = of_start before segmen
   none (StartDiffers address) h less = wrong.none_earlier (StartDiffers address) h less
   none (Format fault) h less = h
   none other h less = let low = late other less in omega arith
+
+-- nothing is wrong with the events, the log and the positions of a sound segment
+pub clean_of : (before : Option Run) (segment : Recording) → IsSoundAfter before segment → HasCleanLog segment
+clean_of before segment sound =
+    let none = faultless_of before segment sound.faultless in
+    record {
+      no_thread_open = λ index. none (ThreadOpen index);
+      no_such_call = λ index. none (NoSuchCall index);
+      none_twice = λ index. none (AnsweredTwice index);
+      updates_alone = λ place. none (NotAnUpdate place);
+      placed_once = λ place. none (PlacedTwice place);
+      all_placed = λ index. none (NotPlaced index);
+      none_past_log = λ index. none (PastLog index);
+    }

@@ -24,4 +24,5 @@ pub mod TouchLists
 pub mod StartSpaces
 pub mod Traces
 pub mod PartsOfVerdicts
+pub mod Pasts
 pub mod RightSegments

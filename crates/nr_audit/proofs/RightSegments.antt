@@ -1,19 +1,19 @@
 -- What a segment is right with where it is sound.
 use Rattle.std.proofs.Common.{◌≡◌, ℕ, List, Option, sym, subst}
-use Rattle.vs_types.specs.Space.{Space}
 use Rattle.nr_trace.specs.Orders.{recorded_order}
 use Rattle.nr_trace.specs.Recording.{Recording}
 use Rattle.nr_trace.proofs.LawsOfHistories.{history_if_faultless}
 use Rattle.nr_audit.proofs.Judgements.{faultless_of}
 use Rattle.nr_audit.proofs.PartsOfVerdicts.{legal_order, dumps_of_order}
 use Rattle.nr_audit.specs.Faults.{IsSoundAfter}
-use Rattle.nr_audit.specs.Start.{first_space}
+use Rattle.nr_joined.specs.Run.{Run}
+use Rattle.nr_audit.specs.Start.{begins_in}
 use Rattle.nr_audit.specs.Segments.{IsRightAfter}
 
-pub parts_after : (before : Option Space) (segment : Recording) (order : List ℕ) → IsSoundAfter before segment → order ≡ recorded_order segment
+pub parts_after : (before : Option Run) (segment : Recording) (order : List ℕ) → IsSoundAfter before segment → order ≡ recorded_order segment
     → IsRightAfter before segment order
 parts_after before segment order sound is =
-    let start = first_space before segment in
+    let start = begins_in before segment in
     let faultless = faultless_of before segment sound.faultless in
     let legal = legal_order start segment order faultless is in
     record {

@@ -26,9 +26,12 @@ use Rattle.nr_dump.specs.declared.fault.DumpFault.TheVariants as dumps
 use Rattle.nr_dump.proofs.Faultless.{faultless_fits}
 use Rattle.nr_trace.specs.Recording.{Recording, IsRecording, IsStart}
 use Rattle.nr_trace.specs.Laws.{IsFaultlessFrom}
-use Rattle.nr_audit.specs.Start.{first_space, space_of_pages, start_space, BeginsRight, HasPageBeyond, HasStartFault}
+use Rattle.nr_joined.specs.Run.{Run, end_of, IsOrderly}
+use Rattle.nr_joined.proofs.Orderly.{own_calls}
+use Rattle.nr_touch.specs.Touches.{IsRightTouch}
+use Rattle.nr_touch.proofs.Behind.{right_rest}
+use Rattle.nr_audit.specs.Start.{begins_in, space_before, space_of_pages, start_space, BeginsRight, HasPageBeyond, HasStartFault}
 use Rattle.nr_audit.specs.Faults.{HasNoFaultAfter, IsSoundAfter}
-use Rattle.nr_audit.specs.Touches.{HasRightTouches}
 use Rattle.nr_trace.specs.declared.fault.Fault.{Fault}
 use Rattle.nr_trace.specs.declared.fault.Fault.TheVariants.{StartMissing, StartShared, StartReserved, StartStray, StartBeyond, StartDiffers}
 use Rattle.nr_audit.specs.inside.Begun.{HasNoStartFault}
@@ -79,28 +82,30 @@ begins_translating before segment start is whole begins =
     (space_of_start segment.layout.depth before start whole (λ fault holds. begins fault (start, is, holds))).1
 
 -- as the space before it too, where that is one of pages
-as_before : (space : Space) (segment : Recording) (start : Image) → segment.start ≡ Some start → HasNoFaultAfter (Some space) segment
-    → HasNoFault segment.layout.depth start space
-as_before space segment start is none (MissingFrame number) h = none (StartMissing number) (start, is, h)
-as_before space segment start is none (SharedFrame number) h = none (StartShared number) (start, is, h)
-as_before space segment start is none (ReservedBit number index) h = none (StartReserved number index) (start, is, h)
-as_before space segment start is none (StrayFrame number) h = none (StartStray number) (start, is, h)
-as_before space segment start is none (dumps.Differs address) h = none (StartDiffers address) (start, is, (space, refl, h))
+as_before : (run : Run) (segment : Recording) (start : Image) → segment.start ≡ Some start → HasNoFaultAfter (Some run) segment
+    → HasNoFault segment.layout.depth start (end_of run)
+as_before run segment start is none (MissingFrame number) h = none (StartMissing number) (start, is, h)
+as_before run segment start is none (SharedFrame number) h = none (StartShared number) (start, is, h)
+as_before run segment start is none (ReservedBit number index) h = none (StartReserved number index) (start, is, h)
+as_before run segment start is none (StrayFrame number) h = none (StartStray number) (start, is, h)
+as_before run segment start is none (dumps.Differs address) h = none (StartDiffers address) (start, is, (end_of run, refl, h))
 
-pub first_translates : (before : Option Space) (segment : Recording) (start : Image) → IsRecording segment → segment.start ≡ Some start
-    → IfSome before (IsSpace segment.layout.depth) → HasNoFaultAfter before segment
-    → TranslatesAs segment.layout.depth start.frames start.root (first_space before segment)
+pub first_translates : (before : Option Run) (segment : Recording) (start : Image) → IsRecording segment → segment.start ≡ Some start
+    → IfSome (space_before before) (IsSpace segment.layout.depth) → HasNoFaultAfter before segment
+    → TranslatesAs segment.layout.depth start.frames start.root (begins_in before segment)
 first_translates None segment start recording is space none =
     begins_translating None segment start is (start_is_whole segment start recording is) (begins_of None segment none)
-first_translates (Some before) segment start recording is space none =
-    (faultless_fits segment.layout.depth start before (start_is_whole segment start recording is) space (as_before before segment start is none)).translates
+first_translates (Some run) segment start recording is space none =
+    (faultless_fits segment.layout.depth start (end_of run) (start_is_whole segment start recording is) space
+    (as_before run segment start is none)).translates
 
 -- ---- a segment behind another
 
--- a segment that is sound by itself is sound behind one that leads to the space of its start
-module _ (segment : Recording) (start : Image) (space : Space) (is : segment.start ≡ Some start) (whole : AreWhole start.frames)
-    (leads : start_space segment.layout.depth segment.start ≡ space) where
-  none_behind : BeginsRight None segment → (fault : Fault) → HasStartFault (Some space) segment fault → ⊥
+-- a segment that is sound by itself is sound behind a run that leads to the space of its start
+module _ (segment : Recording) (start : Image) (run : Run) (orderly : IsOrderly run.trace) (same_layout : segment.layout ≡ run.trace.layout)
+    (is : segment.start ≡ Some start) (whole : AreWhole start.frames)
+    (leads : start_space segment.layout.depth segment.start ≡ end_of run) where
+  none_behind : BeginsRight None segment → (fault : Fault) → HasStartFault (Some (end_of run)) segment fault → ⊥
   none_behind begins (StartMissing number) h = begins (StartMissing number) h
   none_behind begins (StartShared number) h = begins (StartShared number) h
   none_behind begins (StartReserved number index) h = begins (StartReserved number index) h
@@ -115,8 +120,9 @@ module _ (segment : Recording) (start : Image) (space : Space) (is : segment.sta
       differs.0.1 (own address differs.0.0)
   none_behind begins _ h = absurd h.2
 
-  pub sound_behind : IsSoundAfter None segment → IsSoundAfter (Some space) segment
+  pub sound_behind : IsSoundAfter None segment → IsSoundAfter (Some run) segment
   sound_behind sound =
-      sound_by (Some space) segment (none_behind (begins_of None segment sound.faultless))
+      sound_by (Some run) segment (none_behind (begins_of None segment sound.faultless))
       (subst (λ s. IsFaultlessFrom s segment) leads (faultless_of None segment sound.faultless))
-      (subst (λ s. HasRightTouches s segment) leads sound.touches)
+      (λ touch has. right_rest run.start run.trace segment same_layout (own_calls run.trace orderly) orderly.earlier orderly.own touch
+      (subst (λ s. IsRightTouch s segment touch) leads (sound.touches touch has)))

@@ -272,6 +272,10 @@ pub ok_with : {A E : Type 0} (P : Type 0) (Q R : A → Type 0) (result : Result 
 ok_with P Q R (Ok a) join h k = join h a k
 ok_with P Q R (Err e) join h k = tt
 
+pub ok_both : {A E : Type 0} (P Q R : A → Type 0) (result : Result A E) → ((a : A) → P a → Q a → R a) → IfOk result P → IfOk result Q → IfOk result R
+ok_both P Q R (Ok a) join h k = join a h k
+ok_both P Q R (Err e) join h k = tt
+
 pub if_refused : {A E : Type 0} (P Q : E → Type 0) (result : Result A (Fail E)) → ((fault : E) → P fault → Q fault) → IfErr result (IfRefused P)
     → IfErr result (IfRefused Q)
 if_refused P Q (Err (Refused fault)) widen h = widen fault h

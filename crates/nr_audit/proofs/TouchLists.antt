@@ -1,12 +1,13 @@
 -- The touches of a segment by the events at which they are made.
 use Rattle.std.proofs.Common.{◌≡◌, ℕ, zero, suc, ◌+◌, ◌<◌, ◌⊎◌, List, [], ◌∷◌, ◌++◌, length, slice_get, get_or, Option, Some, None, option_and_then}
-use Rattle.std.proofs.Common.{inl, inr, IsSome, refl, sym, ap}
+use Rattle.std.proofs.Common.{option_map, inl, inr, Bor, is_some, IsSome, true, false, refl, sym, ap}
 use Rattle.std.proofs.Common.{◌∙◌, subst, arith}
-use Rattle.std.specs.Prelude.{if◌then◌else◌, ◌==◌}
+use Rattle.std.specs.Prelude.{if◌then◌else◌, ◌==◌, IfNone, IfSome}
 use Rattle.std.specs.List.{AllPairs}
+use Rattle.std.specs.Option.{option_copied}
 use Rattle.std.proofs.lemmas.Bool.{cases_lt, eq-eqb}
 use Rattle.std.proofs.lemmas.List.{length-append}
-use Rattle.std.proofs.lemmas.Option.{slice_get_within, slice_get-get_or, get_or_from_slice_get}
+use Rattle.std.proofs.lemmas.Option.{same_Some, slice_get_within, slice_get-get_or, get_or_from_slice_get}
 use Rattle.vs_types.specs.Space.{Space}
 use Rattle.vs_types.specs.declared.access.Access.{Access}
 use Rattle.vs_types.specs.declared.access.Mode.{Mode}
@@ -16,10 +17,11 @@ use Rattle.nr_trace.specs.Recording.{Recording}
 use Rattle.nr_trace.specs.Calls.{Invocation, made_by, touch_of, Response, reply_in, reply_of, Answers}
 use Rattle.nr_trace.specs.declared.event.Event.{Event}
 use Rattle.nr_trace.specs.declared.event.Event.TheVariants as events
+use Rattle.nr_joined.specs.Run.{Run}
 use Rattle.nr_touch.specs.Stale.{FindsStale}
 use Rattle.nr_touch.specs.declared.touch.Touch.{Touch}
 use Rattle.nr_audit.specs.Touches.{HasRightTouches, HasTouch, IsStale}
-use Rattle.nr_audit.specs.inside.Begun.{touch_by, touch_between, AreTouchesBelow, IsFirstStale, IsTouchAt}
+use Rattle.nr_audit.specs.inside.Begun.{touch_by, touch_between, AreTouchesBelow, IsPlaceAnswered, IsFirstStale, IsTouchAt}
 use Rattle.nr_audit.specs.inside.Tables.{IsReplyBelow}
 use Rattle.nr_audit.proofs.CallsAndReplies.{answers_only}
 
@@ -201,26 +203,44 @@ made_there segment made answered (Some touch) replied is =
     let has = between_has segment made answered touch (sym is) replied.1 in
     (has.0, has.1, λ other own same. let there = only_touch segment made answered replied other own same in cc)
 
+-- ---- calls of the log that are answered
+
+-- the call that is read at the place has a reply
+pub answered_here : (segment : Recording) (place : ℕ) (o : Option (Bor ℕ)) (placed : Bor ℕ) → option_copied o ≡ slice_get segment.log place
+    → o ≡ Some placed → (reply : Option ℕ) → IsReplyBelow segment (length segment.events) placed.now reply → is_some reply ≡ true
+    → IsPlaceAnswered segment place
+answered_here segment place o placed read is None below some = absurd (let wrong : false ≡ true = some in cc)
+answered_here segment place o placed read is (Some reply) below some = λ call there.
+    let same : Some placed.now ≡ Some call = sym (ap option_copied is) ∙ read ∙ there in
+    (reply, subst (Answers segment reply) (same_Some placed.now call same) below.1)
+
+-- no call is read there
+pub answered_nowhere : (segment : Recording) (place : ℕ) (o : Option (Bor ℕ)) → option_copied o ≡ slice_get segment.log place → o ≡ None
+    → IsPlaceAnswered segment place
+answered_nowhere segment place o read is = λ call there.
+    absurd (let wrong : None ≡ Some call = sym (ap option_copied is) ∙ read ∙ there in cc)
+
 -- ---- what the search finds
 
-pub all_right : (start : Space) (segment : Recording) (touches : List Touch) → AreTouchesBelow segment (length segment.events) touches
-    → FindsStale start segment touches None → HasRightTouches start segment
-all_right start segment touches are finds touch has =
+pub all_right : (before : Option Run) (start : Space) (segment : Recording) (touches : List Touch)
+    → AreTouchesBelow segment (length segment.events) touches
+    → FindsStale before start segment touches None → HasRightTouches before start segment
+all_right before start segment touches are finds touch has =
     let there = are.all touch has (touch_within segment touch has) in
     finds there.0 touch there.1
 
-pub first_of_list : (start : Space) (segment : Recording) (touches : List Touch) (index : ℕ) (d : Touch)
+pub first_of_list : (before : Option Run) (start : Space) (segment : Recording) (touches : List Touch) (index : ℕ) (d : Touch)
     → AreTouchesBelow segment (length segment.events) touches
-    → FindsStale start segment touches (Some index) → IsFirstStale start segment (get_or touches index d).made
-first_of_list start segment touches index d are (touch, at, wrong, below) =
+    → FindsStale before start segment touches (Some index) → IsFirstStale before start segment (get_or touches index d).made
+first_of_list before start segment touches index d are (touch, at, wrong, below) =
     let is = get_or_from_slice_get touches index touch d at in
-    subst (λ (t : Touch). IsFirstStale start segment t.made) (sym is)
+    subst (λ (t : Touch). IsFirstStale before start segment t.made) (sym is)
     record { stale = (touch, (are.each index touch at).0, refl, wrong); none_lower = none } where
-      none : (lower : ℕ) → lower < touch.made → IsStale start segment lower → ⊥
+      none : (lower : ℕ) → lower < touch.made → IsStale before start segment lower → ⊥
       none lower less (other, has, made, stale) =
           let there = are.all other has (touch_within segment other has) in
           elim (cases_lt there.0 index) [
-            | inl before ↦ stale (below there.0 other before there.1)
+            | inl earlier ↦ stale (below there.0 other earlier there.1)
             | inr behind ↦ elim (cases_lt index there.0) [
               | inl later ↦ (
                   let rises = are.rising index there.0 other later (slice_get_within touches there.0 other there.1) in
@@ -235,3 +255,24 @@ first_of_list start segment touches index d are (touch, at, wrong, below) =
                   omega (arith, made))
             ]
           ]
+
+-- what is found, by its call number
+module _ (before : Option Run) (start : Space) (segment : Recording) (touches : List Touch) (are : AreTouchesBelow segment (length segment.events) touches) where
+  abbrev number_of : Option ℕ → Option ℕ
+  number_of found = option_map (λ (touch : Touch). touch.made) (option_and_then (slice_get touches) found)
+
+  pub none_found : (found number : Option ℕ) → FindsStale before start segment touches found → number ≡ number_of found
+      → IfNone number (HasRightTouches before start segment)
+  none_found None number finds is = subst (λ (o : Option ℕ). IfNone o (HasRightTouches before start segment)) (sym is) (all_right before start segment touches are finds)
+  none_found (Some index) number finds is =
+      let some : number ≡ Some finds.0.made = is ∙ ap (option_map (λ (t : Touch). t.made)) finds.1 in
+      subst (λ (o : Option ℕ). IfNone o (HasRightTouches before start segment)) (sym some) tt
+
+  pub some_found : (found number : Option ℕ) → FindsStale before start segment touches found → number ≡ number_of found
+      → IfSome number (IsFirstStale before start segment)
+  some_found None number finds is = subst (λ (o : Option ℕ). IfSome o (IsFirstStale before start segment)) (sym is) tt
+  some_found (Some index) number finds is =
+      let some : number ≡ Some finds.0.made = is ∙ ap (option_map (λ (t : Touch). t.made)) finds.1 in
+      let first = first_of_list before start segment touches index finds.0 are finds in
+      subst (λ (o : Option ℕ). IfSome o (IsFirstStale before start segment)) (sym some)
+      (subst (λ (t : Touch). IsFirstStale before start segment t.made) (get_or_from_slice_get touches index finds.0 finds.0 finds.1) first)

@@ -18,7 +18,7 @@ use Rattle.nr_trace.specs.declared.version.Form.TheVariants as forms
 use Rattle.nr_trace.specs.declared.version.Version.{Version}
 use Rattle.nr_trace.specs.declared.version.Version.TheVariants as versions
 use Rattle.nr_audit.specs.Faults.{HasFaultAfter, HasNoFaultAfter, IsFirstAfter, IsSoundAfter}
-use Rattle.nr_audit.specs.Start.{first_space, start_space}
+use Rattle.nr_audit.specs.Start.{begins_in, start_space}
 use Rattle.nr_audit.specs.Verdict.{IsTrace}
 use Rattle.nr_audit.proofs.Judgements.{no_touches}
 use Rattle.nr_audit.proofs.FirstFaults.{within}
@@ -58,13 +58,13 @@ no_touch trace in_range of_form call = at (slice_get trace.events call) refl whe
 
 -- ---- so its faults are those of a trace
 
-begins_empty : (trace : Recording) → IsTrace trace → first_space None trace ≡ no_pages
+begins_empty : (trace : Recording) → IsTrace trace → begins_in None trace ≡ no_pages
 begins_empty trace is = ap (start_space trace.layout.depth) (no_start trace is)
 
 no_image : {A : Type 0} (trace : Recording) → IsTrace trace → (start : Image) → trace.start ≡ Some start → A
 no_image trace is start there = absurd (let none = no_start trace is in cc)
 
-of_trace : (trace : Recording) → IsTrace trace → (fault : Fault) → HasFaultAfter None trace fault → HasFaultFrom (first_space None trace) trace fault
+of_trace : (trace : Recording) → IsTrace trace → (fault : Fault) → HasFaultAfter None trace fault → HasFaultFrom (begins_in None trace) trace fault
 of_trace trace is (StartMissing number) h = no_image trace is h.0 h.1
 of_trace trace is (StartShared number) h = no_image trace is h.0 h.1
 of_trace trace is (StartReserved number index) h = no_image trace is h.0 h.1
@@ -72,7 +72,7 @@ of_trace trace is (StartStray number) h = no_image trace is h.0 h.1
 of_trace trace is (StartBeyond base) h = no_image trace is h.0 h.1
 of_trace trace is (StartDiffers address) h = no_image trace is h.0 h.1
 of_trace trace is (Stale call) (touch, has, made, wrong) =
-    wrong (no_touches (first_space None trace) trace (λ some. no_touch trace is.in_range is.of_form some.0 some.1) touch has)
+    wrong (no_touches None (begins_in None trace) trace (λ some. no_touch trace is.in_range is.of_form some.0 some.1) touch has)
 of_trace trace is _ h = h
 
 from_empty : (trace : Recording) → IsTrace trace → (fault : Fault) → HasFaultAfter None trace fault → HasFaultFrom no_pages trace fault
@@ -87,7 +87,7 @@ faultless_trace trace is none fault h = none fault (to_segment trace is fault h)
 pub sound_trace : (trace : Recording) → IsTrace trace → IsFaultless trace → IsSoundAfter None trace
 sound_trace trace is none = record {
   faultless = λ fault h. none fault (from_empty trace is fault h);
-  touches = no_touches (first_space None trace) trace (λ some. no_touch trace is.in_range is.of_form some.0 some.1);
+  touches = no_touches None (begins_in None trace) trace (λ some. no_touch trace is.in_range is.of_form some.0 some.1);
 }
 
 pub first_of_trace : (trace : Recording) → IsTrace trace → (fault : Fault) → IsFirstAfter None trace fault → IsFirst trace fault

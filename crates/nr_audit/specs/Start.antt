@@ -1,5 +1,5 @@
 -- The space with which a segment begins, and what is wrong with its start.
-use Rattle.std.specs.Prelude.{◌≡◌, ℕ, ◌+◌, ◌<◌, List, map, Contains, Option, Some, None}
+use Rattle.std.specs.Prelude.{◌≡◌, ℕ, ◌+◌, ◌<◌, List, map, Contains, Option, Some, None, option_map}
 use Rattle.std.specs.FinMap as finite
 use Rattle.std.specs.Ordering.{nat_cmp}
 use Rattle.vs_types.specs.Page.{bytes_of}
@@ -13,6 +13,7 @@ use Rattle.vs_walk.specs.Traversal.{found_in}
 use Rattle.nr_trace.specs.Recording.{Recording}
 use Rattle.nr_trace.specs.Faults.{Earlier}
 use Rattle.nr_trace.specs.declared.fault.Fault.{Fault}
+use Rattle.nr_joined.specs.Run.{Run, end_of}
 use Rattle.nr_trace.specs.declared.fault.Fault.TheVariants.{StartMissing, StartShared, StartReserved, StartStray, StartBeyond, StartDiffers}
 
 -- the space of some pages
@@ -28,6 +29,14 @@ start_space depth (Some start) = space_of_pages (found_in depth start)
 abbrev pub first_space : Option Space → Recording → Space
 first_space None segment = start_space segment.layout.depth segment.start
 first_space (Some before) segment = before
+
+-- the space after a run, if there is one
+abbrev pub space_before : Option Run → Option Space
+space_before before = option_map end_of before
+
+-- the space with which a segment behind a run begins
+abbrev pub begins_in : Option Run → Recording → Space
+begins_in before segment = first_space (space_before before) segment
 
 -- a page that is found begins there, and ends above the physical addresses that a page may have
 abbrev pub HasPageBeyond : Depth → Image → ℕ → Type 0

@@ -1,6 +1,6 @@
 //! The audit: of a trace, of a segment behind another, of what was read, and of bytes.
 
-ghost use Rattle.std.specs.Prelude.{◌≡◌, ℕ, IfErr, IfOk, IfSome, List, None, OnOk};
+ghost use Rattle.std.specs.Prelude.{◌≡◌, ℕ, IfErr, IfOk, IfSome, List, None, OnOk, Option, option_map};
 ghost use Rattle.vs_types.specs.Refusal.{IfRefused};
 ghost use Rattle.nr_trace.specs.Calls.{IsWellFormedHistory};
 ghost use Rattle.nr_trace.specs.Feed.{Reads};
@@ -12,35 +12,54 @@ ghost use Rattle.nr_trace.specs.Spelling.{Spells};
 ghost use Rattle.nr_trace.specs.declared.fault.Fault.{Fault};
 ghost use Rattle.nr_audit.specs.Faults.{IsFirstAfter, IsSoundAfter};
 ghost use Rattle.nr_audit.specs.Headline.{AreRightWith, HasFittingDumps, IsSpelledWith, SpellsAlone};
-ghost use Rattle.nr_audit.specs.Segments.{last_space, pages_before, FitsLayout, IsRightAfter};
-ghost use Rattle.nr_audit.specs.Verdict.{IfYes, IsVerdictOf, IsVerdictOn, space_of};
+ghost use Rattle.nr_joined.specs.Run.{Run};
+ghost use Rattle.nr_touch.specs.Tails.{IsSoundTail, IsTailOf};
+ghost use Rattle.nr_audit.specs.Segments.{run_after, FitsPast, IsBehind, IsKept, IsRightAfter};
+ghost use Rattle.nr_audit.specs.Verdict.{IfYes, IsVerdictOf, IsVerdictOn};
 
+use crate::past::Past;
 use crate::search::search;
 use crate::start::begin;
 use crate::verdict::{Order, Verdict};
+use nr_touch::Tail;
 use nr_trace::{Fault, Format, Trace, read};
 use std::alloc::Global;
 use vs_plain::PlainSpace;
 use vs_types::{Fail, Memory};
 
-/// The recorded order of a segment that is right, and the space after its whole log, where this is the space after the segment before,
-/// or it is the first one of its chain. A trace is such a first one, without a start and without touches.
+/// The space before a segment, where there is one, and what the segments before left. It allocates no memory.
+fn parts_of(alloc: Global, before: Option<Past>) -> (Option<PlainSpace>, Tail)
+    ensures space { result.0 ≡ option_map (λ past. past.space) before }
+    ensures tail { IfSome before (λ past. result.1 ≡ past.tail) }
+    ensures none { before ≡ None → IsTailOf None result.1 }
+    ensures sound { before ≡ None → IsSoundTail result.1 }
+{
+    match before {
+        Some(past) => (Some(past.space), past.tail),
+        None => (None, Tail::none(alloc)),
+    }
+}
+
+/// The recorded order of a segment that is right, and what is kept for the next one: the space after its whole log, and how addresses
+/// may still be found to look otherwise. Behind a segment this is what that one left; else it is the first one of its chain. A trace
+/// is such a first one, without a start and without touches.
 ///
-/// The space of the segment before, where there is one, has the depth and the limit of the segment's layout. A segment with a start
-/// is then compared with that space, and goes on from it; the first one begins with the pages of its start, or with none. The
-/// recorded order has the updates by place, and each answered read after the entries that it saw.
+/// The space that is kept, where there is one, has the depth and the limit of the segment's layout. A segment with a start is then
+/// compared with that space, and goes on from it; the first one begins with the pages of its start, or with none. The recorded order
+/// has the updates by place, and each answered read after the entries that it saw.
 ///
 /// Of a right one the events are a well-formed history; the order has all answered updates and reads and some unanswered updates, each
 /// once, and keeps what came before what; each answer is that of one sequential address space, from the space on with which the
 /// segment begins; each dump that is there translates every canonical address as that space does after so many updates as the
-/// replica had applied; and each answered touch was answered as its address was at some moment of that order which no flush had
-/// ended before the touch began. A refusal does not say that no other order explains it.
+/// replica had applied; and each answered touch was answered as its address was at some moment of the whole run so far which no flush
+/// had ended before the touch began: an update that its segment doesn't answer is never over. That it is refused does not say that no
+/// other order explains it.
 ///
 /// Allocates memory beside the trace: at most 16 bytes for each event and 4 for each thread, or where there are more threads than
 /// events an entry of a map for each thread that makes a call; where there are touches, 8 bytes more for each event, the touches, and
 /// the changes of the space, which are done and undone; and, when these are freed but for 4 bytes for each call of the order, for
 /// the pages of the space and what the check of a dump takes. It takes time for the segment's own events, log, start and dumps, and
-/// not for the pages of the space before.
+/// for the changes of updates without a reply, and not for the pages of the space before.
 ///
 /// # Errors
 ///
@@ -48,19 +67,23 @@ use vs_types::{Fail, Memory};
 pub fn judge_segment(
     alloc: Global,
     segment: &Trace,
-    before: Option<PlainSpace>,
-) -> Result<(Order, PlainSpace), Fail<Fault>>
-    requires { IfSome before (FitsLayout segment.now.layout) }
-    ensures sound { OnOk result (IsSoundAfter (pages_before before) segment.now) }
+    before: Option<Past>,
+) -> Result<(Order, Past), Fail<Fault>>
+    requires { IfSome before (FitsPast segment.now.layout) }
+    ensures sound { (run : Option Run) → IsBehind run before segment.now
+        → OnOk result (IsSoundAfter run segment.now) }
     ensures order { IfOk result (λ right. right.0 ≡ recorded_order segment.now) }
-    ensures space { IfOk result (λ right. right.1
-        ≡ space_of segment.now.layout (last_space (pages_before before) segment.now)) }
-    ensures right { IfOk result
-        (λ right. IsRightAfter (pages_before before) segment.now right.0) }
-    ensures first { IfErr result (IfRefused (IsFirstAfter (pages_before before) segment.now)) }
+    ensures kept { (run : Option Run) → IsBehind run before segment.now
+        → IfOk result (λ right. IsKept (run_after run segment.now) right.1) }
+    ensures fits { IfOk result (λ right. FitsPast segment.now.layout right.1) }
+    ensures right { (run : Option Run) → IsBehind run before segment.now
+        → IfOk result (λ right. IsRightAfter run segment.now right.0) }
+    ensures first { (run : Option Run) → IsBehind run before segment.now
+        → IfErr result (IfRefused (IsFirstAfter run segment.now)) }
 {
-    let start = begin(alloc, segment, before)?;
-    search(alloc, segment, start)
+    let parts = parts_of(alloc, before);
+    let start = begin(alloc, segment, parts.0)?;
+    search(alloc, segment, parts.1, start)
 }
 
 /// Whether a trace is right: `Yes` with the recorded order of its calls where none of the faults holds, else `No` with the first.

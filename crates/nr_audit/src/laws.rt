@@ -1,7 +1,7 @@
 //! Laws of the definitions in `specs/`. Each function does nothing: its clauses say what holds of all bytes, traces and segments.
 
 ghost use Rattle.std.specs.Prelude.{◌≡◌, ◌↔◌, ℕ, IfSome, List, Option, Some, None};
-ghost use Rattle.vs_types.specs.Space.{Space, IsSpace};
+ghost use Rattle.vs_types.specs.Space.{IsSpace};
 ghost use Rattle.vs_walk.specs.Dump.{Image};
 ghost use Rattle.vs_walk.specs.Walk.{TranslatesAs};
 ghost use Rattle.nr_trace.specs.Recording.{Recording, IsRecording};
@@ -9,7 +9,8 @@ ghost use Rattle.nr_trace.specs.Faults.{IsFirst};
 ghost use Rattle.nr_trace.specs.Laws.{IsFaultless};
 ghost use Rattle.nr_trace.specs.declared.fault.Fault.{Fault};
 ghost use Rattle.nr_audit.specs.Faults.{HasNoFaultAfter, IsFirstAfter, IsSoundAfter};
-ghost use Rattle.nr_audit.specs.Start.{first_space, start_space};
+ghost use Rattle.nr_joined.specs.Run.{Run, end_of, IsOrderly};
+ghost use Rattle.nr_audit.specs.Start.{begins_in, space_before, start_space};
 ghost use Rattle.nr_audit.specs.Headline.{AreRightWith};
 ghost use Rattle.nr_audit.specs.Verdict.{IsTrace, IsVerdictOf, IsVerdictOn};
 ghost use Rattle.nr_audit.specs.declared.verdict.Verdict.{Verdict};
@@ -39,21 +40,23 @@ pub fn traces_are_first_segments()
 
 /// At most one fault of a segment is the first, where the space before it is given.
 pub fn one_fault_of_a_segment_is_first()
-    ensures { (before : Option Space) (segment : Recording) (fault other : Fault)
+    ensures { (before : Option Run) (segment : Recording) (fault other : Fault)
         → IsFirstAfter before segment fault → IsFirstAfter before segment other → fault ≡ other }
 {}
 
 /// The start of a segment in which no fault is found translates as the space with which the segment begins.
 pub fn right_starts_translate()
-    ensures { (before : Option Space) (segment : Recording) (start : Image) → IsRecording segment
-        → segment.start ≡ Some start → IfSome before (IsSpace segment.layout.depth)
+    ensures { (before : Option Run) (segment : Recording) (start : Image) → IsRecording segment
+        → segment.start ≡ Some start → IfSome (space_before before) (IsSpace segment.layout.depth)
         → HasNoFaultAfter before segment
-        → TranslatesAs segment.layout.depth start.frames start.root (first_space before segment) }
+        → TranslatesAs segment.layout.depth start.frames start.root (begins_in before segment) }
 {}
 
-/// A segment with a start that is right as the first one is right behind any that leads to the space of its start.
+/// A segment with a start that is right as the first one is right behind any run that leads to the space of its start.
 pub fn segments_go_on_from_their_starts()
-    ensures { (segment : Recording) (start : Image) (space : Space) → IsRecording segment
-        → segment.start ≡ Some start → start_space segment.layout.depth segment.start ≡ space
-        → IsSoundAfter None segment → IsSoundAfter (Some space) segment }
+    ensures { (segment : Recording) (start : Image) (run : Run) → IsRecording segment
+        → IsOrderly run.trace → segment.layout ≡ run.trace.layout
+        → segment.start ≡ Some start
+        → start_space segment.layout.depth segment.start ≡ end_of run
+        → IsSoundAfter None segment → IsSoundAfter (Some run) segment }
 {}

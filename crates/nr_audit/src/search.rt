@@ -1,11 +1,13 @@
 //! The passes, one after another.
 
-ghost use Rattle.std.specs.Prelude.{◌≡◌, IfOk, IfErr, OnOk};
+ghost use Rattle.std.specs.Prelude.{◌≡◌, IfOk, IfErr, OnOk, Option, Some};
 ghost use Rattle.vs_types.specs.Refusal.{IfRefused};
 ghost use Rattle.nr_trace.specs.Orders.{recorded_order, space_from};
+ghost use Rattle.nr_joined.specs.Run.{Run, run_with};
+ghost use Rattle.nr_touch.specs.Tails.{GoesOn, IsSoundTail, IsTailOf};
 ghost use Rattle.nr_audit.specs.Touches.{HasRightTouches};
 ghost use Rattle.nr_audit.specs.Verdict.{space_of};
-ghost use Rattle.nr_audit.specs.inside.Search.{HasNoFaultOn, IsFirstOn};
+ghost use Rattle.nr_audit.specs.inside.Search.{HasNoFaultBehind, IsFirstBehind};
 
 use crate::answers::check_answers;
 use crate::calls::check_calls;
@@ -14,32 +16,47 @@ use crate::floors::check_replies;
 use crate::last_events::LastEvents;
 use crate::log::check_log;
 use crate::order::list_order;
-use crate::touches::stale_touch;
+use crate::past::Past;
+use crate::touches::{Touched, stale_touch};
 use crate::verdict::Order;
+use nr_touch::Tail;
 use nr_trace::{Fault, Trace};
 use std::alloc::Global;
 use vs_plain::PlainSpace;
 use vs_types::{Fail, REPLICAS};
 
-/// The passes over a trace or a segment, one after another, up to the first fault from the start on. If there is none, gives the
-/// recorded order and the space after the whole log.
+/// The passes over a trace, or over a segment behind others that left this, one after another, up to the first fault from the start on.
+/// Where there is none, gives the recorded order, and what is kept for the next segment.
 pub(crate) fn search(
     alloc: Global,
     trace: &Trace,
+    tail: Tail,
     start: PlainSpace,
-) -> Result<(Order, PlainSpace), Fail<Fault>>
-    requires { start ≡ space_of trace.now.layout start.space }
-    ensures none { OnOk result (HasNoFaultOn start.space trace.now) }
-    ensures touches { OnOk result (HasRightTouches start.space trace.now) }
+) -> Result<(Order, Past), Fail<Fault>>
+    requires start { start ≡ space_of trace.now.layout start.space }
+    requires sound { IsSoundTail tail }
+    ensures none { (before : Option Run) → IsTailOf before tail
+        → GoesOn before trace.now start.space
+        → OnOk result (HasNoFaultBehind before start.space trace.now) }
+    ensures touches { (before : Option Run) → IsTailOf before tail
+        → GoesOn before trace.now start.space
+        → OnOk result (HasRightTouches before start.space trace.now) }
     ensures order { IfOk result (λ right. right.0 ≡ recorded_order trace.now) }
-    ensures space { IfOk result (λ right. right.1
+    ensures space { IfOk result (λ right. right.1.space
         ≡ space_of trace.now.layout (space_from start.space trace.now trace.now.log)) }
-    ensures first { IfErr result (IfRefused (IsFirstOn start.space trace.now)) }
+    ensures tail { (before : Option Run) → IsTailOf before tail
+        → GoesOn before trace.now start.space → IfOk result
+        (λ right. IsTailOf (Some (run_with before start.space trace.now)) right.1.tail) }
+    ensures left { IfOk result (λ right. IsSoundTail right.1.tail) }
+    ensures first { (before : Option Run) → IsTailOf before tail
+        → GoesOn before trace.now start.space
+        → IfErr result (IfRefused (IsFirstBehind before start.space trace.now)) }
 {
     let history = check_calls(alloc, trace)?;
     let places = check_log(alloc, &history)?;
     let standing = check_replies(alloc, &history, places)?;
-    let (stale, start) = stale_touch(alloc, trace, &history, start)?;
+    let touched = stale_touch(alloc, trace, &history, tail, start)?;
+    let Touched { stale, tail, start } = touched;
     let needed = standing.needed;
     let order = list_order(alloc, &history, standing)?;
     let events = LastEvents::of(history, order);
@@ -49,5 +66,5 @@ pub(crate) fn search(
         return Err(Fail::Refused(Fault::Stale(call)));
     }
     check_dumps(alloc, trace, &needed, &space, &mut faults)?;
-    Ok((order, space))
+    Ok((order, Past { space, tail }))
 }

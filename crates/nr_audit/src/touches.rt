@@ -1,14 +1,18 @@
 //! The touches of a segment.
 
 ghost use Rattle.std.specs.Prelude.{◌≡◌, ◌↔◌, ◌+◌, ◌^◌, ◌<◌, IfNone, IfOk, IfSome, IsTrue, OnOk, length};
+ghost use Rattle.std.specs.Prelude.{option_and_then, option_map, slice_get, Option, Some};
 ghost use Rattle.nr_trace.specs.Laws.{HasCleanLog};
+ghost use Rattle.nr_joined.specs.Run.{Run, run_with};
+ghost use Rattle.nr_touch.specs.Tails.{GoesOn, IsSoundTail, IsTailOf};
 ghost use Rattle.nr_audit.specs.Verdict.{space_of};
 ghost use Rattle.nr_audit.specs.Touches.{HasRightTouches};
-ghost use Rattle.nr_audit.specs.inside.Begun.{touch_between, AreTouchesBelow, HasSomeTouch, IsFirstStale, IsTouchAt};
+ghost use Rattle.nr_audit.specs.inside.Begun.{touch_between, ArePlacesAnswered, AreTouchesBelow, HasSomeTouch, IsPlaceAnswered};
+ghost use Rattle.nr_audit.specs.inside.Begun.{IsFirstStale, IsQuiet, IsTouchAt};
 
 use crate::forms::is_trace;
 use crate::history::History;
-use nr_touch::{Touch, first_stale};
+use nr_touch::{Followed, Tail, Touch, follow};
 use nr_trace::{Event, Trace};
 use std::alloc::Global;
 use vs_plain::PlainSpace;
@@ -23,6 +27,44 @@ fn has_touches(segment: &Trace) -> bool
             .events()
             .iter()
             .any(|event| matches!(event.event(), Event::Touch { .. }))
+}
+
+/// Whether the call that the log has at the place is answered, if there is one.
+fn is_answered_at(segment: &Trace, history: &History, place: usize) -> bool
+    requires { history.now ≡ segment.now }
+    ensures { IsTrue result → IsPlaceAnswered segment.now place }
+{
+    match segment.log().get(place) {
+        Some(call) => history.reply(*call).is_some(),
+        None => true,
+    }
+}
+
+/// Whether each call of the log is answered.
+fn are_answered(segment: &Trace, history: &History) -> bool
+    requires { history.now ≡ segment.now }
+    ensures { IsTrue result → ArePlacesAnswered segment.now }
+{
+    for place in 0..segment.log().len() {
+        if !is_answered_at(segment, history, place) {
+            return false;
+        }
+    }
+    true
+}
+
+/// Whether nothing is left by the segments so far, the segment has no touch, and nothing is left by it: then it need not be replayed.
+fn is_quiet(segment: &Trace, history: &History, tail: &Tail) -> bool
+    requires { history.now ≡ segment.now }
+    ensures { IsTrue result → IsQuiet segment.now tail.now }
+{
+    if has_touches(segment) {
+        return false;
+    }
+    if tail.is_none() {
+        return are_answered(segment, history);
+    }
+    false
 }
 
 /// The touch that was made at an event and answered at another, if these are that.
@@ -98,30 +140,57 @@ fn touches_of(alloc: Global, segment: &Trace, history: &History) -> Result<Vec<T
     Ok(touches)
 }
 
-/// The call number of the first touch that is stale, where the segment begins with this space, or `None`; and the space again. Of a
-/// segment whose log isn't clean nothing is said but that the space comes back. It allocates memory for the touches, and for the
-/// replay of the log, which is undone.
+/// The call number of the touch of this index, if there is one.
+fn number_in(touches: &[Touch], index: Option<usize>) -> Option<u32>
+    ensures { result ≡ option_map (λ touch. touch.made)
+        (option_and_then (slice_get touches.now) index) }
+{
+    let touch = touches.get(index?)?;
+    Some(touch.made)
+}
+
+/// What is found of a segment's touches: the call number of the first that is stale, or `None`; what is left for the touches of later
+/// segments; and the space with which the segment begins.
+#[derive(Drop)]
+pub(crate) struct Touched {
+    pub(crate) stale: Option<u32>,
+    pub(crate) tail: Tail,
+    pub(crate) start: PlainSpace,
+}
+
+/// The call number of the first touch that is stale, where the segment begins with this space, behind segments that left this, or
+/// `None`; what is left then; and the space again. Of a segment whose log isn't clean nothing is said but that the space comes back.
+/// Where nothing is left so far, no touch is made and each call of the log is answered, nothing is replayed. It allocates memory for the
+/// touches, and for the replay of the log, which is undone.
 pub(crate) fn stale_touch(
     alloc: Global,
     segment: &Trace,
     history: &History,
+    tail: Tail,
     start: PlainSpace,
-) -> Result<(Option<u32>, PlainSpace), Memory>
+) -> Result<Touched, Memory>
     requires same { history.now ≡ segment.now }
-    requires begun { start ≡ space_of segment.now.layout start.space }
-    ensures none { HasCleanLog segment.now → IfOk result
-        (λ found. IfNone found.0 (HasRightTouches start.space segment.now)) }
-    ensures some { HasCleanLog segment.now → IfOk result
-        (λ found. IfSome found.0 (IsFirstStale start.space segment.now)) }
-    ensures start { IfOk result (λ found. found.1 ≡ start) }
+    requires start { start ≡ space_of segment.now.layout start.space }
+    requires sound { IsSoundTail tail }
+    ensures none { (before : Option Run) → IsTailOf before tail
+        → GoesOn before segment.now start.space → HasCleanLog segment.now → IfOk result
+        (λ found. IfNone found.stale (HasRightTouches before start.space segment.now)) }
+    ensures some { (before : Option Run) → IsTailOf before tail
+        → GoesOn before segment.now start.space → HasCleanLog segment.now → IfOk result
+        (λ found. IfSome found.stale (IsFirstStale before start.space segment.now)) }
+    ensures tail { (before : Option Run) → IsTailOf before tail
+        → GoesOn before segment.now start.space → HasCleanLog segment.now → IfOk result
+        (λ found. IsTailOf (Some (run_with before start.space segment.now)) found.tail) }
+    ensures sound { IfOk result (λ found. IsSoundTail found.tail) }
+    ensures start { IfOk result (λ found. found.start ≡ start) }
 {
-    if !has_touches(segment) {
-        return Ok((None, start));
+    if is_quiet(segment, history, &tail) {
+        let stale = None;
+        return Ok(Touched { stale, tail, start });
     }
     let touches = touches_of(alloc, segment, history)?;
-    let (stale, start) = first_stale(alloc, segment, start, &touches)?;
-    match stale {
-        Some(index) => Ok((Some(touches[index].made), start)),
-        None => Ok((None, start)),
-    }
+    let followed = follow(alloc, tail, segment, start, &touches)?;
+    let Followed { stale, tail, start } = followed;
+    let stale = number_in(&touches, stale);
+    Ok(Touched { stale, tail, start })
 }

@@ -5,19 +5,19 @@ use Rattle.nr_trace.specs.declared.fault.Format.TheVariants.{Truncated}
 use Rattle.nr_trace.specs.declared.refusal.TraceUnit.TheVariants as units
 use Rattle.nr_trace.specs.declared.version.Form.{Form}
 use Rattle.nr_trace.specs.declared.fault.Fault.{Fault}
-use Rattle.nr_chain.specs.Fed.{Kept}
+use Rattle.nr_joined.specs.Run.{Run}
 use Rattle.nr_chain.specs.Bytes.{EndsWith, IsFirstNext}
 
 -- no bytes are too few
 pub none_is_short : (form : Form) → HasFaultAs form [] Truncated
 none_is_short form = (units.Magic, 0, inl (lit< tt, refl))
 
-pub ends_well : (kept : Option Kept) (bytes : List ℕ) → is_some kept ≡ true → bytes ≡ [] → EndsWith kept bytes None
+pub ends_well : (behind : Option Run) (bytes : List ℕ) → is_some behind ≡ true → bytes ≡ [] → EndsWith behind bytes None
 ends_well None bytes some none = absurd (let wrong : false ≡ true = some in cc)
-ends_well (Some kept) bytes some none = subst (λ bytes. EndsWith (Some kept) bytes None) (sym none) refl
+ends_well (Some behind) bytes some none = subst (λ bytes. EndsWith (Some behind) bytes None) (sym none) refl
 
 -- the first fault of the next segment, where there is a byte or it is the first one
-pub ends_first : (kept : Option Kept) (bytes : List ℕ) (fault : Fault) → (is_some kept ≡ true → bytes ≡ [] → ⊥) → IsFirstNext kept bytes fault
-    → EndsWith kept bytes (Some fault)
-ends_first (Some kept) [] fault some first = absurd (some refl refl)
+pub ends_first : (behind : Option Run) (bytes : List ℕ) (fault : Fault) → (is_some behind ≡ true → bytes ≡ [] → ⊥) → IsFirstNext behind bytes fault
+    → EndsWith behind bytes (Some fault)
+ends_first (Some behind) [] fault some first = absurd (some refl refl)
 ends_first _ _ fault some first = first

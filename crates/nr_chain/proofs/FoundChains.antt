@@ -7,12 +7,14 @@ use Rattle.vs_types.specs.Space.{Space, IsSpace}
 use Rattle.nr_trace.specs.Recording.{Recording}
 use Rattle.nr_trace.specs.Calls.{IsWellFormedHistory}
 use Rattle.nr_trace.proofs.LawsOfHistories.{history_if_faultless}
-use Rattle.nr_audit.specs.Start.{first_space}
+use Rattle.nr_joined.specs.Run.{Run, end_of, IsOrderly}
+use Rattle.nr_joined.proofs.Orderly.{clean_is_orderly, orderly_both, space_of_both}
+use Rattle.nr_audit.specs.Segments.{run_after}
+use Rattle.nr_audit.specs.Start.{begins_in, first_space}
 use Rattle.nr_audit.specs.Faults.{IsSoundAfter}
 use Rattle.nr_audit.specs.Touches.{HasRightTouches}
-use Rattle.nr_audit.proofs.Judgements.{faultless_of}
-use Rattle.nr_chain.specs.Fed.{Kept}
-use Rattle.nr_chain.specs.Bytes.{kept_after, SpellAll, EndsWith, GoesOnSo}
+use Rattle.nr_audit.proofs.Judgements.{clean_of, faultless_of}
+use Rattle.nr_chain.specs.Bytes.{SpellAll, EndsWith, GoesOnSo}
 use Rattle.nr_chain.specs.Headline.{traces, GoesOnIn, IsRightChain}
 use Rattle.nr_chain.specs.Joined.{Segment, both, joined}
 use Rattle.nr_chain.specs.Run.{AreFaultlessFrom, AreRightFrom, IsRightFrom, space_behind}
@@ -21,74 +23,83 @@ use Rattle.nr_chain.proofs.Chains.{right_run}
 use Rattle.nr_chain.proofs.Faultless.{right_all}
 use Rattle.nr_chain.proofs.History.{earlier_calls}
 use Rattle.nr_chain.proofs.OneChain.{one_chain}
-use Rattle.nr_chain.proofs.Restarts.{begins_in}
+use Rattle.nr_chain.proofs.Restarts.{begins_in as begins_in_start}
 use Rattle.nr_chain.proofs.Started.{goes_on_in, stays_space, started_joined, AreStarted}
 use Rattle.nr_chain.proofs.Touched.{touches_both}
 
--- the touches of each segment are right, from the space after those before it
-abbrev AreTouchedRight : Space → List Segment → Type 0
-AreTouchedRight start [] = ⊤
-AreTouchedRight start (segment ∷ more) = HasRightTouches start segment.trace × AreTouchedRight (space_behind start segment) more
+-- the touches of each segment are right behind those before it
+abbrev AreTouchedRight : Run → List Segment → Type 0
+AreTouchedRight run [] = ⊤
+AreTouchedRight run (segment ∷ more) = HasRightTouches (Some run) (end_of run) segment.trace × AreTouchedRight (run_after (Some run) segment.trace) more
 
-record IsFound (kept : Kept) (bytes : List ℕ) (orders : List (List ℕ)) (segments : List Segment) : Type 0 where
-  spelled : SpellAll (Some kept.layout) bytes (traces segments)
+record IsFound (run : Run) (bytes : List ℕ) (orders : List (List ℕ)) (segments : List Segment) : Type 0 where
+  spelled : SpellAll (Some run.trace.layout) bytes (traces segments)
   ordered : orders ≡ map (λ segment. segment.order) segments
-  faultless : AreFaultlessFrom kept.space kept.layout segments
-  touched : AreTouchedRight kept.space segments
-  started : AreStarted kept.layout.depth kept.space segments
+  faultless : AreFaultlessFrom (end_of run) run.trace.layout segments
+  touched : AreTouchedRight run segments
+  started : AreStarted run.trace.layout.depth (end_of run) segments
   histories : All (λ segment. IsWellFormedHistory segment.trace) segments
-  layouts : All (λ segment. segment.trace.layout ≡ kept.layout) segments
+  layouts : All (λ segment. segment.trace.layout ≡ run.trace.layout) segments
 
 -- a segment without a fault
-history_of : (before : Option Space) (segment : Recording) → IsSoundAfter before segment → IsWellFormedHistory segment
-history_of before segment sound = history_if_faultless (first_space before segment) segment (faultless_of before segment sound.faultless)
+history_of : (before : Option Run) (segment : Recording) → IsSoundAfter before segment → IsWellFormedHistory segment
+history_of before segment sound = history_if_faultless (begins_in before segment) segment (faultless_of before segment sound.faultless)
 
-found_none : (kept : Kept) (bytes : List ℕ) → EndsWith (Some kept) bytes None → IsFound kept bytes [] []
-found_none kept [] end = record {
+found_none : (run : Run) (bytes : List ℕ) → EndsWith (Some run) bytes None → IsFound run bytes [] []
+found_none run [] end = record {
   spelled = refl;
   ordered = refl;
   faultless = tt;
   touched = tt;
   started = tt;
   histories = All-nil (λ (s : Segment). IsWellFormedHistory s.trace);
-  layouts = All-nil (λ (s : Segment). s.trace.layout ≡ kept.layout);
+  layouts = All-nil (λ (s : Segment). s.trace.layout ≡ run.trace.layout);
 }
-found_none kept (x ∷ bytes) end = absurd end
+found_none run (x ∷ bytes) end = absurd end
 
-found_behind : (kept : Kept) (bytes : List ℕ) (orders : List (List ℕ)) → IsSpace kept.layout.depth kept.space → GoesOnSo (Some kept) bytes orders None
-    → (segments : List Segment) × IsFound kept bytes orders segments
-found_behind kept bytes [] is end = ([], found_none kept bytes end)
-found_behind kept bytes (order ∷ more) is (segment, rest, begins, sound, same, next) =
-    let layout : segment.layout ≡ kept.layout = sym begins.spelled.follows in
-    let own_is : IsSpace segment.layout.depth kept.space = subst (λ (l : Layout). IsSpace l.depth kept.space) (sym layout) is in
-    let (segments, are) = found_behind (kept_after (Some kept) segment) rest more
-    (stays_space segment begins.spelled.in_range kept.space own_is segment.log) next in
-    let own : Segment = record { trace = segment; order = order } in (
+-- the space after the run with a segment more is that after the segment
+next_space : (run : Run) (segment : Recording) (order : List ℕ) → segment.layout ≡ run.trace.layout → IsOrderly run.trace
+    → end_of (run_after (Some run) segment) ≡ space_behind (end_of run) (record { trace = segment; order = order })
+next_space run segment order same orderly = space_of_both run.start run.trace segment same orderly
+
+found_behind : (run : Run) (bytes : List ℕ) (orders : List (List ℕ)) → IsOrderly run.trace → IsSpace run.trace.layout.depth (end_of run)
+    → GoesOnSo (Some run) bytes orders None → (segments : List Segment) × IsFound run bytes orders segments
+found_behind run bytes [] orderly is end = ([], found_none run bytes end)
+found_behind run bytes (order ∷ more) orderly is (segment, rest, begins, sound, same, next) =
+    let layout : segment.layout ≡ run.trace.layout = sym begins.spelled.follows in
+    let own_is : IsSpace segment.layout.depth (end_of run) = subst (λ (l : Layout). IsSpace l.depth (end_of run)) (sym layout) is in
+    let own : Segment = record { trace = segment; order = order } in
+    let space = next_space run segment order layout orderly in
+    let next_is : IsSpace run.trace.layout.depth (end_of (run_after (Some run) segment)) =
+    subst (IsSpace run.trace.layout.depth) (sym space)
+    (subst (λ (l : Layout). IsSpace l.depth (space_behind (end_of run) own)) layout
+    (stays_space segment begins.spelled.in_range (end_of run) own_is segment.log)) in
+    let (segments, are) = found_behind (run_after (Some run) segment) rest more
+    (orderly_both run.trace segment orderly (clean_is_orderly segment (clean_of (Some run) segment sound))) next_is next in (
       own ∷ segments,
       record {
-        spelled = (rest, begins, are.spelled);
+        spelled = (rest, begins, subst (λ (l : Layout). SpellAll (Some l) rest (traces segments)) (sym layout) are.spelled);
         ordered = ap (λ orders. order ∷ orders) are.ordered;
         faultless = (
           layout,
-          faultless_of (Some kept.space) segment sound.faultless,
+          faultless_of (Some run) segment sound.faultless,
           same,
-          subst (λ layout. AreFaultlessFrom (space_behind kept.space own) layout segments) layout are.faultless,
+          subst (λ (s : Space). AreFaultlessFrom s run.trace.layout segments) space are.faultless,
         );
         touched = (sound.touches, are.touched);
         started = (
-          subst (λ (l : Layout). GoesOnIn l.depth segment.start kept.space) layout
-              (goes_on_in segment kept.space begins.spelled.in_range own_is sound),
-          subst (λ (l : Layout). AreStarted l.depth (space_behind kept.space own) segments) layout are.started,
+          subst (λ (l : Layout). GoesOnIn l.depth segment.start (end_of run)) layout
+              (goes_on_in segment run begins.spelled.in_range own_is sound),
+          subst (λ (s : Space). AreStarted run.trace.layout.depth s segments) space are.started,
         );
-        histories = All-cons (λ (s : Segment). IsWellFormedHistory s.trace) own segments (history_of (Some kept.space) segment sound) are.histories;
-        layouts = All-cons (λ (s : Segment). s.trace.layout ≡ kept.layout) own segments layout
-            (subst (λ layout. All (λ (s : Segment). s.trace.layout ≡ layout) segments) layout are.layouts);
+        histories = All-cons (λ (s : Segment). IsWellFormedHistory s.trace) own segments (history_of (Some run) segment sound) are.histories;
+        layouts = All-cons (λ (s : Segment). s.trace.layout ≡ run.trace.layout) own segments layout are.layouts;
       },
     )
 
 touches_joined : (start : Space) (first : Segment) (more : List Segment) → IsRightFrom start first
-    → AreRightFrom (space_behind start first) first.trace.layout more → HasRightTouches start first.trace
-    → AreTouchedRight (space_behind start first) more → HasRightTouches start (joined first more).trace
+    → AreRightFrom (space_behind start first) first.trace.layout more → HasRightTouches None start first.trace
+    → AreTouchedRight (record { start = start; trace = first.trace }) more → HasRightTouches None start (joined first more).trace
 touches_joined start first [] right rest touched behind = touched
 touches_joined start first (next ∷ more) right (same_layout, next_right, rest) touched (next_touched, behind) =
     let space = sym (space_behind_both start first next same_layout right) in
@@ -96,14 +107,15 @@ touches_joined start first (next ∷ more) right (same_layout, next_right, rest)
     (subst (λ space. AreRightFrom space first.trace.layout more) space rest)
     (touches_both start first.trace next.trace same_layout (of_log start first next same_layout right) (earlier_calls first.trace right.events) touched
     next_touched)
-    (subst (λ space. AreTouchedRight space more) space behind)
+    behind
 
 pub right_chain : (bytes : List ℕ) (orders : List (List ℕ)) → GoesOnSo None bytes orders None → IsRightChain bytes orders
 right_chain bytes [] end = absurd end
 right_chain bytes (order ∷ more) (segment, rest, begins, sound, same, next) =
     let start = first_space None segment in
-    let own_is = (begins_in segment begins.spelled.in_range sound).0 in
-    let (segments, are) = found_behind (kept_after None segment) rest more (stays_space segment begins.spelled.in_range start own_is segment.log) next in
+    let own_is = (begins_in_start segment begins.spelled.in_range sound).0 in
+    let (segments, are) = found_behind (run_after None segment) rest more (clean_is_orderly segment (clean_of None segment sound))
+    (stays_space segment begins.spelled.in_range start own_is segment.log) next in
     let first : Segment = record { trace = segment; order = order } in
     let all : AreFaultlessFrom start segment.layout (first ∷ segments) = (refl, faultless_of None segment sound.faultless, same, are.faultless) in
     let right : AreRightFrom start segment.layout (first ∷ segments) = right_all start segment.layout (first ∷ segments) all in
@@ -117,7 +129,7 @@ right_chain bytes (order ∷ more) (segment, rest, begins, sound, same, next) =
       histories = All-cons (λ (s : Segment). IsWellFormedHistory s.trace) first segments (history_of None segment sound) are.histories;
       start = start;
       is_space = own_is;
-      begins = (begins_in segment begins.spelled.in_range sound).1;
+      begins = (begins_in_start segment begins.spelled.in_range sound).1;
       goes_on = started_joined start first segments right.1 right.2 are.started;
       run = right_run start first segments right;
       touches = touches_joined start first segments right.1 right.2 sound.touches are.touched;

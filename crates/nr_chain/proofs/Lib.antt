@@ -1,13 +1,9 @@
-pub mod Lists
-pub mod Parts
-pub mod Orders
 pub mod History
 pub mod Closed
 pub mod Both
 pub mod Chains
 pub mod Faultless
 pub mod Recorded
-pub mod Places
 pub mod Meeting
 mod GoesOn
 pub mod Touched

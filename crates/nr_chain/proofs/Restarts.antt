@@ -7,7 +7,10 @@ use Rattle.vs_walk.specs.Dump.{Image}
 use Rattle.nr_trace.specs.Recording.{IsRecording, Recording}
 use Rattle.nr_trace.specs.Laws.{IsFaultlessFrom}
 use Rattle.nr_audit.specs.Start.{start_space, BeginsRight}
-use Rattle.nr_audit.specs.Touches.{HasRightTouches}
+use Rattle.nr_joined.specs.Run.{Run, end_of, IsOrderly}
+use Rattle.nr_joined.proofs.Orderly.{own_calls}
+use Rattle.nr_touch.specs.Touches.{IsRightTouch}
+use Rattle.nr_touch.proofs.Behind.{right_rest}
 use Rattle.nr_audit.specs.Faults.{IsSoundAfter}
 use Rattle.nr_audit.proofs.Judgements.{begins_of, faultless_of, sound_by}
 use Rattle.nr_audit.proofs.StartSpaces.{sound_behind, space_of_start, start_is_whole}
@@ -26,20 +29,21 @@ begins_in segment in_range sound = by_start segment.start refl where
       (λ fault holds. begins_of None segment sound.faultless fault (start, has, holds)))
 
 -- a segment without a start that is right at the head of a chain is right behind one after which there are no pages
-module _ (segment : Recording) (has : segment.start ≡ None) (sound : IsSoundAfter None segment) (space : Space)
-    (none : start_space segment.layout.depth segment.start ≡ space) where
-  begins : BeginsRight (Some space) segment
+module _ (segment : Recording) (has : segment.start ≡ None) (sound : IsSoundAfter None segment) (run : Run) (orderly : IsOrderly run.trace)
+    (same_layout : segment.layout ≡ run.trace.layout) (none : start_space segment.layout.depth segment.start ≡ end_of run) where
+  begins : BeginsRight (Some (end_of run)) segment
   begins fault (start, start_is, holds) = absurd (let wrong : None ≡ Some start = sym has ∙ start_is in cc)
 
-  without_start : IsSoundAfter (Some space) segment
-  without_start = sound_by (Some space) segment begins
+  without_start : IsSoundAfter (Some run) segment
+  without_start = sound_by (Some run) segment begins
       (subst (λ (s : Space). IsFaultlessFrom s segment) none (faultless_of None segment sound.faultless))
-      (subst (λ (s : Space). HasRightTouches s segment) none sound.touches)
+      (λ touch is. right_rest run.start run.trace segment same_layout (own_calls run.trace orderly) orderly.earlier orderly.own touch
+      (subst (λ (s : Space). IsRightTouch s segment touch) none (sound.touches touch is)))
 
--- a segment that is right at the head of a chain is right behind one that leaves the space with which it begins
-pub behind_any : (segment : Recording) → IsRecording segment → IsSoundAfter None segment → (space : Space)
-    → start_space segment.layout.depth segment.start ≡ space → IsSoundAfter (Some space) segment
-behind_any segment in_range sound space pages = by_start segment.start refl where
-  by_start : (start : Option Image) → segment.start ≡ start → IsSoundAfter (Some space) segment
-  by_start None has = without_start segment has sound space pages
-  by_start (Some start) has = sound_behind segment start space has (start_is_whole segment start in_range has) pages sound
+-- a segment that is right at the head of a chain is right behind a run that leaves the space with which it begins
+pub behind_any : (segment : Recording) → IsRecording segment → IsSoundAfter None segment → (run : Run) → IsOrderly run.trace
+    → segment.layout ≡ run.trace.layout → start_space segment.layout.depth segment.start ≡ end_of run → IsSoundAfter (Some run) segment
+behind_any segment in_range sound run orderly same pages = by_start segment.start refl where
+  by_start : (start : Option Image) → segment.start ≡ start → IsSoundAfter (Some run) segment
+  by_start None has = without_start segment has sound run orderly same pages
+  by_start (Some start) has = sound_behind segment start run orderly same has (start_is_whole segment start in_range has) pages sound

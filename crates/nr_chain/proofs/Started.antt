@@ -18,6 +18,7 @@ use Rattle.nr_trace.specs.Orders.{operations, space_from}
 use Rattle.nr_trace.specs.declared.event.Event.{Event}
 use Rattle.nr_trace.specs.declared.event.Event.TheVariants.{Call, Reply, Touch}
 use Rattle.nr_trace.specs.declared.version.Version.{Version}
+use Rattle.nr_joined.specs.Run.{Run, end_of}
 use Rattle.nr_audit.specs.Faults.{IsSoundAfter}
 use Rattle.nr_audit.proofs.StartSpaces.{first_translates}
 use Rattle.nr_chain.specs.Headline.{GoesOnIn}
@@ -66,13 +67,13 @@ module _ (trace : Recording) (in_range : IsRecording trace) where
 -- ---- starts
 
 -- a sound segment goes on in the space before it
-pub goes_on_in : (segment : Recording) (space : Space) → IsRecording segment → IsSpace segment.layout.depth space → IsSoundAfter (Some space) segment
-    → GoesOnIn segment.layout.depth segment.start space
-goes_on_in segment space in_range is sound = by_start segment.start refl where
-  by_start : (start : Option Image) → segment.start ≡ start → GoesOnIn segment.layout.depth segment.start space
-  by_start None has = subst (λ o. GoesOnIn segment.layout.depth o space) (sym has) tt
+pub goes_on_in : (segment : Recording) (run : Run) → IsRecording segment → IsSpace segment.layout.depth (end_of run) → IsSoundAfter (Some run) segment
+    → GoesOnIn segment.layout.depth segment.start (end_of run)
+goes_on_in segment run in_range is sound = by_start segment.start refl where
+  by_start : (start : Option Image) → segment.start ≡ start → GoesOnIn segment.layout.depth segment.start (end_of run)
+  by_start None has = subst (λ o. GoesOnIn segment.layout.depth o (end_of run)) (sym has) tt
   by_start (Some start) has =
-      subst (λ o. GoesOnIn segment.layout.depth o space) (sym has) (first_translates (Some space) segment start in_range has is sound.faultless)
+      subst (λ o. GoesOnIn segment.layout.depth o (end_of run)) (sym has) (first_translates (Some run) segment start in_range has is sound.faultless)
 
 -- each segment goes on in the space after those before it
 abbrev pub AreStarted : Depth → Space → List Segment → Type 0

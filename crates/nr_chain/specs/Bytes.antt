@@ -1,28 +1,19 @@
 -- Chains: bytes that spell segments one behind the other, and what is found of them.
 use Rattle.std.specs.Prelude.{◌≡◌, ℕ, List, [], ◌∷◌, ◌++◌, Option, Some, None, option_map}
 use Rattle.vs_types.specs.Config.{Layout}
-use Rattle.vs_types.specs.Space.{Space}
 use Rattle.nr_trace.specs.Recording.{Recording}
 use Rattle.nr_trace.specs.Spelling.{SpellsSegment}
 use Rattle.nr_trace.specs.FirstFault.{HasSegmentFault}
 use Rattle.nr_trace.specs.Orders.{recorded_order}
 use Rattle.nr_trace.specs.declared.fault.Fault.TheVariants.{Format}
-use Rattle.nr_chain.specs.Fed.{Kept}
+use Rattle.nr_joined.specs.Run.{Run}
 use Rattle.nr_audit.specs.Faults.{IsFirstAfter, IsSoundAfter}
-use Rattle.nr_audit.specs.Segments.{last_space}
+use Rattle.nr_audit.specs.Segments.{run_after}
 use Rattle.nr_trace.specs.declared.fault.Fault.{Fault}
 
--- the layout of the segment before, if there is one
-abbrev pub layout_before : Option Kept → Option Layout
-layout_before kept = option_map (λ last. last.layout) kept
-
--- the space after the segment before, if there is one
-abbrev pub space_before : Option Kept → Option Space
-space_before kept = option_map (λ last. last.space) kept
-
--- what is kept of a segment: its layout and the space after it
-abbrev pub kept_after : Option Kept → Recording → Kept
-kept_after kept segment = record { layout = segment.layout; space = last_space (space_before kept) segment }
+-- how the segments before are laid out, if there are any
+abbrev pub layout_before : Option Run → Option Layout
+layout_before before = option_map (λ run. run.trace.layout) before
 
 -- the front of the bytes spells the segment, where the one before has this layout, and these come behind it
 pub record BeginsWith (before : Option Layout) (bytes : List ℕ) (segment : Recording) (rest : List ℕ) : Type 0 where
@@ -40,24 +31,24 @@ abbrev pub SpellsChain : List ℕ → Recording → List Recording → Type 0
 SpellsChain bytes first more = SpellAll None bytes (first ∷ more)
 
 -- the next segment is spelled at the front of the bytes, and this is its first fault
-abbrev pub HasFirstNext : Option Kept → List ℕ → Fault → Type 0
-HasFirstNext kept bytes fault =
-    (segment : Recording) × (rest : List ℕ) × BeginsWith (layout_before kept) bytes segment rest × IsFirstAfter (space_before kept) segment fault
+abbrev pub HasFirstNext : Option Run → List ℕ → Fault → Type 0
+HasFirstNext before bytes fault =
+    (segment : Recording) × (rest : List ℕ) × BeginsWith (layout_before before) bytes segment rest × IsFirstAfter before segment fault
 
 -- the first fault of the next segment: of its format, or of what is spelled
-abbrev pub IsFirstNext : Option Kept → List ℕ → Fault → Type 0
-IsFirstNext kept bytes (Format fault) = HasSegmentFault (layout_before kept) bytes fault
-IsFirstNext kept bytes fault = HasFirstNext kept bytes fault
+abbrev pub IsFirstNext : Option Run → List ℕ → Fault → Type 0
+IsFirstNext before bytes (Format fault) = HasSegmentFault (layout_before before) bytes fault
+IsFirstNext before bytes fault = HasFirstNext before bytes fault
 
 -- how a chain ends at some bytes: well where none is left behind a segment, else with the first fault of the next one
-abbrev pub EndsWith : Option Kept → List ℕ → Option Fault → Type 0
-EndsWith (Some kept) [] found = found ≡ None
-EndsWith kept bytes None = ⊥
-EndsWith kept bytes (Some fault) = IsFirstNext kept bytes fault
+abbrev pub EndsWith : Option Run → List ℕ → Option Fault → Type 0
+EndsWith (Some run) [] found = found ≡ None
+EndsWith before bytes None = ⊥
+EndsWith before bytes (Some fault) = IsFirstNext before bytes fault
 
--- what is found of bytes from a segment on: so many segments are right, with these orders, and then the chain ends so
-abbrev pub GoesOnSo : Option Kept → List ℕ → List (List ℕ) → Option Fault → Type 0
-GoesOnSo kept bytes [] found = EndsWith kept bytes found
-GoesOnSo kept bytes (order ∷ more) found =
-    (segment : Recording) × (rest : List ℕ) × BeginsWith (layout_before kept) bytes segment rest × IsSoundAfter (space_before kept) segment
-    × (order ≡ recorded_order segment) × GoesOnSo (Some (kept_after kept segment)) rest more found
+-- what is found of bytes behind a run: so many segments are right, with these orders, and then the chain ends so
+abbrev pub GoesOnSo : Option Run → List ℕ → List (List ℕ) → Option Fault → Type 0
+GoesOnSo before bytes [] found = EndsWith before bytes found
+GoesOnSo before bytes (order ∷ more) found =
+    (segment : Recording) × (rest : List ℕ) × BeginsWith (layout_before before) bytes segment rest × IsSoundAfter before segment
+    × (order ≡ recorded_order segment) × GoesOnSo (Some (run_after before segment)) rest more found

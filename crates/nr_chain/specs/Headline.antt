@@ -45,4 +45,4 @@ pub record IsRightChain (bytes : List ℕ) (orders : List (List ℕ)) : Type 0 w
   pub goes_on : (front rest : List Segment) (next : Segment) → more ≡ front ++ next ∷ rest
       → GoesOnIn first.trace.layout.depth next.trace.start (space_behind start (joined first front))
   pub run : IsRightRun start first more
-  pub touches : HasRightTouches start (joined first more).trace
+  pub touches : HasRightTouches None start (joined first more).trace

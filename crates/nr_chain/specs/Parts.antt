@@ -2,24 +2,30 @@
 use Rattle.std.specs.Prelude.{◌≡◌, ℕ, List, [], ◌∷◌, Option, Some, None}
 use Rattle.nr_trace.specs.Recording.{Recording}
 use Rattle.nr_audit.specs.Start.{start_space}
-use Rattle.nr_chain.specs.Bytes.{kept_after, layout_before, BeginsWith}
-use Rattle.nr_chain.specs.Fed.{Kept}
+use Rattle.nr_joined.specs.Joined.{joined_traces}
+use Rattle.nr_joined.specs.Run.{Run, end_of}
+use Rattle.nr_audit.specs.Segments.{run_after}
+use Rattle.nr_chain.specs.Bytes.{layout_before, BeginsWith}
 
--- the bytes spell these segments, one behind the other, behind what is kept, and with the last of them the chain has come to this
-abbrev pub SpellUpTo : Option Kept → List ℕ → List Recording → Kept → Type 0
-SpellUpTo kept bytes [] end = (bytes ≡ []) × (kept ≡ Some end)
-SpellUpTo kept bytes (segment ∷ more) end =
-    (rest : List ℕ) × BeginsWith (layout_before kept) bytes segment rest × SpellUpTo (Some (kept_after kept segment)) rest more end
+-- the bytes spell these segments, one behind the other, behind a run, and with the last of them the chain has come to this run
+abbrev pub SpellUpTo : Option Run → List ℕ → List Recording → Run → Type 0
+SpellUpTo before bytes [] end = (bytes ≡ []) × (before ≡ Some end)
+SpellUpTo before bytes (segment ∷ more) end =
+    (rest : List ℕ) × BeginsWith (layout_before before) bytes segment rest × SpellUpTo (Some (run_after before segment)) rest more end
 
--- at the end of the bytes the chain has come to this: how its segments are laid out, and the space after the last of them
-abbrev pub ComesTo : Option Kept → List ℕ → Kept → Type 0
-ComesTo kept bytes end = (segments : List Recording) × SpellUpTo kept bytes segments end
+-- at the end of the bytes the chain has come to this run
+abbrev pub ComesTo : Option Run → List ℕ → Run → Type 0
+ComesTo before bytes end = (segments : List Recording) × SpellUpTo before bytes segments end
 
--- a chain that is spelled by itself may come behind one that has come to this. Its first segment is laid out so, and the pages of its
--- start, or none if it has no start, are those of the space
-pub record MayFollow (end : Kept) (bytes : List ℕ) : Type 0 where
+-- a run behind another, as one
+abbrev pub run_behind : Run → Run → Run
+run_behind first second = record { start = first.start; trace = joined_traces first.trace second.trace }
+
+-- a chain that is spelled by itself may come behind one that has come to this: its first segment is laid out so, and the pages of its start,
+-- or none where it has no start, are those of the space after it
+pub record MayFollow (end : Run) (bytes : List ℕ) : Type 0 where
   pub first : Recording
   pub rest : List ℕ
   pub begins : BeginsWith None bytes first rest
-  pub layout : first.layout ≡ end.layout
-  pub pages : start_space first.layout.depth first.start ≡ end.space
+  pub layout : first.layout ≡ end.trace.layout
+  pub pages : start_space first.layout.depth first.start ≡ end_of end

@@ -1,11 +1,11 @@
 //! Laws of chains as bytes, and of touches. Each function does nothing: its clauses say what holds of all bytes.
 
-ghost use Rattle.std.specs.Prelude.{◌≡◌, ◌++◌, ℕ, List, Option, None};
+ghost use Rattle.std.specs.Prelude.{◌≡◌, ◌++◌, ℕ, List, Option, None, IfSome};
 ghost use Rattle.nr_trace.specs.declared.fault.Fault.{Fault};
 ghost use Rattle.nr_chain.specs.Bytes.{GoesOnSo};
-ghost use Rattle.nr_chain.specs.Fed.{Kept};
+ghost use Rattle.nr_joined.specs.Run.{Run, IsOrderly};
 ghost use Rattle.nr_chain.specs.Headline.{IsRightChain};
-ghost use Rattle.nr_chain.specs.Parts.{ComesTo, MayFollow};
+ghost use Rattle.nr_chain.specs.Parts.{run_behind, ComesTo, MayFollow};
 
 /// A chain whose audit finds no fault is right with the orders that are found.
 pub fn chains_without_a_fault_are_right()
@@ -15,25 +15,26 @@ pub fn chains_without_a_fault_are_right()
 
 /// What is found of bytes is one thing: the orders of so many segments, and how the chain ends.
 pub fn one_thing_is_found()
-    ensures { (kept : Option Kept) (bytes : List ℕ) (orders others : List (List ℕ))
-        (found other : Option Fault) → GoesOnSo kept bytes orders found
-        → GoesOnSo kept bytes others other → (orders ≡ others) × (found ≡ other) }
+    ensures { (before : Option Run) (bytes : List ℕ) (orders others : List (List ℕ))
+        (found other : Option Fault) → GoesOnSo before bytes orders found
+        → GoesOnSo before bytes others other → (orders ≡ others) × (found ≡ other) }
 {}
 
 /// Two parts of a chain, each right by itself, of which the second has the layout of the first and begins with the pages of the space
 /// at the end of the first, are right as one, with the orders one after the other. What the whole has come to is what the second has
 /// come to, so that a third part may follow: and so of any number of parts, each of which may be judged elsewhere.
 pub fn parts_of_bytes_are_right_as_one()
-    ensures comes { (kept : Option Kept) (bytes : List ℕ) (orders : List (List ℕ))
-        → GoesOnSo kept bytes orders None → (end : Kept) × ComesTo kept bytes end }
-    ensures goes_on { (kept : Option Kept) (front back : List ℕ) (orders others : List (List ℕ))
-        (end : Kept) → GoesOnSo kept front orders None → ComesTo kept front end
+    ensures comes { (before : Option Run) (bytes : List ℕ) (orders : List (List ℕ))
+        → GoesOnSo before bytes orders None → (end : Run) × ComesTo before bytes end }
+    ensures goes_on { (before : Option Run) (front back : List ℕ) (orders others : List (List ℕ))
+        (end : Run) → IfSome before (λ run. IsOrderly run.trace)
+        → GoesOnSo before front orders None → ComesTo before front end
         → GoesOnSo None back others None → MayFollow end back
-        → GoesOnSo kept (front ++ back) (orders ++ others) None }
-    ensures ends { (kept : Option Kept) (front back : List ℕ) (end last : Kept)
-        → ComesTo kept front end → ComesTo None back last → MayFollow end back
-        → ComesTo kept (front ++ back) last }
-    ensures right { (front back : List ℕ) (orders others : List (List ℕ)) (end : Kept)
+        → GoesOnSo before (front ++ back) (orders ++ others) None }
+    ensures ends { (before : Option Run) (front back : List ℕ) (end last : Run)
+        → ComesTo before front end → ComesTo None back last → MayFollow end back
+        → ComesTo before (front ++ back) (run_behind end last) }
+    ensures right { (front back : List ℕ) (orders others : List (List ℕ)) (end : Run)
         → GoesOnSo None front orders None → ComesTo None front end
         → GoesOnSo None back others None → MayFollow end back
         → IsRightChain (front ++ back) (orders ++ others) }

@@ -1,18 +1,19 @@
 //! A chain that comes in pieces: each segment is judged as soon as it is whole.
 
-ghost use Rattle.std.specs.Prelude.{◌≡◌, ◌⊎◌, [], IfErr, IfOk, IfSome, OnOk, Some, None, true, false, option_copied, option_map};
+ghost use Rattle.std.specs.Prelude.{◌≡◌, ◌⊎◌, [], IfErr, IfOk, IfSome, OnOk, Option, Some, None, true, false, option_copied, option_map};
 ghost use Rattle.nr_trace.specs.Feed.{IsWhole};
 ghost use Rattle.nr_trace.specs.Orders.{recorded_order};
 ghost use Rattle.vs_types.specs.Refusal.{IfRefused};
 ghost use Rattle.nr_audit.specs.Faults.{IsFirstAfter, IsSoundAfter};
-ghost use Rattle.nr_audit.specs.Segments.{last_space, pages_before, FitsLayout};
-ghost use Rattle.nr_audit.specs.Verdict.{space_of};
-ghost use Rattle.nr_chain.specs.Bytes.{layout_before, EndsWith};
-ghost use Rattle.nr_chain.specs.Verdict.{FeedsChain, IsSpaceAfter};
-ghost use Rattle.nr_chain.specs.inside.Between.{bytes_in, kept_by, FitsLast};
-ghost use Rattle.nr_chain.specs.inside.Steps.{JudgesWhole, RefusesWith};
+ghost use Rattle.nr_joined.specs.Run.{Run};
+ghost use Rattle.nr_audit.specs.Segments.{run_after, FitsPast, IsBehind, IsKept};
+ghost use Rattle.nr_chain.specs.Bytes.{EndsWith};
+ghost use Rattle.nr_chain.specs.Fed.{IsKeptOf};
+ghost use Rattle.nr_chain.specs.Verdict.{EndsWithin, FeedsChain, IsSpaceAfter};
+ghost use Rattle.nr_chain.specs.inside.Between.{bytes_in, kept_by, layout_of, FitsLast};
+ghost use Rattle.nr_chain.specs.inside.Steps.{EndsAt, JudgesWhole, RefusesWith};
 
-use nr_audit::{Order, judge_segment};
+use nr_audit::{Order, Past, judge_segment};
 use nr_trace::{Fault, Format, SegmentFeed, Trace, TraceLayout};
 use std::alloc::Global;
 use std::marker::Model;
@@ -23,12 +24,13 @@ use vs_types::{Fail, Memory};
 #[derive(Drop)]
 struct Last {
     layout: TraceLayout,
-    /// The space after its whole log.
-    space: PlainSpace,
+    /// The space after its whole log, and how addresses may still be found to look otherwise.
+    past: Past,
 }
 
-/// A reader and judge of a chain that comes in pieces, cut anywhere. It keeps the space after the segments so far, and what the
-/// pieces say of the next one. Contracts see what the segments so far have come to, and the bytes of the next one.
+/// A reader and judge of a chain that comes in pieces, cut anywhere. It keeps the space after the segments so far, how addresses may
+/// still be found to look otherwise, and what the pieces say of the next one. Contracts see what is kept, and the bytes of the next
+/// one; the run of which it is kept is any that the caller knows of.
 #[derive(Drop)]
 pub struct Chain {
     last: Option<Last>,
@@ -38,18 +40,15 @@ pub struct Chain {
 }
 
 impl Model for Chain {
-    ghost use Rattle.std.specs.Coded.{codes, coded_ℕ};
-    ghost use Rattle.std.specs.FinMap as finite;
-    ghost use Rattle.std.specs.Ordering.{nat_cmp};
+    ghost use Rattle.std.specs.Coded.{codes};
     ghost use Rattle.std.specs.Prelude.{option_map};
-    ghost use Rattle.vs_types.specs.contracts.page.Page as page_contract;
+    ghost use Rattle.nr_audit.specs.contracts.past.Past as past_contract;
     ghost use Rattle.nr_chain.specs.Fed.{ChainFed};
     ghost use Rattle.nr_chain.specs.inside.Between.{bytes_in, kept_by, IsBetween};
 
     ghost Value = { ChainFed };
 
-    ghost coded = { Prim.hlevel
-        (codes, finite.code {R = nat_cmp} coded_ℕ page_contract.the_row.coded) };
+    ghost coded = { Prim.hlevel (codes, past_contract.the_row.coded) };
 
     ghost view = { λ c.
         record { kept = option_map kept_by c.last; bytes = bytes_in c.feed.pieces } };
@@ -89,7 +88,9 @@ impl Chain {
     ///
     /// `Memory` where a growth of memory was refused.
     pub fn feed(self, alloc: Global, piece: &[u8]) -> Result<Step, Memory>
-        ensures { IfOk result (FeedsChain self piece.now) }
+        ensures feeds { (before : Option Run) → IsKeptOf before self.kept
+            → IfOk result (FeedsChain before self piece.now) }
+        ensures within { IfOk result (EndsWithin piece.now) }
     {
         let Chain {
             last,
@@ -112,17 +113,19 @@ impl Chain {
     /// The space after the last segment, where there is one: it has the depth and the limit of that segment's layout. It allocates no
     /// memory.
     pub fn space(&self) -> Option<&PlainSpace>
-        ensures { IsSpaceAfter self.now.kept (option_copied result) }
+        ensures { (before : Option Run) → IsKeptOf before self.now.kept
+            → IsSpaceAfter before (option_copied result) }
     {
         match &self.last {
-            Some(last) => Some(&last.space),
+            Some(last) => Some(&last.past.space),
             None => None,
         }
     }
 
     /// How the chain ends where no piece comes any more: `None` behind a whole segment, else with the next one truncated.
     pub fn end(self) -> Option<Fault>
-        ensures { EndsWith self.kept self.bytes result }
+        ensures { (before : Option Run) → IsKeptOf before self.kept
+            → EndsWith before self.bytes result }
     {
         let Chain {
             last,
@@ -163,12 +166,12 @@ fn end_of(is_behind: bool, begun: bool) -> Option<Fault>
     Some(Fault::Format(Format::Truncated))
 }
 
-/// The space after the last segment, if there is one.
-fn space_after(last: Option<Last>) -> Option<PlainSpace>
-    ensures { result ≡ option_map (λ last. last.space) last }
+/// What is kept of the segments so far, if there are any.
+fn past_of(last: Option<Last>) -> Option<Past>
+    ensures { result ≡ option_map (λ last. last.past) last }
 {
     match last {
-        Some(last) => Some(last.space),
+        Some(last) => Some(last.past),
         None => None,
     }
 }
@@ -177,14 +180,17 @@ fn space_after(last: Option<Last>) -> Option<PlainSpace>
 fn judge_last(
     alloc: Global,
     segment: Trace,
-    before: Option<PlainSpace>,
-) -> Result<(Order, PlainSpace), Fail<Fault>>
-    requires { IfSome before (FitsLayout segment.layout) }
-    ensures sound { OnOk result (IsSoundAfter (pages_before before) segment) }
+    before: Option<Past>,
+) -> Result<(Order, Past), Fail<Fault>>
+    requires { IfSome before (FitsPast segment.layout) }
+    ensures sound { (run : Option Run) → IsBehind run before segment
+        → OnOk result (IsSoundAfter run segment) }
     ensures order { IfOk result (λ right. right.0 ≡ recorded_order segment) }
-    ensures space { IfOk result (λ right. right.1
-        ≡ space_of segment.layout (last_space (pages_before before) segment)) }
-    ensures first { IfErr result (IfRefused (IsFirstAfter (pages_before before) segment)) }
+    ensures kept { (run : Option Run) → IsBehind run before segment
+        → IfOk result (λ right. IsKept (run_after run segment) right.1) }
+    ensures fits { IfOk result (λ right. FitsPast segment.layout right.1) }
+    ensures first { (run : Option Run) → IsBehind run before segment
+        → IfErr result (IfRefused (IsFirstAfter run segment)) }
 {
     judge_segment(alloc, &segment, before)
 }
@@ -197,19 +203,21 @@ fn judge_whole(
     count: usize,
 ) -> Result<Step, Memory>
     requires whole { IsWhole feed }
-    requires behind { feed.before ≡ layout_before (option_map kept_by last) }
+    requires behind { feed.before ≡ layout_of (option_map kept_by last) }
     requires fits { IfSome last FitsLast }
-    ensures { IfOk result (JudgesWhole (option_map kept_by last) (bytes_in feed.pieces) count) }
+    ensures judges { (before : Option Run) → IsKeptOf before (option_map kept_by last)
+        → IfOk result (JudgesWhole before (bytes_in feed.pieces) count) }
+    ensures ends { IfOk result (EndsAt count) }
 {
     let segment = match feed.end() {
         Ok(segment) => segment,
         Err(_) => unreachable!(),
     };
     let layout = segment.layout();
-    let before = space_after(last);
+    let before = past_of(last);
     match judge_last(alloc, segment, before) {
-        Ok((order, space)) => {
-            let last = Some(Last { layout, space });
+        Ok((order, past)) => {
+            let last = Some(Last { layout, past });
             let feed = SegmentFeed::new(alloc, Some(layout));
             let next = Chain {
                 last,

@@ -1,10 +1,9 @@
 -- What a piece makes of a reader that explains a chain.
-use Rattle.std.proofs.Common.{◌≡◌, ◌+◌, ◌<◌, ◌≤◌, ℕ, true, List, [], ◌∷◌, ◌++◌, length, take, drop, append_assoc, Option, Some, is_some}
+use Rattle.std.proofs.Common.{◌≡◌, ◌+◌, ◌<◌, ◌≤◌, ◌⊎◌, inl, inr, ℕ, true, List, [], ◌∷◌, ◌++◌, length, take, drop, append_assoc, Option, Some, is_some}
 use Rattle.std.proofs.Common.{Result, Ok, refl, sym, ap, ◌∙◌, subst}
 use Rattle.std.specs.Prelude.{IfOk, IfSome}
 use Rattle.std.proofs.lemmas.List.{append-nil, take-append-drop}
 use Rattle.vs_types.specs.Config.{Layout}
-use Rattle.vs_plain.specs.Plain.{BoundedSpace}
 use Rattle.nr_trace.specs.Recording.{Recording}
 use Rattle.nr_trace.specs.Spelling.{SpellsSegment}
 use Rattle.nr_trace.specs.FirstFault.{HasFaultAs, HasSegmentFault}
@@ -20,14 +19,17 @@ use Rattle.nr_chain.specs.inside.Between.{bytes_in}
 use Rattle.nr_chain.proofs.Ends.{ends_first, none_is_short}
 use Rattle.nr_chain.proofs.OneChain.{not_empty}
 use Rattle.nr_chain.proofs.Pieces.{Took, some_taken, spelled_whole, took, took_all, too_short}
-use Rattle.nr_explain.specs.Progress.{ChainState, ReaderState, state_after, kept_in, layout_in}
-use Rattle.nr_explain.specs.ChainExplanation.{Explains, GoesOnTo, IsExplanationFrom, IsShownNext, IsShownOf}
-use Rattle.nr_explain.specs.inside.Reading.{all_states, spaces_of, FitsProgress, IsReading}
+use Rattle.nr_audit.specs.declared.past.Past.{Past}
+use Rattle.nr_explain.specs.Progress.{ChainState, ReaderState, state_after, layout_in, run_in, IsSeenOf}
+use Rattle.nr_explain.specs.ChainExplanation.{Explains, FeedsReader, GoesOnTo, IsExplanationFrom, IsShownNext, IsShownOf}
+use Rattle.nr_explain.specs.inside.Reading.{all_states, layout_seen, AreTwice, FitsProgress, IsKnown, IsReading}
+use Rattle.nr_explain.specs.declared.chain.reader.ReaderStep.TheVariants as reader_steps
 use Rattle.nr_explain.proofs.Cuts.{cut_so}
+use Rattle.nr_explain.proofs.Known.{layout_alike}
 use Rattle.nr_explain.proofs.BadUnits.{bad_unit_lasts, refused_alone}
 use Rattle.nr_trace.specs.FirstFault.{HasRefusalAs, IsRefusedBy}
 use Rattle.nr_trace.specs.declared.refusal.Refusal.{Refusal}
-use Rattle.nr_explain.specs.inside.Steps.{IsRefusalOf, IsWrongOf, JudgedTo, JudgesTo, StepsTo}
+use Rattle.nr_explain.specs.inside.Steps.{EndsWithin, HasGoneOn, IsRefusalOf, IsWrongOf, JudgedTo, JudgesTo, StepsTo}
 use Rattle.nr_explain.specs.declared.chain.progress.Progress.{Progress}
 use Rattle.nr_explain.specs.declared.chain.evidence.SegmentEvidence.{SegmentEvidence}
 use Rattle.nr_explain.specs.declared.chain.evidence.SegmentEvidence.TheVariants as evidence
@@ -41,19 +43,20 @@ use Rattle.std.proofs.lemmas.Result.{IfOk-weaker}
 -- ---- between two pieces
 
 -- of the next segment nothing has come
-pub fresh_reading : (last : Option Progress) (before : Option BoundedSpace) (bytes : List ℕ) (feed : FedSegment) → bytes ≡ []
-    → feed ≡ record { before = layout_in (all_states last); pieces = Taken [] } → IfSome last FitsProgress → before ≡ spaces_of last
+pub fresh_reading : (last : Option Progress) (before : Option Past) (bytes : List ℕ) (feed : FedSegment) → bytes ≡ []
+    → feed ≡ record { before = layout_seen (all_states last); pieces = Taken [] } → IfSome last FitsProgress → AreTwice last before → IsKnown last
     → IsReading last before bytes feed
-fresh_reading last before bytes feed none is fits same =
-    let fresh : FedSegment = record { before = layout_in (all_states last); pieces = Taken [] } in
+fresh_reading last before bytes feed none is fits twice known =
+    let fresh : FedSegment = record { before = layout_seen (all_states last); pieces = Taken [] } in
     let reading : IsReading last before [] fresh = record {
       taken = refl;
       behind = refl;
       not_whole = λ whole.
-          let there = spelled_whole fresh whole in not_empty (layout_in (all_states last)) [] there.0 there.1 refl;
-      short = none_is_short (forms.Segment (layout_in (all_states last)));
+          let there = spelled_whole fresh whole in not_empty (layout_seen (all_states last)) [] there.0 there.1 refl;
+      short = none_is_short (forms.Segment (layout_seen (all_states last)));
       fits = fits;
-      same = same;
+      twice = twice;
+      known = known;
     } in
     subst (λ (bs : List ℕ). IsReading last before bs feed) (sym none) (subst (IsReading last before []) (sym is) reading)
 
@@ -66,12 +69,12 @@ took_here feed new bytes piece count taken feeds =
 
 shown_next : (last : Option ChainState) (bytes : List ℕ) (fault : Fault) (shown : SegmentEvidence) → IsShownOf last bytes fault shown
     → IsShownNext last bytes fault shown
-shown_next last bytes fault (evidence.Format bad) is = absurd is.shows
+shown_next last bytes fault (evidence.Format bad) is = absurd is.shows.0
 shown_next last bytes fault shown is = is
 
 -- a refused segment
 pub refusal_explains : (came : Option ChainState) (bytes : List ℕ) (fault : Format) (explanation : ChainExplanation) → IsRefusalOf came bytes fault explanation
-    → HasSegmentFault (layout_in came) bytes fault → (is_some (kept_in came) ≡ true → bytes ≡ [] → ⊥) → IsExplanationFrom came bytes explanation
+    → HasSegmentFault (layout_in came) bytes fault → (is_some (run_in came) ≡ true → bytes ≡ [] → ⊥) → IsExplanationFrom came bytes explanation
 refusal_explains came bytes fault (Yes counts) is has some = absurd is
 refusal_explains came bytes fault (No number found (evidence.Format bad)) (number_is, found_is, fault_is, shows) has some = (
   [],
@@ -79,8 +82,8 @@ refusal_explains came bytes fault (No number found (evidence.Format bad)) (numbe
   bytes,
   (refl, refl),
   number_is,
-  subst (λ (f : Fault). EndsWith (kept_in came) bytes (Some f)) (sym found_is)
-      (ends_first (kept_in came) bytes (faults.Format fault) some has),
+  subst (λ (f : Fault). EndsWith (run_in came) bytes (Some f)) (sym found_is)
+      (ends_first (run_in came) bytes (faults.Format fault) some has),
   (found_is ∙ ap (λ (f : Format). faults.Format f) (sym fault_is), shows),
 )
 refusal_explains came bytes fault (No number found shown) is has some = absurd is
@@ -109,8 +112,8 @@ wrong_explains came bytes rest segment (No number fault shown) spelled (number_i
       bytes ++ rest,
       (refl, refl),
       number_is,
-      ends_first (kept_in came) (bytes ++ rest) fault (λ kept none. not_empty (layout_in came) bytes segment spelled (front_none bytes rest none))
-          (first_next (kept_in came) (bytes ++ rest) fault (segment, rest, begins, first)),
+      ends_first (run_in came) (bytes ++ rest) fault (λ kept none. not_empty (layout_in came) bytes segment spelled (front_none bytes rest none))
+          (first_next (run_in came) (bytes ++ rest) fault (segment, rest, begins, first)),
       shown_next came (bytes ++ rest) fault shown (record { segment = segment; behind = rest; begins = begins; first = first; shows = shows }),
     )
 
@@ -118,52 +121,72 @@ wrong_explains came bytes rest segment (No number fault shown) spelled (number_i
 pub judged_whole : (came : Option ChainState) (bytes : List ℕ) (segment : Recording) (count : ℕ) (step : Step) → SpellsSegment (layout_in came) bytes segment
     → JudgedTo came segment (length bytes) count step → JudgesTo came bytes count step
 judged_whole came bytes segment count (More new) spelled is = is
-judged_whole came bytes segment count (Right own new) spelled (same, sound, next) = (same, segment, spelled, sound, next)
+judged_whole came bytes segment count (Right own new) spelled (same, sound, gone) = (same, segment, spelled, sound, gone)
 judged_whole came bytes segment count (Wrong explanation) spelled is = λ rest. wrong_explains came bytes rest segment explanation spelled is
 
 -- ---- one step
 
-judged_step : (came : Option ChainState) (bytes piece : List ℕ) (count : ℕ) (step : Step) → 0 < count → count ≤ length piece
-    → JudgesTo came (bytes ++ take count piece) count step → StepsTo (record { state = came; bytes = bytes }) piece step
-judged_step came bytes piece count (More new) some within h = absurd h
-judged_step came bytes piece count (Right own new) some within (same, segment, spelled, sound, next) = (
+judged_step : (came : Option ChainState) (old : ReaderState) (piece : List ℕ) (count : ℕ) (step : Step) → 0 < count → count ≤ length piece
+    → JudgesTo came (old.bytes ++ take count piece) count step → StepsTo came old piece step
+judged_step came old piece count (More new) some within h = absurd h
+judged_step came old piece count (Right own new) some within (same, segment, spelled, sound, gone) = (
   subst (λ n. 0 < n) (sym same) some,
   subst (λ n. n ≤ length piece) (sym same) within,
   segment,
-  subst (λ n. SpellsSegment (layout_in came) (bytes ++ take n piece) segment) (sym same) spelled,
+  subst (λ n. SpellsSegment (layout_in came) (old.bytes ++ take n piece) segment) (sym same) spelled,
   sound,
-  next ∙ ap (λ (n : ℕ). record { state = Some (state_after came segment (length (bytes ++ take n piece))); bytes = [] }) (sym same),
+  subst (λ n. HasGoneOn came segment (length (old.bytes ++ take n piece)) new) (sym same) gone,
 )
-judged_step came bytes piece count (Wrong explanation) some within h = λ there rest.
-    subst (λ (bs : List ℕ). IsExplanationFrom came bs explanation) (sym (cut_so bytes piece rest count)) (h (drop count piece ++ rest))
+judged_step came old piece count (Wrong explanation) some within h = λ there rest.
+    subst (λ (bs : List ℕ). IsExplanationFrom came bs explanation) (sym (cut_so old.bytes piece rest count)) (h (drop count piece ++ rest))
+
+-- what a piece makes of a reader ends within the piece
+pub ends_within : {E : Type 0} (came : Option ChainState) (old : ReaderState) (piece : List ℕ) (result : Result Step E) → IfOk result (StepsTo came old piece)
+    → IfOk result (EndsWithin piece)
+ends_within came old piece result h = IfOk-weaker result (StepsTo came old piece) (EndsWithin piece) of_step h where
+  of_step : (step : Step) → StepsTo came old piece step → EndsWithin piece step
+  of_step (More new) is = tt
+  of_step (Right count new) is = (is.0, is.1)
+  of_step (Wrong explanation) is = tt
 
 none_of_two : (front behind : List ℕ) → front ++ behind ≡ [] → behind ≡ []
 none_of_two [] behind e = e
 none_of_two (x ∷ front) behind e = absurd cc
 
-module _ (last : Option Progress) (before : Option BoundedSpace) (bytes : List ℕ) (feed new : FedSegment) (self : ReaderState) (piece : List ℕ)
+module _ (last : Option Progress) (before : Option Past) (bytes : List ℕ) (feed new : FedSegment) (self : ReaderState) (piece : List ℕ)
     (old : IsReading last before bytes feed) (view : record { state = all_states last; bytes = bytes } ≡ self) where
+  pub own_seen : (came : Option ChainState) → IsSeenOf came self.state → IsSeenOf came (all_states last)
+  own_seen came seen = subst (IsSeenOf came) (sym (ap (λ (fed : ReaderState). fed.state) view)) seen
+
+  pub seen_here : (came : Option ChainState) → IsSeenOf came (all_states last) → IsSeenOf came self.state
+  seen_here came seen = subst (IsSeenOf came) (ap (λ (fed : ReaderState). fed.state) view) seen
+
+  own_layout : (came : Option ChainState) → IsSeenOf came self.state → layout_seen (all_states last) ≡ layout_in came
+  own_layout came seen = layout_alike came (all_states last) (own_seen came seen)
+
   -- the segment is whole, and is judged
-  pub judged : {E : Type 0} (count : ℕ) (taken : List ℕ) (result : Result Step E) → taken ≡ bytes ++ take count piece → FeedsSegment feed piece new (Ok count)
-      → IsWhole new → IfOk result (JudgesTo (all_states last) taken count) → IfOk result (StepsTo self piece)
-  judged count taken result same feeds whole h =
+  pub judged : {E : Type 0} (came : Option ChainState) (count : ℕ) (taken : List ℕ) (result : Result Step E) → IsSeenOf came self.state
+      → taken ≡ bytes ++ take count piece → FeedsSegment feed piece new (Ok count) → IsWhole new
+      → (IsSeenOf came (all_states last) → IfOk result (JudgesTo came taken count)) → IfOk result (StepsTo came self piece)
+  judged came count taken result seen same feeds whole h =
       let is = took_here feed new bytes piece count old.taken feeds in
       let some = some_taken feed new piece count (old.taken ∙ ap Taken (sym (ap bytes_in old.taken))) old.not_whole whole (took feed new piece count feeds) in
-      subst (λ (fed : ReaderState). IfOk result (StepsTo fed piece)) view
-      (IfOk-weaker result (JudgesTo (all_states last) taken count) (StepsTo (record { state = all_states last; bytes = bytes }) piece)
-      (λ step h. judged_step (all_states last) bytes piece count step some is.within
-      (subst (λ (bs : List ℕ). JudgesTo (all_states last) bs count step) same h)) h)
+      let own : ReaderState = record { state = all_states last; bytes = bytes } in
+      subst (λ (fed : ReaderState). IfOk result (StepsTo came fed piece)) view
+      (IfOk-weaker result (JudgesTo came taken count) (StepsTo came own piece)
+      (λ step h. judged_step came own piece count step some is.within
+      (subst (λ (bs : List ℕ). JudgesTo came bs count step) same h)) (h (own_seen came seen)))
 
   -- the piece is taken, and the segment is not whole
-  pub more_taken : (count : ℕ) (taken : List ℕ) → taken ≡ bytes ++ take count piece → FeedsSegment feed piece new (Ok count) → (IsWhole new → ⊥)
-      → StepsTo self piece (More (record { state = all_states last; bytes = taken }))
-  more_taken count taken same feeds none =
+  pub more_taken : (came : Option ChainState) (count : ℕ) (taken : List ℕ) → IsSeenOf came self.state → taken ≡ bytes ++ take count piece
+      → FeedsSegment feed piece new (Ok count) → (IsWhole new → ⊥) → StepsTo came self piece (More (record { state = all_states last; bytes = taken }))
+  more_taken came count taken seen same feeds none =
       let is = took_here feed new bytes piece count old.taken feeds in
       let all : taken ≡ bytes ++ piece = same ∙ took_all feed.before bytes piece new count is none in
-      subst (λ (fed : ReaderState). StepsTo fed piece (More (record { state = all_states last; bytes = taken }))) view (
+      subst (λ (fed : ReaderState). StepsTo came fed piece (More (record { state = all_states last; bytes = taken }))) view (
         (λ i. record { state = all_states last; bytes = all i }),
-        subst (λ (bs : List ℕ). HasSegmentFault (layout_in (all_states last)) bs Truncated) (sym all)
-            (subst (λ (before : Option Layout). HasSegmentFault before (bytes ++ piece) Truncated) old.behind
+        subst (λ (bs : List ℕ). HasSegmentFault (layout_in came) bs Truncated) (sym all)
+            (subst (λ (before : Option Layout). HasSegmentFault before (bytes ++ piece) Truncated) (old.behind ∙ own_layout came seen)
             (too_short feed.before bytes piece new count is none)),
       )
 
@@ -179,12 +202,13 @@ module _ (last : Option Progress) (before : Option BoundedSpace) (bytes : List �
         short = subst (λ before. HasFaultAs (forms.Segment before) taken Truncated) (sym is.behind)
             (subst (λ bs. HasFaultAs (forms.Segment feed.before) bs Truncated) (sym all) (too_short feed.before bytes piece new count is none));
         fits = old.fits;
-        same = old.same;
+        twice = old.twice;
+        known = old.known;
       }
 
   -- the bytes with the piece are refused, whatever comes behind it
   piece_lasts : (most : ℕ) (refusal : Refusal) → IsRefusedAs (forms.Segment feed.before) (bytes ++ piece) most refusal
-      → IsRefusedBy (HasRefusalAs (forms.Segment (layout_in (all_states last)))) (bytes ++ piece) refusal
+      → IsRefusedBy (HasRefusalAs (forms.Segment (layout_seen (all_states last)))) (bytes ++ piece) refusal
   piece_lasts most refusal given =
       subst (λ (before : Option Layout). IsRefusedBy (HasRefusalAs (forms.Segment before)) (bytes ++ piece) refusal) old.behind given.refused
 
@@ -193,21 +217,23 @@ module _ (last : Option Progress) (before : Option BoundedSpace) (bytes : List �
   piece_within most refusal all is given = subst (λ (bs : List ℕ). refusal.left ≤ length bs) (sym is) given.refused.within
 
   pub piece_has : (most : ℕ) (refusal : Refusal) (all : List ℕ) → all ≡ bytes ++ piece
-      → IsRefusedAs (forms.Segment feed.before) (bytes ++ piece) most refusal → HasRefusalAs (forms.Segment (layout_in (all_states last))) all refusal
+      → IsRefusedAs (forms.Segment feed.before) (bytes ++ piece) most refusal
+      → HasRefusalAs (forms.Segment (layout_seen (all_states last))) all refusal
   piece_has most refusal all is given =
-      subst (λ (bs : List ℕ). HasRefusalAs (forms.Segment (layout_in (all_states last))) bs refusal) (sym is)
-      (refused_alone (forms.Segment (layout_in (all_states last))) (bytes ++ piece) refusal (piece_lasts most refusal given))
+      subst (λ (bs : List ℕ). HasRefusalAs (forms.Segment (layout_seen (all_states last))) bs refusal) (sym is)
+      (refused_alone (forms.Segment (layout_seen (all_states last))) (bytes ++ piece) refusal (piece_lasts most refusal given))
 
-  pub piece_refused : (most : ℕ) (refusal : Refusal) (all : List ℕ) (explanation : ChainExplanation) → all ≡ bytes ++ piece
-      → IsRefusedAs (forms.Segment feed.before) (bytes ++ piece) most refusal → IsRefusalOf (all_states last) all refusal.fault explanation
-      → StepsTo self piece (Wrong explanation)
-  piece_refused most refusal all explanation is given found = λ there rest.
-      let came = all_states last in
+  pub piece_refused : (came : Option ChainState) (most : ℕ) (refusal : Refusal) (all : List ℕ) (explanation : ChainExplanation) → IsSeenOf came self.state
+      → all ≡ bytes ++ piece → IsRefusedAs (forms.Segment feed.before) (bytes ++ piece) most refusal
+      → (IsSeenOf came (all_states last) → IsRefusalOf came all refusal.fault explanation) → StepsTo came self piece (Wrong explanation)
+  piece_refused came most refusal all explanation seen is given found = λ there rest.
       let fault = refusal.fault in
-      let lasts = piece_lasts most refusal given in
-      let found_here = subst (λ (bs : List ℕ). IsRefusalOf came bs fault explanation) is found in
+      let lasts : IsRefusedBy (HasRefusalAs (forms.Segment (layout_in came))) (bytes ++ piece) refusal =
+      subst (λ (before : Option Layout). IsRefusedBy (HasRefusalAs (forms.Segment before)) (bytes ++ piece) refusal) (own_layout came seen)
+      (piece_lasts most refusal given) in
+      let found_here = subst (λ (bs : List ℕ). IsRefusalOf came bs fault explanation) is (found (own_seen came seen)) in
       let has : HasSegmentFault (layout_in came) ((bytes ++ piece) ++ rest) fault = (refusal.unit, refusal.left + length rest, lasts.lasts rest) in
-      subst (λ (fed : ReaderState). Explains fed (piece ++ rest) explanation) view
+      subst (λ (fed : ReaderState). Explains came fed (piece ++ rest) explanation) view
       (subst (λ (bs : List ℕ). IsExplanationFrom came bs explanation) (append_assoc bytes piece rest)
       (refusal_explains came ((bytes ++ piece) ++ rest) fault explanation
       (refusal_lasts came (bytes ++ piece) rest refusal fault explanation found_here lasts) has
@@ -246,65 +272,73 @@ explains_on came middle bytes rest segments (No number fault shown) goes (more, 
     (segments ++ more, last, left, goes_and came middle last bytes rest left segments more goes on, number_is, ends, shows)
 
 -- the bytes and the piece are those of right segments, which come to what the reader has, and the rest
-abbrev pub LeadsTo : ReaderState → List ℕ → ReaderState → List ℕ → Type 0
-LeadsTo self piece reader rest = (segments : List Recording) × GoesOnTo self.state (self.bytes ++ piece) segments reader.state (reader.bytes ++ rest)
+pub record IsAt (came : Option ChainState) (self : ReaderState) (piece : List ℕ) (reader : ReaderState) (rest : List ℕ) : Type 0 where
+  pub last : Option ChainState
+  pub segments : List Recording
+  pub seen : IsSeenOf last reader.state
+  pub goes : GoesOnTo came (self.bytes ++ piece) segments last (reader.bytes ++ rest)
+  pub short : (rest ≡ piece) ⊎ HasSegmentFault (layout_in last) reader.bytes Truncated
+
+pub at_first : (came : Option ChainState) (self : ReaderState) (piece : List ℕ) → IsSeenOf came self.state → IsAt came self piece self piece
+at_first came self piece seen = record { last = came; segments = []; seen = seen; goes = (refl, refl); short = inl refl }
 
 -- what explains what comes behind explains that with the piece
-pub explains_behind : (self reader : ReaderState) (piece rest behind : List ℕ) (explanation : ChainExplanation) → LeadsTo self piece reader rest
-    → Explains reader (rest ++ behind) explanation → Explains self (piece ++ behind) explanation
-explains_behind self reader piece rest behind explanation (segments, goes) h =
-    subst (λ (bs : List ℕ). IsExplanationFrom self.state bs explanation) (append_assoc self.bytes piece behind)
-    (explains_on self.state reader.state ((self.bytes ++ piece) ++ behind) ((reader.bytes ++ rest) ++ behind) segments explanation
-    (goes_with self.state reader.state (self.bytes ++ piece) (reader.bytes ++ rest) behind segments goes)
-    (subst (λ (bs : List ℕ). IsExplanationFrom reader.state bs explanation) (sym (append_assoc reader.bytes rest behind)) h))
+pub at_wrong : (came : Option ChainState) (self reader : ReaderState) (piece rest behind : List ℕ) (explanation : ChainExplanation)
+    (here : IsAt came self piece reader rest) → Explains here.last reader (rest ++ behind) explanation → Explains came self (piece ++ behind) explanation
+at_wrong came self reader piece rest behind explanation here h =
+    subst (λ (bs : List ℕ). IsExplanationFrom came bs explanation) (append_assoc self.bytes piece behind)
+    (explains_on came here.last ((self.bytes ++ piece) ++ behind) ((reader.bytes ++ rest) ++ behind) here.segments explanation
+    (goes_with came here.last (self.bytes ++ piece) (reader.bytes ++ rest) behind here.segments here.goes)
+    (subst (λ (bs : List ℕ). IsExplanationFrom here.last bs explanation) (sym (append_assoc reader.bytes rest behind)) h))
 
 -- a segment more
-one_on : (old new : ReaderState) (piece : List ℕ) (count : ℕ) → StepsTo old piece (Right count new)
-    → (segments : List Recording) × GoesOnTo old.state (old.bytes ++ piece) segments new.state (new.bytes ++ drop count piece)
-one_on old new piece count (some, within, segment, spelled, sound, is) = (
-  segment ∷ [],
-  subst (λ (fed : ReaderState). GoesOnTo old.state (old.bytes ++ piece) (segment ∷ []) fed.state (fed.bytes ++ drop count piece)) (sym is) (
-    drop count piece,
+pub at_next : (came : Option ChainState) (self old new : ReaderState) (piece rest left : List ℕ) (count : ℕ) (here : IsAt came self piece old rest)
+    → StepsTo here.last old rest (Right count new) → left ≡ drop count rest → IsAt came self piece new left
+at_next came self old new piece rest left count here (some, within, segment, spelled, sound, gone) cut =
+    let own = old.bytes ++ take count rest in
+    let next : Option ChainState = Some (state_after here.last segment (length own)) in
     record {
-      own = old.bytes ++ take count piece;
-      is = ap (λ (ps : List ℕ). old.bytes ++ ps) (sym (take-append-drop count piece)) ∙ sym (append_assoc old.bytes (take count piece) (drop count piece));
-      spelled = spelled;
-    },
-    sound,
-    (refl, refl),
-  ),
+      last = next;
+      segments = here.segments ++ segment ∷ [];
+      seen = gone.seen;
+      goes = goes_and came here.last next (self.bytes ++ piece) (old.bytes ++ rest) (new.bytes ++ left) here.segments (segment ∷ []) here.goes (
+        drop count rest,
+        record {
+          own = own;
+          is = ap (λ (ps : List ℕ). old.bytes ++ ps) (sym (take-append-drop count rest)) ∙ sym (append_assoc old.bytes (take count rest) (drop count rest));
+          spelled = spelled;
+        },
+        sound,
+        (refl, ap (λ (bs : List ℕ). bs ++ left) gone.none ∙ cut),
+      );
+      short = inr (subst (λ (bs : List ℕ). HasSegmentFault (layout_in next) bs Truncated) (sym gone.none) (none_is_short (forms.Segment (layout_in next))));
+    }
+
+-- the piece is taken, and the next segment is not whole
+pub at_more : (came : Option ChainState) (self old new : ReaderState) (piece rest : List ℕ) (here : IsAt came self piece old rest)
+    → StepsTo here.last old rest (More new) → FeedsReader came self piece (reader_steps.More new)
+at_more came self old new piece rest here (is, short) = (
+  here.segments,
+  here.last,
+  subst (λ (bs : List ℕ). GoesOnTo came (self.bytes ++ piece) here.segments here.last bs) (sym (ap (λ (fed : ReaderState). fed.bytes) is)) here.goes,
+  subst (IsSeenOf here.last) (sym (ap (λ (fed : ReaderState). fed.state) is)) here.seen,
+  λ some. short,
 )
 
-pub leads_on : (self old new : ReaderState) (piece rest left : List ℕ) (count : ℕ) → LeadsTo self piece old rest → StepsTo old rest (Right count new)
-    → left ≡ drop count rest → LeadsTo self piece new left
-leads_on self old new piece rest left count (segments, goes) step cut =
-    let (more, on) = one_on old new rest count step in (
-      segments ++ more,
-      subst (λ (bs : List ℕ). GoesOnTo self.state (self.bytes ++ piece) (segments ++ more) new.state (new.bytes ++ bs)) (sym cut)
-          (goes_and self.state old.state new.state (self.bytes ++ piece) (old.bytes ++ rest) (new.bytes ++ drop count rest) segments more goes on),
-    )
-
-pub leads_more : (self old new : ReaderState) (piece rest : List ℕ) → LeadsTo self piece old rest → StepsTo old rest (More new)
-    → (segments : List Recording) × GoesOnTo self.state (self.bytes ++ piece) segments new.state new.bytes
-leads_more self old new piece rest (segments, goes) (is, short) =
-    (segments, subst (λ (fed : ReaderState). GoesOnTo self.state (self.bytes ++ piece) segments fed.state fed.bytes) (sym is) goes)
-
-pub leads_end : (self reader : ReaderState) (piece rest : List ℕ) → LeadsTo self piece reader rest → rest ≡ []
-    → (segments : List Recording) × GoesOnTo self.state (self.bytes ++ piece) segments reader.state reader.bytes
-leads_end self reader piece rest (segments, goes) none = (
-  segments,
-  subst (λ (bs : List ℕ). GoesOnTo self.state (self.bytes ++ piece) segments reader.state bs)
-      (ap (λ (l : List ℕ). reader.bytes ++ l) none ∙ append-nil reader.bytes) goes,
+-- nothing is left of it
+pub at_end : (came : Option ChainState) (self reader : ReaderState) (piece rest : List ℕ) → IsAt came self piece reader rest → rest ≡ []
+    → FeedsReader came self piece (reader_steps.More reader)
+at_end came self reader piece rest here none = (
+  here.segments,
+  here.last,
+  subst (λ (bs : List ℕ). GoesOnTo came (self.bytes ++ piece) here.segments here.last bs)
+      (ap (λ (l : List ℕ). reader.bytes ++ l) none ∙ append-nil reader.bytes) here.goes,
+  here.seen,
+  λ some. elim here.short [
+    | inl same ↦ absurd (some (sym same ∙ none))
+    | inr short ↦ short
+  ],
 )
-
-pub short_after : (old new : ReaderState) (piece : List ℕ) → StepsTo old piece (More new) → HasSegmentFault (layout_in new.state) new.bytes Truncated
-short_after old new piece (is, short) =
-    subst (λ (came : Option ChainState). HasSegmentFault (layout_in came) new.bytes Truncated) (sym (ap (λ (fed : ReaderState). fed.state) is)) short
-
-pub short_fresh : (old new : ReaderState) (piece : List ℕ) (count : ℕ) → StepsTo old piece (Right count new) → HasSegmentFault (layout_in new.state) new.bytes Truncated
-short_fresh old new piece count (some, within, segment, spelled, sound, is) =
-    subst (λ (bs : List ℕ). HasSegmentFault (layout_in new.state) bs Truncated) (sym (ap (λ (fed : ReaderState). fed.bytes) is))
-    (none_is_short (forms.Segment (layout_in new.state)))
 
 -- ---- the end
 
@@ -317,8 +351,8 @@ ended_of before (Stopped fail) bytes segment is ends = absurd cc
 pub ended_whole : (feed : FedSegment) (bytes : List ℕ) (segment : Recording) → feed.pieces ≡ Taken bytes → EndsSegment feed (Ok segment) → IsWhole feed
 ended_whole feed bytes segment is ends = ended_of feed.before feed.pieces bytes segment is ends
 
-pub explains_all : (last : Option Progress) (bytes : List ℕ) (self : ReaderState) (explanation : ChainExplanation)
-    → record { state = all_states last; bytes = bytes } ≡ self → IsExplanationFrom (all_states last) bytes explanation → Explains self [] explanation
-explains_all last bytes self explanation view is =
-    subst (λ (fed : ReaderState). Explains fed [] explanation) view
-    (subst (λ (bs : List ℕ). IsExplanationFrom (all_states last) bs explanation) (sym (append-nil bytes)) is)
+pub explains_all : (came : Option ChainState) (last : Option Progress) (bytes : List ℕ) (self : ReaderState) (explanation : ChainExplanation)
+    → record { state = all_states last; bytes = bytes } ≡ self → IsExplanationFrom came bytes explanation → Explains came self [] explanation
+explains_all came last bytes self explanation view is =
+    subst (λ (fed : ReaderState). Explains came fed [] explanation) view
+    (subst (λ (bs : List ℕ). IsExplanationFrom came bs explanation) (sym (append-nil bytes)) is)

@@ -12,14 +12,74 @@ use Rattle.nr_trace.specs.declared.fault.Fault.TheVariants.{Format, ThreadOpen, 
 use Rattle.nr_trace.specs.declared.fault.Fault.TheVariants.{WrongAnswer, PrefixPastLog, PrefixShort, MissingFrame, SharedFrame, ReservedBit, StrayFrame}
 use Rattle.nr_trace.specs.declared.fault.Fault.TheVariants.{Differs}
 use Rattle.nr_trace.proofs.LawsOfFaults.{IsBelow, below_from_less, earlier_parts, earlier_pass, number_of, pass}
-use Rattle.nr_audit.specs.Start.{HasStartFault, BeginsRight}
+use Rattle.nr_audit.specs.Start.{first_space, space_before, HasStartFault, BeginsRight}
+use Rattle.nr_joined.specs.Run.{Run}
 use Rattle.nr_audit.specs.Faults.{HasFaultAfter, IsFirstAfter}
 use Rattle.nr_trace.specs.declared.fault.Fault.TheVariants.{StartMissing, StartShared, StartReserved, StartStray, StartBeyond, StartDiffers, Stale}
 use Rattle.nr_audit.proofs.Judgements.{of_start}
 use Rattle.nr_audit.proofs.Starts.{start_pass}
 use Rattle.nr_explain.specs.Dumps.{IsFirstOfItsDump, replica_of}
 use Rattle.nr_explain.specs.ChainEvidence.{IsOfItself}
+use Rattle.nr_explain.specs.inside.Firsts.{HasFaultOver, IsFirstOver, IsToShow}
 use Rattle.nr_explain.specs.inside.Starts.{is_within}
+
+-- ---- by the space before the segment alone
+
+-- a fault of a start is one of the segment
+start_over : (before : Option Space) (segment : Recording) (fault : Fault) → HasStartFault before segment fault → HasFaultOver before segment fault
+start_over before segment (StartMissing number) h = h
+start_over before segment (StartShared number) h = h
+start_over before segment (StartReserved number index) h = h
+start_over before segment (StartStray number) h = h
+start_over before segment (StartBeyond base) h = h
+start_over before segment (StartDiffers address) h = h
+start_over before segment _ h = absurd h.2
+
+-- a fault behind a run, but that of a touch, is one by the space after the run
+over_run : (run : Option Run) (segment : Recording) (fault : Fault) → ((call : ℕ) → fault ≡ Stale call → ⊥) → HasFaultAfter run segment fault
+    → HasFaultOver (space_before run) segment fault
+over_run run segment (Stale call) none h = absurd (none call refl)
+over_run run segment _ none h = h
+
+behind_run : (run : Option Run) (segment : Recording) (fault : Fault) → HasFaultOver (space_before run) segment fault → HasFaultAfter run segment fault
+behind_run run segment (Stale call) h = absurd h
+behind_run run segment _ h = h
+
+first_over : (run : Option Run) (segment : Recording) (fault : Fault) → ((call : ℕ) → fault ≡ Stale call → ⊥) → IsFirstAfter run segment fault
+    → IsFirstOver (space_before run) segment fault
+first_over run segment fault none first = record {
+  holds = over_run run segment fault none first.holds;
+  none_earlier = λ other h less. first.none_earlier other (behind_run run segment other h) less;
+}
+
+-- a fault of the trace, from the space on with which the segment begins, is one of the segment
+within_over : (before : Option Space) (segment : Recording) (fault : Fault) → HasFaultFrom (first_space before segment) segment fault
+    → HasFaultOver before segment fault
+within_over before segment (StartMissing number) h = absurd h
+within_over before segment (StartShared number) h = absurd h
+within_over before segment (StartReserved number index) h = absurd h
+within_over before segment (StartStray number) h = absurd h
+within_over before segment (StartBeyond base) h = absurd h
+within_over before segment (StartDiffers address) h = absurd h
+within_over before segment _ h = h
+
+-- and those below number 18 are such
+own_over : (before : Option Space) (segment : Recording) (fault : Fault) → number_of segment fault < 18 → HasFaultOver before segment fault
+    → HasFaultFrom (first_space before segment) segment fault
+own_over before segment (StartMissing number) lt h = absurd (omega arith)
+own_over before segment (StartShared number) lt h = absurd (omega arith)
+own_over before segment (StartReserved number index) lt h = absurd (omega arith)
+own_over before segment (StartStray number) lt h = absurd (omega arith)
+own_over before segment (StartBeyond base) lt h = absurd (omega arith)
+own_over before segment (StartDiffers address) lt h = absurd (omega arith)
+own_over before segment _ lt h = h
+
+pub first_within : (before : Option Space) (segment : Recording) (fault : Fault) → number_of segment fault < 18 → IsFirstOver before segment fault
+    → IsFirstFrom (first_space before segment) segment fault
+first_within before segment fault lt first = record {
+  holds = own_over before segment fault lt first.holds;
+  none_earlier = λ other h less. first.none_earlier other (within_over before segment other h) less;
+}
 
 -- ---- of a segment and of a trace
 
@@ -34,7 +94,7 @@ low_number segment (StartDiffers address) own = let wrong : false ≡ true = own
 low_number segment (Stale call) own = let wrong : false ≡ true = own in cc
 low_number segment _ own = lit< tt
 
-late_pass : (before : Option Space) (segment : Recording) (fault : Fault) → number_of segment fault < 18 → HasFaultAfter before segment fault → 1 < pass fault
+late_pass : (before : Option Space) (segment : Recording) (fault : Fault) → number_of segment fault < 18 → HasFaultOver before segment fault → 1 < pass fault
 late_pass before segment (Format fault) low h = absurd h
 late_pass before segment (StartMissing number) low h = absurd (omega arith)
 late_pass before segment (StartShared number) low h = absurd (omega arith)
@@ -45,33 +105,36 @@ late_pass before segment (StartDiffers address) low h = absurd (omega arith)
 late_pass before segment _ low h = lit< tt
 
 -- where the first fault is of a later pass than the start, nothing is wrong with that
-well_late : (before : Option Space) (segment : Recording) (fault : Fault) → 1 < pass fault → IsFirstAfter before segment fault → BeginsRight before segment
+well_late : (before : Option Space) (segment : Recording) (fault : Fault) → 1 < pass fault → IsFirstOver before segment fault → BeginsRight before segment
 well_late before segment fault late first other h =
     let one = start_pass before segment other h in
-    first.none_earlier other (of_start before segment other h) (earlier_pass segment other fault (omega (arith, one, late)))
+    first.none_earlier other (start_over before segment other h) (earlier_pass segment other fault (omega (arith, one, late)))
 
-pub well_within : (before : Option Space) (segment : Recording) (fault : Fault) → is_within fault ≡ true → IsFirstAfter before segment fault
+pub well_within : (before : Option Space) (segment : Recording) (fault : Fault) → is_within fault ≡ true → IsFirstOver before segment fault
     → BeginsRight before segment
 well_within before segment fault own first =
     well_late before segment fault (late_pass before segment fault (low_number segment fault own) first.holds) first
 
-pub well_stale : (before : Option Space) (segment : Recording) (call : ℕ) → IsFirstAfter before segment (Stale call) → BeginsRight before segment
-well_stale before segment call first = well_late before segment (Stale call) (lit< tt) first
+well_stale : (before : Option Run) (segment : Recording) (call : ℕ) → IsFirstAfter before segment (Stale call) → BeginsRight (space_before before) segment
+well_stale before segment call first other h =
+    let one = start_pass (space_before before) segment other h in
+    let late : 1 < pass (Stale call) = lit< tt in
+    first.none_earlier other (of_start before segment other h) (earlier_pass segment other (Stale call) (omega (arith, one, late)))
 
 -- a fault that a trace has not, and that is no stale touch, is one of the start
 pub of_its_start : (before : Option Space) (segment : Recording) (fault : Fault) → is_within fault ≡ false → ((call : ℕ) → fault ≡ Stale call → ⊥)
-    → HasFaultAfter before segment fault → HasStartFault before segment fault
+    → HasFaultOver before segment fault → HasStartFault before segment fault
 of_its_start before segment (StartMissing number) other none h = h
 of_its_start before segment (StartShared number) other none h = h
 of_its_start before segment (StartReserved number index) other none h = h
 of_its_start before segment (StartStray number) other none h = h
 of_its_start before segment (StartBeyond base) other none h = h
 of_its_start before segment (StartDiffers address) other none h = h
-of_its_start before segment (Stale call) other none h = absurd (none call refl)
+of_its_start before segment (Stale call) other none h = absurd h
 of_its_start before segment _ other none h = absurd (let wrong : true ≡ false = other in cc)
 
 -- where the first fault is a stale touch, none is of the events, the log or the replies
-pub clean_stale : (before : Option Space) (segment : Recording) (call : ℕ) → IsFirstAfter before segment (Stale call) → HasCleanLog segment
+clean_stale : (before : Option Run) (segment : Recording) (call : ℕ) → IsFirstAfter before segment (Stale call) → HasCleanLog segment
 clean_stale before segment call first = record {
   no_thread_open = λ index h. first.none_earlier (ThreadOpen index) h refl;
   no_such_call = λ index h. first.none_earlier (NoSuchCall index) h refl;
@@ -81,6 +144,28 @@ clean_stale before segment call first = record {
   all_placed = λ index h. first.none_earlier (NotPlaced index) h refl;
   none_past_log = λ index h. first.none_earlier (PastLog index) h refl;
 }
+
+-- what is to be known of the first fault, so that it can be shown
+pub to_show : (run : Option Run) (segment : Recording) (fault : Fault) → IsFirstAfter run segment fault → IsToShow (space_before run) segment fault
+to_show run segment (Stale call) first = record {
+  well = well_stale run segment call first;
+  clean = clean_stale run segment call first;
+  touch = first.holds.0;
+  has = first.holds.1;
+  made = first.holds.2;
+}
+to_show run segment fault first = first_over run segment fault (λ call e. cc) first
+
+-- a fault that is no touch's
+pub within_to_show : (before : Option Space) (segment : Recording) (fault : Fault) → is_within fault ≡ true → IsToShow before segment fault
+    → IsFirstOver before segment fault
+within_to_show before segment (Stale call) own h = absurd (let wrong : false ≡ true = own in cc)
+within_to_show before segment _ own h = h
+
+pub start_to_show : (before : Option Space) (segment : Recording) (fault : Fault) → ((call : ℕ) → fault ≡ Stale call → ⊥) → IsToShow before segment fault
+    → IsFirstOver before segment fault
+start_to_show before segment (Stale call) none h = absurd (none call refl)
+start_to_show before segment _ none h = h
 
 -- ---- faults that don't depend on the start
 
@@ -181,5 +266,5 @@ own_from (WrongAnswer call) no_format no_wrong no_difference = no_wrong call ref
 own_from (Differs replica address) no_format no_wrong no_difference = no_difference replica address refl
 own_from _ no_format no_wrong no_difference = tt
 
-pub no_format : (before : Option Space) (segment : Recording) (format : FormatFault) → IsFirstAfter before segment (Format format) → ⊥
+pub no_format : (before : Option Space) (segment : Recording) (format : FormatFault) → IsFirstOver before segment (Format format) → ⊥
 no_format before segment format first = first.holds

@@ -2,6 +2,7 @@ pub mod Ways
 pub mod FirstFaults
 pub mod Changes
 pub mod Searches
+pub mod Known
 pub mod Lasts
 pub mod Places
 pub mod Replies
@@ -9,6 +10,7 @@ pub mod Steps
 pub mod BindingReplies
 pub mod Dumped
 pub mod WrongAnswers
+pub mod EarlierLooks
 pub mod Explanations
 pub mod TwoWays
 pub mod Counting

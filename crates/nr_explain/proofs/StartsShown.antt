@@ -1,5 +1,5 @@
 -- What shows a fault of a start.
-use Rattle.std.proofs.Common.{◌≡◌, ℕ, Option, Some, Result, Ok, Err, refl, sym, ap, ◌∙◌, subst}
+use Rattle.std.proofs.Common.{◌≡◌, ℕ, List, true, false, Option, Some, Result, Ok, Err, refl, sym, ap, ◌∙◌, subst}
 use Rattle.std.specs.Prelude.{IfOk}
 use Rattle.std.proofs.lemmas.Option.{same_Some}
 use Rattle.vs_types.specs.Space.{Space}
@@ -7,16 +7,16 @@ use Rattle.vs_types.specs.declared.depth.Depth.{Depth}
 use Rattle.vs_walk.specs.Dump.{Image}
 use Rattle.nr_trace.specs.Recording.{Recording}
 use Rattle.nr_trace.specs.declared.fault.Fault.{Fault}
-use Rattle.nr_audit.specs.Faults.{IsFirstAfter}
+use Rattle.nr_explain.specs.inside.Firsts.{IsFirstOver, ShowsLeft}
 use Rattle.nr_audit.specs.Start.{HasStartFault, HoldsOfStart}
 use Rattle.nr_trace.specs.declared.fault.Fault.TheVariants.{StartMissing, StartShared, StartReserved, StartStray, StartBeyond}
 use Rattle.nr_trace.specs.declared.fault.Fault.TheVariants as faults
 use Rattle.nr_audit.proofs.Starts.{none_walked}
 use Rattle.nr_explain.specs.ChainEvidence.{IsOfItself, IsStartDiffers}
 use Rattle.nr_explain.specs.inside.Itself.{IsShownByItself}
-use Rattle.nr_explain.specs.ChainExplanation.{IsShownBehind}
-use Rattle.nr_explain.specs.inside.Reading.{all_states, state_of}
-use Rattle.nr_explain.specs.inside.Starts.{IsFirstOfTables, IsShownInStart}
+use Rattle.nr_explain.specs.inside.Reading.{all_states, state_of, IsShownSeen}
+use Rattle.nr_explain.specs.inside.Starts.{is_within, IsFirstOfTables, IsShownInStart}
+use Rattle.nr_touch.specs.declared.tail.Left.{Left}
 use Rattle.nr_explain.specs.declared.chain.progress.Progress.{Progress}
 use Rattle.nr_explain.specs.declared.chain.evidence.SegmentEvidence.{SegmentEvidence}
 use Rattle.nr_explain.specs.declared.chain.evidence.SegmentEvidence.TheVariants as evidence
@@ -29,11 +29,11 @@ holds_of before segment start fault is holds =
     subst (λ (s : Image). HoldsOfStart segment.layout.depth before s fault) (same_Some holds.0 start (sym holds.1 ∙ is)) holds.2
 
 pub tables_first : (before : Option Space) (segment : Recording) (start : Image) (depth : Depth) (fault : Fault) → segment.start ≡ Some start
-    → depth ≡ segment.layout.depth → HasStartFault before segment fault → IsFirstAfter before segment fault
+    → depth ≡ segment.layout.depth → HasStartFault before segment fault → IsFirstOver before segment fault
     → ((address : ℕ) → fault ≡ faults.StartDiffers address → ⊥) → IsFirstOfTables depth start fault
 tables_first before segment start depth fault is same holds first none =
     subst (λ (d : Depth). IsFirstOfTables d start fault) (sym same) (of fault holds first none) where
-      of : (f : Fault) → HasStartFault before segment f → IsFirstAfter before segment f → ((address : ℕ) → f ≡ faults.StartDiffers address → ⊥)
+      of : (f : Fault) → HasStartFault before segment f → IsFirstOver before segment f → ((address : ℕ) → f ≡ faults.StartDiffers address → ⊥)
           → IsFirstOfTables segment.layout.depth start f
       of (StartMissing frame) holds first none = holds_of before segment start (StartMissing frame) is holds
       of (StartShared frame) holds first none = holds_of before segment start (StartShared frame) is holds
@@ -50,10 +50,10 @@ tables_first before segment start depth fault is same holds first none =
 
 pub shown_in_start : (last : Option Progress) (segment : Recording) (start : Image) (depth : Depth) (fault : Fault) (shown : SegmentEvidence)
     → segment.start ≡ Some start → depth ≡ segment.layout.depth → IsShownInStart depth start fault shown
-    → IsShownBehind (all_states last) segment fault shown
+    → IsShownSeen (all_states last) segment fault shown
 shown_in_start last segment start depth fault shown is same shows =
     of shown (subst (λ (d : Depth). IsShownInStart d start fault shown) same shows) where
-      of : (e : SegmentEvidence) → IsShownInStart segment.layout.depth start fault e → IsShownBehind (all_states last) segment fault e
+      of : (e : SegmentEvidence) → IsShownInStart segment.layout.depth start fault e → IsShownSeen (all_states last) segment fault e
       of (evidence.StartMissing wrong) (owner_is, fault_is, facts) = (owner_is, fault_is, (start, is, facts))
       of (evidence.StartShared wrong) (owner_is, fault_is, facts) = (owner_is, fault_is, (start, is, facts))
       of (evidence.StartReserved wrong) (owner_is, fault_is, facts) = (owner_is, fault_is, (start, is, facts))
@@ -64,7 +64,7 @@ shown_in_start last segment start depth fault shown is same shows =
 pub shown_differs : (came : Progress) (segment : Recording) (start : Image) (depth : Depth) (wrong : StartDiffers) (address : ℕ) → segment.start ≡ Some start
     → depth ≡ segment.layout.depth → wrong.address ≡ address
     → IsStartDiffers ((state_of came).began) depth start came.space.space wrong
-    → IsShownBehind (Some (state_of came)) segment (faults.StartDiffers address) (evidence.StartDiffers wrong)
+    → IsShownSeen (Some (state_of came)) segment (faults.StartDiffers address) (evidence.StartDiffers wrong)
 shown_differs came segment start depth wrong address is same at facts = (
   ap (λ (a : ℕ). faults.StartDiffers a) (sym at),
   (
@@ -77,7 +77,23 @@ shown_differs came segment start depth wrong address is same at facts = (
 -- ---- faults that don't depend on the space
 
 pub itself_shown : {E : Type 0} (last : Option Progress) (segment : Recording) (fault : Fault) (result : Result SegmentEvidence E) → IsOfItself fault
-    → IfOk result (IsShownByItself segment fault) → IfOk result (IsShownBehind (all_states last) segment fault)
+    → IfOk result (IsShownByItself segment fault) → IfOk result (IsShownSeen (all_states last) segment fault)
 itself_shown last segment fault (Err e) own h = tt
 itself_shown last segment fault (Ok (evidence.Within shown)) own h = (own, h)
 itself_shown last segment fault (Ok shown) own h = absurd h
+
+-- ---- what lingers
+
+-- what shows another fault than a stale touch shows no looks that linger
+pub none_left : (last : Option Progress) (segment : Recording) (fault : Fault) (changes : List Left) (shown : SegmentEvidence)
+    → ((call : ℕ) → fault ≡ faults.Stale call → ⊥) → IsShownSeen (all_states last) segment fault shown → ShowsLeft changes shown
+none_left last segment fault changes (evidence.Stale stale) none shows = absurd (none stale.call.event shows.0)
+none_left last segment fault changes shown none shows = tt
+
+pub none_left_in : {E : Type 0} (last : Option Progress) (segment : Recording) (fault : Fault) (changes : List Left) (result : Result SegmentEvidence E)
+    → ((call : ℕ) → fault ≡ faults.Stale call → ⊥) → IfOk result (IsShownSeen (all_states last) segment fault) → IfOk result (ShowsLeft changes)
+none_left_in last segment fault changes (Err e) none h = tt
+none_left_in last segment fault changes (Ok shown) none h = none_left last segment fault changes shown none h
+
+pub not_within : (fault : Fault) → is_within fault ≡ true → (call : ℕ) → fault ≡ faults.Stale call → ⊥
+not_within fault own call is = let wrong : true ≡ false = sym own ∙ ap is_within is in cc

@@ -5,7 +5,7 @@ use Rattle.nr_trace.specs.Recording.{Recording}
 use Rattle.nr_trace.specs.Orders.{recorded_order}
 use Rattle.nr_trace.specs.declared.fault.Fault.{Fault}
 use Rattle.nr_chain.specs.Bytes.{EndsWith, GoesOnSo}
-use Rattle.nr_explain.specs.Progress.{ChainState, state_after, kept_in, sums_in}
+use Rattle.nr_explain.specs.Progress.{ChainState, run_in, state_after, sums_in}
 use Rattle.nr_explain.specs.ChainExplanation.{GoesOnTo}
 
 abbrev pub orders_in : List Recording → List (List ℕ)
@@ -13,10 +13,10 @@ orders_in segments = map recorded_order segments
 
 -- right segments, and then the chain ends so
 pub goes_on_so : (came last : Option ChainState) (bytes rest : List ℕ) (segments : List Recording) (found : Option Fault)
-    → GoesOnTo came bytes segments last rest → EndsWith (kept_in last) rest found → GoesOnSo (kept_in came) bytes (orders_in segments) found
+    → GoesOnTo came bytes segments last rest → EndsWith (run_in last) rest found → GoesOnSo (run_in came) bytes (orders_in segments) found
 goes_on_so came last bytes rest [] found (same, left) ends =
-    subst (λ (bs : List ℕ). EndsWith (kept_in came) bs found) left
-    (subst (λ (l : Option ChainState). EndsWith (kept_in l) rest found) same ends)
+    subst (λ (bs : List ℕ). EndsWith (run_in came) bs found) left
+    (subst (λ (l : Option ChainState). EndsWith (run_in l) rest found) same ends)
 goes_on_so came last bytes rest (segment ∷ more) found (behind, begins, sound, goes) ends = (
   segment,
   behind,

@@ -1,10 +1,12 @@
 -- What each kind of evidence says of a segment: which fault it shows, and its facts, each one of the segment, or of the space before it.
-use Rattle.std.specs.Prelude.{◌≡◌, ◌≢◌, ◌↔◌, ℕ, ◌+◌, ◌<◌, ◌≤◌, ◌⊎◌, List, All, AllPairs, Contains, Option, Some, ⊤}
+use Rattle.std.specs.Prelude.{◌≡◌, ◌≢◌, ◌↔◌, ℕ, ◌+◌, ◌<◌, ◌≤◌, ◌⊎◌, List, All, AllPairs, Contains, Option, None, Some, ⊤}
 use Rattle.vs_types.specs.Depth.{levels, IsCanonical}
 use Rattle.vs_types.specs.Page.{bytes_of}
 use Rattle.vs_types.specs.Space.{Space}
-use Rattle.vs_types.specs.Step.{look}
+use Rattle.vs_types.specs.Step.{look, look_in_page}
+use Rattle.vs_types.specs.declared.answer.Answer.{Answer}
 use Rattle.vs_types.specs.declared.depth.Depth.{Depth}
+use Rattle.vs_types.specs.declared.page.Page.{Page}
 use Rattle.vs_types.specs.declared.page.TheConstants.Page.{PHYS_END}
 use Rattle.vs_walk.specs.Differences.{IsStray}
 use Rattle.vs_walk.specs.Dump.{Image}
@@ -15,6 +17,8 @@ use Rattle.nr_trace.specs.Faults.{HasDump}
 use Rattle.nr_trace.specs.Orders.{before}
 use Rattle.nr_trace.specs.declared.fault.Fault.{Fault}
 use Rattle.nr_trace.specs.declared.fault.Fault.TheVariants as faults
+use Rattle.nr_joined.specs.Run.{Run}
+use Rattle.nr_touch.specs.Tails.{Lingers}
 use Rattle.nr_touch.specs.Touches.{IsAllowedPrefix}
 use Rattle.nr_touch.specs.declared.touch.Touch.{Touch}
 use Rattle.nr_audit.specs.Touches.{HasTouch}
@@ -61,7 +65,7 @@ pub record AreLooks (start : Space) (segment : Recording) (address first last : 
   pub all : (n : ℕ) → first ≤ n → n ≤ last → (n ≡ first) ⊎ IsChangedAt start segment address n
       → (moment : Moment) × Contains looks moment × (moment.entries ≡ n)
 
--- the touch is answered so, and may be answered from just these moments, in which its address looked so
+-- the touch is answered so, and may be answered from just these moments of its segment, in which its address looked so
 pub record IsStaleTouch (start : Space) (segment : Recording) (stale : StaleTouch) : Type 0 where
   pub call : IsCallOf segment stale.call
   pub reply : IsReplyOf segment stale.reply
@@ -69,6 +73,21 @@ pub record IsStaleTouch (start : Space) (segment : Recording) (stale : StaleTouc
   pub window : (touch : Touch) → HasTouch segment touch → touch.made ≡ stale.call.event → (n : ℕ)
       → IsAllowedPrefix start segment touch n ↔ ((stale.first ≤ n) × (n ≤ stale.last))
   pub looks : AreLooks start segment (asked_address stale.call.request) stale.first stale.last stale.looks.items
+
+-- an address lingers to look so behind a run
+abbrev pub LingersBehind : Option Run → ℕ → Answer → Type 0
+LingersBehind None address seen = ⊥
+LingersBehind (Some run) address seen = (page : Option Page) × Lingers run.start run.trace address page × (seen ≡ look_in_page address page)
+
+-- a touch that may be answered from no entry of its segment may be answered too as its address lingers to look behind the segments before: in just these
+-- looks; and else in no earlier one
+abbrev pub AreEarlier : Option Run → ℕ → ℕ → List Answer → Type 0
+AreEarlier before address first looks = (seen : Answer) → Contains looks seen ↔ ((first ≡ 0) × LingersBehind before address seen)
+
+-- what shows a stale touch has the earlier looks too
+abbrev pub ShowsEarlier : Option Run → SegmentEvidence → Type 0
+ShowsEarlier before (evidence.Stale stale) = AreEarlier before (asked_address stale.call.request) stale.first stale.earlier.items
+ShowsEarlier before shown = ⊤
 
 -- ---- all
 

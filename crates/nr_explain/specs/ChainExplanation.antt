@@ -8,8 +8,8 @@ use Rattle.nr_audit.specs.Faults.{IsFirstAfter, IsSoundAfter}
 use Rattle.nr_audit.specs.Start.{first_space}
 use Rattle.nr_trace.specs.declared.fault.Fault.{Fault}
 use Rattle.nr_chain.specs.Bytes.{BeginsWith, EndsWith}
-use Rattle.nr_explain.specs.Progress.{ChainState, ReaderState, began_with, state_after, counts_of, kept_in, layout_in, space_in, sums_in}
-use Rattle.nr_explain.specs.ChainEvidence.{IsShown}
+use Rattle.nr_explain.specs.Progress.{ChainState, ReaderState, began_with, state_after, counts_of, layout_in, run_in, space_in, sums_in, IsSeenOf}
+use Rattle.nr_explain.specs.ChainEvidence.{IsShown, ShowsEarlier}
 use Rattle.nr_trace.specs.declared.version.Form.TheVariants as forms
 use Rattle.nr_explain.specs.Units.{IsBadUnitAs}
 use Rattle.nr_explain.specs.declared.chain.evidence.BadSegment.{BadSegment}
@@ -24,7 +24,7 @@ use Rattle.nr_explain.specs.declared.chain.reader.ReaderStep.TheVariants.{More, 
 abbrev pub GoesOnTo : Option ChainState → List ℕ → List Recording → Option ChainState → List ℕ → Type 0
 GoesOnTo came bytes [] last rest = (last ≡ came) × (rest ≡ bytes)
 GoesOnTo came bytes (segment ∷ more) last rest =
-    (behind : List ℕ) × (begins : BeginsWith (layout_in came) bytes segment behind) × IsSoundAfter (space_in came) segment
+    (behind : List ℕ) × (begins : BeginsWith (layout_in came) bytes segment behind) × IsSoundAfter (run_in came) segment
     × GoesOnTo (Some (state_after came segment (length begins.own))) behind more last rest
 
 -- the unit shows the fault of the format that the next segment has, which begins behind so many bytes
@@ -33,14 +33,15 @@ IsBadSegment last bytes bad = (bad.begins ≡ (sums_in last).bytes) × IsBadUnit
 
 -- the evidence shows the fault of a segment that comes next
 abbrev pub IsShownBehind : Option ChainState → Recording → Fault → SegmentEvidence → Type 0
-IsShownBehind last segment fault shown = IsShown (began_with last segment) (space_in last) (first_space (space_in last) segment) segment fault shown
+IsShownBehind last segment fault shown =
+    IsShown (began_with last segment) (space_in last) (first_space (space_in last) segment) segment fault shown × ShowsEarlier (run_in last) shown
 
 -- the segment at the front of the bytes has the fault as its first, and this shows it
 pub record IsShownOf (last : Option ChainState) (bytes : List ℕ) (fault : Fault) (shown : SegmentEvidence) : Type 0 where
   pub segment : Recording
   pub behind : List ℕ
   pub begins : BeginsWith (layout_in last) bytes segment behind
-  pub first : IsFirstAfter (space_in last) segment fault
+  pub first : IsFirstAfter (run_in last) segment fault
   pub shows : IsShownBehind last segment fault shown
 
 -- what shows the first fault of the next segment: of its format, or of what is spelled
@@ -54,11 +55,11 @@ IsExplanationFrom came bytes (Yes counts) =
     (segments : List Recording) × (last : ChainState) × GoesOnTo came bytes segments (Some last) [] × (counts ≡ counts_of last)
 IsExplanationFrom came bytes (No number fault shown) =
     (segments : List Recording) × (last : Option ChainState) × (rest : List ℕ) × GoesOnTo came bytes segments last rest
-    × (number ≡ (sums_in last).segments) × EndsWith (kept_in last) rest (Some fault) × IsShownNext last rest fault shown
+    × (number ≡ (sums_in last).segments) × EndsWith (run_in last) rest (Some fault) × IsShownNext last rest fault shown
 
--- the same of what a reader has seen and what comes behind that
-abbrev pub Explains : ReaderState → List ℕ → ChainExplanation → Type 0
-Explains seen rest explanation = IsExplanationFrom seen.state (seen.bytes ++ rest) explanation
+-- the same of the bytes of the next segment that a reader has, and what comes behind them
+abbrev pub Explains : Option ChainState → ReaderState → List ℕ → ChainExplanation → Type 0
+Explains came seen rest explanation = IsExplanationFrom came (seen.bytes ++ rest) explanation
 
 -- the explanation of the bytes of a chain
 abbrev pub IsExplanationOfChain : List ℕ → ChainExplanation → Type 0
@@ -66,8 +67,8 @@ IsExplanationOfChain bytes explanation = IsExplanationFrom None bytes explanatio
 
 -- the piece is taken: with it the bytes are those of right segments, which come to what is kept, and then too few for one more, where there is
 -- a piece; or this explains the chain, whatever comes behind the piece
-abbrev pub FeedsReader : ReaderState → List ℕ → ReaderStep → Type 0
-FeedsReader old piece (More new) =
-    ((segments : List Recording) × GoesOnTo old.state (old.bytes ++ piece) segments new.state new.bytes)
-    × ((piece ≡ [] → ⊥) → HasSegmentFault (layout_in new.state) new.bytes Truncated)
-FeedsReader old piece (Found explanation) = (rest : List ℕ) → Explains old (piece ++ rest) explanation
+abbrev pub FeedsReader : Option ChainState → ReaderState → List ℕ → ReaderStep → Type 0
+FeedsReader came old piece (More new) =
+    (segments : List Recording) × (last : Option ChainState) × GoesOnTo came (old.bytes ++ piece) segments last new.bytes × IsSeenOf last new.state
+    × ((piece ≡ [] → ⊥) → HasSegmentFault (layout_in last) new.bytes Truncated)
+FeedsReader came old piece (Found explanation) = (rest : List ℕ) → Explains came old (piece ++ rest) explanation

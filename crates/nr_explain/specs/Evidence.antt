@@ -124,7 +124,7 @@ pub record IsOtherAnswerFrom (start : Space) (trace : Recording) (wrong : OtherA
   pub stands : StandsAfter trace wrong.call.event wrong.reply.at
   pub changed : IsLastChangeFrom start trace wrong.address wrong.reply.at wrong.changed
 
--- the same from no pages on
+-- the call is answered otherwise than the space answers it after the updates that come before it, from no pages on
 abbrev pub IsOtherAnswer : Recording → OtherAnswer → Type 0
 IsOtherAnswer trace wrong = IsOtherAnswerFrom no_pages trace wrong
 
@@ -182,7 +182,7 @@ pub record IsDifferenceFrom (start : Space) (trace : Recording) (wrong : Differe
   pub differs : wrong.found ≢ as_walk wrong.wanted
   pub changed : IsLastChangeFrom start trace wrong.address wrong.applied wrong.changed
 
--- the same from no pages on
+-- the dump translates the address otherwise than the space after the entries that it has applied, from no pages on
 abbrev pub IsDifference : Recording → Difference → Image → Type 0
 IsDifference trace wrong dump = IsDifferenceFrom no_pages trace wrong dump
 

@@ -1,42 +1,75 @@
 -- What the segments of a chain so far have come to, as a reader sees it that explains the chain.
-use Rattle.std.specs.Prelude.{ℕ, ◌+◌, ◌-◌, ◌^◌, Bool, true, false, List, length, min, count_by, nat_lt, Option, Some, None, option_map}
+use Rattle.std.specs.Prelude.{◌≡◌, ℕ, ◌+◌, ◌-◌, ◌^◌, ◌↔◌, ⊤, Bool, true, false, List, length, min, count_by, nat_lt, Option, Some, None, option_map}
 use Rattle.std.specs.FinMap as finite
 use Rattle.vs_types.specs.Space.{Space, pages}
 use Rattle.vs_types.specs.Config.{Layout}
+use Rattle.vs_types.specs.declared.page.Page.{Page}
 use Rattle.vs_walk.specs.Dump.{Image}
 use Rattle.nr_trace.specs.Recording.{Recording}
 use Rattle.nr_trace.specs.Orders.{recorded_order}
 use Rattle.nr_trace.specs.declared.event.Event.{Event}
 use Rattle.nr_trace.specs.declared.event.Event.TheVariants.{Call, Reply, Touch}
-use Rattle.nr_audit.specs.Start.{start_space}
-use Rattle.nr_chain.specs.Bytes.{kept_after, layout_before, space_before}
-use Rattle.nr_chain.specs.Fed.{Kept}
+use Rattle.nr_joined.specs.Run.{Run, end_of, IsOrderly}
+use Rattle.nr_touch.specs.Tails.{IsLeft, Lingers}
+use Rattle.nr_touch.specs.declared.tail.Left.{Left}
+use Rattle.nr_audit.specs.Segments.{run_after}
+use Rattle.nr_audit.specs.Start.{space_before, start_space}
+use Rattle.nr_chain.specs.Bytes.{layout_before}
 use Rattle.nr_explain.specs.declared.chain.progress.Sums.{Sums}
 use Rattle.nr_explain.specs.declared.chain.explanation.ChainCounts.{ChainCounts}
 
--- what is kept of the last segment; the space with which the chain begins, where its first segment has a start; and how much the
--- segments so far have
+-- what they have come to: the run; the space with which the chain begins, where its first segment has a start; and how much the segments so far have
 pub record ChainState : Type 0 where
-  pub kept : Kept
+  pub run : Run
   pub began : Option Space
   pub sums : Sums
 
--- what they have come to, if there are any, and the bytes of the next segment so far
-pub record ReaderState : Type 0 where
-  pub state : Option ChainState
-  pub bytes : List ℕ
-
--- what is kept of the last segment
-abbrev pub kept_in : Option ChainState → Option Kept
-kept_in came = option_map (λ last. last.kept) came
+-- the segments so far as one
+abbrev pub run_in : Option ChainState → Option Run
+run_in came = option_map (λ last. last.run) came
 
 -- the layout of the last segment
 abbrev pub layout_in : Option ChainState → Option Layout
-layout_in came = layout_before (kept_in came)
+layout_in came = layout_before (run_in came)
 
 -- the space after the last segment
 abbrev pub space_in : Option ChainState → Option Space
-space_in came = space_before (kept_in came)
+space_in came = space_before (run_in came)
+
+-- ---- what a reader keeps of that
+
+-- what is kept of the segments so far: how they are laid out; the space after the last one; the changes by which addresses may still be found to look
+-- otherwise; the space with which the chain begins; and how much they have
+pub record Seen : Type 0 where
+  pub layout : Layout
+  pub space : Space
+  pub left : List Left
+  pub began : Option Space
+  pub sums : Sums
+
+-- that, if there are any, and the bytes of the next segment so far
+pub record ReaderState : Type 0 where
+  pub state : Option Seen
+  pub bytes : List ℕ
+
+-- the changes are those that a run leaves: by them an address looks just as it lingers to look
+pub record AreLeftBehind (run : Run) (changes : List Left) : Type 0 where
+  pub orderly : IsOrderly run.trace
+  pub looks : (address : ℕ) (page : Option Page) → IsLeft changes address page ↔ Lingers run.start run.trace address page
+
+-- this is kept of it
+pub record IsSeen (came : ChainState) (seen : Seen) : Type 0 where
+  pub layout : seen.layout ≡ came.run.trace.layout
+  pub space : seen.space ≡ end_of came.run
+  pub left : AreLeftBehind came.run seen.left
+  pub began : seen.began ≡ came.began
+  pub sums : seen.sums ≡ came.sums
+
+-- the same, or nothing is kept of no segments
+abbrev pub IsSeenOf : Option ChainState → Option Seen → Type 0
+IsSeenOf None None = ⊤
+IsSeenOf (Some came) (Some seen) = IsSeen came seen
+IsSeenOf came seen = ⊥
 
 -- ---- how much there is
 
@@ -85,7 +118,7 @@ began_with (Some last) segment = last.began
 -- what is come to with a segment more, which so many bytes spell
 abbrev pub state_after : Option ChainState → Recording → ℕ → ChainState
 state_after came segment bytes = record {
-  kept = kept_after (kept_in came) segment;
+  run = run_after (run_in came) segment;
   began = began_with came segment;
   sums = sums_after (sums_in came) segment bytes;
 }
@@ -99,6 +132,6 @@ counts_of last = record {
   reads = last.sums.reads;
   touches = last.sums.touches;
   dumps = last.sums.dumps;
-  replicas = last.kept.layout.replicas;
-  pages = length (pages last.kept.space);
+  replicas = last.run.trace.layout.replicas;
+  pages = length (pages (end_of last.run));
 }

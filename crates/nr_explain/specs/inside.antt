@@ -1,5 +1,6 @@
 -- What the searches of this crate find. Of these public clauses cite `Ways` alone.
 pub mod Explained
+pub mod Firsts
 pub mod Ends
 pub mod Searches
 pub mod Ways

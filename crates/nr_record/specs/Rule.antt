@@ -18,7 +18,7 @@ pub record IsKept (calls : ℕ) (words : List ℕ) (seats : List View) : Type 0 
   pub drawn : slice_index words 0 ≡ sum_by (λ seat. length seat.stamps) seats
   pub each_once : (stamp : ℕ) → sum_by (λ seat. times stamp seat.stamps) seats ≡ once_below (slice_index words 0) stamp
 
--- the first seat
+-- what the first seat of a clock has: the whole quota, and no stamp
 abbrev pub new_view : Plan → View
 new_view plan = record { plan = plan; quota = plan.calls; stamps = [] }
 

@@ -73,7 +73,7 @@ pub record NeededBy (log : Log) (rings : List ℕ) (replica at word : ℕ) : Typ
   pub at_is : at ≡ spot (slice_index rings place) place + k
   pub word_is : word ≡ slice_index (stored_words entry (ring_before rings place)) k
 
--- some replica has
+-- some replica has still to take an entry of the log that this word is of
 abbrev pub Needs : ℕ → Stored → ℕ → ℕ → Type 0
 Needs replicas stored at word = (replica : ℕ) × NeededBy (log_after replicas stored.history) stored.rings replica at word
 
@@ -91,7 +91,7 @@ rings_after ring rings (Advance replica to) = rings
 abbrev pub stored_after_event : ℕ → Stored → LogEvent → Stored
 stored_after_event ring stored event = record { history = stored.history ++ event ∷ []; rings = rings_after ring stored.rings event }
 
--- and after events
+-- the history and the rings after some events of a pass with this ring
 abbrev pub stored_after : ℕ → Stored → List LogEvent → Stored
 stored_after ring stored [] = stored
 stored_after ring stored (event ∷ events) = stored_after ring (stored_after_event ring stored event) events

@@ -10,16 +10,20 @@ use Rattle.std.proofs.lemmas.List.Concat.{flat_map-cons}
 use Rattle.std.proofs.lemmas.Grind.{flat_map-append}
 use Rattle.vs_types.specs.Config.{Layout}
 use Rattle.vs_types.specs.declared.log_entry.LogEntry.{LogEntry}
-use Rattle.nr_chain.specs.Bytes.{kept_after, GoesOnSo}
-use Rattle.nr_chain.specs.Fed.{Kept}
+use Rattle.nr_trace.specs.Spelling.{SpellsSegment}
+use Rattle.nr_joined.specs.Run.{Run}
+use Rattle.nr_audit.specs.Segments.{run_after}
+use Rattle.nr_chain.specs.Bytes.{layout_before, BeginsWith, GoesOnSo}
+use Rattle.nr_chain.specs.Fed.{IsKeptOf}
 use Rattle.nr_chain.specs.Headline.{IsRightChain}
+use Rattle.nr_chain.proofs.Betweens.{layouts_alike}
 use Rattle.nr_chain.proofs.FoundChains.{right_chain}
 use Rattle.nr_ring.specs.LogHistory.{IsLogHistory, log_after}
 use Rattle.nr_ring.specs.Pass.{Known, TableId, new_pass}
 use Rattle.nr_ring.specs.View.{StartsWith}
 use Rattle.nr_ring.specs.declared.log_event.LogEvent.{LogEvent}
 use Rattle.nr_ring.proofs.Histories.{beginning_goes_on, begins}
-use Rattle.nr_serve.specs.ChainOfRun.{RunsOn, logs_of, orders_of}
+use Rattle.nr_serve.specs.ChainOfRun.{RunsOn, logs_of, orders_of, run_through}
 use Rattle.nr_serve.specs.Run.{IsLogOf}
 use Rattle.nr_serve.specs.RunState.{HasOneLog, RunState, new_run}
 use Rattle.nr_serve.specs.SegmentRun.{GoesOn, HasSeenMore, IsRightSegment, IsSegmentOf, Ran}
@@ -50,36 +54,41 @@ runs_on state bytes (first ∷ segments) mid segment passes history end (seen, e
 
 -- ---- one chain
 
+-- a segment is spelled behind a run of which this is kept
+begins_so : (before : Option Run) (state : RunState) (segment : Ran) (passes : List Known) (history : List LogEvent) (bytes rest : List ℕ)
+    → IsKeptOf before state.kept → IsSegmentOf state segment passes history → bytes ≡ segment.bytes ++ rest
+    → BeginsWith (layout_before before) bytes segment.trace rest
+begins_so before state segment passes history bytes rest held is cut = record {
+  own = segment.bytes;
+  is = cut;
+  spelled = subst (λ (l : Option Layout). SpellsSegment l segment.bytes segment.trace) (layouts_alike before state.kept held) is.spelled;
+}
+
 -- what is found of the bytes of a run is what is found of those behind it
-found_then : (state : RunState) (bytes : List ℕ) (segments : List Ran) (end : RunState) (back : List ℕ) (orders : List (List ℕ))
-    → RunsOn state bytes segments end → GoesOnSo end.kept back orders None → GoesOnSo state.kept (bytes ++ back) (orders_of segments ++ orders) None
-found_then state bytes [] end back orders (none, same) found =
-    subst (λ (front : List ℕ). GoesOnSo state.kept (front ++ back) orders None) (sym none)
-    (subst (λ (s : RunState). GoesOnSo s.kept back orders None) (sym same) found)
-found_then state bytes (first ∷ segments) end back orders (passes, history, next, rest, is, right, on, more) found =
-    let behind : GoesOnSo (Some (kept_after state.kept first.trace)) (rest ++ back) (orders_of segments ++ orders) None =
-    subst (λ (k : Option Kept). GoesOnSo k (rest ++ back) (orders_of segments ++ orders) None) on.kept_is
-    (found_then next rest segments end back orders more found) in (
-      first.trace,
-      rest ++ back,
-      record {
-        own = first.bytes;
-        is = ap (λ (front : List ℕ). front ++ back) is ∙ append_assoc first.bytes rest back;
-        spelled = right.segment.spelled;
-      },
-      right.sound,
-      right.order_is,
-      behind,
-    )
+found_then : (before : Option Run) (state : RunState) (bytes : List ℕ) (segments : List Ran) (end : RunState) (back : List ℕ) (orders : List (List ℕ))
+    → IsKeptOf before state.kept → RunsOn state bytes segments end
+    → ((last : Option Run) → IsKeptOf last end.kept → GoesOnSo last back orders None) → GoesOnSo before (bytes ++ back) (orders_of segments ++ orders) None
+found_then before state bytes [] end back orders held (none, same) found =
+    subst (λ (front : List ℕ). GoesOnSo before (front ++ back) orders None) (sym none)
+    (found before (subst (λ (s : RunState). IsKeptOf before s.kept) same held))
+found_then before state bytes (first ∷ segments) end back orders held (passes, history, next, rest, is, right, on, more) found = (
+  first.trace,
+  rest ++ back,
+  begins_so before state first passes history (bytes ++ back) (rest ++ back) held right.segment
+      (ap (λ (front : List ℕ). front ++ back) is ∙ append_assoc first.bytes rest back),
+  right.sound before held,
+  right.order_is,
+  found_then (Some (run_after before first.trace)) next rest segments end back orders (on.kept before held) more found,
+)
 
 -- the bytes of a last segment
 found_last : (state : RunState) (segment : Ran) (passes : List Known) (history : List LogEvent) → IsRightSegment state segment passes history
-    → GoesOnSo state.kept segment.bytes (segment.order ∷ []) None
-found_last state segment passes history right = (
+    → (before : Option Run) → IsKeptOf before state.kept → GoesOnSo before segment.bytes (segment.order ∷ []) None
+found_last state segment passes history right before held = (
   segment.trace,
   [],
-  record { own = segment.bytes; is = sym (append-nil segment.bytes); spelled = right.segment.spelled },
-  right.sound,
+  begins_so before state segment passes history segment.bytes [] held right.segment (sym (append-nil segment.bytes)),
+  right.sound before held,
   right.order_is,
   refl,
 )
@@ -93,25 +102,45 @@ right_with_last layout log bytes segments end segment passes history on right =
     sym (map-append (λ (ran : Ran). ran.order) segments (segment ∷ [])) in
     subst (IsRightChain (bytes ++ segment.bytes)) orders
     (right_chain (bytes ++ segment.bytes) (orders_of segments ++ segment.order ∷ [])
-    (found_then (new_run layout log) bytes segments end segment.bytes (segment.order ∷ []) on (found_last end segment passes history right)))
+    (found_then None (new_run layout log) bytes segments end segment.bytes (segment.order ∷ []) tt on
+    (found_last end segment passes history right)))
+
+-- what is found of the bytes of one segment or more
+found_all : (before : Option Run) (state : RunState) (bytes : List ℕ) (first : Ran) (segments : List Ran) (end : RunState)
+    → IsKeptOf before state.kept → RunsOn state bytes (first ∷ segments) end → GoesOnSo before bytes (orders_of (first ∷ segments)) None
+found_all before state bytes first [] end held (passes, history, next, rest, is, right, on, more) = (
+  first.trace,
+  rest,
+  begins_so before state first passes history bytes rest held right.segment is,
+  right.sound before held,
+  right.order_is,
+  subst (λ (r : List ℕ). GoesOnSo (Some (run_after before first.trace)) r [] None) (sym more.0) refl,
+)
+found_all before state bytes first (second ∷ segments) end held (passes, history, next, rest, is, right, on, more) = (
+  first.trace,
+  rest,
+  begins_so before state first passes history bytes rest held right.segment is,
+  right.sound before held,
+  right.order_is,
+  found_all (Some (run_after before first.trace)) next rest second segments end (on.kept before held) more,
+)
 
 -- and without one
 pub right_run : (layout : Layout) (log : TableId) (bytes : List ℕ) (first : Ran) (segments : List Ran) (end : RunState)
     → RunsOn (new_run layout log) bytes (first ∷ segments) end → IsRightChain bytes (orders_of (first ∷ segments))
 right_run layout log bytes first segments end on =
-    let some = last_kept (new_run layout log) bytes first segments end on in
-    let none : GoesOnSo end.kept [] [] None = subst (λ (k : Option Kept). GoesOnSo k [] [] None) (sym some.1) refl in
-    let found = found_then (new_run layout log) bytes (first ∷ segments) end [] [] on none in
-    right_chain bytes (orders_of (first ∷ segments))
-    (subst (λ (b : List ℕ). GoesOnSo None b (orders_of (first ∷ segments)) None) (append-nil bytes)
-    (subst (λ (o : List (List ℕ)). GoesOnSo None (bytes ++ []) o None) (append-nil (orders_of (first ∷ segments))) found))
-  where
-    last_kept : (state : RunState) (bytes : List ℕ) (first : Ran) (segments : List Ran) (end : RunState) → RunsOn state bytes (first ∷ segments) end
-        → (kept : Kept) × (end.kept ≡ Some kept)
-    last_kept state bytes first [] end (passes, history, next, rest, is, right, on, more) =
-        (kept_after state.kept first.trace, ap (λ (s : RunState). s.kept) (sym more.1) ∙ on.kept_is)
-    last_kept state bytes first (second ∷ segments) end (passes, history, next, rest, is, right, on, more) =
-        last_kept next rest second segments end more
+    right_chain bytes (orders_of (first ∷ segments)) (found_all None (new_run layout log) bytes first segments end tt on)
+
+-- what is kept behind some segments is kept of the run that they are
+kept_from : (before : Option Run) (state : RunState) (bytes : List ℕ) (segments : List Ran) (end : RunState) → IsKeptOf before state.kept
+    → RunsOn state bytes segments end → IsKeptOf (run_through before segments) end.kept
+kept_from before state bytes [] end held (none, same) = subst (λ (s : RunState). IsKeptOf before s.kept) same held
+kept_from before state bytes (first ∷ segments) end held (passes, history, next, rest, is, right, on, more) =
+    kept_from (Some (run_after before first.trace)) next rest segments end (on.kept before held) more
+
+pub kept_through : (layout : Layout) (log : TableId) (bytes : List ℕ) (segments : List Ran) (end : RunState)
+    → RunsOn (new_run layout log) bytes segments end → IsKeptOf (run_through None segments) end.kept
+kept_through layout log bytes segments end on = kept_from None (new_run layout log) bytes segments end tt on
 
 -- ---- one log
 

@@ -7,13 +7,11 @@ use Rattle.std.proofs.lemmas.List.{get_or-map, length-map}
 use Rattle.std.proofs.lemmas.List.Elements.{All-tail}
 use Rattle.std.proofs.lemmas.Option.{slice_get-get_or}
 use Rattle.vs_types.specs.Config.{Layout}
-use Rattle.vs_types.specs.Space.{Space}
 use Rattle.vs_types.proofs.Lists.{item_of}
 use Rattle.vs_types.specs.declared.log_entry.LogEntry.{LogEntry}
 use Rattle.vs_types.specs.declared.request.Query.{Query}
 use Rattle.vs_types.specs.declared.depth.Depth.{Depth}
 use Rattle.vs_walk.specs.Dump.{Image}
-use Rattle.vs_plain.specs.Plain.{BoundedSpace}
 use Rattle.nr_trace.specs.Recording.{Recording}
 use Rattle.nr_trace.specs.Parts.{HasFrames}
 use Rattle.nr_trace.specs.Versions.{Follows}
@@ -22,11 +20,11 @@ use Rattle.nr_trace.specs.declared.version.Version.TheVariants.{Segment}
 use Rattle.nr_trace.specs.Orders.{recorded_order}
 use Rattle.nr_trace.specs.Spelling.{SpellsSegment}
 use Rattle.nr_trace.specs.declared.fault.Fault.{Fault}
+use Rattle.nr_joined.specs.Run.{Run}
 use Rattle.nr_audit.specs.Faults.{IsFirstAfter, IsSoundAfter}
-use Rattle.nr_audit.specs.Segments.{FitsLayout, last_space}
-use Rattle.nr_audit.specs.Verdict.{space_of}
-use Rattle.nr_chain.specs.Bytes.{layout_before, space_before}
-use Rattle.nr_chain.specs.Fed.{Kept}
+use Rattle.nr_audit.specs.Segments.{run_after, FitsPast, IsBehind, IsKept}
+use Rattle.nr_audit.specs.declared.past.Past.{Past}
+use Rattle.nr_chain.specs.Fed.{IsKeptOf}
 use Rattle.nr_ring.specs.LogHistory.{IsLogHistory, Log, log_after}
 use Rattle.nr_ring.specs.Pass.{Known, TableId, new_pass}
 use Rattle.nr_ring.specs.View.{StartsWith}
@@ -38,7 +36,7 @@ use Rattle.nr_record.specs.Pen.{ClockId, PenState}
 use Rattle.nr_serve.specs.Run.{AreAllCallsOf, HasAllOrStopped}
 use Rattle.nr_serve.specs.RunState.{RunState, new_run}
 use Rattle.nr_serve.specs.ChainOfRun.{HasEnded, HasFailed, HasGone, ran_of}
-use Rattle.nr_serve.specs.SegmentRun.{AreAllAnswered, HasSeenMore, HaveSeenAnswersFrom, IsAnswer, IsRightSegment, IsSegmentOf}
+use Rattle.nr_serve.specs.SegmentRun.{layout_so_far, AreAllAnswered, HasSeenMore, HaveSeenAnswersFrom, IsAnswer, IsRightSegment, IsSegmentOf}
 use Rattle.nr_serve.specs.declared.said.Said.{Said}
 use Rattle.nr_serve.specs.declared.said.Said.TheVariants.{Stopped}
 use Rattle.nr_serve.specs.inside.Calls.{Since, WorkerState, since}
@@ -52,15 +50,24 @@ pub calls_from_first : (base : ℕ) (entries : List LogEntry) (calls : List ℕ)
 calls_from_first base entries calls are none = are ∙ ap (λ (b : ℕ). map (λ (entry : LogEntry). entry.call) (drop b entries)) none
 
 -- a segment may be laid out as the one before it, if there is one
-pub laid_as_before : (of : Since) (before : List Known) (layout : Layout) (space : Option Space)
-    → IfSome (layout_before (state_with of before layout space).kept) (λ other. other ≡ layout)
+pub laid_as_before : (of : Since) (before : List Known) (layout : Layout) (past : Option Past)
+    → IfSome (layout_so_far (state_with of before layout past).kept) (λ other. other ≡ layout)
 laid_as_before of before layout None = tt
-laid_as_before of before layout (Some space) = refl
+laid_as_before of before layout (Some past) = refl
 
--- the space with which a segment begins
-space_kept : (of : Since) (before : List Known) (layout : Layout) (space : Option Space) → space_before (state_with of before layout space).kept ≡ space
-space_kept of before layout None = refl
-space_kept of before layout (Some space) = refl
+-- behind a run of which this is kept, the segment comes behind what is kept
+behind_it : (of : Since) (before : List Known) (layout : Layout) (past : Option Past) (trace : Recording) (run : Option Run)
+    → IsKeptOf run (state_with of before layout past).kept → trace.layout ≡ layout → IsBehind run past trace
+behind_it of before layout None trace None kept laid = tt
+behind_it of before layout (Some past) trace (Some run) (same, kept) laid = (kept, laid ∙ same)
+behind_it of before layout _ trace _ kept laid = absurd kept
+
+-- the run with the segment more is laid out as before
+laid_after : (of : Since) (before : List Known) (layout : Layout) (past : Option Past) (trace : Recording) (run : Option Run)
+    → IsKeptOf run (state_with of before layout past).kept → trace.layout ≡ layout → layout ≡ (run_after run trace).trace.layout
+laid_after of before layout past trace None kept laid = sym laid
+laid_after of before layout (Some past) trace (Some run) (same, kept) laid = same
+laid_after of before layout None trace (Some run) kept laid = absurd kept
 
 -- a segment is laid out as the one before it, if there is one
 pub follows : (before : Option Layout) (layout own : Layout) → IfSome before (λ other. other ≡ layout) → own ≡ layout → Follows (forms.Segment before) own
@@ -74,9 +81,9 @@ fitting_frames depth tables base log dumps are = λ k d lt.
     let is = are k d lt in
     (omega arith, omega (arith, is.few), λ none. absurd (omega (arith, is.frames, none)))
 
--- a space that fits a layout fits the same layout
-pub still_fits : (space : Option BoundedSpace) (layout own : Layout) → IfSome space (FitsLayout layout) → own ≡ layout → IfSome space (FitsLayout own)
-still_fits space layout own fits is = subst (λ (l : Layout). IfSome space (FitsLayout l)) (sym is) fits
+-- what fits a layout fits the same layout
+pub still_fits : (past : Option Past) (layout own : Layout) → IfSome past (FitsPast layout) → own ≡ layout → IfSome past (FitsPast own)
+still_fits past layout own fits is = subst (λ (l : Layout). IfSome past (FitsPast l)) (sym is) fits
 
 not_the_last : (front : List Said) → All IsAnswer (front ++ Stopped ∷ []) → ⊥
 not_the_last [] all = all 0 Stopped (omega arith)
@@ -108,28 +115,28 @@ none_stopped scripts answers each all = λ k items lt.
 -- ---- one segment
 
 -- what is known of a segment that was written, with the history of its log
-pub record IsMade (clock : ClockId) (of : Since) (layout : Layout) (space : Option Space) (before : List Known) (scripts : List (List Query))
+pub record IsMade (clock : ClockId) (of : Since) (layout : Layout) (past : Option Past) (before : List Known) (scripts : List (List Query))
     (pens : List PenState) (passes : List Known) (answers : List (List Said)) (trace : Recording) (bytes : List ℕ) (history : List LogEvent) : Type 0 where
   pub of_clock : layout ≡ clock.layout
   pub served : HaveServed clock of before scripts pens passes answers
   pub laid : trace.layout ≡ layout
   pub recorded : AreEventsOf trace.events pens
-  pub spelled : SpellsSegment (layout_before (state_with of before layout space).kept) bytes trace
+  pub spelled : SpellsSegment (layout_so_far (state_with of before layout past).kept) bytes trace
   pub of_log : All (λ pass. pass.log ≡ of.log) passes
   pub is_history : IsLogHistory layout.depth layout.replicas history
   pub begins : All (λ pass. StartsWith history pass.view.seen) passes
   pub calls_are : trace.log ≡ map (λ entry. entry.call) (drop of.from (log_after layout.replicas history).entries)
 
 -- a segment is made of what the threads handed back, and of the log from the last cut on
-pub made_segment : (clock : ClockId) (of : Since) (layout : Layout) (space : Option Space) (before : List Known) (scripts : List (List Query))
+pub made_segment : (clock : ClockId) (of : Since) (layout : Layout) (past : Option Past) (before : List Known) (scripts : List (List Query))
     (pens : List PenState) (passes : List Known) (answers : List (List Said)) (trace : Recording) (bytes : List ℕ) (history : List LogEvent)
     (depth : Depth) (replicas : ℕ) (calls : List ℕ) → layout ≡ clock.layout → layout.depth ≡ depth → layout.replicas ≡ replicas
     → HaveServed clock of before scripts pens passes answers → trace.layout ≡ layout → AreEventsOf trace.events pens → trace.log ≡ calls
-    → SpellsSegment (layout_before (state_with of before layout space).kept) bytes trace → All (λ pass. pass.log ≡ of.log) passes
+    → SpellsSegment (layout_so_far (state_with of before layout past).kept) bytes trace → All (λ pass. pass.log ≡ of.log) passes
     → IsLogHistory depth replicas history → All (λ pass. StartsWith history pass.view.seen) passes
     → calls ≡ map (λ entry. entry.call) (drop of.from (log_after replicas history).entries)
-    → IsMade clock of layout space before scripts pens passes answers trace bytes history
-made_segment clock of layout space before scripts pens passes answers trace bytes history depth replicas calls of_clock depth_is replicas_are served laid
+    → IsMade clock of layout past before scripts pens passes answers trace bytes history
+made_segment clock of layout past before scripts pens passes answers trace bytes history depth replicas calls of_clock depth_is replicas_are served laid
     recorded log spelled of_log is begun calls_are = record {
       of_clock = of_clock;
       served = served;
@@ -164,11 +171,11 @@ pub failed_as : (state : RunState) (scripts : List (List Query)) (bytes written 
 failed_as state scripts bytes written fault of_written failed = subst (λ (b : List ℕ). HasFailed state scripts b fault) (sym of_written) failed
 
 -- the log and the place of the last cut are the same
-pub same_state : (of other : Since) (passes : List Known) (layout : Layout) (space : Option Space) → of.log ≡ other.log → of.from ≡ other.from
-    → state_with of passes layout space ≡ state_with other passes layout space
-same_state of other passes layout space logs bases =
-    ap (λ (log : TableId). state_with (since log of.from) passes layout space) logs
-    ∙ ap (λ (base : ℕ). state_with (since other.log base) passes layout space) bases
+pub same_state : (of other : Since) (passes : List Known) (layout : Layout) (past : Option Past) → of.log ≡ other.log → of.from ≡ other.from
+    → state_with of passes layout past ≡ state_with other passes layout past
+same_state of other passes layout past logs bases =
+    ap (λ (log : TableId). state_with (since log of.from) passes layout past) logs
+    ∙ ap (λ (base : ℕ). state_with (since other.log base) passes layout past) bases
 
 -- a run of which no segment is made is new
 pub new_state : (layout : Layout) (opened : OpenState) (passes : List Known) → opened.base ≡ 0
@@ -177,18 +184,15 @@ new_state layout opened passes none new =
     ap (λ (base : ℕ). state_with (since opened.log base) passes layout None) none
     ∙ ap (λ (each : List Known). state_with (since opened.log 0) each layout None) new
 
--- the space after a segment fits its layout
-pub fits_after : (layout own : Layout) (space : Space) (after : BoundedSpace) → after ≡ space_of own space → own ≡ layout → FitsLayout layout after
-fits_after layout own space after is laid = record {
-  depth = ap (λ (s : BoundedSpace). s.depth) is ∙ ap (λ (l : Layout). l.depth) laid;
-  limit = ap (λ (s : BoundedSpace). s.limit) is ∙ ap (λ (l : Layout). l.tables) laid;
-}
+-- what a segment leaves fits its layout
+pub fits_after : (layout own : Layout) (after : Past) → FitsPast own after → own ≡ layout → FitsPast layout after
+fits_after layout own after fits laid = subst (λ (l : Layout). FitsPast l after) laid fits
 
-module _ (clock : ClockId) (of : Since) (layout : Layout) (space : Option Space) (before : List Known) (scripts : List (List Query))
+module _ (clock : ClockId) (of : Since) (layout : Layout) (past : Option Past) (before : List Known) (scripts : List (List Query))
     (pens : List PenState) (passes : List Known) (answers : List (List Said)) (trace : Recording) (bytes : List ℕ) (history : List LogEvent)
-    (made : IsMade clock of layout space before scripts pens passes answers trace bytes history) where
+    (made : IsMade clock of layout past before scripts pens passes answers trace bytes history) where
   abbrev state : RunState
-  state = state_with of before layout space
+  state = state_with of before layout past
 
   abbrev workers : List WorkerState
   workers = made.served.workers
@@ -217,25 +221,25 @@ module _ (clock : ClockId) (of : Since) (layout : Layout) (space : Option Space)
             (have_seen_from clock of scripts workers trace made.served.served recorded same);
       }
 
-  pub is_right : (order : List ℕ) → IsSoundAfter space trace → order ≡ recorded_order trace
+  pub is_right : (order : List ℕ) → ((run : Option Run) → IsBehind run past trace → IsSoundAfter run trace) → order ≡ recorded_order trace
       → IsRightSegment state (ran_of trace scripts answers bytes order) passes history
   is_right order sound is = record {
     segment = is_segment order;
-    sound = subst (λ (s : Option Space). IsSoundAfter s trace) (sym (space_kept of before layout space)) sound;
+    sound = λ run kept. sound run (behind_it of before layout past trace run kept made.laid);
     order_is = is;
   }
 
-  pub is_wrong : (fault : Fault) → IsFirstAfter space trace fault → HasFailed state scripts bytes fault
+  pub is_wrong : (fault : Fault) → ((run : Option Run) → IsBehind run past trace → IsFirstAfter run trace fault) → HasFailed state scripts bytes fault
   is_wrong fault first = record {
     trace = trace;
     answers = answers;
     passes = passes;
     history = history;
-    wrong = record { segment = is_segment []; first = subst (λ (s : Option Space). IsFirstAfter s trace fault) (sym (space_kept of before layout space)) first };
+    wrong = record { segment = is_segment []; first = λ run kept. first run (behind_it of before layout past trace run kept made.laid) };
   }
 
-  pub has_ended : (order : List ℕ) → IsSoundAfter space trace → order ≡ recorded_order trace → (All (All IsAnswer) answers → ⊥)
-      → HasEnded state scripts answers bytes order passes
+  pub has_ended : (order : List ℕ) → ((run : Option Run) → IsBehind run past trace → IsSoundAfter run trace) → order ≡ recorded_order trace
+      → (All (All IsAnswer) answers → ⊥) → HasEnded state scripts answers bytes order passes
   has_ended order sound is stopped =
       let each : length answers ≡ length scripts =
       ap (λ (a : List (List Said)). length a) made.served.answers_are ∙ length-map workers (λ (w : WorkerState). w.said)
@@ -247,12 +251,12 @@ module _ (clock : ClockId) (of : Since) (layout : Layout) (space : Option Space)
         stopped = λ all. stopped (none_stopped scripts answers each all);
       }
 
-  pub has_gone : (order : List ℕ) (after : Space) (new : List Known) → IsSoundAfter space trace → order ≡ recorded_order trace
-      → All (All IsAnswer) answers → after ≡ last_space space trace → All (λ pass. pass.log ≡ of.log) new
+  pub has_gone : (order : List ℕ) (after : Past) (new : List Known) → ((run : Option Run) → IsBehind run past trace → IsSoundAfter run trace)
+      → order ≡ recorded_order trace → All (All IsAnswer) answers
+      → ((run : Option Run) → IsBehind run past trace → IsKept (run_after run trace) after) → All (λ pass. pass.log ≡ of.log) new
       → All (λ pass. StartsWith pass.view.seen history) new → length new ≡ length passes
       → HasGone state scripts answers bytes order (state_with (since of.log (of.from + length trace.log)) new layout (Some after))
-  has_gone order after new sound is answered after_is logs known same =
-      let keep : Layout → Space → Option Kept = λ l s. Some (record { layout = l; space = s }) in
+  has_gone order after new sound is answered kept logs known same =
       let long : length passes ≡ layout.threads =
       ap (λ (p : List Known). length p) made.served.passes_are ∙ length-map workers (λ (w : WorkerState). w.pass) ∙ threads in
       let right = is_right order sound is in
@@ -264,8 +268,10 @@ module _ (clock : ClockId) (of : Since) (layout : Layout) (space : Option Space)
         on = record {
           answered = are_all_answered trace scripts answers right.segment.calls answered;
           layout_is = refl;
-          kept_is = ap (keep layout) after_is ∙ ap (λ (l : Layout). keep l (last_space space trace)) (sym made.laid)
-              ∙ ap (λ (s : Option Space). keep trace.layout (last_space s trace)) (sym (space_kept of before layout space));
+          kept = λ run held. (
+            laid_after of before layout past trace run held made.laid,
+            kept run (behind_it of before layout past trace run held made.laid),
+          );
           log_is = refl;
           base_is = refl;
           of_log = logs;

@@ -1,8 +1,10 @@
 -- A run in segments as a whole: one chain, which is right, and one log.
-use Rattle.std.specs.Prelude.{◌≡◌, ℕ, ◌++◌, List, [], ◌∷◌, flat_map, map}
+use Rattle.std.specs.Prelude.{◌≡◌, ℕ, ◌++◌, List, [], ◌∷◌, Option, Some, flat_map, map}
 use Rattle.vs_types.specs.declared.request.Query.{Query}
 use Rattle.nr_trace.specs.Recording.{Recording}
 use Rattle.nr_trace.specs.declared.fault.Fault.{Fault}
+use Rattle.nr_joined.specs.Run.{Run}
+use Rattle.nr_audit.specs.Segments.{run_after}
 use Rattle.nr_ring.specs.Pass.{Known}
 use Rattle.nr_ring.specs.declared.log_event.LogEvent.{LogEvent}
 use Rattle.nr_serve.specs.RunState.{RunState}
@@ -18,6 +20,11 @@ orders_of segments = map (λ segment. segment.order) segments
 -- the calls of the segments' logs, one log after the other
 abbrev pub logs_of : List Ran → List ℕ
 logs_of segments = flat_map (λ segment. segment.trace.log) segments
+
+-- a run of the auditor's with these segments more, one after the other
+abbrev pub run_through : Option Run → List Ran → Option Run
+run_through before [] = before
+run_through before (segment ∷ more) = run_through (Some (run_after before segment.trace)) more
 
 -- from one state on, these bytes are those of the segments, each of which is right and behind which the run goes on, and it has come to this
 abbrev pub RunsOn : RunState → List ℕ → List Ran → RunState → Type 0

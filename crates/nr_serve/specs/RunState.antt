@@ -16,7 +16,7 @@ pub record RunState : Type 0 where
   pub base : ℕ
   pub passes : List Known
 
--- nothing is run yet
+-- the state of a run of which nothing is run yet
 abbrev pub new_run : Layout → TableId → RunState
 new_run layout log = record {
   layout = layout;

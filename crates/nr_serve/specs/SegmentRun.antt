@@ -1,7 +1,8 @@
 -- A run in segments: what each segment has to show. All segments are of one log. The calls of a segment are those of the log from the last
 -- cut on, and its places are counted from there.
-use Rattle.std.specs.Prelude.{◌≡◌, ℕ, ◌+◌, ◌≤◌, List, All, Some, drop, length, map, slice_get, ⊤}
+use Rattle.std.specs.Prelude.{◌≡◌, ℕ, ◌+◌, ◌≤◌, List, All, Option, Some, drop, length, map, option_map, slice_get, ⊤}
 use Rattle.std.specs.List.{AllZip}
+use Rattle.vs_types.specs.Config.{Layout}
 use Rattle.vs_types.specs.declared.op.Action.{Action}
 use Rattle.vs_types.specs.declared.request.Query.{Query}
 use Rattle.nr_trace.specs.Calls.{Invocation, IsRead, Response, call_of, operation_of, reply_to}
@@ -9,8 +10,10 @@ use Rattle.nr_trace.specs.Orders.{recorded_order}
 use Rattle.nr_trace.specs.Recording.{Recording}
 use Rattle.nr_trace.specs.Spelling.{SpellsSegment}
 use Rattle.nr_trace.specs.declared.fault.Fault.{Fault}
+use Rattle.nr_joined.specs.Run.{Run}
 use Rattle.nr_audit.specs.Faults.{IsFirstAfter, IsSoundAfter}
-use Rattle.nr_chain.specs.Bytes.{kept_after, layout_before, space_before}
+use Rattle.nr_audit.specs.Segments.{run_after}
+use Rattle.nr_chain.specs.Fed.{IsKeptOf, Kept}
 use Rattle.nr_ring.specs.LogHistory.{IsLogHistory, log_after}
 use Rattle.nr_ring.specs.Pass.{Known}
 use Rattle.nr_ring.specs.View.{StartsWith}
@@ -19,6 +22,10 @@ use Rattle.nr_serve.specs.Run.{AreAllCallsOf}
 use Rattle.nr_serve.specs.RunState.{RunState}
 use Rattle.nr_serve.specs.declared.said.Said.{Said}
 use Rattle.nr_serve.specs.declared.said.Said.TheVariants.{Answer, Stopped}
+
+-- how the segments so far are laid out, if there are some
+abbrev pub layout_so_far : Option Kept → Option Layout
+layout_so_far kept = option_map (λ last. last.layout) kept
 
 -- a pass has seen what it had seen before, and perhaps more
 abbrev pub HasSeenMore : Known → Known → Type 0
@@ -59,7 +66,7 @@ pub record IsLogFrom (state : RunState) (calls : List ℕ) (passes : List Known)
 -- and the answers are what came of them. Its calls are those of the log since the last cut; and each thread's pass has seen at the end what it
 -- had seen before, and all on which its answers depend
 pub record IsSegmentOf (state : RunState) (ran : Ran) (passes : List Known) (history : List LogEvent) : Type 0 where
-  pub spelled : SpellsSegment (layout_before state.kept) ran.bytes ran.trace
+  pub spelled : SpellsSegment (layout_so_far state.kept) ran.bytes ran.trace
   pub layout_is : ran.trace.layout ≡ state.layout
   pub answers_each : length ran.answers ≡ state.layout.threads
   pub calls : AreAllCallsOf ran.trace ran.scripts ran.answers
@@ -67,16 +74,16 @@ pub record IsSegmentOf (state : RunState) (ran : Ran) (passes : List Known) (his
   pub log : IsLogFrom state ran.trace.log passes history
   pub seen : HaveSeenAnswersFrom state.base ran.trace passes
 
--- it is right with its order
+-- it is right with its order, behind each run of which this is kept
 pub record IsRightSegment (state : RunState) (ran : Ran) (passes : List Known) (history : List LogEvent) : Type 0 where
   pub segment : IsSegmentOf state ran passes history
-  pub sound : IsSoundAfter (space_before state.kept) ran.trace
+  pub sound : (before : Option Run) → IsKeptOf before state.kept → IsSoundAfter before ran.trace
   pub order_is : ran.order ≡ recorded_order ran.trace
 
--- it is wrong, and this is its first fault
+-- it is wrong, and this is its first fault behind each such run
 pub record IsWrongSegment (state : RunState) (ran : Ran) (passes : List Known) (history : List LogEvent) (fault : Fault) : Type 0 where
   pub segment : IsSegmentOf state ran passes history
-  pub first : IsFirstAfter (space_before state.kept) ran.trace fault
+  pub first : (before : Option Run) → IsKeptOf before state.kept → IsFirstAfter before ran.trace fault
 
 -- it was answered
 abbrev pub IsAnswer : Said → Type 0
@@ -93,11 +100,12 @@ abbrev pub AreAllAnswered : List (List Query) → List (List Said) → Type 0
 AreAllAnswered scripts answers = (thread : ℕ) (script : List Query) (items : List Said) → slice_get scripts thread ≡ Some script
     → slice_get answers thread ≡ Some items → IsAllAnswered script items
 
--- the log is cut behind a segment, and the run goes on from there: all that was asked is answered, and the passes have seen the whole history
+-- the log is cut behind a segment, and the run goes on from there: all that was asked is answered, and the passes have seen the whole history.
+-- What is kept of a run is then kept of that run with this segment more
 pub record GoesOn (state : RunState) (ran : Ran) (history : List LogEvent) (next : RunState) : Type 0 where
   pub answered : AreAllAnswered ran.scripts ran.answers
   pub layout_is : next.layout ≡ state.layout
-  pub kept_is : next.kept ≡ Some (kept_after state.kept ran.trace)
+  pub kept : (before : Option Run) → IsKeptOf before state.kept → IsKeptOf (Some (run_after before ran.trace)) next.kept
   pub log_is : next.log ≡ state.log
   pub base_is : next.base ≡ state.base + length ran.trace.log
   pub of_log : All (λ pass. pass.log ≡ state.log) next.passes

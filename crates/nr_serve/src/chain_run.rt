@@ -8,23 +8,23 @@ ghost use Rattle.nr_serve.specs.RunState.{new_run};
 use crate::no_segment::NoSegment;
 use crate::segment_outcome::SegmentOutcome;
 use crate::serving::serve_on;
+use nr_audit::Past;
 use nr_replicas::{Gate, OpenReplicas};
 use nr_ring::{LogName, LogPass, MOST_PLACES};
 use std::alloc::Global;
 use std::marker::{Brand, Model};
 use std::sync::Wait;
 use std::thread::Threads;
-use vs_plain::PlainSpace;
 use vs_types::{Config, Fail, Memory, Request};
 
-/// What there is between two segments: the replicas, with a log that was cut behind the last one; a pass for each thread; and the space after
-/// the segments so far, if there are some.
+/// What there is between two segments: the replicas, with a log that was cut behind the last one; a pass for each thread; and what the
+/// segments so far left, if there are some.
 #[derive(Drop)]
 pub(crate) struct Between<J: LogName> {
     pub(crate) opened: OpenReplicas<J>,
     pub(crate) passes: Vec<LogPass<J>>,
     pub(crate) config: Config,
-    pub(crate) space: Option<PlainSpace>,
+    pub(crate) past: Option<Past>,
 }
 
 /// A run that goes on in segments, between two of them. Contracts see what it has come to.
@@ -34,10 +34,8 @@ pub struct ChainRun<J: LogName> {
 }
 
 impl<J: LogName> Model for ChainRun<J> {
-    ghost use Rattle.std.specs.Coded.{codes, coded_ℕ};
-    ghost use Rattle.std.specs.FinMap as finite;
-    ghost use Rattle.std.specs.Ordering.{nat_cmp};
-    ghost use Rattle.vs_types.specs.contracts.page.Page as page_contract;
+    ghost use Rattle.std.specs.Coded.{codes};
+    ghost use Rattle.nr_audit.specs.contracts.past.Past as past_contract;
     ghost use Rattle.nr_ring.specs.contracts.view.View as view_contract;
     ghost use Rattle.nr_serve.specs.RunState.{RunState};
     ghost use Rattle.nr_serve.specs.inside.Segment.{IsRunOf, state_of};
@@ -47,15 +45,15 @@ impl<J: LogName> Model for ChainRun<J> {
     ghost coded = { Prim.hlevel (
       codes,
       view_contract.the_row.coded,
-      finite.code {R = nat_cmp} coded_ℕ page_contract.the_row.coded,
+      past_contract.the_row.coded,
     ) };
 
     ghost view = { λ r.
-        state_of r.between.opened r.between.passes.items r.between.config r.between.space };
+        state_of r.between.opened r.between.passes.items r.between.config r.between.past };
 
     ghost invariant = { λ r.
         IsRunOf J.depth J.replicas r.between.opened r.between.passes.items r.between.config
-        r.between.space };
+        r.between.past };
 }
 
 impl<J: LogName> ChainRun<J> {
@@ -77,7 +75,7 @@ impl<J: LogName> ChainRun<J> {
             opened,
             passes,
             config,
-            space: None,
+            past: None,
         };
         let run = ChainRun { between };
         Ok(run)

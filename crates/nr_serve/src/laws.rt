@@ -1,10 +1,11 @@
 //! Laws of runs in segments. Each function does nothing: its clause says what holds of all of them.
-ghost use Rattle.std.specs.Prelude.{◌≡◌, ◌≤◌, ℕ, List, [], ◌∷◌, ◌++◌};
+ghost use Rattle.std.specs.Prelude.{◌≡◌, ◌≤◌, ℕ, List, None, [], ◌∷◌, ◌++◌};
 ghost use Rattle.vs_types.specs.Config.{Layout};
+ghost use Rattle.nr_chain.specs.Fed.{IsKeptOf};
 ghost use Rattle.nr_chain.specs.Headline.{IsRightChain};
 ghost use Rattle.nr_ring.specs.Pass.{Known, TableId};
 ghost use Rattle.nr_ring.specs.declared.log_event.LogEvent.{LogEvent};
-ghost use Rattle.nr_serve.specs.ChainOfRun.{logs_of, orders_of, RunsOn};
+ghost use Rattle.nr_serve.specs.ChainOfRun.{logs_of, orders_of, run_through, RunsOn};
 ghost use Rattle.nr_serve.specs.Run.{IsLogOf};
 ghost use Rattle.nr_serve.specs.RunState.{HasOneLog, new_run, RunState};
 ghost use Rattle.nr_serve.specs.SegmentRun.{GoesOn, IsRightSegment, Ran};
@@ -15,6 +16,14 @@ pub fn runs_go_on_by_segments()
         (passes : List Known) (history : List LogEvent) → RunsOn state bytes segments mid
         → IsRightSegment mid segment passes history → GoesOn mid segment history end
         → RunsOn state (bytes ++ segment.bytes) (segments ++ segment ∷ []) end }
+{}
+
+/// What is kept of a run is kept of its segments so far, as one: what is said of the next segment behind each such run is said of it behind
+/// these.
+pub fn runs_are_kept()
+    ensures { (layout : Layout) (log : TableId) (bytes : List ℕ) (segments : List Ran)
+        (end : RunState) → RunsOn (new_run layout log) bytes segments end
+        → IsKeptOf (run_through None segments) end.kept }
 {}
 
 /// The bytes of a run of one segment or more are one chain, which is right with the orders of its segments; and so they are with a last

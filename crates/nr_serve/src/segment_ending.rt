@@ -5,7 +5,7 @@ ghost use Rattle.vs_types.specs.declared.request.Query.{Query};
 ghost use Rattle.nr_trace.specs.Parts.{HasFrames};
 ghost use Rattle.nr_trace.specs.Spelling.{SpellsSegment};
 ghost use Rattle.nr_trace.specs.declared.version.Version.TheVariants.{Segment};
-ghost use Rattle.nr_audit.specs.Segments.{FitsLayout, pages_before};
+ghost use Rattle.nr_audit.specs.Segments.{FitsPast};
 ghost use Rattle.nr_ring.specs.Pass.{Known};
 ghost use Rattle.nr_replicas.specs.Settled.{IsCut, IsSettled};
 ghost use Rattle.nr_record.specs.Events.{AreEventsOf};
@@ -21,13 +21,12 @@ use crate::no_segment::NoSegment;
 use crate::outcome::{Answers, Passes, TraceBytes};
 use crate::said::Said;
 use crate::segment_outcome::SegmentOutcome;
-use nr_audit::judge_segment;
+use nr_audit::{Past, judge_segment};
 use nr_record::{Clock, Pen, finish_segment};
 use nr_replicas::{Cut, Replicas, ReplicasName};
 use nr_ring::{LogName, LogPass};
 use nr_trace::{Trace, write};
 use std::alloc::Global;
-use vs_plain::PlainSpace;
 use vs_types::{Config, Fail, LOG_PLACES, Memory};
 use vs_walk::Dump;
 
@@ -136,7 +135,7 @@ fn going_on<J: LogName, K: ReplicasName>(
     clock: Clock,
     replicas: Replicas<J, K>,
     config: Config,
-    space: Option<PlainSpace>,
+    past: Option<Past>,
     parts: Parts<J>,
 ) -> Result<SegmentOutcome<J>, Fail<NoSegment>>
     requires config { (config ≡ clock.layout) × (replicas ≡ config) }
@@ -144,13 +143,13 @@ fn going_on<J: LogName, K: ReplicasName>(
     requires pens { AreAllPens clock parts.pens.items }
     requires passes { (length parts.passes.items ≡ config.threads)
         × All (λ pass. pass.log ≡ K.log) parts.passes.items }
-    requires space { IfSome space (FitsLayout config) }
+    requires past { IfSome past (FitsPast config) }
     requires answered { All (λ items. All IsAnswer items.items) parts.answers.items }
     ensures { (before : List Known) (scripts : List (List Query))
         → HaveServed clock (since K.log K.base) before scripts parts.pens.items parts.passes.items
         (map (λ said. said.items) parts.answers.items)
         → IfOk result
-        (IsOutcomeOf (state_with (since K.log K.base) before config (pages_before space)) scripts) }
+        (IsOutcomeOf (state_with (since K.log K.base) before config past) scripts) }
 {
     let Parts {
         pens,
@@ -165,15 +164,15 @@ fn going_on<J: LogName, K: ReplicasName>(
     } = cut;
     let Written { trace, bytes } = written_segment(alloc, clock, pens, config, calls, dumps)?;
     let bytes = TraceBytes::of(bytes);
-    match judge_segment(alloc, &trace, space) {
+    match judge_segment(alloc, &trace, past) {
         Ok((order, after)) => {
             let answers = Answers::of(answers);
-            let space = Some(after);
+            let past = Some(after);
             let between = Between {
                 opened,
                 passes,
                 config,
-                space,
+                past,
             };
             let run = ChainRun { between };
             Ok(SegmentOutcome::Right {
@@ -194,7 +193,7 @@ fn last<J: LogName, K: ReplicasName>(
     clock: Clock,
     replicas: Replicas<J, K>,
     config: Config,
-    space: Option<PlainSpace>,
+    past: Option<Past>,
     parts: Parts<J>,
 ) -> Result<SegmentOutcome<J>, Fail<NoSegment>>
     requires config { (config ≡ clock.layout) × (replicas ≡ config) }
@@ -202,13 +201,13 @@ fn last<J: LogName, K: ReplicasName>(
     requires pens { AreAllPens clock parts.pens.items }
     requires passes { (length parts.passes.items ≡ config.threads)
         × All (λ pass. pass.log ≡ K.log) parts.passes.items }
-    requires space { IfSome space (FitsLayout config) }
+    requires past { IfSome past (FitsPast config) }
     requires stopped { All (λ items. All IsAnswer items.items) parts.answers.items → ⊥ }
     ensures { (before : List Known) (scripts : List (List Query))
         → HaveServed clock (since K.log K.base) before scripts parts.pens.items parts.passes.items
         (map (λ said. said.items) parts.answers.items)
         → IfOk result
-        (IsOutcomeOf (state_with (since K.log K.base) before config (pages_before space)) scripts) }
+        (IsOutcomeOf (state_with (since K.log K.base) before config past) scripts) }
 {
     let Parts {
         pens,
@@ -218,7 +217,7 @@ fn last<J: LogName, K: ReplicasName>(
     let (calls, dumps, passes) = settled(replicas, passes)?;
     let Written { trace, bytes } = written_segment(alloc, clock, pens, config, calls, dumps)?;
     let bytes = TraceBytes::of(bytes);
-    match judge_segment(alloc, &trace, space) {
+    match judge_segment(alloc, &trace, past) {
         Ok((order, _after)) => {
             let answers = Answers::of(answers);
             let passes = Passes::of(passes);
@@ -246,7 +245,7 @@ pub(crate) fn segment_ending<J: LogName, K: ReplicasName>(
     clock: Clock,
     replicas: Replicas<J, K>,
     config: Config,
-    space: Option<PlainSpace>,
+    past: Option<Past>,
     parts: Parts<J>,
 ) -> Result<SegmentOutcome<J>, Fail<NoSegment>>
     requires config { (config ≡ clock.layout) × (replicas ≡ config) }
@@ -254,16 +253,16 @@ pub(crate) fn segment_ending<J: LogName, K: ReplicasName>(
     requires pens { AreAllPens clock parts.pens.items }
     requires passes { (length parts.passes.items ≡ config.threads)
         × All (λ pass. pass.log ≡ K.log) parts.passes.items }
-    requires space { IfSome space (FitsLayout config) }
+    requires past { IfSome past (FitsPast config) }
     ensures { (before : List Known) (scripts : List (List Query))
         → HaveServed clock (since K.log K.base) before scripts parts.pens.items parts.passes.items
         (map (λ said. said.items) parts.answers.items)
         → IfOk result
-        (IsOutcomeOf (state_with (since K.log K.base) before config (pages_before space)) scripts) }
+        (IsOutcomeOf (state_with (since K.log K.base) before config past) scripts) }
 {
     if all_answered(&parts.answers) {
-        going_on(alloc, clock, replicas, config, space, parts)
+        going_on(alloc, clock, replicas, config, past, parts)
     } else {
-        last(alloc, clock, replicas, config, space, parts)
+        last(alloc, clock, replicas, config, past, parts)
     }
 }

@@ -36,20 +36,20 @@ pub(crate) fn serve_on<
     gate: &G,
 ) -> Result<SegmentOutcome<J>, Fail<NoSegment>>
     requires run { IsRunOf J.depth J.replicas between.opened between.passes.items between.config
-        between.space }
+        between.past }
     requires log { (between.opened.log ≡ K.log) × (between.opened.base ≡ K.base) }
     requires tables { between.config.tables ≡ K.tables }
     requires scripts { AreScripts between.config (map (λ script. script.items) scripts.items) }
     ensures { IfOk result
         (IsOutcomeOf
-        (state_of between.opened between.passes.items between.config between.space)
+        (state_of between.opened between.passes.items between.config between.past)
         (map (λ script. script.items) scripts.items)) }
 {
     let Between {
         opened,
         passes,
         config,
-        space,
+        past,
     } = between;
     let base = opened.base();
     let quotas = quotas_of(alloc, &scripts)?;
@@ -65,7 +65,7 @@ pub(crate) fn serve_on<
     match serve_all(rt, alloc, &team, scripts, pens, passes) {
         Ok(workers) => {
             let parts = parts_of(alloc, workers)?;
-            segment_ending(alloc, clock, replicas, config, space, parts)
+            segment_ending(alloc, clock, replicas, config, past, parts)
         }
         Err(Fail::Memory) => Err(Fail::Memory),
         Err(Fail::Refused(NoThread)) => Err(Fail::Refused(NoSegment::NoThread)),

@@ -1,5 +1,12 @@
+pub mod Behind
 pub mod Found
+pub mod HiddenChanges
+pub mod Lefts
+pub mod Lingering
 pub mod Looked
+pub mod LooksLeft
+pub mod NoneLeft
+pub mod Placed
 pub mod QuietPages
 pub mod Raised
 pub mod Replayed

@@ -13,7 +13,8 @@ use Rattle.vs_types.specs.Step.{allow, allow_in_page}
 use Rattle.nr_trace.specs.Recording.{Recording}
 use Rattle.nr_trace.specs.Calls.{Answers}
 use Rattle.nr_trace.specs.Orders.{space_from}
-use Rattle.nr_touch.specs.Touches.{page_after, ChangesLook, IsAllowedPrefix, IsAnsweredAt, IsRightTouch}
+use Rattle.nr_joined.specs.Run.{Run}
+use Rattle.nr_touch.specs.Touches.{page_after, ChangesLook, IsAllowedPrefix, IsAnsweredAt, IsRightBehind}
 use Rattle.nr_touch.specs.inside.Changes.{AreChanges}
 use Rattle.nr_touch.specs.inside.Columns.{Covers, IsPast, IsAhead, IsNext}
 use Rattle.nr_touch.specs.inside.Sights.{IsAnsweredBetween}
@@ -179,23 +180,24 @@ permuted start trace xs ys same are = record {
 
 -- ---- touch by touch
 
-module _ (start : Space) (trace : Recording) (touches : List Touch) (index : ℕ) (d : Touch) (r : Bool) (l : index < length touches)
-    (judged : IsTrue r ↔ IsRightTouch start trace (get_or touches index d)) (right : AreRightBelow start trace touches index) where
-  pub stale_at : r ≡ false → FindsStale start trace touches (Some index)
+module _ (before : Option Run) (start : Space) (segment : Recording) (touches : List Touch) (index : ℕ) (d : Touch) (r : Bool) (l : index < length touches)
+    (judged : IsTrue r ↔ IsRightBehind before start segment (get_or touches index d)) (right : AreRightBelow before start segment touches index) where
+  pub stale_at : r ≡ false → FindsStale before start segment touches (Some index)
   stale_at wrong =
       (get_or touches index d, slice_get-get_or touches index d l, (λ is. let yes = judged.1 is in false≢true (sym wrong ∙ yes)), right)
 
-  pub right_to : r ≡ true → AreRightBelow start trace touches (index + 1)
+  pub right_to : r ≡ true → AreRightBelow before start segment touches (index + 1)
   right_to judged_right k touch low at = elim (cases_lt k index) [
-    | inl before ↦ right k touch before at
+    | inl earlier ↦ right k touch earlier at
     | inr past ↦
         let same : k ≡ index = omega (arith, low, past) in
         let one : get_or touches index d ≡ touch =
         same_Some (get_or touches index d) touch (sym (slice_get-get_or touches index d l) ∙ ap (slice_get touches) (sym same) ∙ at) in
-        subst (IsRightTouch start trace) one (judged.0 judged_right)
+        subst (IsRightBehind before start segment) one (judged.0 judged_right)
   ]
 
-pub none_stale : (start : Space) (trace : Recording) (touches : List Touch) (end : ℕ) → length touches ≤ end → AreRightBelow start trace touches end
-    → FindsStale start trace touches None
-none_stale start trace touches end all right index touch at =
+pub none_stale : (before : Option Run) (start : Space) (segment : Recording) (touches : List Touch) (end : ℕ) → length touches ≤ end
+    → AreRightBelow before start segment touches end
+    → FindsStale before start segment touches None
+none_stale before start segment touches end all right index touch at =
     right index touch (let low = slice_get_within touches index touch at in omega (arith, low, all)) at

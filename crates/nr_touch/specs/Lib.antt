@@ -1,5 +1,7 @@
 pub mod Touches
 pub mod Stale
+pub mod Tails
+pub mod Looks
 pub mod inside
 pub use Rattle.vs_types.specs.Space
 pub use Rattle.vs_types.specs.Step

@@ -1,5 +1,5 @@
 -- Touches of a trace whose space begins with a start: which are right.
-use Rattle.std.specs.Prelude.{◌≡◌, ◌≢◌, ℕ, ◌+◌, ◌<◌, ◌≤◌, ◌⊎◌, length, take, Option}
+use Rattle.std.specs.Prelude.{◌≡◌, ◌≢◌, ℕ, ◌+◌, ◌<◌, ◌≤◌, ◌⊎◌, length, take, Option, None, Some}
 use Rattle.vs_types.specs.Space.{Space, page_at}
 use Rattle.vs_types.specs.Step.{allow}
 use Rattle.vs_types.specs.declared.page.Page.{Page}
@@ -7,6 +7,8 @@ use Rattle.nr_trace.specs.Recording.{Recording}
 use Rattle.nr_trace.specs.Calls.{Answers}
 use Rattle.nr_trace.specs.Faults.{HasPlaced}
 use Rattle.nr_trace.specs.Orders.{space_from, floor}
+use Rattle.nr_joined.specs.Joined.{joined_traces}
+use Rattle.nr_joined.specs.Run.{Run}
 use Rattle.nr_touch.specs.declared.touch.Touch.{Touch}
 
 -- the page that covers an address after the first entries of the log, this many
@@ -39,6 +41,16 @@ IsAnsweredAt start trace touch n = touch.answer ≡ allow (space_from start trac
 -- a right touch: it is answered as after some prefix that is allowed
 abbrev pub IsRightTouch : Space → Recording → Touch → Type 0
 IsRightTouch start trace touch = (n : ℕ) × IsAllowedPrefix start trace touch n × IsAnsweredAt start trace touch n
+
+-- a touch behind so many events
+abbrev pub touch_behind : ℕ → Touch → Touch
+touch_behind events touch = record touch { made = events + touch.made; answered = events + touch.answered }
+
+-- a right touch of a segment, which begins with this space where no run comes before: behind a run it is right in the run with the segment
+abbrev pub IsRightBehind : Option Run → Space → Recording → Touch → Type 0
+IsRightBehind None start segment touch = IsRightTouch start segment touch
+IsRightBehind (Some run) start segment touch =
+    IsRightTouch run.start (joined_traces run.trace segment) (touch_behind (length run.trace.events) touch)
 
 -- no update changes how the address looks while the touch is open, and none that changes it is open when the touch is made
 abbrev pub IsOfQuietPage : Space → Recording → Touch → Type 0

@@ -2,6 +2,8 @@
 pub mod Bounds
 pub mod Changes
 pub mod Columns
+pub mod Earlier
+pub mod Lefts
 pub mod Sights
 pub mod Undo
 pub mod Walk

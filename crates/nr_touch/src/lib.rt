@@ -10,12 +10,15 @@ mod bounds;
 mod change;
 mod history;
 pub mod laws;
+mod looks;
 mod replay;
 mod search;
 mod sights;
 mod stale;
+mod tail;
 mod touch;
 mod undo;
 
-pub use stale::first_stale;
+pub use stale::{Followed, follow};
+pub use tail::Tail;
 pub use touch::Touch;

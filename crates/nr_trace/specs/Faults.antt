@@ -87,7 +87,7 @@ HasFaultFrom start trace (Differs replica address) =
     HasDump trace replica (λ dump. HasDifference trace.layout.depth dump (space_from start trace (take dump.applied trace.log)) address)
 HasFaultFrom start trace fault = ⊥
 
--- the same from no pages on
+-- what each fault but that of the format says of a trace, from no pages on
 abbrev pub HasFault : Recording → Fault → Type 0
 HasFault trace fault = HasFaultFrom no_pages trace fault
 
@@ -128,7 +128,7 @@ pub record IsFirstFrom (start : Space) (trace : Recording) (fault : Fault) : Typ
   pub holds : HasFaultFrom start trace fault
   pub none_earlier : (other : Fault) → HasFaultFrom start trace other → Earlier trace other fault → ⊥
 
--- the same from no pages on
+-- the fault holds of a trace from no pages on, and no earlier one does
 abbrev pub IsFirst : Recording → Fault → Type 0
 IsFirst trace fault = IsFirstFrom no_pages trace fault
 

@@ -31,7 +31,7 @@ operations trace calls = filter_map (operation_of trace) calls
 abbrev pub space_from : Space → Recording → List ℕ → Space
 space_from start trace calls = after_all trace.layout.depth trace.layout.tables start (operations trace calls)
 
--- the same from no pages on
+-- the one sequential space of a trace after the updates among these calls, in their order, from no pages on
 abbrev pub space_after : Recording → List ℕ → Space
 space_after trace calls = space_from no_pages trace calls
 

@@ -27,12 +27,12 @@ use Rattle.nr_trace.specs.declared.fields.AnswerFields.{AnswerFields}
 use Rattle.nr_trace.specs.declared.event.Event.{Event}
 use Rattle.nr_trace.specs.declared.event.Event.TheVariants.{Call, Reply, Touch}
 
--- 4 bytes
+-- the magic, 4 bytes
 abbrev pub magic : Version → List ℕ
 magic Segment = codes "NRVS"
 magic version = codes "NRVT"
 
--- 2 bytes
+-- the version, 2 bytes
 abbrev pub version_word : Version → List ℕ
 version_word version = to_be_bytes w16 (version_code version)
 
@@ -96,11 +96,11 @@ event (Reply call at answer) =
 abbrev pub dump_head : DumpHead → List ℕ
 dump_head head = to_be_bytes w32 head.applied ++ to_be_bytes w32 head.frames ++ to_be_bytes w64 head.root
 
--- 8 bytes
+-- the number of a frame, 8 bytes
 abbrev pub frame_number : ℕ → List ℕ
 frame_number number = to_be_bytes w64 number
 
--- 4,096 bytes
+-- the words of a frame, 4,096 bytes
 abbrev pub frame_words : List ℕ → List ℕ
 frame_words words = flat_map (to_be_bytes w64) words
 

@@ -22,7 +22,7 @@ pub as_bytes : (as_trace : Bool) (trace : Recording) (text : List ℕ) → as_tr
 as_bytes true trace text asked same = (same, refl)
 as_bytes false trace text asked same = cc
 
-pub as_verdict : (as_trace : Bool) (trace : Recording) (text : List ℕ) (status : ℕ) → as_trace ≡ false → IsAudit (spelling trace) text status
+pub as_verdict : (as_trace : Bool) (trace : Recording) (text : List ℕ) (status : ℕ) → as_trace ≡ false → IsAudit false (spelling trace) text status
     → IsTold as_trace trace text status
 as_verdict true trace text status asked audit = cc
 as_verdict false trace text status asked audit = audit
@@ -36,7 +36,7 @@ spells_itself trace of within = record { of_form = of; follows = tt; in_range = 
 
 -- what is right has the status of yes
 pub status_of_yes : (trace : Recording) (text : List ℕ) (status : ℕ) → IsVersionOf forms.Trace trace.version → IsRecording trace → IsFaultless trace
-    → IsAudit (spelling trace) text status → status ≡ 0
+    → IsAudit false (spelling trace) text status → status ≡ 0
 status_of_yes trace text status of within faultless audit =
     let yes = same_of (spelling trace) audit.verdict (Yes (recorded_order trace)) audit.is_verdict (trace, spells_itself trace of within, faultless, refl) in
     audit.status_is ∙ ap verdict_status yes

@@ -6,7 +6,7 @@ ghost use Rattle.nrvs.specs.Program.{RunsCommand};
 use crate::command::Command;
 use crate::runs::{run_chain_io, run_io, simulate_io};
 use audit_commands::{FilesByName, exit_status, run_inspection, tell_outcome, tell_refusal};
-use audit_readers::{Input, ProgFault};
+use audit_readers::{Input, ProgFault, Progress};
 use clap::Error;
 use std::alloc::Global;
 use std::io::{Read, Write};
@@ -14,7 +14,7 @@ use std::sync::Wait;
 use std::thread::Threads;
 
 /// Runs what was asked for. It may wait, where that is a run.
-fn try_run<T: FilesByName + Threads + Wait + Sync, R: Read + Drop, W: Write, E: Write>(
+fn try_run<T: FilesByName + Threads + Wait + Sync, R: Read + Drop, W: Write, E: Write + Progress>(
     rt: &T,
     alloc: Global,
     asked: Result<Command<'_>, Error>,
@@ -54,7 +54,7 @@ fn try_run<T: FilesByName + Threads + Wait + Sync, R: Read + Drop, W: Write, E: 
 }
 
 /// The whole program over what its words ask for and its three ends: gives the exit status.
-pub fn run<T: FilesByName + Threads + Wait + Sync, R: Read + Drop, W: Write, E: Write>(
+pub fn run<T: FilesByName + Threads + Wait + Sync, R: Read + Drop, W: Write, E: Write + Progress>(
     rt: &T,
     alloc: Global,
     asked: Result<Command<'_>, Error>,

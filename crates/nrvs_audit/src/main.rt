@@ -5,8 +5,8 @@ mod command_line;
 mod program;
 mod words;
 
-use audit_commands::program_words;
-use std::io;
+use audit_commands::{Meter, program_words};
+use std::io::{self, IsTerminal};
 use std::process::ExitCode;
 
 fn main(rt: HostRuntime) -> ExitCode {
@@ -14,13 +14,9 @@ fn main(rt: HostRuntime) -> ExitCode {
     let words = program_words(&rt);
     let asked = words::read_program_words(alloc, &words);
     let mut output = io::writer(&rt);
-    let status = program::run(
-        &rt,
-        alloc,
-        asked,
-        rt.reader(),
-        &mut output,
-        &mut rt.stderr(),
-    );
+    let errors = rt.stderr();
+    let is_terminal = errors.is_terminal();
+    let mut errors = Meter::new(alloc, &rt, errors, is_terminal);
+    let status = program::run(&rt, alloc, asked, rt.reader(), &mut output, &mut errors);
     ExitCode::from(status)
 }

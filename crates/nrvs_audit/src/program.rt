@@ -5,13 +5,13 @@ ghost use Rattle.audit_commands.specs.Tasks.{EndsWith, Runs, RunsInspection};
 use audit_commands::{
     FilesByName, Inspection, exit_status, run_inspection, tell_outcome, tell_refusal,
 };
-use audit_readers::{Input, ProgFault};
+use audit_readers::{Input, ProgFault, Progress};
 use clap::Error;
 use std::alloc::Global;
 use std::io::{Read, Write};
 
 /// Makes the inspection that was asked for.
-fn try_run<F: FilesByName, R: Read + Drop, W: Write, E: Write>(
+fn try_run<F: FilesByName, R: Read + Drop, W: Write, E: Write + Progress>(
     files: &F,
     alloc: Global,
     asked: Result<Inspection<'_>, Error>,
@@ -34,7 +34,7 @@ fn try_run<F: FilesByName, R: Read + Drop, W: Write, E: Write>(
 }
 
 /// The whole program over what its words ask for and its three ends: gives the exit status.
-pub fn run<F: FilesByName, R: Read + Drop, W: Write, E: Write>(
+pub fn run<F: FilesByName, R: Read + Drop, W: Write, E: Write + Progress>(
     files: &F,
     alloc: Global,
     asked: Result<Inspection<'_>, Error>,

@@ -38,12 +38,12 @@ pub record Progress : Type 0 where
   pub space : Space
   pub sum : ℕ
 
--- operations, one after another
+-- the space and the sum after some operations, one after another
 abbrev pub after_operations : Depth → ℕ → List Action → Progress → Progress
 after_operations depth limit actions progress =
     record { space = after_all depth limit progress.space actions; sum = sum_of_steps depth limit progress.space progress.sum actions }
 
--- resolves of addresses
+-- the space and the sum after a resolve of each address: only the sum changes
 abbrev pub after_looks : List ℕ → Progress → Progress
 after_looks addresses progress = record progress { sum = sum_of_looks progress.space progress.sum addresses }
 

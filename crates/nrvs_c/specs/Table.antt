@@ -36,7 +36,7 @@ lent_status handle words marks =
     (if nat_eq (length words) handle.frames then (if nat_lt (length marks) (length words) then 4 else 0) else 3)
     else 1
 
--- nothing is
+-- nothing is wrong with the handle, the words and the marks
 abbrev pub IsUsable : Table → List (List ℕ) → List FrameMark → Type 0
 IsUsable handle words marks = lent_status handle words marks ≡ 0
 

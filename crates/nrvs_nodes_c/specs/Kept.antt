@@ -29,7 +29,7 @@ phase_in code =
 abbrev pub option_in : ℕ → ℕ → Option ℕ
 option_in has number = if nat_eq has 1 then Some number else None
 
--- the machine
+-- the machine that a struct of C keeps
 abbrev pub node_in : Node → machines.Node
 node_in node = record {
   nodes = node.nodes;

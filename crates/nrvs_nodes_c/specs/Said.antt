@@ -24,14 +24,14 @@ said_of_word (Done node) = numbered 3 node 0
 said_of_word (First node index) = numbered 4 node index
 said_of_word (Second node index) = numbered 5 node index
 
--- those of an operation
+-- the numbers of an operation: its code, its word and its values
 abbrev pub said_of_operation : Operation → Said
 said_of_operation (Load word) = record (said_of_word word) { code = 1 }
 said_of_operation (Store word value) = record (said_of_word word) { code = 2; value = value }
 said_of_operation (Exchange word value new_value) = record (said_of_word word) { code = 3; value = value; new_value = new_value }
 said_of_operation (Max word value) = record (said_of_word word) { code = 4; value = value }
 
--- those of what is asked for
+-- the numbers of what a machine asks for
 abbrev pub said_of : Asked → Said
 said_of (asks.Carry operation) = said_of_operation operation
 said_of (asks.Apply entry) = record (numbered 0 0 0) { code = 5; entry = entry }

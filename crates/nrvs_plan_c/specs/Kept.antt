@@ -82,7 +82,7 @@ request_in call =
     else if nat_eq call.kind 8 then UnmapPart call.address call.physical call.bits
     else Collapse call.address call.physical (rights_in call.rights)
 
--- the planner
+-- the planner that a struct of C keeps
 abbrev pub planner_in : Plan → Planner
 planner_in plan = record {
   target = target_at plan.way.phase plan.call;

@@ -32,7 +32,7 @@ answer_numbers (answers.Mapped phys size rights) = record { code = 7; size = siz
 answer_numbers (answers.Allowed phys) = numbered 8 phys
 answer_numbers (answers.Fault code) = numbered 9 code
 
--- those of what came out
+-- the code of a plan's reply and what it has, with 0 for what it doesn't have
 abbrev pub reply_numbers : outcomes.Reply → Reply
 reply_numbers (replies.Answer answer) = answer_numbers answer
 reply_numbers replies.NoFrame = numbered 10 0

@@ -21,7 +21,7 @@ pub record LentFrames : Type 0 where
 abbrev pub frames_in : ℕ → List FrameMark → List (List ℕ) → Store
 frames_in taken marks words = marked_frames (uses_of_first taken marks) (take taken words)
 
--- their notes
+-- the notes of the frames in use that lie in words with these marks
 abbrev pub notes_in : ℕ → List FrameMark → Notes
 notes_in taken marks = marked_notes (uses_of_first taken marks) (notes_of_first taken marks)
 

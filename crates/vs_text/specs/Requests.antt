@@ -29,7 +29,7 @@ name_of (queries.Update (Protect base rights)) = names.Protect
 name_of (queries.Resolve address) = names.Resolve
 name_of (queries.Access address mode access) = names.Access
 
--- SIZE BASE PHYS RIGHTS
+-- the words are a page's: SIZE BASE PHYS RIGHTS
 pub record SpellsPage (words : List (List ℕ)) (page : Page) : Type 0 where
   pub base : List ℕ
   pub phys : List ℕ
@@ -37,19 +37,19 @@ pub record SpellsPage (words : List (List ℕ)) (page : Page) : Type 0 where
   pub base_is : SpellsAddress base page.base
   pub phys_is : SpellsAddress phys page.phys
 
--- one address
+-- the words are one address
 pub record SpellsOne (words : List (List ℕ)) (address : ℕ) : Type 0 where
   pub word : List ℕ
   pub words_are : words ≡ word ∷ []
   pub address_is : SpellsAddress word address
 
--- BASE RIGHTS
+-- the words are those of a base and its new rights: BASE RIGHTS
 pub record SpellsRights (words : List (List ℕ)) (base : ℕ) (rights : Rights) : Type 0 where
   pub word : List ℕ
   pub words_are : words ≡ word ∷ rights_text rights ∷ []
   pub base_is : SpellsAddress word base
 
--- MODE ACCESS VA
+-- the words are those of an access: MODE ACCESS VA
 pub record SpellsAccess (words : List (List ℕ)) (address : ℕ) (mode : Mode) (access : Access) : Type 0 where
   pub word : List ℕ
   pub words_are : words ≡ mode_text mode ∷ access_text access ∷ word ∷ []

@@ -16,7 +16,7 @@ use Rattle.vs_types.specs.declared.page.Size.TheVariants.{K4, M2, G1}
 abbrev pub parts : ℕ → List ℕ → List (List ℕ)
 parts separator text = slice_split (λ byte. byte == separator) text
 
--- its words are parted by spaces
+-- the words of a text, which spaces separate
 abbrev pub words : List ℕ → List (List ℕ)
 words text = parts 32 text
 
@@ -50,7 +50,7 @@ size_text G1 = codes "1G"
 abbrev pub mark : Bool → List ℕ → List ℕ
 mark given letter = if given then letter else codes "-"
 
--- write, user, exec
+-- three signs for rights: write, user, exec
 abbrev pub rights_text : Rights → List ℕ
 rights_text rights = mark rights.write (codes "w") ++ (mark rights.user (codes "u") ++ mark rights.exec (codes "x"))
 

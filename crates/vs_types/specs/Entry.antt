@@ -44,7 +44,7 @@ size_at (suc zero) = K4
 size_at (suc (suc zero)) = M2
 size_at (suc (suc (suc level))) = G1
 
--- all rights
+-- all rights: to write, for users, and to execute
 abbrev pub all_rights : Rights
 all_rights = record { write = true; user = true; exec = true }
 

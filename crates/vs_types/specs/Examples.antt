@@ -36,11 +36,11 @@ look_after depth limit actions address = look (after_all depth limit no_pages ac
 abbrev pub allow_after : Depth → ℕ → List Action → ℕ → Mode → Access → Answer
 allow_after depth limit actions address mode access = allow (after_all depth limit no_pages actions) address mode access
 
--- a map with all rights
+-- a map of a page with all rights
 abbrev pub map_all : ℕ → Size → ℕ → Action
 map_all base size phys = Map (record { base = base; size = size; phys = phys; rights = all_rights })
 
--- a write only
+-- rights that allow a supervisor to read and to write
 abbrev pub write_only : Rights
 write_only = record { write = true; user = false; exec = false }
 
@@ -48,11 +48,11 @@ write_only = record { write = true; user = false; exec = false }
 abbrev pub user_and_exec : Rights
 user_and_exec = record { write = false; user = true; exec = true }
 
--- a supervisor's read only
+-- rights that allow a supervisor's read, and nothing else
 abbrev pub no_rights : Rights
 no_rights = record { write = false; user = false; exec = false }
 
--- fetches only
+-- rights that allow a supervisor to read and to fetch
 abbrev pub exec_only : Rights
 exec_only = record { write = false; user = false; exec = true }
 

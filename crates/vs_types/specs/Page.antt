@@ -40,6 +40,6 @@ pub record IsPageBelow (limit : ℕ) (depth : Depth) (page : Page) : Type 0 wher
 abbrev pub IsPage : Depth → Page → Type 0
 IsPage = IsPageBelow PHYS_END
 
--- what both allow
+-- the rights that two sets of rights both have
 abbrev pub intersection : Rights → Rights → Rights
 intersection a b = record { write = a.write && b.write; user = a.user && b.user; exec = a.exec && b.exec }

@@ -3,7 +3,8 @@ use Rattle.std.specs.Prelude.{◌≡◌, ◌⊎◌, ℕ, Bool, List, [], length,
 use Rattle.std.specs.Io.KnownBytes.{Appends, Consumes, IsAtEnd}
 use Rattle.vs_types.specs.Space.{pages, IsSpace}
 use Rattle.nr_trace.specs.declared.fault.Fault.{Fault}
-use Rattle.nr_chain.specs.Fed.{ChainFed, Kept}
+use Rattle.nr_joined.specs.Run.{Run, end_of}
+use Rattle.nr_chain.specs.Fed.{IsKeptOf}
 use Rattle.nr_chain.specs.Bytes.{EndsWith}
 use Rattle.nr_chain.specs.Verdict.{LastsNext}
 use Rattle.audit_texts.specs.Listing.{pages_text}
@@ -11,34 +12,36 @@ use Rattle.audit_texts.specs.ChainText.{end_lines, shown_lines}
 use Rattle.audit_readers.specs.inside.Going.{GoesOnTo}
 use Rattle.audit_readers.specs.declared.chain.audit.Judged.{Judged}
 use Rattle.audit_readers.specs.declared.chain.audit.Judged.TheVariants.{Ended, Faulty}
+use Rattle.audit_texts.specs.declared.chain.style.Style.{Style}
 
 -- what the reader has lost are right segments and others behind them, and the lines of these segments were written
-pub record IsAt (quiet : Bool) (known left old new : Option (List ℕ)) (last : Option Kept) (rest : List ℕ) (count : ℕ) : Type 0 where
+pub record IsAt (style : Style) (known left old new : Option (List ℕ)) (last : Option Run) (rest : List ℕ) (count : ℕ) : Type 0 where
   pub read : List ℕ
   pub consumed : Consumes known left read
   pub orders : List (List ℕ)
   pub goes_on : GoesOnTo None read orders last rest
   pub counted : count ≡ length orders
-  pub written : Appends old new (shown_lines quiet 0 orders)
+  pub written : Appends old new (shown_lines style 0 orders)
 
 -- the input has ended; or the next segment has a fault, whatever comes behind
-abbrev pub HasJudged : Bool → Option (List ℕ) → Option (List ℕ) → Option (List ℕ) → Option (List ℕ) → Judged → Type 0
-HasJudged quiet known left old new (Ended chain count) = IsAt quiet known left old new chain.kept chain.bytes count × IsAtEnd left
-HasJudged quiet known left old new (Faulty count fault) =
-    (last : Option Kept) × (rest : List ℕ) × IsAt quiet known left old new last rest count × LastsNext last rest fault × (rest ≡ [] → ⊥)
+abbrev pub HasJudged : Style → Option (List ℕ) → Option (List ℕ) → Option (List ℕ) → Option (List ℕ) → Judged → Type 0
+HasJudged style known left old new (Ended chain count) =
+    (last : Option Run) × IsKeptOf last chain.kept × IsAt style known left old new last chain.bytes count × IsAtEnd left
+HasJudged style known left old new (Faulty count fault) =
+    (last : Option Run) × (rest : List ℕ) × IsAt style known left old new last rest count × LastsNext last rest fault × (rest ≡ [] → ⊥)
 
 -- the text is that of the pages after the last segment, if there is one
-abbrev pub IsTextAfter : Bool → Option Kept → List ℕ → Type 0
+abbrev pub IsTextAfter : Bool → Option Run → List ℕ → Type 0
 IsTextAfter as_ranges None text = ⊤
-IsTextAfter as_ranges (Some last) text = IsSpace last.layout.depth last.space × (text ≡ pages_text as_ranges (pages last.space))
+IsTextAfter as_ranges (Some last) text = IsSpace last.trace.layout.depth (end_of last) × (text ≡ pages_text as_ranges (pages (end_of last)))
 
 -- the chain ends well, and the text is that of the pages after its last segment
-pub record SaysPages (as_ranges : Bool) (chain : ChainFed) (text : List ℕ) (status : ℕ) : Type 0 where
-  pub ends : EndsWith chain.kept chain.bytes None
-  pub last : Kept
-  pub last_is : chain.kept ≡ Some last
-  pub is_space : IsSpace last.layout.depth last.space
-  pub text_is : text ≡ pages_text as_ranges (pages last.space)
+pub record SaysPages (as_ranges : Bool) (run : Option Run) (bytes text : List ℕ) (status : ℕ) : Type 0 where
+  pub ends : EndsWith run bytes None
+  pub last : Run
+  pub last_is : run ≡ Some last
+  pub is_space : IsSpace last.trace.layout.depth (end_of last)
+  pub text_is : text ≡ pages_text as_ranges (pages (end_of last))
   pub status_is : status ≡ 0
 
 -- the text is that of the fault of the segment of this number
@@ -47,6 +50,6 @@ pub record SaysFault (count : ℕ) (fault : Fault) (text : List ℕ) (status : �
   pub status_is : status ≡ 1
 
 abbrev pub SaysEnd : Bool → Judged → List ℕ → ℕ → Type 0
-SaysEnd as_ranges (Ended chain count) text status = SaysPages as_ranges chain text status
-    ⊎ ((fault : Fault) × EndsWith chain.kept chain.bytes (Some fault) × SaysFault count fault text status)
+SaysEnd as_ranges (Ended chain count) text status = (run : Option Run) → IsKeptOf run chain.kept → SaysPages as_ranges run chain.bytes text status
+    ⊎ ((fault : Fault) × EndsWith run chain.bytes (Some fault) × SaysFault count fault text status)
 SaysEnd as_ranges (Faulty count fault) text status = SaysFault count fault text status

@@ -1,19 +1,22 @@
 //! The audit of a chain that is read in blocks.
 
-ghost use Rattle.std.specs.Prelude.{◌≡◌, ◌≢◌, ◌+◌, ◌<◌, ◌^◌, ◌-◌, ◌⊎◌, IfErr, IfOk, OnOk, length};
+ghost use Rattle.std.specs.Prelude.{◌≡◌, ◌≢◌, ◌+◌, ◌<◌, ◌^◌, ◌-◌, ◌⊎◌, IfErr, IfOk, OnOk, Option, length};
 ghost use Rattle.std.specs.Io.KnownBytes.{Appends};
+ghost use Rattle.nr_joined.specs.Run.{Run};
+ghost use Rattle.nr_chain.specs.Fed.{IsKeptOf};
 ghost use Rattle.audit_readers.specs.Answers.{WritesReport};
 ghost use Rattle.audit_readers.specs.Ends.{RefusesUnreadable};
 ghost use Rattle.audit_readers.specs.Refusals.{IsEndFault};
 ghost use Rattle.audit_readers.specs.ChainAudit.{AuditsWhatIsRead, HasReadFewOfChain, HasWrittenAtOnce, HasWrittenFirst, IsChainAudit};
-ghost use Rattle.audit_texts.specs.ChainText.{chain_status, end_lines, lines_of};
-ghost use Rattle.audit_readers.specs.inside.Going.{Grows, IsShort, TakesBlock, TakesSome};
+ghost use Rattle.audit_texts.specs.ChainText.{chain_status, lines_of, told_end};
+ghost use Rattle.audit_readers.specs.inside.Going.{Grows, HasBegun, IsShort, TakesBlock, TakesSome};
 ghost use Rattle.audit_readers.specs.inside.Judged.{HasJudged};
 
 use crate::ends::{BLOCK, read_block, write_text};
 use crate::fault::ProgFault;
+use crate::progress::Progress;
 use crate::source::Source;
-use audit_texts::{end_lines, segment_lines};
+use audit_texts::{Style, told_end, told_segment};
 use nr_audit::Order;
 use nr_chain::{Chain, Step};
 use nr_trace::Fault;
@@ -38,18 +41,18 @@ fn write_right<W: Write>(
     writer: &mut W,
     number: u64,
     order: &Order,
-    quiet: bool,
+    style: Style,
 ) -> Result<(), ProgFault>
     ensures ok { OnOk result (Appends (W.contents writer.old) (W.contents writer.new)
-        (lines_of quiet number order.now)) }
+        (lines_of style number order.now)) }
     ensures err { IfErr result (λ fault. (fault ≡ ProgFault.CannotWrite)
         ⊎ ((fault ≡ ProgFault.Memory) × (writer.new ≡ writer.old))) }
     ensures grown { Grows (W.contents writer.old) (W.contents writer.new) }
 {
-    if quiet {
+    if style.quiet {
         return Ok(());
     }
-    let text = segment_lines(alloc, number, order.calls())?;
+    let text = told_segment(alloc, style.as_json, number, order.calls())?;
     write_text(writer, text.as_bytes())
 }
 
@@ -59,14 +62,15 @@ fn write_end<W: Write>(
     writer: &mut W,
     number: u64,
     found: Option<Fault>,
+    as_json: bool,
 ) -> Result<u8, ProgFault>
     ensures ok { IfOk result (λ status. (status ≡ chain_status found)
-        × Appends (W.contents writer.old) (W.contents writer.new) (end_lines number found)) }
+        × Appends (W.contents writer.old) (W.contents writer.new) (told_end as_json number found)) }
     ensures err { IfErr result (λ fault. (fault ≡ ProgFault.CannotWrite)
         ⊎ ((fault ≡ ProgFault.Memory) × (writer.new ≡ writer.old))) }
     ensures grown { Grows (W.contents writer.old) (W.contents writer.new) }
 {
-    let text = end_lines(alloc, number, found)?;
+    let text = told_end(alloc, as_json, number, found)?;
     write_text(writer, text.as_bytes())?;
     match found {
         None => Ok(0),
@@ -75,20 +79,23 @@ fn write_end<W: Write>(
 }
 
 /// Feeds a block to a chain of which so many segments are right, and writes the lines of those that are whole with it and right.
-fn take_block<W: Write>(
+fn take_block<W: Write, P: Progress>(
     alloc: Global,
     writer: &mut W,
     begun: Chain,
     right: u64,
     block: &[u8],
-    quiet: bool,
+    style: Style,
+    progress: &mut P,
 ) -> Result<Taken, ProgFault>
-    requires short { IsShort begun.kept begun.bytes }
+    requires known { HasBegun begun }
     requires room { right + length block.now < 2 ^ 64 }
-    ensures ok { IfOk result (TakesBlock quiet begun right block.now (W.contents writer.old)
+    ensures ok { (run : Option Run) → IsKeptOf run begun.kept → IsShort run begun.bytes
+        → IfOk result (TakesBlock run style begun right block.now (W.contents writer.old)
         (W.contents writer.new)) }
-    ensures err { IfErr result (λ fault. (fault ≡ ProgFault.CannotWrite)
-        ⊎ ((fault ≡ ProgFault.Memory) × TakesSome quiet begun right block.now
+    ensures err { (run : Option Run) → IsKeptOf run begun.kept → IsShort run begun.bytes
+        → IfErr result (λ fault. (fault ≡ ProgFault.CannotWrite)
+        ⊎ ((fault ≡ ProgFault.Memory) × TakesSome run style begun right block.now
         (W.contents writer.old) (W.contents writer.new))) }
     ensures grown { Grows (W.contents writer.old) (W.contents writer.new) }
 {
@@ -99,7 +106,8 @@ fn take_block<W: Write>(
         match chain.feed(alloc, rest)? {
             Step::More(next) => return Ok(Taken::More(next, number)),
             Step::Right(count, order, next) => {
-                write_right(alloc, writer, number, &order, quiet)?;
+                write_right(alloc, writer, number, &order, style)?;
+                progress.right(order.calls().len());
                 number += 1;
                 chain = next;
                 rest = &rest[count..];
@@ -120,22 +128,23 @@ pub(crate) enum Judged {
 }
 
 /// Reads blocks and feeds each, to the end of the input or to the first fault, and writes the lines of right segments.
-pub(crate) fn judge_blocks<R: Source, W: Write>(
+pub(crate) fn judge_blocks<R: Source, W: Write, P: Progress>(
     alloc: Global,
     reader: &mut R,
     writer: &mut W,
     block: &mut [u8],
-    quiet: bool,
+    style: Style,
+    progress: &mut P,
 ) -> Result<Judged, ProgFault>
     requires { length block.old ≡ 4096 }
-    ensures ok { IfOk result (HasJudged quiet (R.remaining reader.old) (R.remaining reader.new)
+    ensures ok { IfOk result (HasJudged style (R.remaining reader.old) (R.remaining reader.new)
         (W.contents writer.old) (W.contents writer.new)) }
     ensures err { IfErr result IsEndFault }
     ensures first { IfErr result (λ fault. fault ≢ ProgFault.CannotWrite
-        → HasWrittenFirst quiet (R.remaining reader.old) (R.remaining reader.new)
+        → HasWrittenFirst style (R.remaining reader.old) (R.remaining reader.new)
         (W.contents writer.old) (W.contents writer.new) fault) }
     ensures few { HasReadFewOfChain (R.remaining reader.old) (R.remaining reader.new) }
-    ensures at_once { HasWrittenAtOnce quiet (R.remaining reader.old) (R.remaining reader.new)
+    ensures at_once { HasWrittenAtOnce style (R.remaining reader.old) (R.remaining reader.new)
         (R.last_read reader.new) (W.contents writer.old) (W.contents writer.new) }
     ensures unread { RefusesUnreadable (2 ^ 52 - 1) (R.remaining reader.old)
         (R.remaining reader.new) (R.last_read reader.new) result }
@@ -148,7 +157,16 @@ pub(crate) fn judge_blocks<R: Source, W: Write>(
         if count == 0 {
             return Ok(Judged::Ended(chain, number));
         }
-        match take_block(alloc, writer, chain, number, &block[..count], quiet)? {
+        progress.read(count);
+        match take_block(
+            alloc,
+            writer,
+            chain,
+            number,
+            &block[..count],
+            style,
+            progress,
+        )? {
             Taken::More(next, right) => {
                 chain = next;
                 number = right;
@@ -161,11 +179,14 @@ pub(crate) fn judge_blocks<R: Source, W: Write>(
 }
 
 /// Reads a chain in blocks of 4,096 bytes, judges each segment as soon as it is whole, and writes its lines; at the end it writes how
-/// many segments there are, or the first wrong one and its first fault. The status is 0 where the chain is right, else 1. It reads
-/// nothing behind the block in which the first fault shows. If it is `quiet`, it writes the last lines alone.
+/// many segments there are, or the first wrong one and its first fault. As JSON it writes an object on a line for each right segment, and
+/// one at the end. If its style is `quiet`, it writes what comes at the end alone. The status is 0 where the chain is right, else 1. It
+/// reads nothing behind the block in which the first fault shows.
 ///
 /// The lines of a segment are written before more is read than the block with which it is whole. So wherever it ends, also with a write
 /// that fails, those of all segments that were whole before its last read are written.
+///
+/// The progress gets the number of bytes of each block, and of calls of each right segment. It changes nothing of what is written.
 ///
 /// It allocates what one segment says, the space before it, what its judgement takes, and its lines. If it gives no answer, the lines
 /// of some segments at the front of the chain may have been written, which are right.
@@ -174,28 +195,33 @@ pub(crate) fn judge_blocks<R: Source, W: Write>(
 ///
 /// `CannotRead` where the last read gave an error, or the input doesn't end within 2^52 - 1 reads; `CannotWrite` where the writer gave an
 /// error, `Memory` where a growth of memory was refused.
-pub fn audit_chain_io<R: Source, W: Write>(
+pub fn audit_chain_io<R: Source, W: Write, P: Progress>(
     alloc: Global,
     reader: &mut R,
     writer: &mut W,
-    quiet: bool,
+    style: Style,
+    progress: &mut P,
 ) -> Result<u8, ProgFault>
-    ensures ok { IfOk result (WritesReport (IsChainAudit quiet) (R.remaining reader.old)
+    ensures ok { IfOk result (WritesReport (IsChainAudit style) (R.remaining reader.old)
         (W.contents writer.old) (W.contents writer.new)) }
-    ensures read { IfOk result (AuditsWhatIsRead quiet (R.remaining reader.old)
+    ensures read { IfOk result (AuditsWhatIsRead style (R.remaining reader.old)
         (R.remaining reader.new) (W.contents writer.old) (W.contents writer.new)) }
     ensures err { IfErr result IsEndFault }
     ensures first { IfErr result (λ fault. fault ≢ ProgFault.CannotWrite
-        → HasWrittenFirst quiet (R.remaining reader.old) (R.remaining reader.new)
+        → HasWrittenFirst style (R.remaining reader.old) (R.remaining reader.new)
         (W.contents writer.old) (W.contents writer.new) fault) }
     ensures few { HasReadFewOfChain (R.remaining reader.old) (R.remaining reader.new) }
-    ensures at_once { HasWrittenAtOnce quiet (R.remaining reader.old) (R.remaining reader.new)
+    ensures at_once { HasWrittenAtOnce style (R.remaining reader.old) (R.remaining reader.new)
         (R.last_read reader.new) (W.contents writer.old) (W.contents writer.new) }
     ensures unread { RefusesUnreadable (2 ^ 52 - 1) (R.remaining reader.old)
         (R.remaining reader.new) (R.last_read reader.new) result }
 {
-    match judge_blocks(alloc, reader, writer, &mut [0; BLOCK], quiet)? {
-        Judged::Ended(chain, number) => write_end(alloc, writer, number, chain.end()),
-        Judged::Faulty(number, fault) => write_end(alloc, writer, number, Some(fault)),
+    match judge_blocks(alloc, reader, writer, &mut [0; BLOCK], style, progress)? {
+        Judged::Ended(chain, number) => {
+            write_end(alloc, writer, number, chain.end(), style.as_json)
+        }
+        Judged::Faulty(number, fault) => {
+            write_end(alloc, writer, number, Some(fault), style.as_json)
+        }
     }
 }

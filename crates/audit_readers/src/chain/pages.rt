@@ -1,13 +1,16 @@
 //! The pages with which a chain begins, and those after its last segment.
 
-ghost use Rattle.std.specs.Prelude.{◌≡◌, ◌-◌, ◌^◌, ℕ, [], IfErr, IfOk, List, None, OnOk, Result, length, string_bytes};
+ghost use Rattle.std.specs.Prelude.{◌≡◌, ◌-◌, ◌^◌, ℕ, [], IfErr, IfOk, List, None, OnOk, Option, Result, length, string_bytes};
 ghost use Rattle.vs_types.specs.declared.refusal.Fail.{Fail};
+ghost use Rattle.vs_types.specs.Refusal.{IfRefused};
 ghost use Rattle.vs_types.specs.Space.{pages};
 ghost use Rattle.nr_trace.specs.Feed.{EndsSegment, FedSegment};
 ghost use Rattle.nr_trace.specs.Feed.Fed.{Taken};
 ghost use Rattle.nr_trace.specs.Recording.{IsRecording, Recording};
 ghost use Rattle.nr_trace.specs.declared.fault.Format.{Format};
-ghost use Rattle.nr_audit.specs.Faults.{IsSoundAfter};
+ghost use Rattle.nr_joined.specs.Run.{Run};
+ghost use Rattle.nr_chain.specs.Fed.{IsKeptOf};
+ghost use Rattle.nr_audit.specs.Faults.{IsFirstAfter, IsSoundAfter};
 ghost use Rattle.nr_audit.specs.Start.{first_space};
 ghost use Rattle.audit_readers.specs.Answers.{WritesReport};
 ghost use Rattle.audit_readers.specs.Ends.{RefusesUnreadable};
@@ -21,9 +24,10 @@ ghost use Rattle.audit_readers.specs.inside.Judged.{IsTextAfter, SaysEnd, SaysFa
 use crate::chain::audit::{Judged, MOST_BLOCKS, judge_blocks};
 use crate::ends::{BLOCK, read_block, write_report};
 use crate::fault::ProgFault;
+use crate::progress::Unwatched;
 use crate::report::Report;
 use crate::source::Source;
-use audit_texts::{dump_text, end_lines, space_text};
+use audit_texts::{Style, dump_text, end_lines, space_text};
 use nr_audit::judge_segment;
 use nr_chain::Chain;
 use nr_trace::{Fault, Format, SegmentFeed, Trace};
@@ -108,13 +112,24 @@ fn start_text(alloc: Global, segment: &Trace, as_ranges: bool) -> Result<String,
     }
 }
 
+/// Judges the first segment of a chain.
+fn judge_first(alloc: Global, segment: &Trace) -> Result<(), Fail<Fault>>
+    ensures sound { OnOk result (IsSoundAfter None segment.now) }
+    ensures first { IfErr result (IfRefused (IsFirstAfter None segment.now)) }
+{
+    match judge_segment(alloc, segment, None) {
+        Ok(_) => Ok(()),
+        Err(fail) => Err(fail),
+    }
+}
+
 /// What is said of the start of a chain with this first segment.
 fn first_report(alloc: Global, segment: &Trace, as_ranges: bool) -> Result<Report, Memory>
     ensures { IfOk result (λ report.
         SaysOfFirst as_ranges segment.now (string_bytes report.text) report.status) }
 {
-    match judge_segment(alloc, segment, None) {
-        Ok(_) => {
+    match judge_first(alloc, segment) {
+        Ok(()) => {
             let text = start_text(alloc, segment, as_ranges)?;
             Ok(Report { text, status: 0 })
         }
@@ -182,7 +197,8 @@ pub fn chain_start_io<R: Source, W: Write>(
 
 /// The pages after the last segment of a chain, if there is one.
 fn last_text(alloc: Global, chain: &Chain, as_ranges: bool) -> Result<String, Memory>
-    ensures { IfOk result (λ text. IsTextAfter as_ranges chain.now.kept (string_bytes text)) }
+    ensures { (run : Option Run) → IsKeptOf run chain.now.kept
+        → IfOk result (λ text. IsTextAfter as_ranges run (string_bytes text)) }
 {
     match chain.space() {
         Some(space) => space_text(alloc, space, as_ranges),
@@ -233,7 +249,19 @@ pub fn chain_end_io<R: Source, W: Write>(
     ensures unread { RefusesUnreadable (2 ^ 52 - 1) (R.remaining reader.old)
         (R.remaining reader.new) (R.last_read reader.new) result }
 {
-    let judged = judge_blocks(alloc, reader, &mut io::sink(), &mut [0; BLOCK], true)?;
+    let style = Style {
+        as_json: false,
+        quiet: true,
+    };
+    let mut nobody = Unwatched;
+    let judged = judge_blocks(
+        alloc,
+        reader,
+        &mut io::sink(),
+        &mut [0; BLOCK],
+        style,
+        &mut nobody,
+    )?;
     let report = end_report(alloc, judged, as_ranges)?;
     write_report(writer, &report)
 }

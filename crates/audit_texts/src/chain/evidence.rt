@@ -10,6 +10,7 @@ ghost use Rattle.audit_texts.specs.ChainEvidence.{start_beyond_parts, start_diff
 ghost use Rattle.audit_texts.specs.ChainEvidence.{start_stray_parts, window_parts, with_looks};
 
 use crate::answer::answer_text;
+use crate::chain::earlier::{push_earlier, put_earlier};
 use crate::evidence::{put_evidence, put_missing, put_reserved, put_shared};
 use crate::fact_json::Members;
 use crate::output::Output;
@@ -359,6 +360,7 @@ pub(crate) fn segment_evidence_text(
 {
     let mut text = String::new(alloc);
     put_segment(&mut text, alloc, shown)?;
+    push_earlier(alloc, &mut text, shown)?;
     push_looks(alloc, &mut text, shown)?;
     Ok(text)
 }
@@ -374,5 +376,6 @@ pub(crate) fn segment_evidence_value(
     let mut members = Map::new(alloc);
     put_segment(&mut members, alloc, shown)?;
     put_looks(&mut members, alloc, shown)?;
+    put_earlier(&mut members, alloc, shown)?;
     Ok(Value::Object(members))
 }

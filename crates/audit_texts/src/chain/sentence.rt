@@ -7,6 +7,7 @@ ghost use Rattle.audit_texts.specs.ChainSentence.{start_beyond_sentence, start_d
 ghost use Rattle.audit_texts.specs.ChainSentence.{start_stray_sentence, window_text};
 
 use crate::answer::answer_text;
+use crate::chain::earlier::earlier_words;
 use crate::sentence::{
     difference_sentence, missing_sentence, other_answer_sentence, reason_text, reserved_sentence,
     sentence_text, shared_sentence,
@@ -88,8 +89,9 @@ fn stale_sentence(alloc: Global, touch: &StaleTouch) -> Result<String, AllocErro
     let call = touch.call.event;
     let told = answer_text(alloc, touch.reply.answer)?;
     let window = window_text(alloc, touch.first, touch.last)?;
+    let earlier = earlier_words(&touch.earlier);
     format!(in alloc;
-        "Touch {call} was answered `{told}`, but it may see only {window}, and after none of these its address looks so."
+        "Touch {call} was answered `{told}`, but it may see only {window}, and after none of these its address looks so.{earlier}"
     )
 }
 

@@ -1,8 +1,9 @@
 //! What is printed of the segments of a chain.
 
 ghost use Rattle.std.specs.Prelude.{◌≡◌, ◌++◌, IfOk, string_bytes};
-ghost use Rattle.audit_texts.specs.ChainText.{end_lines, segment_lines};
+ghost use Rattle.audit_texts.specs.ChainText.{end_lines, segment_lines, told_end, told_segment};
 
+use crate::chain::json::{end_json, segment_json};
 use crate::text::{fault_text, yes_text};
 use nr_trace::Fault;
 use std::alloc::{AllocError, Global};
@@ -38,5 +39,47 @@ pub fn end_lines(alloc: Global, number: u64, found: Option<Fault>) -> Result<Str
     match found {
         None => format!(in alloc; "segments {number}\n"),
         Some(fault) => wrong_lines(alloc, number, fault),
+    }
+}
+
+/// What is printed of the segment of this number, which is right with this order of its calls: a JSON object on a line, or lines. Allocates
+/// the text, and the object.
+///
+/// # Errors
+///
+/// Out of memory.
+pub fn told_segment(
+    alloc: Global,
+    as_json: bool,
+    number: u64,
+    order: &[u32],
+) -> Result<String, AllocError>
+    ensures { IfOk result (λ text. string_bytes text ≡ told_segment as_json number order.now) }
+{
+    if as_json {
+        segment_json(alloc, number, order.len())
+    } else {
+        segment_lines(alloc, number, order)
+    }
+}
+
+/// What is printed at the end of a chain of which so many segments are right: a JSON object on a line, or the last lines. Allocates the
+/// text, and the object.
+///
+/// # Errors
+///
+/// Out of memory.
+pub fn told_end(
+    alloc: Global,
+    as_json: bool,
+    number: u64,
+    found: Option<Fault>,
+) -> Result<String, AllocError>
+    ensures { IfOk result (λ text. string_bytes text ≡ told_end as_json number found) }
+{
+    if as_json {
+        end_json(alloc, number, found)
+    } else {
+        end_lines(alloc, number, found)
     }
 }

@@ -1,5 +1,5 @@
 -- What is found of a start, and the touches of a segment as a list. No public clause cites this file.
-use Rattle.std.specs.Prelude.{◌≡◌, ℕ, ◌+◌, ◌<◌, ◌≤◌, List, slice_get, Option, Some, None, All, Contains, IsTrue}
+use Rattle.std.specs.Prelude.{◌≡◌, ℕ, ◌+◌, ◌<◌, ◌≤◌, List, length, slice_get, Option, Some, None, All, Contains, IsTrue}
 use Rattle.std.specs.List.{AllPairs}
 use Rattle.vs_types.specs.Page.{bytes_of, covers, IsPage}
 use Rattle.vs_types.specs.Space.{Space}
@@ -10,12 +10,15 @@ use Rattle.vs_walk.specs.Differences.{IsStray}
 use Rattle.vs_walk.specs.Dump.{Image}
 use Rattle.vs_walk.specs.Traversal.{walk_fault}
 use Rattle.nr_trace.specs.Recording.{Recording}
-use Rattle.nr_trace.specs.Calls.{IsTouch}
+use Rattle.nr_trace.specs.Calls.{Answers, IsTouch}
 use Rattle.nr_trace.specs.declared.event.Event.{Event}
 use Rattle.nr_trace.specs.declared.event.Event.TheVariants as events
 use Rattle.nr_touch.specs.declared.touch.Touch.{Touch}
 use Rattle.nr_trace.specs.declared.fault.Fault.{Fault}
 use Rattle.nr_trace.specs.declared.fault.Fault.TheVariants.{StartMissing, StartShared, StartReserved, StartStray, StartBeyond, StartDiffers}
+use Rattle.nr_joined.specs.Run.{Run}
+use Rattle.nr_touch.specs.Tails.{IsTailOf}
+use Rattle.nr_touch.specs.declared.tail.Tail.{Tail}
 use Rattle.nr_audit.specs.Start.{HoldsOfStart}
 use Rattle.nr_audit.specs.Touches.{HasTouch, IsStale}
 
@@ -89,7 +92,21 @@ IsTouchAt segment made (Some touch) =
 abbrev pub HasSomeTouch : Recording → Type 0
 HasSomeTouch segment = (call : ℕ) × IsTouch segment call
 
+-- the call that the log has at the place is answered
+abbrev pub IsPlaceAnswered : Recording → ℕ → Type 0
+IsPlaceAnswered segment place = (call : ℕ) → slice_get segment.log place ≡ Some call → (reply : ℕ) × Answers segment reply call
+
+-- each call of the log is answered
+abbrev pub ArePlacesAnswered : Recording → Type 0
+ArePlacesAnswered segment = (place : ℕ) → place < length segment.log → IsPlaceAnswered segment place
+
+-- nothing is left so far, the segment has no touch, and nothing is left by it
+pub record IsQuiet (segment : Recording) (tail : Tail) : Type 0 where
+  pub none : IsTailOf None tail
+  pub untouched : HasSomeTouch segment → ⊥
+  pub answered : ArePlacesAnswered segment
+
 -- the touch of this number is stale, and none of a lower number is
-pub record IsFirstStale (start : Space) (segment : Recording) (call : ℕ) : Type 0 where
-  pub stale : IsStale start segment call
-  pub none_lower : (lower : ℕ) → lower < call → IsStale start segment lower → ⊥
+pub record IsFirstStale (before : Option Run) (start : Space) (segment : Recording) (call : ℕ) : Type 0 where
+  pub stale : IsStale before start segment call
+  pub none_lower : (lower : ℕ) → lower < call → IsStale before start segment lower → ⊥

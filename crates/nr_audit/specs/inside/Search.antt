@@ -5,13 +5,26 @@ use Rattle.nr_trace.specs.Recording.{Recording}
 use Rattle.nr_trace.specs.Faults.{HasFaultFrom, Earlier}
 use Rattle.nr_trace.specs.declared.fault.Fault.{Fault}
 use Rattle.nr_trace.specs.declared.fault.Fault.TheVariants.{Early, Stale}
+use Rattle.nr_joined.specs.Run.{Run}
 use Rattle.nr_audit.specs.Touches.{IsStale}
 use Rattle.nr_audit.specs.inside.Passes.{IsFloorFault, IsFloorFaultAt}
 
--- what each fault behind the start says of a trace or a segment that begins with this space
+-- what each fault behind the start but that of touches says of a trace or a segment that begins with this space
 abbrev pub HasFaultOn : Space → Recording → Fault → Type 0
-HasFaultOn start trace (Stale call) = IsStale start trace call
 HasFaultOn start trace fault = HasFaultFrom start trace fault
+
+-- what each says of a segment behind a run
+abbrev pub HasFaultBehind : Option Run → Space → Recording → Fault → Type 0
+HasFaultBehind before start segment (Stale call) = IsStale before start segment call
+HasFaultBehind before start segment fault = HasFaultFrom start segment fault
+
+abbrev pub HasNoFaultBehind : Option Run → Space → Recording → Type 0
+HasNoFaultBehind before start segment = (fault : Fault) → HasFaultBehind before start segment fault → ⊥
+
+-- the fault holds, and no earlier one does
+pub record IsFirstBehind (before : Option Run) (start : Space) (segment : Recording) (fault : Fault) : Type 0 where
+  pub holds : HasFaultBehind before start segment fault
+  pub none_earlier : (other : Fault) → HasFaultBehind before start segment other → Earlier segment other fault → ⊥
 
 abbrev pub HasNoFaultOn : Space → Recording → Type 0
 HasNoFaultOn start trace = (fault : Fault) → HasFaultOn start trace fault → ⊥
@@ -37,9 +50,9 @@ pub record IsFirstAmongFrom (start : Space) (Among : Fault → Type 0) (trace : 
 abbrev pub IsFirstAmong : (Fault → Type 0) → Recording → Fault → Type 0
 IsFirstAmong Among trace fault = IsFirstAmongFrom no_pages Among trace fault
 
--- the fault is the first from each start on
+-- the fault is the first behind any run, from each start on
 abbrev pub IsFirstFromAny : Recording → Fault → Type 0
-IsFirstFromAny trace fault = (start : Space) → IsFirstOn start trace fault
+IsFirstFromAny trace fault = (before : Option Run) (start : Space) → IsFirstBehind before start trace fault
 
 -- the first call that comes too early, or none below an index
 abbrev pub FindsEarly : Recording → ℕ → Option ℕ → Type 0

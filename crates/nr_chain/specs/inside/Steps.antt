@@ -1,5 +1,5 @@
 -- What the judgement of a whole segment makes of a chain, and a piece that is refused. No public clause cites this file.
-use Rattle.std.specs.Prelude.{◌≡◌, ℕ, List, [], Option, Some}
+use Rattle.std.specs.Prelude.{◌≡◌, ℕ, List, [], Option, Some, ⊤}
 use Rattle.vs_types.specs.declared.refusal.Fail.{Fail}
 use Rattle.vs_types.specs.declared.refusal.Fail.TheVariants.{Memory, Refused}
 use Rattle.nr_trace.specs.Recording.{Recording}
@@ -8,19 +8,26 @@ use Rattle.nr_trace.specs.Spelling.{SpellsSegment}
 use Rattle.nr_trace.specs.declared.fault.Format.{Format}
 use Rattle.nr_trace.specs.declared.fault.Fault.TheVariants as faults
 use Rattle.nr_audit.specs.Faults.{IsFirstAfter, IsSoundAfter}
-use Rattle.nr_chain.specs.Bytes.{kept_after, layout_before, space_before}
-use Rattle.nr_chain.specs.Fed.{Kept}
+use Rattle.nr_joined.specs.Run.{Run}
+use Rattle.nr_audit.specs.Segments.{run_after}
+use Rattle.nr_chain.specs.Bytes.{layout_before}
+use Rattle.nr_chain.specs.Fed.{IsKeptOf}
 use Rattle.nr_chain.specs.declared.chain.Step.{Step}
 use Rattle.nr_chain.specs.declared.chain.Step.TheVariants.{More, Right, Wrong}
 
 -- the bytes spell a segment, and it is right, with its order, and the next one begins; or it has this fault
-abbrev pub JudgesWhole : Option Kept → List ℕ → ℕ → Step → Type 0
-JudgesWhole kept bytes count (More new) = ⊥
-JudgesWhole kept bytes count (Right own order new) =
-    (own ≡ count) × (segment : Recording) × SpellsSegment (layout_before kept) bytes segment × IsSoundAfter (space_before kept) segment
-    × (order ≡ recorded_order segment) × (new ≡ record { kept = Some (kept_after kept segment); bytes = [] })
-JudgesWhole kept bytes count (Wrong fault) =
-    (segment : Recording) × SpellsSegment (layout_before kept) bytes segment × IsFirstAfter (space_before kept) segment fault
+abbrev pub JudgesWhole : Option Run → List ℕ → ℕ → Step → Type 0
+JudgesWhole before bytes count (More new) = ⊥
+JudgesWhole before bytes count (Right own order new) =
+    (own ≡ count) × (segment : Recording) × SpellsSegment (layout_before before) bytes segment × IsSoundAfter before segment
+    × (order ≡ recorded_order segment) × IsKeptOf (Some (run_after before segment)) new.kept × (new.bytes ≡ [])
+JudgesWhole before bytes count (Wrong fault) =
+    (segment : Recording) × SpellsSegment (layout_before before) bytes segment × IsFirstAfter before segment fault
+
+-- a segment that is right ends with so many bytes of the piece
+abbrev pub EndsAt : ℕ → Step → Type 0
+EndsAt count (Right own order new) = own ≡ count
+EndsAt count step = ⊤
 
 -- the bytes are refused so, or memory is
 abbrev pub RefusesWith : Fail Format → Step → Type 0

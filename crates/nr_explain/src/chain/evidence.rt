@@ -75,12 +75,15 @@ pub struct Moment {
 pub struct StaleTouch {
     pub call: RecordedCall,
     pub reply: RecordedReply,
-    /// The fewest entries of the log after which it may be answered.
+    /// The fewest entries of its segment's log after which it may be answered.
     pub first: u32,
     /// The most. No moment is allowed where they are fewer than the fewest.
     pub last: u32,
     /// How its address looked at the first of these moments, and then after each update that changed that, up to the last.
     pub looks: Vec<Moment>,
+    /// Where the fewest is none, how its address may still be found to look behind the segments before, too: as before updates that
+    /// their segments never answered. Else none.
+    pub earlier: Vec<Answer>,
 }
 
 /// What shows a fault of a segment.

@@ -3,13 +3,11 @@
 ghost use Rattle.std.specs.Prelude.{◌≡◌, IfOk, IfSome, is_some, true};
 ghost use Rattle.vs_types.specs.Space.{Space};
 ghost use Rattle.nr_trace.specs.Faults.{IsFirstFrom};
-ghost use Rattle.nr_audit.specs.Faults.{IsFirstAfter};
-ghost use Rattle.nr_explain.specs.Progress.{space_in};
 ghost use Rattle.nr_explain.specs.Dumps.{replica_of};
 ghost use Rattle.nr_explain.specs.ChainEvidence.{IsOfItself};
 ghost use Rattle.nr_explain.specs.inside.Itself.{IsShownByItself};
-ghost use Rattle.nr_explain.specs.ChainExplanation.{IsShownBehind};
-ghost use Rattle.nr_explain.specs.inside.Reading.{all_states, FitsSegment};
+ghost use Rattle.nr_explain.specs.inside.Firsts.{IsFirstOver, IsToShow, IsTouchToShow, ShowsLeft};
+ghost use Rattle.nr_explain.specs.inside.Reading.{all_states, left_seen, space_seen, FitsSegment, IsShownSeen};
 ghost use Rattle.nr_explain.specs.inside.Starts.{is_within};
 
 use crate::chain::answers::other_answer;
@@ -35,9 +33,9 @@ fn explain_answer(
     call: u32,
 ) -> Result<SegmentEvidence, Memory>
     requires fits { IfSome last.now (FitsSegment segment.now) }
-    requires first { IsFirstAfter (space_in (all_states last.now)) segment.now
+    requires first { IsFirstOver (space_seen (all_states last.now)) segment.now
         (Fault.WrongAnswer call) }
-    ensures { IfOk result (IsShownBehind (all_states last.now) segment.now
+    ensures { IfOk result (IsShownSeen (all_states last.now) segment.now
         (Fault.WrongAnswer call)) }
 {
     let first = begin(alloc, last, segment)?;
@@ -55,9 +53,9 @@ fn explain_difference(
     address: u64,
 ) -> Result<SegmentEvidence, Memory>
     requires fits { IfSome last.now (FitsSegment segment.now) }
-    requires first { IsFirstAfter (space_in (all_states last.now)) segment.now
+    requires first { IsFirstOver (space_seen (all_states last.now)) segment.now
         (Fault.Differs replica address) }
-    ensures { IfOk result (IsShownBehind (all_states last.now) segment.now
+    ensures { IfOk result (IsShownSeen (all_states last.now) segment.now
         (Fault.Differs replica address)) }
 {
     let first = begin(alloc, last, segment)?;
@@ -110,8 +108,8 @@ fn explain_within(
 ) -> Result<SegmentEvidence, Memory>
     requires fits { IfSome last.now (FitsSegment segment.now) }
     requires own { is_within fault ≡ true }
-    requires first { IsFirstAfter (space_in (all_states last.now)) segment.now fault }
-    ensures { IfOk result (IsShownBehind (all_states last.now) segment.now fault) }
+    requires first { IsFirstOver (space_seen (all_states last.now)) segment.now fault }
+    ensures { IfOk result (IsShownSeen (all_states last.now) segment.now fault) }
 {
     match fault {
         Fault::Format(_) => unreachable!(),
@@ -131,15 +129,17 @@ fn explain_touch(
     call: u32,
 ) -> Result<SegmentEvidence, Memory>
     requires fits { IfSome last.now (FitsSegment segment.now) }
-    requires first { IsFirstAfter (space_in (all_states last.now)) segment.now (Fault.Stale call) }
-    ensures { IfOk result (IsShownBehind (all_states last.now) segment.now (Fault.Stale call)) }
+    requires touch { IsTouchToShow (space_seen (all_states last.now)) segment.now call }
+    ensures shown { IfOk result (IsShownSeen (all_states last.now) segment.now (Fault.Stale call)) }
+    ensures left { IfOk result (ShowsLeft (left_seen (all_states last.now))) }
 {
     let first = begin(alloc, last, segment)?;
-    Ok(SegmentEvidence::Stale(stale_touch(alloc, segment, &first, call)?))
+    Ok(SegmentEvidence::Stale(stale_touch(alloc, last, segment, &first, call)?))
 }
 
 /// What shows the first fault of a segment that comes behind what the segments so far have come to: each fact of it is one of the segment,
-/// of the space before it, or of that with which the chain begins. Allocates memory for a space or two, and for what is shown.
+/// of the space before it, of what lingers behind the segments before, or of the space with which the chain begins. Allocates memory for
+/// a space or two, and for what is shown.
 pub(crate) fn explain_segment(
     alloc: Global,
     last: &Option<Progress>,
@@ -147,8 +147,9 @@ pub(crate) fn explain_segment(
     fault: Fault,
 ) -> Result<SegmentEvidence, Memory>
     requires fits { IfSome last.now (FitsSegment segment.now) }
-    requires first { IsFirstAfter (space_in (all_states last.now)) segment.now fault }
-    ensures { IfOk result (IsShownBehind (all_states last.now) segment.now fault) }
+    requires first { IsToShow (space_seen (all_states last.now)) segment.now fault }
+    ensures shown { IfOk result (IsShownSeen (all_states last.now) segment.now fault) }
+    ensures left { IfOk result (ShowsLeft (left_seen (all_states last.now))) }
 {
     if is_within(fault) {
         return explain_within(alloc, last, segment, fault);

@@ -2,9 +2,8 @@
 
 ghost use Rattle.std.specs.Prelude.{◌≡◌, ◌↔◌, IsTrue, option_map};
 ghost use Rattle.nr_audit.specs.Start.{first_space};
-ghost use Rattle.nr_explain.specs.Progress.{began_with, space_in};
 ghost use Rattle.nr_explain.specs.ChainFacts.{IsOrigin};
-ghost use Rattle.nr_explain.specs.inside.Reading.{all_states};
+ghost use Rattle.nr_explain.specs.inside.Reading.{all_states, began_seen, space_seen};
 
 use crate::chain::evidence::Origin;
 use crate::chain::progress::Progress;
@@ -48,8 +47,8 @@ pub(crate) fn origin_of(
     first: &PlainSpace,
     address: u64,
 ) -> Origin
-    requires { first.now.space ≡ first_space (space_in (all_states last.now)) segment.now }
-    ensures { IsOrigin (began_with (all_states last.now) segment.now) first.now.space address result }
+    requires { first.now.space ≡ first_space (space_seen (all_states last.now)) segment.now }
+    ensures { IsOrigin (began_seen (all_states last.now) segment.now) first.now.space address result }
 {
     match last {
         Some(came) => origin_from(&came.began, first, address),

@@ -1,16 +1,16 @@
 //! What the segments of a chain so far have come to.
 
 ghost use Rattle.std.specs.Prelude.{◌≡◌, ◌<◌, IfOk, IfSome, None, count_by, length, option_map};
-ghost use Rattle.nr_trace.specs.Orders.{recorded_order};
+ghost use Rattle.nr_trace.specs.Orders.{recorded_order, space_from};
 ghost use Rattle.nr_audit.specs.Verdict.{space_of};
-ghost use Rattle.nr_audit.specs.Segments.{last_space};
-ghost use Rattle.nr_explain.specs.Progress.{began_with, state_after, counts_of, is_there, is_touch, nothing_yet, sums_after, sums_in};
-ghost use Rattle.nr_explain.specs.Progress.{space_in};
-ghost use Rattle.nr_explain.specs.inside.Reading.{all_states, state_of, BeginsWell, FitsSegment};
+ghost use Rattle.nr_audit.specs.Start.{first_space};
+ghost use Rattle.nr_explain.specs.Progress.{is_there, is_touch, nothing_yet, sums_after};
+ghost use Rattle.nr_explain.specs.inside.Reading.{all_states, began_seen, counts_seen, space_seen, state_of, sums_seen, BeginsWell, FitsSegment};
 
 use crate::chain::explanation::ChainCounts;
 use crate::chain::spaces::{follow, start_space};
-use nr_audit::{Order, copy};
+use nr_audit::{Order, Past, copy};
+use nr_touch::Tail;
 use nr_trace::{Event, Trace, TraceLayout};
 use std::alloc::Global;
 use vs_plain::PlainSpace;
@@ -51,6 +51,8 @@ pub(crate) struct Progress {
     pub(crate) layout: TraceLayout,
     /// The space after the whole log of the last segment.
     pub(crate) space: PlainSpace,
+    /// How addresses may still be found to look otherwise.
+    pub(crate) tail: Tail,
     /// The space with which the chain begins, where its first segment has a start.
     pub(crate) began: Option<PlainSpace>,
     pub(crate) sums: Sums,
@@ -58,7 +60,7 @@ pub(crate) struct Progress {
 
 /// How much the segments so far have.
 pub(crate) fn sums_of(last: &Option<Progress>) -> Sums
-    ensures { result ≡ sums_in (all_states last.now) }
+    ensures { result ≡ sums_seen (all_states last.now) }
 {
     match last {
         Some(came) => came.sums,
@@ -122,11 +124,12 @@ fn spaces_after(
 ) -> Result<(PlainSpace, Option<PlainSpace>), Memory>
     requires fits { IfSome last (FitsSegment segment.now) }
     requires well { BeginsWell last segment.now }
-    requires after { after.now
-        ≡ space_of segment.now.layout (last_space (space_in (all_states last)) segment.now) }
+    requires after { after.now ≡ space_of segment.now.layout
+        (space_from (first_space (space_seen (all_states last)) segment.now) segment.now
+        segment.now.log) }
     ensures space { IfOk result (λ spaces. spaces.0 ≡ after.now) }
     ensures began { IfOk result (λ spaces.
-        option_map (λ space. space.space) spaces.1 ≡ began_with (all_states last) segment.now) }
+        option_map (λ space. space.space) spaces.1 ≡ began_seen (all_states last) segment.now) }
 {
     match last {
         Some(came) => {
@@ -141,32 +144,39 @@ fn spaces_after(
     }
 }
 
-/// What is come to with a segment more, of which this is the order, which leads to this space, and which so many bytes spell. It
-/// allocates two spaces where the segment is the first, else memory for the pages that its log maps.
+/// What is come to with a segment more, of which this is the order, which leaves this, and which so many bytes spell. It allocates two
+/// spaces where the segment is the first, else memory for the pages that its log maps; and the changes that are left.
 pub(crate) fn go_on(
     alloc: Global,
     last: Option<Progress>,
     segment: &Trace,
     order: &Order,
-    after: &PlainSpace,
+    after: &Past,
     size: usize,
 ) -> Result<Progress, Memory>
     requires fits { IfSome last (FitsSegment segment.now) }
     requires well { BeginsWell last segment.now }
     requires order { order.now ≡ recorded_order segment.now }
-    requires after { after.now
-        ≡ space_of segment.now.layout (last_space (space_in (all_states last)) segment.now) }
-    ensures seen { IfOk result (λ came.
-        state_of came ≡ state_after (all_states last) segment.now size) }
+    requires after { after.now.space ≡ space_of segment.now.layout
+        (space_from (first_space (space_seen (all_states last)) segment.now) segment.now
+        segment.now.log) }
     ensures layout { IfOk result (λ came. came.layout ≡ segment.now.layout) }
-    ensures space { IfOk result (λ came. came.space ≡ after.now) }
+    ensures space { IfOk result (λ came. came.space ≡ after.now.space) }
+    ensures left { IfOk result
+        (λ came. came.tail.changes.items ≡ after.now.tail.changes.items) }
+    ensures began { IfOk result (λ came.
+        (state_of came).began ≡ began_seen (all_states last) segment.now) }
+    ensures sums { IfOk result (λ came.
+        came.sums ≡ sums_after (sums_seen (all_states last)) segment.now size) }
 {
     let sums = sums_after(sums_of(&last), segment, order, size);
     let layout = segment.layout();
-    let (space, began) = spaces_after(alloc, last, segment, after)?;
+    let (space, began) = spaces_after(alloc, last, segment, &after.space)?;
+    let tail = after.tail.copy(alloc)?;
     Ok(Progress {
         layout,
         space,
+        tail,
         began,
         sums,
     })
@@ -174,7 +184,7 @@ pub(crate) fn go_on(
 
 /// How much a chain has whose segments have come to this. Allocates memory for a list of the pages.
 pub(crate) fn counts_of(came: &Progress) -> Result<ChainCounts, Memory>
-    ensures { IfOk result (λ counts. counts ≡ counts_of (state_of came.now)) }
+    ensures { IfOk result (λ counts. counts ≡ counts_seen (state_of came.now)) }
 {
     let sums = came.sums;
     let pages = came.space.pages()?;

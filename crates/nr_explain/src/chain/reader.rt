@@ -1,35 +1,36 @@
 //! A chain that comes in pieces: each segment is judged as soon as it is whole, and the first wrong one explained.
 
-ghost use Rattle.std.specs.Prelude.{◌≡◌, ◌++◌, [], ℕ, List, IfOk, IfSome, None, Some};
+ghost use Rattle.std.specs.Prelude.{◌≡◌, ◌++◌, [], ℕ, List, IfOk, IfSome, None, Option, Some};
 ghost use Rattle.nr_trace.specs.Feed.{IsWhole};
 ghost use Rattle.nr_trace.specs.Feed.Fed.{Taken};
 ghost use Rattle.nr_trace.specs.FirstFault.{HasFaultAs};
 ghost use Rattle.nr_trace.specs.Versions.{Follows};
-ghost use Rattle.nr_explain.specs.Progress.{layout_in};
+ghost use Rattle.nr_trace.specs.declared.version.Form.{Form};
+ghost use Rattle.nr_explain.specs.Progress.{ChainState, IsSeenOf};
 ghost use Rattle.nr_explain.specs.ChainExplanation.{Explains, FeedsReader};
-ghost use Rattle.nr_explain.specs.inside.Reading.{all_states, spaces_of, FitsProgress, FitsSegment};
-ghost use Rattle.nr_explain.specs.inside.Steps.{JudgedTo, JudgesTo, StepsTo};
+ghost use Rattle.nr_explain.specs.inside.Reading.{all_states, layout_seen, AreTwice, FitsProgress, FitsSegment, IsKnown};
+ghost use Rattle.nr_explain.specs.inside.Steps.{EndsWithin, JudgedTo, JudgesTo, StepsTo};
 
 use crate::chain::explaining::explain_segment;
 use crate::chain::explanation::ChainExplanation;
 use crate::chain::progress::{Progress, go_on, sums_of};
 use crate::chain::refusing::{ended, refused};
-use nr_audit::judge_segment;
+use nr_audit::{Past, judge_segment};
 use nr_trace::{SegmentFeed, Trace};
 use std::alloc::Global;
 use std::marker::Model;
-use vs_plain::PlainSpace;
 use vs_types::{Fail, Memory};
 
 /// A reader of a chain that comes in pieces, cut anywhere, which explains what an audit of it finds. It keeps the bytes of one segment
-/// and what they say, the space after the segment before twice, and that with which the chain begins. Contracts see what the segments
-/// so far have come to, and the bytes of the next one.
+/// and what they say, the space after the segment before and the looks that linger behind it, both twice, and the space with which the
+/// chain begins. Contracts see what is kept of the segments so far, and the bytes of the next one; the run of which it is kept is any
+/// that the caller knows of.
 #[derive(Drop)]
 pub struct ChainReader {
     alloc: Global,
     last: Option<Progress>,
-    /// The space after the segment before, once more: the judge takes it, and changes it up to the first fault.
-    before: Option<PlainSpace>,
+    /// The space after the segment before and what lingers, once more: the judge takes it, and changes it up to the first fault.
+    before: Option<Past>,
     /// The bytes of the next segment so far.
     bytes: Vec<u8>,
     feed: SegmentFeed,
@@ -40,12 +41,13 @@ impl Model for ChainReader {
     ghost use Rattle.std.specs.FinMap as finite;
     ghost use Rattle.std.specs.Ordering.{nat_cmp};
     ghost use Rattle.vs_types.specs.contracts.page.Page as page_contract;
+    ghost use Rattle.nr_touch.specs.contracts.tail.Left as left_contract;
     ghost use Rattle.nr_explain.specs.Progress.{ReaderState};
     ghost use Rattle.nr_explain.specs.inside.Reading.{all_states, IsReading};
 
     ghost Value = { ReaderState };
 
-    ghost coded = { Prim.hlevel (codes, finite.code {R = nat_cmp} coded_ℕ page_contract.the_row.coded) };
+    ghost coded = { Prim.hlevel (codes, finite.code {R = nat_cmp} coded_ℕ page_contract.the_row.coded, left_contract.the_row.coded) };
 
     ghost view = { λ r. record { state = all_states r.last; bytes = r.bytes.items } };
 
@@ -90,7 +92,9 @@ impl ChainReader {
 
     /// Takes bytes at the front of the next piece: all of them, or so many that a segment is whole, which is judged then.
     fn step(self, piece: &[u8]) -> Result<Step, Memory>
-        ensures { IfOk result (StepsTo self piece.now) }
+        ensures steps { (came : Option ChainState) → IsSeenOf came self.state
+            → IfOk result (StepsTo came self piece.now) }
+        ensures within { IfOk result (EndsWithin piece.now) }
     {
         let ChainReader {
             alloc,
@@ -131,7 +135,8 @@ impl ChainReader {
     ///
     /// `Memory` where a growth of memory was refused.
     pub fn feed(self, piece: &[u8]) -> Result<ReaderStep, Memory>
-        ensures { IfOk result (FeedsReader self piece.now) }
+        ensures { (came : Option ChainState) → IsSeenOf came self.state
+            → IfOk result (FeedsReader came self piece.now) }
     {
         let mut reader = self;
         let mut rest = piece;
@@ -155,7 +160,8 @@ impl ChainReader {
     ///
     /// `Memory` where a growth of memory was refused.
     pub fn end(self) -> Result<ChainExplanation, Memory>
-        ensures { IfOk result (Explains self []) }
+        ensures { (came : Option ChainState) → IsSeenOf came self.state
+            → IfOk result (Explains came self []) }
     {
         let ChainReader {
             alloc,
@@ -172,17 +178,19 @@ impl ChainReader {
 fn judge_whole(
     alloc: Global,
     last: Option<Progress>,
-    before: Option<PlainSpace>,
+    before: Option<Past>,
     bytes: &[u8],
     feed: SegmentFeed,
     count: usize,
 ) -> Result<Step, Memory>
     requires whole { IsWhole feed }
     requires taken { feed.pieces ≡ Taken bytes.now }
-    requires behind { feed.before ≡ layout_in (all_states last) }
+    requires behind { feed.before ≡ layout_seen (all_states last) }
     requires fits { IfSome last FitsProgress }
-    requires same { before ≡ spaces_of last }
-    ensures { IfOk result (JudgesTo (all_states last) bytes.now count) }
+    requires twice { AreTwice last before }
+    requires known { IsKnown last }
+    ensures { (came : Option ChainState) → IsSeenOf came (all_states last)
+        → IfOk result (JudgesTo came bytes.now count) }
 {
     let segment = match feed.end() {
         Ok(segment) => segment,
@@ -195,23 +203,26 @@ fn judge_whole(
 fn judge_next(
     alloc: Global,
     last: Option<Progress>,
-    before: Option<PlainSpace>,
+    before: Option<Past>,
     segment: &Trace,
     size: usize,
     count: usize,
 ) -> Result<Step, Memory>
     requires fits { IfSome last (FitsSegment segment.now) }
-    requires same { before ≡ spaces_of last }
-    ensures { IfOk result (JudgedTo (all_states last) segment.now size count) }
+    requires follows { Follows (Form.Segment (layout_seen (all_states last))) segment.now.layout }
+    requires twice { AreTwice last before }
+    requires known { IsKnown last }
+    ensures { (came : Option ChainState) → IsSeenOf came (all_states last)
+        → IfOk result (JudgedTo came segment.now size count) }
 {
     match judge_segment(alloc, segment, before) {
-        Ok((order, space)) => {
-            let came = go_on(alloc, last, segment, &order, &space, size)?;
+        Ok((order, past)) => {
+            let came = go_on(alloc, last, segment, &order, &past, size)?;
             let feed = SegmentFeed::new(alloc, Some(came.layout));
             let next = ChainReader {
                 alloc,
                 last: Some(came),
-                before: Some(space),
+                before: Some(past),
                 bytes: Vec::new(alloc),
                 feed,
             };

@@ -1,13 +1,13 @@
 //! What is said of a chain whose next segment has a fault of the format, or which ends.
 
-ghost use Rattle.std.specs.Prelude.{◌≡◌, ◌≤◌, IfOk, length};
+ghost use Rattle.std.specs.Prelude.{◌≡◌, ◌≤◌, IfOk, Option, length};
 ghost use Rattle.nr_trace.specs.Feed.{IsWhole};
 ghost use Rattle.nr_trace.specs.Feed.Fed.{Taken};
 ghost use Rattle.nr_trace.specs.FirstFault.{HasRefusalAs};
 ghost use Rattle.nr_trace.specs.declared.version.Form.{Form};
-ghost use Rattle.nr_explain.specs.Progress.{layout_in};
+ghost use Rattle.nr_explain.specs.Progress.{ChainState, IsSeenOf};
 ghost use Rattle.nr_explain.specs.ChainExplanation.{IsExplanationFrom};
-ghost use Rattle.nr_explain.specs.inside.Reading.{all_states};
+ghost use Rattle.nr_explain.specs.inside.Reading.{all_states, layout_seen};
 ghost use Rattle.nr_explain.specs.inside.Steps.{IsRefusalOf};
 
 use crate::chain::evidence::{BadSegment, SegmentEvidence};
@@ -27,9 +27,10 @@ pub(crate) fn refused(
     refusal: Refusal,
 ) -> Result<ChainExplanation, Memory>
     requires within { refusal.left ≤ length bytes.items }
-    requires refused { HasRefusalAs (Form.Segment (layout_in (all_states last.now))) bytes.items
+    requires refused { HasRefusalAs (Form.Segment (layout_seen (all_states last.now))) bytes.items
         refusal }
-    ensures { IfOk result (IsRefusalOf (all_states last.now) bytes.items refusal.fault) }
+    ensures { (came : Option ChainState) → IsSeenOf came (all_states last.now)
+        → IfOk result (IsRefusalOf came bytes.items refusal.fault) }
 {
     let header = Vec::from_slice(alloc, &bytes[..HEADER_BYTES.min(bytes.len())])?;
     let count = bytes.len() as u64;
@@ -51,9 +52,10 @@ pub(crate) fn ended(
     feed: SegmentFeed,
 ) -> Result<ChainExplanation, Memory>
     requires taken { feed.pieces ≡ Taken bytes.items }
-    requires behind { feed.before ≡ layout_in (all_states last.now) }
+    requires behind { feed.before ≡ layout_seen (all_states last.now) }
     requires not_whole { IsWhole feed → ⊥ }
-    ensures { IfOk result (IsExplanationFrom (all_states last.now) bytes.items) }
+    ensures { (came : Option ChainState) → IsSeenOf came (all_states last.now)
+        → IfOk result (IsExplanationFrom came bytes.items) }
 {
     if bytes.is_empty() {
         if let Some(came) = last {

@@ -4,8 +4,7 @@ ghost use Rattle.std.specs.Prelude.{◌≡◌, IfOk, IfSome, None, Some, option_
 ghost use Rattle.nr_trace.specs.Orders.{space_from};
 ghost use Rattle.nr_audit.specs.Verdict.{space_of};
 ghost use Rattle.nr_audit.specs.Start.{first_space, start_space, BeginsRight};
-ghost use Rattle.nr_explain.specs.Progress.{space_in};
-ghost use Rattle.nr_explain.specs.inside.Reading.{all_states, BeginsWell, FitsSegment};
+ghost use Rattle.nr_explain.specs.inside.Reading.{all_states, space_seen, BeginsWell, FitsSegment};
 
 use crate::chain::progress::Progress;
 use crate::search::spaces::apply_place;
@@ -68,7 +67,7 @@ pub(crate) fn begin(
     requires fits { IfSome last.now (FitsSegment segment.now) }
     requires well { BeginsWell last.now segment.now }
     ensures { IfOk result (λ space. space
-        ≡ space_of segment.now.layout (first_space (space_in (all_states last.now)) segment.now)) }
+        ≡ space_of segment.now.layout (first_space (space_seen (all_states last.now)) segment.now)) }
 {
     match last {
         Some(came) => copy(alloc, segment.layout().tables(), &came.space),

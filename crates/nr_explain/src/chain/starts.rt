@@ -7,12 +7,10 @@ ghost use Rattle.vs_types.specs.declared.page.TheConstants.Page.{PHYS_END};
 ghost use Rattle.vs_walk.specs.Traversal.{walk_fault, found_in};
 ghost use Rattle.vs_walk.specs.Differences.{HasDifference};
 ghost use Rattle.nr_audit.specs.Start.{HasPageBeyond, HasStartFault};
-ghost use Rattle.nr_audit.specs.Faults.{IsFirstAfter};
 ghost use Rattle.nr_explain.specs.inside.Starts.{IsFirstOfTables, IsShownInStart};
-ghost use Rattle.nr_explain.specs.Progress.{space_in};
-ghost use Rattle.nr_explain.specs.ChainExplanation.{IsShownBehind};
+ghost use Rattle.nr_explain.specs.inside.Firsts.{IsFirstOver};
 ghost use Rattle.nr_explain.specs.ChainEvidence.{IsStartBeyond, IsStartDiffers};
-ghost use Rattle.nr_explain.specs.inside.Reading.{all_states};
+ghost use Rattle.nr_explain.specs.inside.Reading.{all_states, space_seen, IsShownSeen};
 
 use crate::chain::evidence::{SegmentEvidence, StartBeyond, StartDiffers};
 use crate::chain::origins::origin_from;
@@ -135,9 +133,9 @@ pub(crate) fn explain_start(
     segment: &Trace,
     fault: Fault,
 ) -> Result<SegmentEvidence, Memory>
-    requires of_start { HasStartFault (space_in (all_states last.now)) segment.now fault }
-    requires first { IsFirstAfter (space_in (all_states last.now)) segment.now fault }
-    ensures { IfOk result (IsShownBehind (all_states last.now) segment.now fault) }
+    requires of_start { HasStartFault (space_seen (all_states last.now)) segment.now fault }
+    requires first { IsFirstOver (space_seen (all_states last.now)) segment.now fault }
+    ensures { IfOk result (IsShownSeen (all_states last.now) segment.now fault) }
 {
     let Some(start) = segment.start() else {
         unreachable!()

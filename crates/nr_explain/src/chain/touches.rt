@@ -1,18 +1,21 @@
 //! What shows a stale touch.
 
-ghost use Rattle.std.specs.Prelude.{◌≡◌, ◌≢◌, ◌<◌, ◌≤◌, ◌⊎◌, ◌↔◌, IfOk, IsTrue, false, length};
+ghost use Rattle.std.specs.Prelude.{◌≡◌, ◌≢◌, ◌<◌, ◌≤◌, ◌⊎◌, ◌↔◌, IfOk, IfSome, IsTrue, false, length};
 ghost use Rattle.vs_types.specs.Space.{IsSpace};
 ghost use Rattle.vs_types.specs.Step.{look};
-ghost use Rattle.nr_trace.specs.Laws.{HasCleanLog};
 ghost use Rattle.nr_audit.specs.Verdict.{space_of};
-ghost use Rattle.nr_audit.specs.Touches.{IsStale};
+ghost use Rattle.nr_touch.specs.Looks.{AreLooksLeft};
 ghost use Rattle.nr_touch.specs.Touches.{IsAnsweredBefore};
 ghost use Rattle.nr_explain.specs.ChainEvidence.{AreLooks, IsStaleTouch};
+ghost use Rattle.nr_explain.specs.Facts.{asked_address};
+ghost use Rattle.nr_explain.specs.inside.Firsts.{AreEarlierLeft, IsTouchToShow};
+ghost use Rattle.nr_explain.specs.inside.Reading.{all_states, left_seen, space_seen, FitsSegment, HasSoundTail};
 ghost use Rattle.nr_explain.specs.inside.Windows.{IsWindowBelow, Narrows};
 
 use crate::calls::answers::asked_address;
 use crate::chain::evidence::{Moment, StaleTouch};
 use crate::chain::origins::is_same;
+use crate::chain::progress::Progress;
 use crate::search::events::call_at;
 use crate::search::replies::reply_to;
 use crate::search::spaces::apply_place;
@@ -145,19 +148,51 @@ fn looks_in(
     Ok(looks)
 }
 
+/// How an address may still be found to look behind the segments so far. Allocates a list of these looks.
+fn looks_before(alloc: Global, last: &Option<Progress>, address: u64) -> Result<Vec<Answer>, Memory>
+    requires { IfSome last.now HasSoundTail }
+    ensures { IfOk result
+        (λ looks. AreLooksLeft (left_seen (all_states last.now)) address looks.items) }
+{
+    match last {
+        Some(came) => came.tail.looks_left(alloc, address),
+        None => Ok(Vec::new(alloc)),
+    }
+}
+
+/// The same for a touch that may be answered from so few entries of its segment's log: where these are none.
+fn earlier_looks(
+    alloc: Global,
+    last: &Option<Progress>,
+    address: u64,
+    first: u32,
+) -> Result<Vec<Answer>, Memory>
+    requires { IfSome last.now HasSoundTail }
+    ensures { IfOk result
+        (λ looks. AreEarlierLeft (left_seen (all_states last.now)) address first looks.items) }
+{
+    if first > 0 {
+        return Ok(Vec::new(alloc));
+    }
+    looks_before(alloc, last, address)
+}
+
 /// A stale touch, where the segment begins with this space: from which moments it may be answered, and how its address looked at these.
 /// Allocates memory for a copy of the space, and for another when that one is freed.
 pub(crate) fn stale_touch(
     alloc: Global,
+    last: &Option<Progress>,
     segment: &Trace,
     first: &PlainSpace,
     index: u32,
 ) -> Result<StaleTouch, Memory>
     requires space { first.now ≡ space_of segment.now.layout first.now.space }
-    requires stale { IsStale first.now.space segment.now index }
-    requires clean { HasCleanLog segment.now }
+    requires fits { IfSome last.now (FitsSegment segment.now) }
+    requires touch { IsTouchToShow (space_seen (all_states last.now)) segment.now index }
     ensures event { IfOk result (λ stale. stale.call.event ≡ index) }
     ensures is { IfOk result (IsStaleTouch first.now.space segment.now) }
+    ensures left { IfOk result (λ stale. AreEarlierLeft (left_seen (all_states last.now))
+        (asked_address stale.call.request) stale.first stale.earlier.items) }
 {
     let call = call_at(segment, index);
     let Some(reply) = reply_to(segment, index) else {
@@ -169,11 +204,13 @@ pub(crate) fn stale_touch(
     let window = window_of(segment, space, address, index, reply.event)?;
     let again = copy(alloc, tables, first)?;
     let looks = looks_in(alloc, segment, again, address, window)?;
+    let earlier = earlier_looks(alloc, last, address, window.first)?;
     Ok(StaleTouch {
         call,
         reply,
         first: window.first,
         last: window.last,
         looks,
+        earlier,
     })
 }

@@ -63,6 +63,6 @@ pub fn simulate_io<R: Source, W: Write>(
         write_text(writer, bytes.as_slice())?;
         return Ok(0);
     }
-    let report = audit_read(alloc, Ok(trace))?;
+    let report = audit_read(alloc, Ok(trace), false)?;
     write_report(writer, &report)
 }

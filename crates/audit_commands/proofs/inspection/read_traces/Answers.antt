@@ -22,6 +22,7 @@ returns-then-names-gt1 c =
     let read = c.get_raw.ensures ∙ raw_values-rows (found_of c.args.given.now) (codes "file") in
     let given_is = ap (option_map (λ (s : Bor (List (Bor (List ℕ)))). texts_of s.now)) (sym c.in-Some.is) ∙ read in
     let items_are = sym c.in_ok-names-in-Some.ensures.items in (
+      c.is_given-as_json.ensures,
       sym given_is ∙ ap (λ (l : List (Bor (List ℕ))). Some (texts_of l)) items_are,
       subst (λ (l : List (Bor (List ℕ))). 2 ≤ length l) items_are (many c.in-Some.names.now c.if-names-gt1.true),
     )
@@ -30,10 +31,10 @@ pub returns-else-names-gt1 : goal.returns-else-names-gt1
 returns-else-names-gt1 c =
     let read = c.get_raw.ensures ∙ raw_values-rows (found_of c.args.given.now) (codes "file") in
     let given_is = ap (option_map (λ (s : Bor (List (Bor (List ℕ)))). texts_of s.now)) (sym c.in-Some.is) ∙ read in
-    (subst has_few given_is (few_texts c.in-Some.names.now c.if-names-gt1.false), c.input_of.ensures)
+    (c.is_given-as_json.ensures, (subst has_few given_is (few_texts c.in-Some.names.now c.if-names-gt1.false), c.input_of.ensures))
 
 pub returns-in-None : goal.returns-in-None
 returns-in-None c =
     let read = c.get_raw.ensures ∙ raw_values-rows (found_of c.args.given.now) (codes "file") in
     let given_is = ap (option_map (λ (s : Bor (List (Bor (List ℕ)))). texts_of s.now)) (sym c.in-None.is) ∙ read in
-    (subst has_few given_is tt, c.input_of-in-None.ensures)
+    (c.is_given-as_json.ensures, (subst has_few given_is tt, c.input_of-in-None.ensures))

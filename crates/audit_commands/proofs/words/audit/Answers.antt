@@ -12,7 +12,9 @@ returns c =
     let none = so_far (ap app_of_fields c.about.ensures ∙ c.new.ensures.app) (ap globals c.about.ensures ∙ c.new.ensures.local) in
     let one = with_option c.in_ok-arg.ensures none c.flag.ensures.rule c.flag.ensures.local in
     let two = with_option c.in_ok-arg-2.ensures one c.flag-2.ensures.rule c.flag-2.ensures.local in
+    let three = with_option c.in_ok-arg-3.ensures two c.flag-3.ensures.rule c.flag-3.ensures.local in
+    let four = with_option c.in_ok-arg-4.ensures three c.flag-4.ensures.rule c.flag-4.ensures.local in
     record {
-      app = IfOk-weaker c.arg-3.result _ _ (λ command h. (with_option h two c.files.ensures.rule c.files.ensures.local).app_is) c.arg-3.ensures;
-      local = IfOk-weaker c.arg-3.result _ _ (λ command h. (with_option h two c.files.ensures.rule c.files.ensures.local).local) c.arg-3.ensures;
+      app = IfOk-weaker c.arg-5.result _ _ (λ command h. (with_option h four c.files.ensures.rule c.files.ensures.local).app_is) c.arg-5.ensures;
+      local = IfOk-weaker c.arg-5.result _ _ (λ command h. (with_option h four c.files.ensures.rule c.files.ensures.local).local) c.arg-5.ensures;
     }

@@ -3,9 +3,9 @@ use Rattle.chain_cuts.proofs.CutVerdicts.{cut_if_whole, segments_sound, whole_if
 use Rattle.chain_cuts.proofs.laws.a_cut_keeps_the_verdict.Goals as goal
 
 pub returns-clause-sound : goal.returns-clause-sound
-returns-clause-sound c = λ before first more cuts recorded starts. (
-  segments_sound before first.trace.layout first more cuts refl recorded.2 starts,
-  whole_sound before first.trace.layout first more cuts refl recorded.2,
+returns-clause-sound c = λ before first more may cuts recorded starts. (
+  segments_sound before first.trace.layout first more may cuts refl recorded.2 starts,
+  whole_sound before first.trace.layout first more may cuts refl recorded.2,
 )
 
 pub returns-clause-bytes : goal.returns-clause-bytes

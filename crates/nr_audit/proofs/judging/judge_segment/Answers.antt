@@ -1,62 +1,83 @@
-use Rattle.std.proofs.Common.{◌≡◌, ℕ, List, ap, sym, ◌∙◌}
-use Rattle.std.proofs.lemmas.Result.{err_from_is_err_and, IfOk-weaker}
+use Rattle.std.proofs.Common.{◌≡◌, Option, Some, ap, sym, ◌∙◌, subst}
+use Rattle.std.proofs.lemmas.Result.{err_from_is_err_and}
+use Rattle.vs_types.specs.Refusal.{IfRefused}
 use Rattle.vs_types.specs.Space.{Space}
 use Rattle.vs_plain.specs.Plain.{BoundedSpace}
 use Rattle.nr_trace.specs.Orders.{recorded_order, space_from}
+use Rattle.nr_joined.specs.Run.{Run, run_with}
+use Rattle.nr_touch.specs.Tails.{IsSoundTail, IsTailOf}
 use Rattle.nr_audit.specs.Faults.{IsFirstAfter, IsSoundAfter}
-use Rattle.nr_audit.specs.Segments.{last_space, pages_before, IsRightAfter}
-use Rattle.nr_audit.specs.Start.{first_space, BeginsWrong}
+use Rattle.nr_audit.specs.Segments.{pages_before, run_after, FitsPast, IsKept, IsRightAfter}
+use Rattle.nr_audit.specs.Start.{space_before, BeginsWrong}
 use Rattle.nr_audit.specs.Touches.{HasRightTouches}
 use Rattle.nr_audit.specs.Verdict.{space_of}
-use Rattle.nr_audit.specs.inside.Search.{HasNoFaultOn, IsFirstOn}
-use Rattle.nr_audit.proofs.Judgements.{first_after, sound_after, start_first}
+use Rattle.nr_audit.specs.inside.Search.{HasNoFaultBehind, IsFirstBehind}
+use Rattle.nr_audit.proofs.Judgements.{first_after, refused_begin, sound_after, start_first}
+use Rattle.nr_audit.proofs.Pasts.{begun, fits_after, kept_after, space_fits, spaces_behind, tail_sound}
 use Rattle.nr_audit.proofs.Ranks.{refused_as}
 use Rattle.nr_audit.proofs.RightSegments.{parts_after}
-use Rattle.nr_audit.proofs.Starts.{if_refused, ok_with, on_both}
+use Rattle.nr_audit.proofs.Starts.{if_refused, ok_both, ok_with, on_both}
 use Rattle.nr_audit.proofs.judging.judge_segment.Goals as goal
 
-pub search-requires : goal.search-requires
-search-requires c =
+pub begin-requires : goal.begin-requires
+begin-requires c = space_fits c.args.segment.now.layout c.args.before c.parts_of-parts.result.0 c.requires c.parts_of-parts.ensures.space
+
+pub search-requires-clause-start : goal.search-requires-clause-start
+search-requires-clause-start c =
     let begins = c.in_ok-start.ensures.space in
     begins ∙ ap (space_of c.args.segment.now.layout) (sym (ap (λ (s : BoundedSpace). s.space) begins))
 
-pub returns-clause-sound : goal.returns-clause-sound
-returns-clause-sound c =
-    let before = pages_before c.args.before in
-    let segment = c.args.segment.now in
-    let start = c.in_ok-start.start.space in
-    on_both (HasNoFaultOn start segment) (HasRightTouches start segment) (IsSoundAfter before segment) c.search.result
-    (sound_after before segment start (ap (λ (s : BoundedSpace). s.space) c.in_ok-start.ensures.space) c.in_ok-start.ensures.right)
-    c.search.ensures.none c.search.ensures.touches
+pub search-requires-clause-sound : goal.search-requires-clause-sound
+search-requires-clause-sound c =
+    tail_sound c.args.segment.now.layout c.args.before c.parts_of-parts.result.1 c.requires c.parts_of-parts.ensures.tail c.parts_of-parts.ensures.sound
 
-pub returns-clause-space : goal.returns-clause-space
-returns-clause-space c =
-    let before = pages_before c.args.before in
+pub returns-clause-sound : goal.returns-clause-sound
+returns-clause-sound c = λ run behind.
     let segment = c.args.segment.now in
-    let same : c.in_ok-start.start.space ≡ first_space before segment = ap (λ (s : BoundedSpace). s.space) c.in_ok-start.ensures.space in
-    IfOk-weaker c.search.result (λ right. right.1 ≡ space_of segment.layout (space_from c.in_ok-start.start.space segment segment.log))
-    (λ right. right.1 ≡ space_of segment.layout (last_space before segment))
-    (λ right is. is ∙ ap (λ (s : Space). space_of segment.layout (space_from s segment segment.log)) same) c.search.ensures.space
+    let start = c.in_ok-start.start in
+    let b = begun run c.args.before segment c.parts_of-parts.result.0 c.parts_of-parts.result.1 start behind c.parts_of-parts.ensures.space
+    c.parts_of-parts.ensures.tail c.parts_of-parts.ensures.none c.in_ok-start.ensures.space c.in_ok-start.ensures.right in
+    on_both (HasNoFaultBehind run start.space segment) (HasRightTouches run start.space segment) (IsSoundAfter run segment) c.search.result
+    (sound_after run segment start.space b.same b.begins)
+    (c.search.ensures.none run b.of_tail b.goes_on) (c.search.ensures.touches run b.of_tail b.goes_on)
+
+pub returns-clause-kept : goal.returns-clause-kept
+returns-clause-kept c = λ run behind.
+    let segment = c.args.segment.now in
+    let start = c.in_ok-start.start in
+    let b = begun run c.args.before segment c.parts_of-parts.result.0 c.parts_of-parts.result.1 start behind c.parts_of-parts.ensures.space
+    c.parts_of-parts.ensures.tail c.parts_of-parts.ensures.none c.in_ok-start.ensures.space c.in_ok-start.ensures.right in
+    ok_both (λ right. right.1.space ≡ space_of segment.layout (space_from start.space segment segment.log))
+    (λ right. IsTailOf (Some (run_with run start.space segment)) right.1.tail) (λ right. IsKept (run_after run segment) right.1) c.search.result
+    (λ right. kept_after run segment c.parts_of-parts.result.1 start.space right.1 b) c.search.ensures.space (c.search.ensures.tail run b.of_tail b.goes_on)
+
+pub returns-clause-fits : goal.returns-clause-fits
+returns-clause-fits c =
+    let segment = c.args.segment.now in
+    let space = space_from c.in_ok-start.start.space segment segment.log in
+    ok_both (λ right. right.1.space ≡ space_of segment.layout space) (λ right. IsSoundTail right.1.tail) (λ right. FitsPast segment.layout right.1)
+    c.search.result (λ right. fits_after segment.layout space right.1) c.search.ensures.space c.search.ensures.left
 
 pub returns-clause-right : goal.returns-clause-right
-returns-clause-right c =
-    let before = pages_before c.args.before in
+returns-clause-right c = λ run behind.
     let segment = c.args.segment.now in
-    ok_with (IsSoundAfter before segment) (λ right. right.0 ≡ recorded_order segment) (λ right. IsRightAfter before segment right.0) c.search.result
-    (λ sound right is. parts_after before segment right.0 sound is) (returns-clause-sound c) c.search.ensures.order
+    ok_with (IsSoundAfter run segment) (λ right. right.0 ≡ recorded_order segment) (λ right. IsRightAfter run segment right.0) c.search.result
+    (λ sound right is. parts_after run segment right.0 sound is) (returns-clause-sound c run behind) c.search.ensures.order
 
 pub returns-clause-first : goal.returns-clause-first
-returns-clause-first c =
-    let before = pages_before c.args.before in
+returns-clause-first c = λ run behind.
     let segment = c.args.segment.now in
-    let start = c.in_ok-start.start.space in
-    if_refused (IsFirstOn start segment) (IsFirstAfter before segment) c.search.result
-    (first_after before segment start (ap (λ (s : BoundedSpace). s.space) c.in_ok-start.ensures.space) c.in_ok-start.ensures.right)
-    c.search.ensures.first
+    let start = c.in_ok-start.start in
+    let b = begun run c.args.before segment c.parts_of-parts.result.0 c.parts_of-parts.result.1 start behind c.parts_of-parts.ensures.space
+    c.parts_of-parts.ensures.tail c.parts_of-parts.ensures.none c.in_ok-start.ensures.space c.in_ok-start.ensures.right in
+    if_refused (IsFirstBehind run start.space segment) (IsFirstAfter run segment) c.search.result
+    (first_after run segment start.space b.same b.begins) (c.search.ensures.first run b.of_tail b.goes_on)
 
 pub returns-in_err-start-clause-first : goal.returns-in_err-start-clause-first
-returns-in_err-start-clause-first c =
-    let before = pages_before c.args.before in
+returns-in_err-start-clause-first c = λ run behind.
     let segment = c.args.segment.now in
+    let spaces : pages_before c.parts_of-parts.result.0 ≡ space_before run =
+    ap pages_before c.parts_of-parts.ensures.space ∙ spaces_behind run c.args.before segment behind in
     let p = err_from_is_err_and c.from_residual.result c.from_residual.ensures.1 in
-    rw (p.1, p.2) (refused_as (BeginsWrong before segment) (IsFirstAfter before segment) _ (start_first before segment) c.in_err-start.ensures.first)
+    rw (p.1, p.2) (refused_as (BeginsWrong (space_before run) segment) (IsFirstAfter run segment) _ (start_first run segment)
+    (refused_begin (pages_before c.parts_of-parts.result.0) (space_before run) segment _ spaces c.in_err-start.ensures.first))

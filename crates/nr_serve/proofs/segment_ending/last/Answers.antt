@@ -1,9 +1,7 @@
 use Rattle.std.proofs.Common.{List, All, map, sym, subst, ◌∙◌}
 use Rattle.nr_trace.specs.declared.fault.Fault.{Fault}
 use Rattle.nr_audit.specs.Faults.{IsFirstAfter}
-use Rattle.nr_audit.specs.Segments.{pages_before}
-use Rattle.nr_chain.specs.Bytes.{layout_before}
-use Rattle.nr_serve.specs.SegmentRun.{IsAnswer}
+use Rattle.nr_serve.specs.SegmentRun.{layout_so_far, IsAnswer}
 use Rattle.nr_serve.specs.declared.said.Said.{Said}
 use Rattle.nr_serve.specs.inside.Calls.{since}
 use Rattle.nr_serve.specs.inside.Segment.{state_with}
@@ -16,14 +14,14 @@ written_segment-requires-clause-dumps g c =
     (settled.one_each ∙ sym c.requires.names.1, fitting_frames _ _ _ _ _ settled.dumps_are)
 
 pub judge_segment-requires : goal.judge_segment-requires
-judge_segment-requires g c = still_fits c.args.space c.args.config _ c.requires.space c.in_ok-trace.ensures.layout
+judge_segment-requires g c = still_fits c.args.past c.args.config _ c.requires.past c.in_ok-trace.ensures.layout
 
 pub returns-in-Ok : goal.returns-in-Ok
 returns-in-Ok g c before scripts served =
     let of = since g.K.ReplicasName.log g.K.ReplicasName.base in
     let layout = c.args.config in
-    let space = pages_before c.args.space in
-    let state = state_with of before layout space in
+    let past = c.args.past in
+    let state = state_with of before layout past in
     let settled = c.in_ok-calls.ensures in
     let written = c.in_ok-trace.ensures in
     let parts = c.args.parts in
@@ -31,13 +29,13 @@ returns-in-Ok g c before scripts served =
     let trace = c.in_ok-trace.field-0.trace in
     let bytes = c.in_ok-trace.field-0.bytes.items in
     let history = settled.settled.history in
-    let made = made_segment c.args.clock of layout space before scripts parts.pens.items parts.passes.items answers trace bytes history g.J.LogName.depth
+    let made = made_segment c.args.clock of layout past before scripts parts.pens.items parts.passes.items answers trace bytes history g.J.LogName.depth
     g.J.LogName.replicas c.in_ok-calls.calls.items c.requires.config.0 c.requires.names.0 c.requires.names.1 served written.layout written.recorded
-    written.calls (written.spelled (layout_before state.kept) (laid_as_before of before layout space)) c.requires.passes.1 settled.settled.is_history
+    written.calls (written.spelled (layout_so_far state.kept) (laid_as_before of before layout past)) c.requires.passes.1 settled.settled.is_history
     settled.settled.begins settled.settled.calls_are in
     ended_as state scripts answers c.of-answers.result bytes c.of-bytes.result c.in-Ok.order parts.passes.items c.of-passes.result c.of-answers.ensures
     c.of-bytes.ensures (c.of-passes.ensures ∙ settled.passes)
-    (has_ended c.args.clock of layout space before scripts parts.pens.items parts.passes.items answers trace bytes history made c.in-Ok.order
+    (has_ended c.args.clock of layout past before scripts parts.pens.items parts.passes.items answers trace bytes history made c.in-Ok.order
     c.in-Ok.ensures.sound c.in-Ok.ensures.order
     (λ all. c.requires.stopped (all_unmapped (All IsAnswer) (λ said. said.items) parts.answers.items all)))
 
@@ -45,8 +43,8 @@ pub returns : goal.returns
 returns g c before scripts served =
     let of = since g.K.ReplicasName.log g.K.ReplicasName.base in
     let layout = c.args.config in
-    let space = pages_before c.args.space in
-    let state = state_with of before layout space in
+    let past = c.args.past in
+    let state = state_with of before layout past in
     let settled = c.in_ok-calls.ensures in
     let written = c.in_ok-trace.ensures in
     let parts = c.args.parts in
@@ -54,10 +52,11 @@ returns g c before scripts served =
     let trace = c.in_ok-trace.field-0.trace in
     let bytes = c.in_ok-trace.field-0.bytes.items in
     let history = settled.settled.history in
-    let made = made_segment c.args.clock of layout space before scripts parts.pens.items parts.passes.items answers trace bytes history g.J.LogName.depth
+    let made = made_segment c.args.clock of layout past before scripts parts.pens.items parts.passes.items answers trace bytes history g.J.LogName.depth
     g.J.LogName.replicas c.in_ok-calls.calls.items c.requires.config.0 c.requires.names.0 c.requires.names.1 served written.layout written.recorded
-    written.calls (written.spelled (layout_before state.kept) (laid_as_before of before layout space)) c.requires.passes.1 settled.settled.is_history
+    written.calls (written.spelled (layout_so_far state.kept) (laid_as_before of before layout past)) c.requires.passes.1 settled.settled.is_history
     settled.settled.begins settled.settled.calls_are in
     failed_as state scripts bytes c.of-bytes.result _ c.of-bytes.ensures
-    (is_wrong c.args.clock of layout space before scripts parts.pens.items parts.passes.items answers trace bytes history made _
-    (subst (λ (f : Fault). IsFirstAfter space trace f) (sym c.in-Err-Refused.fault-is) (rw c.in-Err-Refused.field-0-is at c.in-Err-Refused.ensures.first)))
+    (is_wrong c.args.clock of layout past before scripts parts.pens.items parts.passes.items answers trace bytes history made _
+    (λ run behind. subst (λ (f : Fault). IsFirstAfter run trace f) (sym c.in-Err-Refused.fault-is)
+    (rw c.in-Err-Refused.field-0-is at (c.in-Err-Refused.ensures.first run behind))))

@@ -4,7 +4,6 @@ use Rattle.std.specs.Prelude.{IfOk}
 use Rattle.vs_types.specs.Config.{Layout}
 use Rattle.vs_types.specs.declared.limits.TheConstants.{LOG_PLACES}
 use Rattle.vs_types.specs.declared.request.Query.{Query}
-use Rattle.nr_audit.specs.Segments.{pages_before}
 use Rattle.nr_ring.specs.Pass.{Known, TableId}
 use Rattle.nr_record.specs.Pen.{AreAllPens}
 use Rattle.nr_serve.specs.ChainOfRun.{IsOutcomeOf}
@@ -48,7 +47,7 @@ returns-in-Ok g c =
     let scripts : List (List Query) = map (λ script. script.items) c.args.scripts.items in
     let parts = c.in_ok-parts-in-Ok.ensures in
     subst (λ (state : RunState). IfOk c.segment_ending.result (IsOutcomeOf state scripts))
-    (same_state of (since between.opened.log between.opened.base) between.passes.items between.config (pages_before between.space) (sym c.requires.log.0) (sym c.requires.log.1))
+    (same_state of (since between.opened.log between.opened.base) between.passes.items between.config between.past (sym c.requires.log.0) (sym c.requires.log.1))
     (c.segment_ending.ensures between.passes.items scripts (record {
       workers = c.in-Ok.workers.items;
       served = c.in-Ok.ensures.served;

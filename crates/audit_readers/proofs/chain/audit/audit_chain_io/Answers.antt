@@ -4,17 +4,17 @@ use Rattle.audit_readers.proofs.chain.audit.audit_chain_io.Goals as goal
 pub returns-in-Ended-clause-ok : goal.returns-in-Ended-clause-ok
 returns-in-Ended-clause-ok g c =
     let judged = rw c.in-Ended.is at c.in_ok-chain.ensures.ok in
-    reports_end _ c.end.result c.write_end.result judged.0 judged.1 c.end.ensures c.write_end.ensures.ok
+    reports_end _ c.end.result c.write_end.result judged.2 judged.3 (c.end.ensures judged.0 judged.1) c.write_end.ensures.ok
 
 pub returns-in-Ended-clause-read : goal.returns-in-Ended-clause-read
 returns-in-Ended-clause-read g c =
     let judged = rw c.in-Ended.is at c.in_ok-chain.ensures.ok in
-    answers_end _ c.end.result c.write_end.result judged.0 c.end.ensures c.write_end.ensures.ok
+    answers_end _ c.end.result c.write_end.result judged.2 (c.end.ensures judged.0 judged.1) c.write_end.ensures.ok
 
 pub returns-in-Ended-clause-first : goal.returns-in-Ended-clause-first
 returns-in-Ended-clause-first g c =
     let judged = rw c.in-Ended.is at c.in_ok-chain.ensures.ok in
-    end_refused g.W.Write.contents c.judge_blocks.new.writer c.write_end.new.writer c.write_end.result judged.0 c.write_end.ensures.err
+    end_refused g.W.Write.contents c.judge_blocks.new.writer c.write_end.new.writer c.write_end.result judged.2 c.write_end.ensures.err
 
 pub returns-in-Faulty-clause-ok : goal.returns-in-Faulty-clause-ok
 returns-in-Faulty-clause-ok g c =

@@ -17,14 +17,15 @@ returns-then-count-eq0-clause-ok g c =
     let end : IsAtEnd (known c.read_block.new.reader) = c.in_ok-count.ensures.end c.if-count-eq0.true
     (omega (arith, c.read_block.auto.block, c.loop-room.auto.block, c.requires)) in
     explained_at_end (known c.args.reader.now) (known c.loop-room.reader) (known c.read_block.new.reader) c.loop-room.chain piece c.in_ok-found.found
-    c.loop-room.invariant c.in_ok-count.ensures.ok nothing end c.in_ok-found.ensures
+    c.loop-room.invariant c.in_ok-count.ensures.ok nothing end (c.in_ok-found.ensures c.loop-room.invariant.last c.loop-room.invariant.seen)
 
 pub returns-in-Found-clause-ok : goal.returns-in-Found-clause-ok
 returns-in-Found-clause-ok g c =
     let known = g.R.Read.remaining in
     let piece = take c.in_ok-count.count c.read_block.new.block in
     explained_in_block (known c.args.reader.now) (known c.loop-room.reader) (known c.read_block.new.reader) c.loop-room.chain piece c.in-Found.found
-    c.loop-room.invariant c.in_ok-count.ensures.ok (subst (FeedsReader c.loop-room.chain piece) c.in-Found.is c.in_ok-next.ensures)
+    c.loop-room.invariant c.in_ok-count.ensures.ok (subst (FeedsReader c.loop-room.invariant.last c.loop-room.chain piece) c.in-Found.is
+    (c.in_ok-next.ensures c.loop-room.invariant.last c.loop-room.invariant.seen))
 
 pub loop-room-preserved : goal.loop-room-preserved
 loop-room-preserved g c =
@@ -36,7 +37,8 @@ loop-room-preserved g c =
     explaining_goes_on (known c.args.reader.now) (known c.loop-room.reader) (known c.read_block.new.reader) c.loop-room.chain c.in-More.next piece
     c.loop-room.room (c.loop-room.room - 1) c.loop-room.invariant c.in_ok-count.ensures.ok some (omega arith)
     (λ none. let zero : length piece ≡ 0 = ap length none in omega (arith, some, zero))
-    (subst (FeedsReader c.loop-room.chain piece) c.in-More.is c.in_ok-next.ensures)
+    (subst (FeedsReader c.loop-room.invariant.last c.loop-room.chain piece) c.in-More.is
+    (c.in_ok-next.ensures c.loop-room.invariant.last c.loop-room.invariant.seen))
 
 pub returns-in_err-count-clause-few : goal.returns-in_err-count-clause-few
 returns-in_err-count-clause-few g c = few_kept c.loop-room.invariant c.in_err-count.ensures.kept

@@ -10,15 +10,15 @@ pub returns-in-None : goal.returns-in-None
 returns-in-None c =
     let chain = c.in-Ended.chain in
     let text = string_bytes c.in_ok-text-in-Ended.text in
-    let said : IsTextAfter c.args.as_ranges chain.kept text =
-    subst (λ r. IfOk r (λ t. IsTextAfter c.args.as_ranges chain.kept (string_bytes t))) c.in_ok-text-in-Ended.was c.last_text-text.ensures in
-    subst (λ (j : Judged). SaysEnd c.args.as_ranges j text 0) (sym c.in-Ended.is)
-    (inl (pages_said c.args.as_ranges chain text (subst (EndsWith chain.kept chain.bytes) c.in-None.is c.end-found.ensures) said))
+    subst (λ (j : Judged). SaysEnd c.args.as_ranges j text 0) (sym c.in-Ended.is) (λ run kept.
+    let said : IsTextAfter c.args.as_ranges run text =
+    subst (λ r. IfOk r (λ t. IsTextAfter c.args.as_ranges run (string_bytes t))) c.in_ok-text-in-Ended.was (c.last_text-text.ensures run kept) in
+    inl (pages_said c.args.as_ranges run chain.bytes text (subst (EndsWith run chain.bytes) c.in-None.is (c.end-found.ensures run kept)) said))
 
 pub returns-in-Some : goal.returns-in-Some
 returns-in-Some c =
     let chain = c.in-Ended.chain in
     IfOk-weaker c.fault_report.result _ _
-    (λ report says. subst (λ (j : Judged). SaysEnd c.args.as_ranges j (string_bytes report.text) report.status) (sym c.in-Ended.is)
-    (inr (c.in-Some.fault, subst (EndsWith chain.kept chain.bytes) c.in-Some.is c.end-found.ensures, says)))
+    (λ report says. subst (λ (j : Judged). SaysEnd c.args.as_ranges j (string_bytes report.text) report.status) (sym c.in-Ended.is) (λ run kept.
+    inr (c.in-Some.fault, subst (EndsWith run chain.bytes) c.in-Some.is (c.end-found.ensures run kept), says)))
     c.fault_report.ensures

@@ -1,4 +1,4 @@
 use Rattle.audit_texts.proofs.chain.sentence.stale_sentence.Goals as goal
 
 pub returns : goal.returns
-returns c = rw (c.in_ok-told.ensures, c.in_ok-window.ensures) at c.format.ensures.ok
+returns c = rw (c.in_ok-told.ensures, c.in_ok-window.ensures, c.earlier_words-earlier.ensures, c.deref.ensures.value) at c.format.ensures.ok

@@ -1,47 +1,65 @@
-use Rattle.std.proofs.Common.{Some, ap, sym, subst}
+use Rattle.std.proofs.Common.{Some, refl, ap, sym, ◌∙◌, subst}
 use Rattle.nr_trace.specs.declared.fault.Fault.{Fault}
 use Rattle.nr_audit.specs.Faults.{IsFirstAfter}
-use Rattle.nr_audit.specs.Segments.{pages_before}
+use Rattle.nr_explain.specs.Progress.{run_in}
+use Rattle.nr_explain.specs.inside.Reading.{all_states}
 use Rattle.nr_explain.proofs.Feeding.{fresh_reading}
-use Rattle.nr_explain.proofs.Wholes.{first_behind, fits_before, fits_behind, right_behind, well_behind, whole_behind}
+use Rattle.nr_explain.proofs.Known.{shown_alike, sums_alike}
+use Rattle.nr_explain.proofs.Wholes.{behind, fits_after, fits_before, known_next, seen_next, show_behind, twice_after, well_behind, whole_behind}
 use Rattle.nr_explain.proofs.chain.reader.judge_next.Goals as goal
 
 pub judge_segment-requires : goal.judge_segment-requires
-judge_segment-requires c = fits_before c.args.last c.args.segment.now c.args.before c.requires.same c.requires.fits
+judge_segment-requires c = fits_before c.args.last c.args.segment.now c.args.before c.requires.twice c.requires.fits
 
 pub go_on-requires-clause-well : goal.go_on-requires-clause-well
-go_on-requires-clause-well c = well_behind c.args.last c.args.segment.now c.args.before c.requires.same c.in-Ok.ensures.sound
+go_on-requires-clause-well c =
+    well_behind c.args.last c.args.segment.now c.args.before c.requires.twice c.requires.follows c.requires.known
+    (λ came is. c.in-Ok.ensures.sound (run_in came) is)
 
 pub go_on-requires-clause-order : goal.go_on-requires-clause-order
 go_on-requires-clause-order c = c.in-Ok.ensures.order
 
 pub go_on-requires-clause-after : goal.go_on-requires-clause-after
 go_on-requires-clause-after c =
-    whole_behind c.args.last c.args.segment.now c.args.before c.requires.same c.in-Ok.space c.in-Ok.ensures.space
+    whole_behind c.args.last c.args.segment.now c.args.before c.requires.twice c.requires.follows c.in-Ok.past c.requires.known c.in-Ok.ensures.fits
+    (λ came is. c.in-Ok.ensures.kept (run_in came) is)
 
 pub invariant_of-next : goal.invariant_of-next
 invariant_of-next c =
     let came = c.in_ok-came-in-Ok.came in
-    fresh_reading (Some came) (Some c.in-Ok.space) _ c.new-feed.result c.new.ensures.items c.new-feed.ensures
-    (fits_behind c.args.last c.args.segment.now c.args.before c.requires.same c.in-Ok.space came.space came.layout c.in-Ok.ensures.space
-    c.in_ok-came-in-Ok.ensures.layout c.in_ok-came-in-Ok.ensures.space) (ap Some (sym c.in_ok-came-in-Ok.ensures.space))
+    let is = c.in_ok-came-in-Ok.ensures in
+    let past = c.in-Ok.past in
+    fresh_reading (Some came) (Some past) _ c.new-feed.result c.new.ensures.items c.new-feed.ensures
+    (fits_after came past c.args.segment.now c.in-Ok.ensures.fits is.layout is.space is.left) (twice_after came past is.space is.left)
+    (known_next c.args.last c.args.segment.now c.args.before c.requires.twice c.requires.follows came past c.args.size c.requires.known
+    (λ came is. c.in-Ok.ensures.kept (run_in came) is) is.layout is.space is.left is.began is.sums)
 
 pub returns-in-Ok : goal.returns-in-Ok
-returns-in-Ok c =
-    right_behind c.args.last c.args.segment.now c.args.before c.requires.same c.in_ok-came-in-Ok.came _ c.args.size c.args.count
-    c.in-Ok.ensures.sound c.in_ok-came-in-Ok.ensures.seen c.new.ensures.items
+returns-in-Ok c = λ came seen.
+    let is = c.in_ok-came-in-Ok.ensures in
+    let here = behind c.args.last c.args.segment.now c.args.before c.requires.twice c.requires.follows came seen in (
+      refl,
+      c.in-Ok.ensures.sound (run_in came) here,
+      record {
+        seen = seen_next c.args.last c.args.segment.now c.args.before c.requires.twice c.requires.follows came c.in_ok-came-in-Ok.came c.in-Ok.past
+            c.args.size seen (c.in-Ok.ensures.kept (run_in came) here) is.layout is.space is.left is.began is.sums;
+        none = c.new.ensures.items;
+      },
+    )
 
 pub explain_segment-requires-clause-first : goal.explain_segment-requires-clause-first
 explain_segment-requires-clause-first c =
-    first_behind c.args.last c.args.segment.now c.args.before c.requires.same _
-    (subst (λ (f : Fault). IsFirstAfter (pages_before c.args.before) c.args.segment.now f) (sym c.in-Err-Refused.fault-is)
-    (rw c.in-Err-Refused.field-0-is at c.in-Err-Refused.ensures.first))
+    show_behind c.args.last c.args.segment.now c.args.before c.requires.twice c.requires.follows c.in-Err-Refused.fault c.requires.known
+    (λ came is. subst (λ (f : Fault). IsFirstAfter (run_in came) c.args.segment.now f) (sym c.in-Err-Refused.fault-is)
+    (rw c.in-Err-Refused.field-0-is at (c.in-Err-Refused.ensures.first (run_in came) is)))
 
 pub returns : goal.returns
-returns c = (
-  ap (λ sums. sums.segments) c.sums_of-number.ensures,
-  first_behind c.args.last c.args.segment.now c.args.before c.requires.same _
-      (subst (λ (f : Fault). IsFirstAfter (pages_before c.args.before) c.args.segment.now f) (sym c.in-Err-Refused.fault-is)
-      (rw c.in-Err-Refused.field-0-is at c.in-Err-Refused.ensures.first)),
-  c.in_ok-shown-in-Err-Refused.ensures,
-)
+returns c = λ came seen.
+    let here = behind c.args.last c.args.segment.now c.args.before c.requires.twice c.requires.follows came seen in (
+      ap (λ sums. sums.segments) (c.sums_of-number.ensures ∙ sums_alike came (all_states c.args.last) seen),
+      subst (λ (f : Fault). IsFirstAfter (run_in came) c.args.segment.now f) (sym c.in-Err-Refused.fault-is)
+          (rw c.in-Err-Refused.field-0-is at (c.in-Err-Refused.ensures.first (run_in came) here)),
+      shown_alike came (all_states c.args.last) c.args.segment.now c.in-Err-Refused.fault c.in_ok-shown-in-Err-Refused.shown seen
+          c.in_ok-shown-in-Err-Refused.ensures.shown
+          c.in_ok-shown-in-Err-Refused.ensures.left,
+    )

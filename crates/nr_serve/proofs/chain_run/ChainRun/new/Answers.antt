@@ -17,7 +17,7 @@ invariant_of-run g c =
       one_each = ap (λ (passes : List Known). length passes) made.passes ∙ length-replicate threads (new_pass opened.log []);
       of_log = subst (All (λ (pass : Known). pass.log ≡ opened.log)) (sym made.passes)
           (All-replicate (λ (pass : Known). pass.log ≡ opened.log) threads (new_pass opened.log []) refl);
-      space_fits = tt;
+      past_fits = tt;
     }
 
 pub returns : goal.returns

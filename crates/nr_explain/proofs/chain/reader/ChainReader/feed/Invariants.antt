@@ -1,15 +1,11 @@
-use Rattle.std.proofs.Common.{◌≡◌, ◌⊎◌, length}
-use Rattle.nr_trace.specs.FirstFault.{HasSegmentFault}
-use Rattle.nr_trace.specs.declared.fault.Format.TheVariants.{Truncated}
-use Rattle.nr_explain.specs.Progress.{layout_in}
-use Rattle.nr_explain.proofs.Feeding.{LeadsTo}
+use Rattle.std.proofs.Common.{length, Option}
+use Rattle.nr_explain.specs.Progress.{ChainState, IsSeenOf}
+use Rattle.nr_explain.proofs.Feeding.{IsAt}
 use Rattle.nr_explain.proofs.chain.reader.ChainReader.feed.Given as goal
 
+-- however the reader has come here: the bytes before the rest are those of right segments, and of one more that is not whole
 abbrev pub invariant-segments : goal.invariant-segments
-invariant-segments l = record {
-  leads : LeadsTo l.fn.self l.fn.piece l.reader l.rest;
-  short : (l.rest ≡ l.fn.piece) ⊎ HasSegmentFault (layout_in l.reader.state) l.reader.bytes Truncated;
-}
+invariant-segments l = (came : Option ChainState) → IsSeenOf came l.fn.self.state → IsAt came l.fn.self l.fn.piece l.reader l.rest
 
 abbrev pub decreases-segments : goal.decreases-segments
 decreases-segments l = length l.rest

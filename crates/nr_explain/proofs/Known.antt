@@ -1,0 +1,96 @@
+-- What is kept of a run, beside the run.
+use Rattle.std.proofs.Common.{◌≡◌, ◌↔◌, ℕ, true, false, List, length, Option, Some, None, Contains, is_some, refl, ap, ◌∙◌, subst}
+use Rattle.vs_types.specs.Space.{Space, pages}
+use Rattle.vs_types.specs.declared.answer.Answer.{Answer}
+use Rattle.nr_trace.specs.Recording.{Recording}
+use Rattle.nr_trace.specs.declared.fault.Fault.{Fault}
+use Rattle.nr_touch.specs.Looks.{IsLookLeft}
+use Rattle.nr_audit.specs.Start.{first_space}
+use Rattle.nr_explain.specs.Facts.{asked_address}
+use Rattle.nr_explain.specs.Progress.{ChainState, Seen, began_with, counts_of, layout_in, run_in, space_in, sums_in, IsSeen, IsSeenOf}
+use Rattle.nr_explain.specs.ChainEvidence.{AreEarlier, IsShown, LingersBehind, ShowsEarlier}
+use Rattle.nr_explain.specs.ChainExplanation.{IsShownBehind}
+use Rattle.nr_explain.specs.inside.Firsts.{AreEarlierLeft, ShowsLeft}
+use Rattle.nr_explain.specs.inside.Reading.{began_seen, counts_seen, layout_seen, left_seen, space_seen, sums_seen, IsShownSeen}
+use Rattle.nr_explain.specs.declared.chain.evidence.SegmentEvidence.{SegmentEvidence}
+use Rattle.nr_explain.specs.declared.chain.evidence.SegmentEvidence.TheVariants as evidence
+
+pub layout_alike : (came : Option ChainState) (seen : Option Seen) → IsSeenOf came seen → layout_seen seen ≡ layout_in came
+layout_alike None None is = refl
+layout_alike (Some came) (Some seen) is = ap Some is.layout
+layout_alike None (Some seen) is = absurd is
+layout_alike (Some came) None is = absurd is
+
+pub space_alike : (came : Option ChainState) (seen : Option Seen) → IsSeenOf came seen → space_seen seen ≡ space_in came
+space_alike None None is = refl
+space_alike (Some came) (Some seen) is = ap Some is.space
+space_alike None (Some seen) is = absurd is
+space_alike (Some came) None is = absurd is
+
+pub sums_alike : (came : Option ChainState) (seen : Option Seen) → IsSeenOf came seen → sums_seen seen ≡ sums_in came
+sums_alike None None is = refl
+sums_alike (Some came) (Some seen) is = is.sums
+sums_alike None (Some seen) is = absurd is
+sums_alike (Some came) None is = absurd is
+
+pub began_alike : (came : Option ChainState) (seen : Option Seen) (segment : Recording) → IsSeenOf came seen → began_seen seen segment ≡ began_with came segment
+began_alike None None segment is = refl
+began_alike (Some came) (Some seen) segment is = is.began
+began_alike None (Some seen) segment is = absurd is
+began_alike (Some came) None segment is = absurd is
+
+pub none_seen : (came : Option ChainState) (seen : Option Seen) → IsSeenOf came seen → seen ≡ None → is_some (run_in came) ≡ true → ⊥
+none_seen None seen is none some = let wrong : false ≡ true = some in cc
+none_seen (Some came) seen is none some = subst (IsSeenOf (Some came)) none is
+
+pub counts_alike : (came : ChainState) (seen : Seen) → IsSeen came seen → counts_seen seen ≡ counts_of came
+counts_alike came seen is = λ i. record {
+  segments = (is.sums i).segments;
+  calls = (is.sums i).calls;
+  updates = (is.sums i).updates;
+  reads = (is.sums i).reads;
+  touches = (is.sums i).touches;
+  dumps = (is.sums i).dumps;
+  replicas = (is.layout i).replicas;
+  pages = length (pages (is.space i));
+}
+
+-- ---- the looks that linger
+
+looks_alike : (came : Option ChainState) (seen : Option Seen) (address : ℕ) (look : Answer) → IsSeenOf came seen
+    → IsLookLeft (left_seen seen) address look ↔ LingersBehind (run_in came) address look
+looks_alike None None address look is = (λ it. it.1, λ it. absurd it)
+looks_alike (Some came) (Some seen) address look is = (there, back) where
+  there : IsLookLeft seen.left address look → LingersBehind (Some came.run) address look
+  there (page, left, same) = (page, (is.left.looks address page).0 left, same)
+
+  back : LingersBehind (Some came.run) address look → IsLookLeft seen.left address look
+  back (page, lingers, same) = (page, (is.left.looks address page).1 lingers, same)
+looks_alike None (Some seen) address look is = absurd is
+looks_alike (Some came) None address look is = absurd is
+
+earlier_of : (came : Option ChainState) (seen : Option Seen) (address first : ℕ) (looks : List Answer) → IsSeenOf came seen
+    → AreEarlierLeft (left_seen seen) address first looks → AreEarlier (run_in came) address first looks
+earlier_of came seen address first looks is are look = (there, back) where
+  there : Contains looks look → (first ≡ 0) × LingersBehind (run_in came) address look
+  there has = let (none, left) = (are look).0 has in (none, (looks_alike came seen address look is).0 left)
+
+  back : (first ≡ 0) × LingersBehind (run_in came) address look → Contains looks look
+  back (none, lingers) = (are look).1 (none, (looks_alike came seen address look is).1 lingers)
+
+earlier_alike : (came : Option ChainState) (seen : Option Seen) (shown : SegmentEvidence) → IsSeenOf came seen → ShowsLeft (left_seen seen) shown
+    → ShowsEarlier (run_in came) shown
+earlier_alike came seen (evidence.Stale stale) is left =
+    earlier_of came seen (asked_address stale.call.request) stale.first stale.earlier.items is left
+earlier_alike came seen shown is left = tt
+
+-- ---- what shows a fault
+
+pub shown_alike : (came : Option ChainState) (seen : Option Seen) (segment : Recording) (fault : Fault) (shown : SegmentEvidence) → IsSeenOf came seen
+    → IsShownSeen seen segment fault shown → ShowsLeft (left_seen seen) shown → IsShownBehind came segment fault shown
+shown_alike came seen segment fault shown is shows left = (
+  subst (λ (began : Option Space). IsShown began (space_in came) (first_space (space_in came) segment) segment fault shown) (began_alike came seen segment is)
+      (subst (λ (before : Option Space). IsShown (began_seen seen segment) before (first_space before segment) segment fault shown) (space_alike came seen is)
+      shows),
+  earlier_alike came seen shown is left,
+)

@@ -1,0 +1,53 @@
+-- The first fault of a segment, by the space before it alone. No public clause cites this file.
+use Rattle.std.specs.Prelude.{◌≡◌, ℕ, ◌↔◌, List, Contains, Option, ⊤}
+use Rattle.vs_types.specs.Space.{Space}
+use Rattle.vs_types.specs.declared.answer.Answer.{Answer}
+use Rattle.nr_trace.specs.Recording.{Recording}
+use Rattle.nr_trace.specs.Faults.{Earlier, HasFaultFrom}
+use Rattle.nr_trace.specs.Laws.{HasCleanLog}
+use Rattle.nr_trace.specs.declared.fault.Fault.{Fault}
+use Rattle.nr_trace.specs.declared.fault.Fault.TheVariants.{StartMissing, StartShared, StartReserved, StartStray, StartBeyond, StartDiffers, Stale}
+use Rattle.nr_touch.specs.Looks.{IsLookLeft}
+use Rattle.nr_touch.specs.declared.tail.Left.{Left}
+use Rattle.nr_touch.specs.declared.touch.Touch.{Touch}
+use Rattle.nr_audit.specs.Start.{first_space, BeginsRight, HasStartFault}
+use Rattle.nr_audit.specs.Touches.{HasTouch}
+use Rattle.nr_explain.specs.Facts.{asked_address}
+use Rattle.nr_explain.specs.declared.chain.evidence.SegmentEvidence.{SegmentEvidence}
+use Rattle.nr_explain.specs.declared.chain.evidence.SegmentEvidence.TheVariants as evidence
+
+-- what each fault but that of touches says of a segment, where that is the space before it, or no segment is
+abbrev pub HasFaultOver : Option Space → Recording → Fault → Type 0
+HasFaultOver before segment (StartMissing number) = HasStartFault before segment (StartMissing number)
+HasFaultOver before segment (StartShared number) = HasStartFault before segment (StartShared number)
+HasFaultOver before segment (StartReserved number index) = HasStartFault before segment (StartReserved number index)
+HasFaultOver before segment (StartStray number) = HasStartFault before segment (StartStray number)
+HasFaultOver before segment (StartBeyond base) = HasStartFault before segment (StartBeyond base)
+HasFaultOver before segment (StartDiffers address) = HasStartFault before segment (StartDiffers address)
+HasFaultOver before segment fault = HasFaultFrom (first_space before segment) segment fault
+
+-- the fault holds of the segment, and no earlier one does but perhaps one of a touch
+pub record IsFirstOver (before : Option Space) (segment : Recording) (fault : Fault) : Type 0 where
+  pub holds : HasFaultOver before segment fault
+  pub none_earlier : (other : Fault) → HasFaultOver before segment other → Earlier segment other fault → ⊥
+
+-- the call of this number is an answered touch, and nothing is wrong with the start, the events and the log
+pub record IsTouchToShow (before : Option Space) (segment : Recording) (call : ℕ) : Type 0 where
+  pub well : BeginsRight before segment
+  pub clean : HasCleanLog segment
+  pub touch : Touch
+  pub has : HasTouch segment touch
+  pub made : touch.made ≡ call
+
+-- what is to be known of the first fault of a segment, so that it can be shown
+abbrev pub IsToShow : Option Space → Recording → Fault → Type 0
+IsToShow before segment (Stale call) = IsTouchToShow before segment call
+IsToShow before segment fault = IsFirstOver before segment fault
+
+-- what shows a stale touch has just the looks that the changes leave, where it may be answered from no entry of its segment
+abbrev pub AreEarlierLeft : List Left → ℕ → ℕ → List Answer → Type 0
+AreEarlierLeft changes address first looks = (look : Answer) → Contains looks look ↔ ((first ≡ 0) × IsLookLeft changes address look)
+
+abbrev pub ShowsLeft : List Left → SegmentEvidence → Type 0
+ShowsLeft changes (evidence.Stale stale) = AreEarlierLeft changes (asked_address stale.call.request) stale.first stale.earlier.items
+ShowsLeft changes shown = ⊤
