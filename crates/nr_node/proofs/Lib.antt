@@ -3,6 +3,8 @@ pub mod Spaces
 pub mod Replicas
 pub mod Looks
 pub mod Nodes
+pub mod Takes
+pub mod Puts
 pub mod Answering
 pub mod LaterLogs
 pub mod Tellings

@@ -1,6 +1,6 @@
 -- Lists that grow by one, and what is left of one.
-use Rattle.std.proofs.Common.{◌≡◌, ℕ, zero, suc, ◌+◌, ◌<◌, List, [], ◌∷◌, ◌++◌, All, Some, length, map, get_or, take, drop, drop-cons, ap, sym, ◌∙◌, arith}
-use Rattle.std.proofs.lemmas.List.{map-append, take_more}
+use Rattle.std.proofs.Common.{◌≡◌, ℕ, zero, suc, ◌+◌, ◌-◌, ◌<◌, List, [], ◌∷◌, ◌++◌, All, Some, length, map, get_or, take, drop, drop-cons, ap, sym, ◌∙◌, arith}
+use Rattle.std.proofs.lemmas.List.{length-drop, map-append, take_all, take_more}
 
 pub all_one : {X : Type 0} (P : X → Type 0) (x : X) → P x → All P (x ∷ [])
 all_one P x p zero d lt = p
@@ -23,3 +23,7 @@ drop_here {X} xs i x lt is =
 
 pub same_some : {X : Type 0} {x y : X} → Some x ≡ Some y → x ≡ y
 same_some e = cc
+
+-- a slice from a place on has what is left from there on
+pub slice_from : {X : Type 0} (n : ℕ) (l items : List X) → l ≡ items → take (length l - n) (drop n l) ≡ drop n items
+slice_from {X} n l items same = take_all (length l - n) (drop n l) (omega (arith, length-drop n l)) ∙ ap (λ (xs : List X). drop n xs) same

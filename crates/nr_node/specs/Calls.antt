@@ -60,7 +60,14 @@ pub record HasCaughtUp (depth : Depth) (replicas : ℕ) (before : NodeState) (co
   pub fresh : tail (log_of replicas before) ≤ applied_of replicas after
   pub held : (first : ℕ) → before.first ≡ Some first
       → LiesWithin (log_of replicas after) (applied_of replicas before) (applied_of replicas after) first before.batch
-  pub left : after ≡ record before { known = after.known; batch = left_of before.first before.batch; first = None }
+  pub left : after ≡ record before { known = after.known; applied = after.applied; batch = left_of before.first before.batch; first = None }
+
+-- the node looked, and has then applied all entries that there are. It made no event, so its replica's local tail is as it was
+pub record HasFollowed (depth : Depth) (replicas : ℕ) (before after : NodeState) : Type 0 where
+  pub looked : HasLooked depth replicas before.known.view after.known.view
+  pub all : applied_of replicas after ≡ tail (log_of replicas after)
+  pub fresh : tail (log_of replicas before) ≤ applied_of replicas after
+  pub left : after ≡ record before { known = after.known; applied = after.applied }
 
 -- another pass's event came, and the node has only looked: what it has applied and holds is as before
 pub record HasStayed (depth : Depth) (replicas : ℕ) (before after : NodeState) : Type 0 where

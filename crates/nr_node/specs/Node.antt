@@ -13,12 +13,13 @@ use Rattle.nr_node.specs.Spaces.{space_at}
 use Rattle.nr_node.specs.declared.held.Held.{Held}
 use Rattle.nr_node.specs.declared.held.Held.TheVariants.{Nothing, Unplaced, Placed}
 
--- its log and what its pass knows of it, how many tables it may have, how many of the entries that it has applied it keeps no more, the
--- calls of its batch that are not yet answered, and the place of the first of them, where they have places
+-- its log and what its pass knows of it, how many tables it may have, how many entries of the log it has applied, how many of these it
+-- keeps no more, the calls of its batch that are not yet answered, and the place of the first of them, where they have places
 pub record NodeState : Type 0 where
   pub known : Known
   pub tables : ℕ
   pub base : ℕ
+  pub applied : ℕ
   pub batch : List Waiting
   pub first : Option ℕ
 
@@ -34,9 +35,9 @@ taken_by replicas view = local_of (log_after replicas view.seen) (replica_of vie
 abbrev pub log_of : ℕ → NodeState → Log
 log_of replicas node = log_after replicas node.known.view.seen
 
--- how many entries a node has applied: its replica's local tail
+-- how many entries a node has applied, which may be more than its replica's local tail says
 abbrev pub applied_of : ℕ → NodeState → ℕ
-applied_of replicas node = taken_by replicas node.known.view
+applied_of replicas node = node.applied
 
 -- the address space of a node: that after the entries that it has applied
 abbrev pub node_space : Depth → ℕ → NodeState → Space
@@ -53,19 +54,21 @@ pub record IsPlaced (log : Log) (applied first : ℕ) (batch : List Waiting) : T
   pub above : applied ≤ first
   pub stand : StandFrom log.entries first batch
 
--- what each node is: its pass owns a replica, which has taken no entry that is not there; what it keeps no more it has applied; the calls
--- of its batch are well formed at the log's depth, at most 16, and where they have places they are there
+-- what each node is: its pass owns a replica, which has taken no entry that the node has not applied; it has applied none that is not there;
+-- those that it keeps no more its replica has taken; the calls of its batch are well formed at the log's depth, at most 16, and where they
+-- have places they are there
 pub record IsNode (depth : Depth) (replicas : ℕ) (node : NodeState) : Type 0 where
   pub owner : node.known.view.owns ≡ replica_of node.known.view ∷ []
+  pub behind : taken_by replicas node.known.view ≤ applied_of replicas node
   pub written : applied_of replicas node ≤ tail (log_of replicas node)
-  pub kept : node.base ≤ applied_of replicas node
+  pub kept : node.base ≤ taken_by replicas node.known.view
   pub fit : All (λ waiting. IsAction depth waiting.op) node.batch
   pub few : length node.batch ≤ RING
   pub placed : (first : ℕ) → node.first ≡ Some first → IsPlaced (log_of replicas node) (applied_of replicas node) first node.batch
 
 -- a new node, with this pass and this limit of tables, keeps all and holds nothing
 abbrev pub new_node : Known → ℕ → NodeState
-new_node known tables = record { known = known; tables = tables; base = 0; batch = []; first = None }
+new_node known tables = record { known = known; tables = tables; base = 0; applied = 0; batch = []; first = None }
 
 -- what a batch is to its node: how many calls are not yet answered, and where the first is
 abbrev pub held_of : List Waiting → Option ℕ → Held

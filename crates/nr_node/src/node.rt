@@ -9,7 +9,7 @@ ghost use Rattle.vs_types.specs.Operation.{IsAction};
 ghost use Rattle.vs_types.specs.Refusal.{IfRefused};
 ghost use Rattle.vs_types.specs.Space.{table_count};
 ghost use Rattle.vs_types.specs.Step.{allow, look};
-ghost use Rattle.vs_types.specs.declared.limits.TheConstants.{LOG_PLACES, TABLES};
+ghost use Rattle.vs_types.specs.declared.limits.TheConstants.{LOG_PLACES, RING, TABLES};
 ghost use Rattle.vs_walk.specs.Walk.{TranslatesAs};
 ghost use Rattle.nr_ring.specs.Calls.{HasLooked, HasMoved, copy_of, joint_view};
 ghost use Rattle.nr_ring.specs.Entries.{HasAppended, IsReason};
@@ -17,10 +17,11 @@ ghost use Rattle.nr_ring.specs.LogHistory.{log_after, tail};
 ghost use Rattle.nr_ring.specs.View.{HasSeenAdvances, StartsWith};
 ghost use Rattle.nr_slots.specs.Batch.{Rises};
 ghost use Rattle.nr_slots.specs.Updates.{Answered, Waiting};
-ghost use Rattle.nr_node.specs.Calls.{HasCaughtUp, HasPutAndCaughtUp, HasStayed, IsAnsweredIn, IsOwnPlace, LacksUpdate, answers_of};
+ghost use Rattle.nr_node.specs.Calls.{HasCaughtUp, HasFollowed, HasPutAndCaughtUp, HasStayed, IsAnsweredIn, IsOwnPlace, LacksUpdate, answers_of};
 ghost use Rattle.nr_node.specs.Calls.{entries_of};
 ghost use Rattle.nr_node.specs.Node.{IsNode, applied_of, held_of, log_of, new_node, node_space, replica_of, taken_by};
 ghost use Rattle.nr_node.specs.Spaces.{answer_at};
+ghost use Rattle.nr_node.specs.declared.held.Held.TheVariants.{Placed};
 
 use crate::batch::{ask_for, entries_of, keep_unplaced};
 use crate::held::Held;
@@ -38,9 +39,10 @@ use vs_walk::Dump;
 
 /// A replica of the address space with its pass to the log, and at most one batch of updates that are on their way.
 ///
-/// Its page table is that of the address space after the first `applied` entries of the log, which are all that its replica
-/// has taken. Contracts see its log, what its pass knows, how many tables it may have, and its batch. Beside these it has room
-/// for the entries that a call appends or takes, so that no call has to fill an array of its own.
+/// Its page table is that of the address space after the first `applied` entries of the log, which are all that its replica has
+/// taken, and those that it has followed since then. Contracts see its log, what its pass knows, how many tables it may have, what it has
+/// applied, and its batch. Beside these it has room for the entries that a call appends or takes, so that no call has to fill an array of
+/// its own.
 #[derive(Drop)]
 pub struct Node<S: FrameStore, J: LogName> {
     pass: LogPass<J>,
@@ -49,12 +51,13 @@ pub struct Node<S: FrameStore, J: LogName> {
     first: Option<u64>,
     asked: [PackedEntry; RING],
     entries: ArrayVec<PackedEntry, RING>,
+    ahead: usize,
 }
 
 impl<S: FrameStore, J: LogName> Model for Node<S, J> {
     ghost use Rattle.std.specs.Prelude.{◌≡◌};
     ghost use Rattle.nr_node.specs.Node.{IsNode, NodeState};
-    ghost use Rattle.nr_node.specs.inside.Node.{Follows, node_state};
+    ghost use Rattle.nr_node.specs.inside.Node.{Follows, IsAhead, node_state};
 
     ghost Value = { NodeState };
 
@@ -63,7 +66,8 @@ impl<S: FrameStore, J: LogName> Model for Node<S, J> {
     ghost invariant = { λ n.
         IsNode J.depth J.replicas (node_state n.pass n.replica n.batch.items n.first)
         × Follows J.depth J.replicas
-        (node_state n.pass n.replica n.batch.items n.first) n.replica };
+        (node_state n.pass n.replica n.batch.items n.first) n.replica
+        × IsAhead J.replicas n.pass.view n.replica n.ahead };
 }
 
 impl<S: FrameStore + Drop, J: LogName> Node<S, J> {
@@ -95,6 +99,7 @@ impl<S: FrameStore + Drop, J: LogName> Node<S, J> {
             first: None,
             asked: [PackedEntry::default(); RING],
             entries: ArrayVec::new(),
+            ahead: 0,
         })
     }
 
@@ -108,7 +113,7 @@ impl<S: FrameStore + Drop, J: LogName> Node<S, J> {
 }
 
 impl<S: FrameStore, J: LogName> Node<S, J> {
-    /// How many entries of the log it has applied: its replica's local tail.
+    /// How many entries of the log it has applied: its replica's local tail, and those above it.
     pub fn applied(&self) -> u64
         ensures reads { result ≡ applied_of J.replicas self.now }
         ensures is_node { IsNode J.depth J.replicas self.now }
@@ -124,6 +129,15 @@ impl<S: FrameStore, J: LogName> Node<S, J> {
         let _known = &self.pass;
     }
 
+    /// How many of the entries that it has applied are above its replica's local tail: 16 at most.
+    #[inline(always)]
+    pub fn ahead(&self) -> usize
+        ensures { taken_by J.replicas self.now.known.view + result
+            ≡ applied_of J.replicas self.now }
+    {
+        self.ahead
+    }
+
     /// How many of the entries that it has applied it keeps no more: those before the last `forget`.
     pub fn base(&self) -> u64
         ensures { result ≡ self.now.base }
@@ -131,7 +145,7 @@ impl<S: FrameStore, J: LogName> Node<S, J> {
         self.replica.base()
     }
 
-    /// Whether it keeps so few entries that it may take more: 65,536 at most.
+    /// Whether it keeps so few entries that it may put a batch and take what comes with it: 65,536 at most.
     #[inline(always)]
     pub fn has_room(&self) -> bool
         ensures { MatchBool result (applied_of J.replicas self.now ≤ self.now.base + LOG_PLACES)
@@ -140,8 +154,20 @@ impl<S: FrameStore, J: LogName> Node<S, J> {
         self.replica.kept_count() <= u64::from(LOG_PLACES)
     }
 
-    /// Keeps none of the entries any more that it has applied: `told` and `answer_to` give none of them, and there is room again.
+    /// Whether it keeps so few entries that it may take more: 65,552 at most. So a node may still take what others put while they had room.
+    #[inline(always)]
+    pub fn has_room_to_take(&self) -> bool
+        ensures { MatchBool result
+            (applied_of J.replicas self.now ≤ self.now.base + (LOG_PLACES + RING))
+            (self.now.base + (LOG_PLACES + RING) < applied_of J.replicas self.now) }
+    {
+        self.replica.kept_count() <= u64::from(LOG_PLACES) + RING as u64
+    }
+
+    /// Keeps none of the entries any more that it has applied, all of which its replica has taken: `told` and `answer_to` give none of
+    /// them, and there is room again.
     pub fn forget(&mut self)
+        requires { taken_by J.replicas self.old.known.view ≡ applied_of J.replicas self.old }
         ensures { self.new ≡ record self.old { base = applied_of J.replicas self.old } }
     {
         self.pass.has_seen_a_history();
@@ -268,15 +294,17 @@ impl<S: FrameStore, J: LogName> Node<S, J> {
         let asked = &self.asked[..self.batch.len()];
         self.entries.clear();
         log.append_and_take(&mut self.pass, asked, &mut self.entries)?;
-        self.replica.apply_all(self.entries.as_slice());
+        let new = &self.entries.as_slice()[self.ahead..];
+        self.replica.apply_all(new);
+        self.ahead = 0;
         self.replica
             .apply_batch(&self.batch, slots, thread, wanted, own);
         self.batch.clear();
         Ok(())
     }
 
-    /// Takes all entries that the log then has and applies them: how many they are. The answers of the held updates among them
-    /// are added to the vector, which is empty, by place.
+    /// Takes all entries that the log then has and applies those that it hasn't applied: how many they are. The answers of the held
+    /// updates among them are added to the vector, which is empty, by place.
     ///
     /// # Errors
     ///
@@ -289,7 +317,8 @@ impl<S: FrameStore, J: LogName> Node<S, J> {
     ) -> Result<u64, Moved>
         requires log { self.old.known.log ≡ log.now }
         requires empty { answers.old.items ≡ [] }
-        requires room { applied_of J.replicas self.old ≤ self.old.base + LOG_PLACES }
+        requires room { applied_of J.replicas self.old
+            ≤ self.old.base + (LOG_PLACES + RING) }
         ensures log { self.new.known.log ≡ self.old.known.log }
         ensures caught_up { IfOk result (λ count.
             HasCaughtUp J.depth J.replicas self.old count self.new) }
@@ -298,17 +327,37 @@ impl<S: FrameStore, J: LogName> Node<S, J> {
             (log_of J.replicas self.new).entries self.old.first self.old.batch) }
         ensures stayed { OnErr result (HasStayed J.depth J.replicas self.old self.new) }
         ensures moved { OnErr result (HasMoved self.old.known.view self.new.known.view) }
-        ensures ahead { OnErr result
-            (applied_of J.replicas self.new + 1 ≤ tail (log_of J.replicas self.new)) }
+        ensures ahead { OnErr result (taken_by J.replicas self.new.known.view + 1
+            ≤ tail (log_of J.replicas self.new)) }
         ensures no_answer { OnErr result (answers.new.items ≡ []) }
     {
         self.entries.clear();
         log.take(&mut self.pass, &mut self.entries)?;
-        self.replica.apply_all(self.entries.as_slice());
+        let new = &self.entries.as_slice()[self.ahead..];
+        self.replica.apply_all(new);
+        self.ahead = 0;
         self.replica.answer(self.first, &self.batch, answers);
         keep_unplaced(&mut self.batch, self.first);
         self.first = None;
-        Ok(self.entries.len() as u64)
+        Ok(new.len() as u64)
+    }
+
+    /// Looks, and applies all entries that the log then has and that it hasn't applied. It makes no event: its replica's local tail stays
+    /// where it is, so that nobody overwrites what it then reads once more. No held update has a place.
+    pub fn follow(&mut self, log: &RingLog<J>)
+        requires log { self.old.known.log ≡ log.now }
+        requires unplaced { (place count : ℕ)
+            → held_of self.old.batch self.old.first ≢ Placed place count }
+        requires room { applied_of J.replicas self.old
+            ≤ self.old.base + (LOG_PLACES + RING) }
+        ensures log { self.new.known.log ≡ self.old.known.log }
+        ensures followed { HasFollowed J.depth J.replicas self.old self.new }
+    {
+        self.entries.clear();
+        log.peek(&mut self.pass, &mut self.entries);
+        let new = &self.entries.as_slice()[self.ahead..];
+        self.replica.apply_all(new);
+        self.ahead = self.entries.len();
     }
 
     /// How many entries it has applied, and the translation of a canonical address after them, or `NotMapped`.

@@ -15,7 +15,7 @@ use Rattle.nr_ring.specs.declared.log_event.LogEvent.{LogEvent}
 use Rattle.nr_ring.proofs.Histories.{beginning_goes_on, history_fits, tail_rises}
 use Rattle.nr_ring.proofs.LocalTails.{below_greatest, greatest_least}
 use Rattle.nr_slots.specs.Updates.{Waiting}
-use Rattle.nr_node.specs.Node.{IsNode, NodeState, applied_of, held_of, log_of, replica_of}
+use Rattle.nr_node.specs.Node.{IsNode, NodeState, applied_of, held_of, log_of, replica_of, taken_by}
 use Rattle.nr_node.specs.declared.held.Held.TheVariants.{Nothing}
 use Rattle.nr_node.proofs.Nodes.{take_still}
 use Rattle.nr_replicas.specs.Replicas.{HasHeard}
@@ -64,20 +64,25 @@ forgotten_nodes depth replicas tables base count log layout slots nodes are many
       idle = All-map Idle (forgotten replicas) nodes (λ k d lt. (done k d lt).idle);
     }
 
--- the dumps of nodes that have applied so many entries
-all_applied_are : (depth : Depth) (replicas tables base count : ℕ) (nodes : List NodeState) (dumps : List Image)
+-- the dumps of nodes that have applied so many entries, which are all that there are
+all_applied_are : (depth : Depth) (replicas tables base count : ℕ) (history : List LogEvent) (nodes : List NodeState) (dumps : List Image)
+    → IsLogHistory depth replicas history → count ≡ tail (log_after replicas history) → All (λ node. StartsWith history node.known.view.seen) nodes
     → AreDumpsOf depth replicas tables base (map (λ node. node.known) nodes) dumps → All (IsDone replicas count) nodes
     → All (λ dump. base + dump.applied ≡ count) dumps
-all_applied_are depth replicas tables base count [] [] are done k d lt = absurd (omega (arith, lt))
-all_applied_are depth replicas tables base count (n ∷ ns) (x ∷ xs) are done zero d lt = are.1 ∙ (done 0 n (omega arith)).all
-all_applied_are depth replicas tables base count (n ∷ ns) (x ∷ xs) are done (suc k) d lt =
-    all_applied_are depth replicas tables base count ns xs are.2 (λ j e l. done (suc j) e (omega (arith, l))) k d (omega (arith, lt))
-all_applied_are depth replicas tables base count [] (x ∷ xs) are done k d lt = absurd are
-all_applied_are depth replicas tables base count (n ∷ ns) [] are done k d lt = absurd are
+all_applied_are depth replicas tables base count history [] [] is end begin are done k d lt = absurd (omega (arith, lt))
+all_applied_are depth replicas tables base count history (n ∷ ns) (x ∷ xs) is end begin are done zero d lt =
+    let own = done 0 n (omega arith) in
+    let on = beginning_goes_on depth replicas history n.known.view.seen is (begin 0 n (omega arith)) in
+    omega (arith, are.0.applied, are.1, own.taken, own.all, end, tail_rises (log_after replicas n.known.view.seen) (log_after replicas history) on)
+all_applied_are depth replicas tables base count history (n ∷ ns) (x ∷ xs) is end begin are done (suc k) d lt =
+    all_applied_are depth replicas tables base count history ns xs is end (λ j e l. begin (suc j) e (omega (arith, l))) are.2
+    (λ j e l. done (suc j) e (omega (arith, l))) k d (omega (arith, lt))
+all_applied_are depth replicas tables base count history [] (x ∷ xs) is end begin are done k d lt = absurd are
+all_applied_are depth replicas tables base count history (n ∷ ns) [] is end begin are done k d lt = absurd are
 
 -- a log of which one replica has taken all is completed
 all_completed : (depth : Depth) (replicas : ℕ) (history : List LogEvent) (node : NodeState) → IsLogHistory depth replicas history
-    → StartsWith history node.known.view.seen → applied_of replicas node ≡ tail (log_after replicas history)
+    → StartsWith history node.known.view.seen → taken_by replicas node.known.view ≡ tail (log_after replicas history)
     → completed (log_after replicas history) ≡ tail (log_after replicas history)
 all_completed depth replicas history node is begins all =
     let log = log_after replicas history in
@@ -93,7 +98,7 @@ pub cut_is : (depth : Depth) (replicas places tables base count : ℕ) (log : Ta
     (before after : List Known) (calls : List ℕ) (dumps : List Image)
     → HaveMet depth replicas places count nodes before after → All (IsNodeOf log tables base) nodes → All (IsDone replicas count) nodes
     → 0 < length nodes → length nodes ≡ replicas → node ≡ get_or nodes 0 node → IsNode depth replicas node
-    → calls ≡ map (λ entry. entry.call) (drop node.base (take (applied_of replicas node) (log_of replicas node).entries))
+    → calls ≡ map (λ entry. entry.call) (drop node.base (take (taken_by replicas node.known.view) (log_of replicas node).entries))
     → AreDumpsOf depth replicas tables base (map (λ node. node.known) nodes) dumps → length dumps ≡ length nodes
     → IsCut depth replicas places tables base before after calls dumps × (count ≡ base + length calls)
 cut_is depth replicas places tables base count log node nodes before after calls dumps met each done some many here is first_calls are one_each =
@@ -106,13 +111,14 @@ cut_is depth replicas places tables base count log node nodes before after calls
     let Done : NodeState → Type 0 = IsDone replicas count in
     let done_first : Done node = subst Done (sym here) (done 0 node some) in
     let node_base : node.base ≡ base = ap (λ (n : NodeState). n.base) here ∙ (each 0 node some).base_is in
-    let all : applied_of replicas node ≡ tail later = done_first.all ∙ met.count_is in
-    let entries : take (applied_of replicas node) earlier.entries ≡ later.entries =
-    sym (take_still earlier.entries later.entries on.entries.0 (applied_of replicas node) on.entries.1 is.written)
-    ∙ take_all (applied_of replicas node) later.entries (omega (arith, all)) in
+    let n = taken_by replicas node.known.view in
+    let all : n ≡ tail later = done_first.taken ∙ done_first.all ∙ met.count_is in
+    let entries : take n earlier.entries ≡ later.entries =
+    sym (take_still earlier.entries later.entries on.entries.0 n on.entries.1 (omega (arith, is.behind, is.written)))
+    ∙ take_all n later.entries (omega (arith, all)) in
     let calls_are : calls ≡ map call_of (drop base later.entries) =
     first_calls
-    ∙ ap (λ (k : ℕ). map call_of (drop k (take (applied_of replicas node) earlier.entries))) node_base
+    ∙ ap (λ (k : ℕ). map call_of (drop k (take n earlier.entries))) node_base
     ∙ ap (λ (l : List LogEntry). map call_of (drop base l)) entries in
     let low : base ≤ tail later = omega (arith, node_base, is.kept, all) in
     let Passes : Known → Type 0 = λ pass. StartsWith history pass.view.seen in (
@@ -128,7 +134,7 @@ cut_is depth replicas places tables base count log node nodes before after calls
         dumps_are = all_dumps_stay depth replicas tables base history (map known_of nodes) dumps met.is_history
             (All-map Passes known_of nodes met.nodes_begin) are;
         all_applied = subst (λ (n : ℕ). All (λ (dump : Image). base + dump.applied ≡ n) dumps) met.count_is
-            (all_applied_are depth replicas tables base count nodes dumps are done);
+            (all_applied_are depth replicas tables base count history nodes dumps met.is_history met.count_is met.nodes_begin are done);
         completed_is = all_completed depth replicas history node met.is_history begins all;
       },
       omega (

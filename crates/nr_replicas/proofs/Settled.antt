@@ -1,9 +1,12 @@
 -- What the dumps and the calls of a log are in each later one.
-use Rattle.std.proofs.Common.{◌≡◌, ℕ, zero, suc, ◌+◌, ◌<◌, ◌≤◌, List, [], ◌∷◌, ◌++◌, All, Some, length, map, take, drop, get_or, ap, sym, subst, ◌∙◌, arith}
+use Rattle.std.proofs.Common.{◌≡◌, ℕ, zero, suc, ◌+◌, ◌<◌, ◌≤◌, List, [], ◌∷◌, ◌++◌, All, Some, length, map, take, drop, get_or, ⊎_elim, refl, ap, sym, subst}
+use Rattle.std.proofs.Common.{◌∙◌, arith}
 use Rattle.std.specs.Prelude.{slice_get, slice_index}
 use Rattle.std.specs.List.{remove}
 use Rattle.std.proofs.Math.ListN.{length-append}
-use Rattle.std.proofs.lemmas.List.{append_assoc, append_cancel_left, drop-append-le, get_or_append_left, length-map, length-take-le, map-append}
+use Rattle.std.proofs.Math.Nat.{eq-or-lt_of_le}
+use Rattle.std.proofs.lemmas.List.{append_assoc, append_cancel_left, drop-append-le, get_or_append_left, length-map, length-set, length-take-le, map-append}
+use Rattle.std.proofs.lemmas.List.{get_or-set_other, get_or-set_same}
 use Rattle.std.proofs.lemmas.List.{take-append-drop}
 use Rattle.std.proofs.lemmas.List.Elements.{All-cons, All-map}
 use Rattle.std.proofs.lemmas.Option.{slice_get_within}
@@ -14,12 +17,13 @@ use Rattle.vs_types.specs.declared.log_entry.LogEntry.{LogEntry}
 use Rattle.vs_walk.specs.Dump.{Image}
 use Rattle.vs_walk.specs.Walk.{TranslatesAs}
 use Rattle.nr_ring.specs.Laws.{HasGoneOn}
-use Rattle.nr_ring.specs.LogHistory.{Log, IsLogHistory, local_of, log_after, tail}
+use Rattle.nr_ring.specs.LogHistory.{Log, IsLogHistory, MayGoOn, local_of, log_after, log_after_event, log_after_events, new_log, tail}
 use Rattle.nr_ring.specs.Pass.{Known, TableId}
 use Rattle.nr_ring.specs.View.{HasSeenAdvances, IsElse, StartsWith}
 use Rattle.nr_ring.specs.declared.log_event.LogEvent.{LogEvent}
+use Rattle.nr_ring.specs.declared.log_event.LogEvent.TheVariants.{Advance}
 use Rattle.nr_ring.specs.declared.view.View.{View}
-use Rattle.nr_ring.proofs.Histories.{beginning_goes_on, local_since, tail_rises}
+use Rattle.nr_ring.proofs.Histories.{after_both, as_many_locals, beginning_goes_on, events_go_on, local_since, tail_rises}
 use Rattle.nr_node.specs.Node.{IsNode, NodeState, applied_of, log_of, replica_of, taken_by}
 use Rattle.nr_node.proofs.LaterLogs.{same_space}
 use Rattle.nr_node.proofs.Lists.{same_some}
@@ -70,12 +74,12 @@ own_between history pass later on further all k d lt =
 
 -- in such a history the replica of a pass has taken no more than the pass has seen
 own_applied : (replicas base replica : ℕ) (history : List LogEvent) (pass : Known) (dump : Image) → HasAppliedOwn replicas base pass dump
-    → pass.view.owns ≡ replica ∷ [] → HasSeenOwnAdvances history pass → base + dump.applied ≡ local_of (log_after replicas history) replica
+    → pass.view.owns ≡ replica ∷ [] → HasSeenOwnAdvances history pass → local_of (log_after replicas history) replica ≤ base + dump.applied
 own_applied replicas base replica history pass dump is owner all =
     let Q : List ℕ → Type 0 = λ l. All (λ r. HasSeenAdvances r history pass.view.seen) l in
     let same : replica_of pass.view ≡ replica = ap (λ (l : List ℕ). slice_index l 0) owner in
     let still = local_since replicas replica history pass.view.seen (subst Q owner all 0 0 (omega arith)) in
-    is ∙ ap (local_of (log_after replicas pass.view.seen)) same ∙ sym still
+    omega (arith, is, ap (local_of (log_after replicas pass.view.seen)) same, still)
 
 -- ---- dumps
 
@@ -118,21 +122,27 @@ all_dumps_stay depth replicas tables base history (p ∷ ps) (dump ∷ dumps) is
 all_dumps_stay depth replicas tables base history [] (dump ∷ dumps) is begins are k d lt = absurd are
 all_dumps_stay depth replicas tables base history (p ∷ ps) [] is begins are k d lt = absurd are
 
--- where each pass has seen all advances of its replica, its dump has applied what the replica has taken
+-- where each pass has seen all advances of its replica, its dump has applied what the replica has taken, or more
 all_taken : (depth : Depth) (replicas tables base replica : ℕ) (history : List LogEvent) (passes : List Known) (dumps : List Image)
     → AreDumpsOf depth replicas tables base passes dumps → OwnInTurn replica passes → All (HasSeenOwnAdvances history) passes
-    → (i : ℕ) (dump : Image) → slice_get dumps i ≡ Some dump → base + dump.applied ≡ local_of (log_after replicas history) (replica + i)
+    → (i : ℕ) (dump : Image) → slice_get dumps i ≡ Some dump → local_of (log_after replicas history) (replica + i) ≤ base + dump.applied
 all_taken depth replicas tables base replica history [] [] are own seen i dump e = absurd (omega (arith, slice_get_within [] i dump e))
 all_taken depth replicas tables base replica history (p ∷ ps) (d ∷ ds) are own seen zero dump e =
     let same : d ≡ dump = same_some e in
     let at : replica + 0 ≡ replica = omega arith in
-    ap (λ (x : Image). base + x.applied) (sym same)
-    ∙ own_applied replicas base replica history p d are.1 own.0 (seen 0 p (omega arith))
-    ∙ ap (local_of (log_after replicas history)) (sym at)
+    omega (
+      arith,
+      ap (λ (x : Image). x.applied) same,
+      own_applied replicas base replica history p d are.1 own.0 (seen 0 p (omega arith)),
+      ap (local_of (log_after replicas history)) at,
+    )
 all_taken depth replicas tables base replica history (p ∷ ps) (d ∷ ds) are own seen (suc i) dump e =
     let at : replica + suc i ≡ (replica + 1) + i = omega arith in
-    all_taken depth replicas tables base (replica + 1) history ps ds are.2 own.1 (λ j x l. seen (suc j) x (omega (arith, l))) i dump e
-    ∙ ap (local_of (log_after replicas history)) (sym at)
+    omega (
+      arith,
+      all_taken depth replicas tables base (replica + 1) history ps ds are.2 own.1 (λ j x l. seen (suc j) x (omega (arith, l))) i dump e,
+      ap (local_of (log_after replicas history)) at,
+    )
 all_taken depth replicas tables base replica history [] (d ∷ ds) are own seen i dump e = absurd are
 all_taken depth replicas tables base replica history (p ∷ ps) [] are own seen i dump e = absurd are
 
@@ -204,6 +214,90 @@ parted {S} {depth} {replicas} {tables} {base} {own} {log} {layout} {passes} {oth
       others_log = λ k d lt. logs.1 k d lt ∙ sym of;
     }
 
+-- ---- what has been applied is taken
+
+-- one event more, and then others
+pub goes_on_join : (depth : Depth) (log : Log) (seen rest : List LogEvent) → MayGoOn depth log seen → MayGoOn depth (log_after_events log seen) rest
+    → MayGoOn depth log (seen ++ rest)
+goes_on_join depth log [] rest first last = last
+goes_on_join depth log (event ∷ seen) rest first last = (first.0, goes_on_join depth (log_after_event log event) seen rest first.1 last)
+
+-- events by which each of these replicas, from this one on, takes what its dump has applied. They add no entry, and leave the others
+pub record AllRaised (depth : Depth) (base replica : ℕ) (dumps : List Image) (log : Log) : Type 0 where
+  pub events : List LogEvent
+  pub may : MayGoOn depth log events
+  pub entries : (log_after_events log events).entries ≡ log.entries
+  pub taken : (i : ℕ) (dump : Image) → slice_get dumps i ≡ Some dump → base + dump.applied ≡ local_of (log_after_events log events) (replica + i)
+  pub others : (j : ℕ) → j < replica → local_of (log_after_events log events) j ≡ local_of log j
+
+-- where the first of the replicas has taken what its dump has applied, and the others have
+raised_taken : (base replica : ℕ) (d : Image) (ds : List Image) (last : Log) → base + d.applied ≡ local_of last replica
+    → ((i : ℕ) (dump : Image) → slice_get ds i ≡ Some dump → base + dump.applied ≡ local_of last ((replica + 1) + i))
+    → (i : ℕ) (dump : Image) → slice_get (d ∷ ds) i ≡ Some dump → base + dump.applied ≡ local_of last (replica + i)
+raised_taken base replica d ds last here rest zero dump e =
+    let at : replica + 0 ≡ replica = omega arith in
+    ap (λ (x : Image). base + x.applied) (sym (same_some e)) ∙ here ∙ ap (local_of last) (sym at)
+raised_taken base replica d ds last here rest (suc i) dump e =
+    let at : replica + suc i ≡ (replica + 1) + i = omega arith in
+    rest i dump e ∙ ap (local_of last) (sym at)
+
+-- the first of the replicas takes what its dump has applied, if it has not, and the others follow
+one_raised : (depth : Depth) (base replica : ℕ) (d : Image) (ds : List Image) (log next : Log) (first : List LogEvent) → MayGoOn depth log first
+    → log_after_events log first ≡ next → next.entries ≡ log.entries → base + d.applied ≡ local_of next replica
+    → ((j : ℕ) → j < replica → local_of next j ≡ local_of log j) → AllRaised depth base (replica + 1) ds next
+    → AllRaised depth base replica (d ∷ ds) log
+one_raised depth base replica d ds log next first may made entries here others is =
+    let Goes : Log → Type 0 = λ l. MayGoOn depth l is.events in
+    let events : List LogEvent = first ++ is.events in
+    let last : log_after_events log events ≡ log_after_events next is.events =
+    after_both log first is.events ∙ ap (λ (l : Log). log_after_events l is.events) made in
+    let taken_first : base + d.applied ≡ local_of (log_after_events log events) replica =
+    here ∙ sym (is.others replica (omega arith)) ∙ ap (λ (l : Log). local_of l replica) (sym last) in
+    record {
+      events = events;
+      may = goes_on_join depth log first is.events may (subst Goes (sym made) is.may);
+      entries = ap (λ (l : Log). l.entries) last ∙ is.entries ∙ entries;
+      taken = raised_taken base replica d ds (log_after_events log events) taken_first
+          (λ i dump e. is.taken i dump e ∙ ap (λ (l : Log). local_of l ((replica + 1) + i)) (sym last));
+      others = λ j lt. ap (λ (l : Log). local_of l j) last ∙ is.others j (omega (arith, lt)) ∙ others j lt;
+    }
+
+pub all_raised : (depth : Depth) (tables base replica : ℕ) (dumps : List Image) (log : Log) → All (IsDumpOf depth tables base log) dumps
+    → ((i : ℕ) (dump : Image) → slice_get dumps i ≡ Some dump → local_of log (replica + i) ≤ base + dump.applied)
+    → replica + length dumps ≤ length log.locals → AllRaised depth base replica dumps log
+all_raised depth tables base replica [] log are low many = record {
+  events = [];
+  may = tt;
+  entries = refl;
+  taken = λ i dump e. absurd (omega (arith, slice_get_within [] i dump e));
+  others = λ j lt. refl;
+}
+all_raised depth tables base replica (d ∷ ds) log are low many =
+    let to = base + d.applied in
+    let at : replica + 0 ≡ replica = omega arith in
+    let mine : local_of log replica ≤ to = omega (arith, low 0 d refl, ap (local_of log) at) in
+    let written : to ≤ tail log = (are 0 d (omega arith)).applied in
+    let rest : All (IsDumpOf depth tables base log) ds = λ k x lt. are (suc k) x (omega (arith, lt)) in
+    let later : (i : ℕ) (dump : Image) → slice_get ds i ≡ Some dump → local_of log ((replica + 1) + i) ≤ base + dump.applied =
+    λ i dump e.
+    let same : replica + suc i ≡ (replica + 1) + i = omega arith in
+    omega (arith, low (suc i) dump e, ap (local_of log) same) in
+    ⊎_elim
+    (λ (same : local_of log replica ≡ to).
+    one_raised depth base replica d ds log log [] tt refl refl (sym same) (λ j lt. refl)
+    (all_raised depth tables base (replica + 1) ds log rest later (omega (arith, many))))
+    (λ (below : local_of log replica < to).
+    let next = log_after_event log (Advance replica to) in
+    let still : (j : ℕ) → (j ≡ replica → ⊥) → local_of next j ≡ local_of log j = λ j other. get_or-set_other log.locals replica j to 0 other in
+    let may : MayGoOn depth log (Advance replica to ∷ []) = (record { there = omega (arith, many); some = below; written = written }, tt) in
+    let on = events_go_on depth log (Advance replica to ∷ []) may in
+    one_raised depth base replica d ds log next (Advance replica to ∷ []) may refl refl
+    (sym (get_or-set_same log.locals replica to 0 (omega (arith, many)))) (λ j lt. still j (λ e. absurd (omega (arith, lt, e))))
+    (all_raised depth tables base (replica + 1) ds next (λ k x lt. dump_stays depth tables base log next (get_or ds k x) on (rest k x lt))
+    (λ i dump e. omega (arith, later i dump e, still ((replica + 1) + i) (λ s. absurd (omega (arith, s)))))
+    (omega (arith, many, length-set log.locals replica to))))
+    (eq-or-lt_of_le mine)
+
 -- ---- settling
 
 -- the first node's pass heard of all that the others, then the handed ones, then nobody had seen, and then the rest of the log was added
@@ -213,7 +307,7 @@ pub settled : (depth : Depth) (replicas places tables base : ℕ) (handed passes
     → HasHeard depth replicas a b → All (λ pass. StartsWith b.seen pass.view.seen) handed
     → HasHeard depth replicas b c
     → AreDumpsOf depth replicas tables base passes dumps → OwnInTurn 0 passes → length dumps ≡ replicas
-    → calls ≡ map (λ entry. entry.call) (drop first.base (take (applied_of replicas first) (log_of replicas first).entries))
+    → calls ≡ map (λ entry. entry.call) (drop first.base (take (taken_by replicas first.known.view) (log_of replicas first).entries))
     → all ≡ calls ++ map (λ entry. entry.call) (drop (taken_by replicas c) (log_after replicas c.seen).entries)
     → All (HasSeenOwnAdvances c.seen) others
     → tail (log_after replicas c.seen) ≤ places
@@ -225,26 +319,37 @@ settled depth replicas places tables base handed passes others first dumps calls
     let whole = heard_twice heard_a ab in
     let log = log_of replicas first in
     let later = log_after replicas c.seen in
-    let n = applied_of replicas first in
+    let n = taken_by replicas first.known.view in
     let same : taken_by replicas c ≡ n = heard_taken depth replicas v c whole is_node.owner in
     let Begins : Known → Type 0 = λ pass. StartsWith c.seen pass.view.seen in
     let others_begin : All Begins others = all_begin_later a.seen c.seen others ab.seen begin_a in
     let Own : Known → Type 0 = HasSeenOwnAdvances c.seen in
     let all_own : All Own passes = subst (All Own) (sym split) (All-cons Own first.known others whole.advances known) in
     let every : All Begins passes = subst (All Begins) (sym split) (All-cons Begins first.known others whole.seen others_begin) in
+    let stay = all_dumps_stay depth replicas tables base c.seen passes dumps whole.is_history every are in
+    let low : (i : ℕ) (dump : Image) → slice_get dumps i ≡ Some dump → local_of later (0 + i) ≤ base + dump.applied =
+    all_taken depth replicas tables base 0 c.seen passes dumps are own all_own in
+    let raise = all_raised depth tables base 0 dumps later stay low (omega (arith, count, as_many_locals depth replicas c.seen whole.is_history)) in
+    let history : List LogEvent = c.seen ++ raise.events in
+    let after : log_after replicas history ≡ log_after_events later raise.events = after_both (new_log replicas) c.seen raise.events in
+    let is : IsLogHistory depth replicas history = goes_on_join depth (new_log replicas) c.seen raise.events whole.is_history raise.may in
+    let entries : (log_after replicas history).entries ≡ later.entries = ap (λ (l : Log). l.entries) after ∙ raise.entries in
+    let begin_later : StartsWith history c.seen = (raise.events, refl) in
     record {
-      history = c.seen;
-      is_history = whole.is_history;
-      begins = all_begin_later b.seen c.seen handed heard_c.seen begin_b;
-      ends = ends;
+      history = history;
+      is_history = is;
+      begins = all_begin_later c.seen history handed begin_later (all_begin_later b.seen c.seen handed heard_c.seen begin_b);
+      ends = omega (arith, ends, ap (λ (l : List LogEntry). length l) entries);
       calls_are = all_are
           ∙ ap (λ (l : List ℕ). l ++ map call_of (drop (taken_by replicas c) later.entries)) first_calls
           ∙ ap (λ (k : ℕ). map call_of (drop k (take n log.entries)) ++ map call_of (drop (taken_by replicas c) later.entries)) first_base
           ∙ ap (λ (k : ℕ). map call_of (drop base (take n log.entries)) ++ map call_of (drop k later.entries)) same
-          ∙ all_calls log later base n (heard_on depth replicas v c whole) (omega (arith, first_base, is_node.kept)) is_node.written;
+          ∙ all_calls log later base n (heard_on depth replicas v c whole) (omega (arith, first_base, is_node.kept))
+          (omega (arith, is_node.behind, is_node.written))
+          ∙ ap (λ (l : List LogEntry). map call_of (drop base l)) (sym entries);
       one_each = count;
-      dumps_are = all_dumps_stay depth replicas tables base c.seen passes dumps whole.is_history every are;
+      dumps_are = all_dumps_stay depth replicas tables base history passes dumps is (all_begin_later c.seen history passes begin_later every) are;
       taken = λ replica dump e.
           let at : 0 + replica ≡ replica = omega arith in
-          all_taken depth replicas tables base 0 c.seen passes dumps are own all_own replica dump e ∙ ap (local_of later) at;
+          raise.taken replica dump e ∙ ap (local_of (log_after_events later raise.events)) at ∙ ap (λ (l : Log). local_of l replica) (sym after);
     }

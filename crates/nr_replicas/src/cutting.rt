@@ -2,6 +2,7 @@
 ghost use Rattle.std.specs.List.{AllZip};
 ghost use Rattle.std.specs.Prelude.{◌≡◌, ◌+◌, ◌∷◌, true, All, IfOk, IfSome, OnOk, length, map};
 ghost use Rattle.nr_ring.specs.View.{StartsWith};
+ghost use Rattle.nr_node.specs.Node.{applied_of, taken_by};
 ghost use Rattle.nr_replicas.specs.Replicas.{HasHeard};
 ghost use Rattle.nr_replicas.specs.Settled.{IsCut};
 ghost use Rattle.nr_replicas.specs.inside.Replicas.{IsNodeOf};
@@ -163,7 +164,7 @@ fn catch_up_one<J: LogName, K: ReplicasName>(log: &RingLog<J>, node: &mut Node<R
     requires node { IsNodeOf K.log K.tables K.base node.old }
     ensures { IsNodeOf K.log K.tables K.base node.new }
 {
-    if node.held() == Held::Nothing && node.has_room() {
+    if node.held() == Held::Nothing && node.has_room_to_take() {
         let mut answers = ArrayVec::new();
         let _moved = node.catch_up(log, &mut answers);
     }
@@ -196,7 +197,7 @@ fn tell_each<J: LogName>(log: &RingLog<J>, first: &mut LogPass<J>, others: &mut 
     }
 }
 
-/// Whether each node holds nothing and has applied so many entries.
+/// Whether each node holds nothing, and has applied so many entries, all of which its replica has taken.
 fn are_done<J: LogName>(nodes: &[Node<RawArena, J>], count: u64) -> bool
     ensures { result ≡ true → All (IsDone J.replicas count) nodes.now }
 {
@@ -208,12 +209,12 @@ fn are_done<J: LogName>(nodes: &[Node<RawArena, J>], count: u64) -> bool
     true
 }
 
-/// Whether a node holds nothing and has applied so many entries.
+/// Whether a node holds nothing, and has applied so many entries, all of which its replica has taken.
 fn is_done<J: LogName>(node: &Node<RawArena, J>, count: u64) -> bool
     ensures { result ≡ true → IsDone J.replicas count node.now }
 {
     match node.held() {
-        Held::Nothing => node.applied() == count,
+        Held::Nothing => node.applied() == count && node.ahead() == 0,
         _ => false,
     }
 }
@@ -236,8 +237,10 @@ fn dumps_of<J: LogName, K: ReplicasName>(
     Ok(dumps)
 }
 
-/// Has each node keep none of the entries any more that it has applied.
+/// Has each node keep none of the entries any more that it has applied, all of which its replica has taken.
 fn forget_all<J: LogName>(nodes: &mut [Node<RawArena, J>])
+    requires { All (λ node. taken_by J.replicas node.known.view ≡ applied_of J.replicas node)
+        nodes.old }
     ensures { nodes.new ≡ map (forgotten J.replicas) nodes.old }
 {
     for i in 0..nodes.len() {

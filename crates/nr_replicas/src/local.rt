@@ -22,6 +22,9 @@ use std::sync::Arc;
 use vs_arena::RawArena;
 use vs_types::{Answer, RING};
 
+/// How many entries a node may have applied above its local tail when it follows the log once more: the ring has room for 16.
+const MOST_AHEAD: usize = 7;
+
 /// An update that a thread waits for: the thread, its slot, the update's entry, and a place that is not above its own.
 #[derive(Clone, Copy)]
 pub(crate) struct Wanted {
@@ -148,7 +151,7 @@ impl<J: LogName, K: ReplicasName> Local<J, K> {
                 }
             }
             _ => {
-                self.catch_up(log);
+                self.follow(log);
                 Ok(false)
             }
         }
@@ -162,12 +165,28 @@ impl<J: LogName, K: ReplicasName> Local<J, K> {
         self.node.collect(&self.slots);
     }
 
+    /// Applies all entries that the log has, each of which is completed: whoever appends one takes it in the same exchange. The node's own
+    /// replica takes them with its next append, or once there are so many that others might soon wait for room. So they cost no exchange
+    /// here, which would take the log's cell from all other replicas.
+    fn follow(&mut self, log: &RingLog<J>)
+        requires log { log.now ≡ K.log }
+    {
+        if self.node.ahead() > MOST_AHEAD || !self.node.has_room_to_take() {
+            self.catch_up(log);
+            return;
+        }
+        match self.node.held() {
+            Held::Placed(_, _) => self.catch_up(log),
+            _ => self.node.follow(log),
+        }
+    }
+
     /// Takes all entries that the log has, and leaves the answers of the held updates in their slots.
     pub(crate) fn catch_up(&mut self, log: &RingLog<J>)
         requires log { log.now ≡ K.log }
     {
         self.answers.clear();
-        if !self.node.has_room() {
+        if !self.node.has_room_to_take() {
             return;
         }
         if self.node.catch_up(log, &mut self.answers).is_err() {
@@ -266,7 +285,7 @@ impl<J: LogName, K: ReplicasName> Local<J, K> {
             (answer_in question address) read.0 read.1) }
     {
         if self.node.applied() < completed {
-            self.catch_up(log);
+            self.follow(log);
             return None;
         }
         let read = self.answer(address, question);

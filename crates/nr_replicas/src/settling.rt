@@ -91,19 +91,20 @@ fn place_among<J: LogName>(nodes: &[Node<RawArena, J>], number: u8) -> usize
     nodes.len()
 }
 
-/// The call numbers of the entries that a node has applied and keeps.
+/// The call numbers of the entries that a node's replica has taken, and that the node keeps.
 pub(crate) fn calls_of<J: LogName>(
     alloc: Global,
     node: &Node<RawArena, J>,
 ) -> Result<Vec<u32>, Memory>
     ensures calls { IfOk result (λ calls.
         calls.items ≡ map (λ entry. entry.call) (drop node.now.base
-        (take (applied_of J.replicas node.now) (log_of J.replicas node.now).entries))) }
+        (take (taken_by J.replicas node.now.known.view) (log_of J.replicas node.now).entries))) }
     ensures is_node { IsNode J.depth J.replicas node.now }
 {
     node.is_well_formed();
     let mut calls = Vec::new(alloc);
-    for place in node.base()..node.applied() {
+    let taken = node.applied() - node.ahead() as u64;
+    for place in node.base()..taken {
         match node.told(place) {
             Some((entry, _)) => calls.push(entry.call)?,
             None => unreachable!(),
@@ -140,7 +141,7 @@ fn passes_of<J: LogName, K: ReplicasName>(
 /// A node's dump.
 pub(crate) fn dump_of<J: LogName>(node: &Node<RawArena, J>) -> Result<Dump, Memory>
     ensures applied { IfOk result (λ dump.
-        node.now.base + dump.applied ≡ applied_of J.replicas node.now) }
+        taken_by J.replicas node.now.known.view ≤ node.now.base + dump.applied) }
     ensures dump { IfOk result
         (IsDumpOf J.depth node.now.tables node.now.base (log_of J.replicas node.now)) }
 {

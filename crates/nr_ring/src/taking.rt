@@ -63,6 +63,24 @@ impl<J: LogName> RingLog<J> {
         Err(Moved)
     }
 
+    /// Looks, and gives all entries from the local tail of the replica that the pass owns to the tail, in order: as `fetch`, but in words.
+    /// Nobody may overwrite one of them as long as the local tail stays. The vector is empty. It never waits.
+    pub fn peek(&self, pass: &mut LogPass<J>, entries: &mut ArrayVec<PackedEntry, RING>)
+        requires log { pass.old.log ≡ self.now }
+        requires owner { (replica : ℕ) × (pass.old.view.owns ≡ replica ∷ []) }
+        requires empty { entries.old.items ≡ [] }
+        ensures log { pass.new.log ≡ pass.old.log }
+        ensures looked { HasLooked J.depth J.replicas pass.old.view pass.new.view }
+        ensures fetched { (replica : ℕ) → pass.old.view.owns ≡ replica ∷ []
+            → entries.new.items ≡ to_take (log_after J.replicas pass.new.view.seen) replica }
+    {
+        let Some(replica) = pass.replica else {
+            unreachable!()
+        };
+        self.refresh(&mut pass.inner);
+        self.read(&mut pass.inner, replica, entries);
+    }
+
     /// Raises the local tail of a replica to the tail, and gives the entries between them.
     fn try_take<E: Happening>(
         &self,

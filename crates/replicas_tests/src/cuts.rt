@@ -1,6 +1,5 @@
 //! Replicas that are cut and go on: beyond 65,536 updates, each segment with its own call numbers.
 ghost use Rattle.std.specs.Prelude.{◌≡◌, ◌≤◌, ◌+◌, All};
-ghost use Rattle.vs_types.specs.declared.limits.TheConstants.{LOG_PLACES};
 
 use crate::gate::CountingGate;
 use crate::scene::{callers_of, passes_of};
@@ -15,6 +14,9 @@ use vs_types::{Answer, Config, Depth, Fail, Rights, Size};
 
 /// How many updates each of three segments has: with the second there are more than 65,536.
 const UPDATES: u32 = 40_000;
+
+/// One update more than a replica may keep to put another.
+const FULL: u32 = 65_537;
 
 /// How many places the log has.
 const PLACES: u64 = 200_000;
@@ -178,9 +180,11 @@ fn is_cut<J: LogName, R: Wait + Abort>(
     requires depth { config.depth ≡ J.depth }
     requires replicas { config.replicas ≡ J.replicas }
     requires passes { J.passes ≡ config.replicas + config.threads }
-    requires places { J.places ≡ LOG_PLACES }
+    requires places { J.places ≡ 200000 }
 {
-    let (opened, passes) = OpenReplicas::<J>::new(alloc, config).expect(rt, "memory");
+    let (opened, passes) = OpenReplicas::<J>::with_places(alloc, config, PLACES).expect(
+        rt, "memory",
+    );
     let before = Segment { opened, passes };
     cut_after::<J, Brand, R>(rt, alloc, config, before, steps, hands_passes)
 }
@@ -217,4 +221,19 @@ fn open_calls_refuse_a_cut(rt: HostRuntime) {
     assert!(&rt; !cuts(&rt, alloc, config, &[done, waits], true));
     assert!(&rt; !cuts(&rt, alloc, config, &[taken], true));
     assert!(&rt; !cuts(&rt, alloc, config, &[taken, served], true));
+}
+
+/// A replica that only reads applies one entry more than it may keep to put another. It takes all of them at a cut.
+#[test]
+fn full_replica_takes_all_at_a_cut(rt: HostRuntime) {
+    let config = Config::new(Depth::Four, 2, 2, 4).expect(&rt, "a configuration");
+    let alloc = rt.alloc();
+    let mut steps = Vec::new(alloc);
+    for call in 0..FULL {
+        let step = Step::update(0, call, Asks::Unmap, u64::from(call), Answer::NotMapped);
+        steps.push(step).expect(&rt, "memory");
+    }
+    let read = Step::read(1, 0x400000, u64::from(FULL), Answer::NotMapped);
+    steps.push(read).expect(&rt, "memory");
+    assert!(&rt; cuts(&rt, alloc, config, &steps, true));
 }

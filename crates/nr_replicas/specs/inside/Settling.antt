@@ -11,9 +11,9 @@ use Rattle.nr_node.specs.Node.{NodeState, applied_of, replica_of, taken_by}
 use Rattle.nr_replicas.specs.Replicas.{HasHeard}
 use Rattle.nr_replicas.specs.Settled.{IsDumpOf}
 
--- a dump after just the entries that this pass has seen its own replica take
+-- a dump after the entries that this pass has seen its own replica take, or more
 abbrev pub HasAppliedOwn : ℕ → ℕ → Known → Image → Type 0
-HasAppliedOwn replicas base pass dump = base + dump.applied ≡ taken_by replicas pass.view
+HasAppliedOwn replicas base pass dump = taken_by replicas pass.view ≤ base + dump.applied
 
 -- these passes own the replicas from this one on, one each
 abbrev pub OwnInTurn : ℕ → List Known → Type 0
@@ -30,8 +30,8 @@ OwnRising least (pass ∷ passes) =
 abbrev pub HasSeenOwnAdvances : List LogEvent → Known → Type 0
 HasSeenOwnAdvances history pass = All (λ replica. HasSeenAdvances replica history pass.view.seen) pass.view.owns
 
--- dumps of nodes with these passes, in the same order: each is of the log that its node's pass has seen, after just the entries that
--- its replica has taken there
+-- dumps of nodes with these passes, in the same order: each is of the log that its node's pass has seen, after the entries that its
+-- replica has taken there, or more
 abbrev pub AreDumpsOf : Depth → ℕ → ℕ → ℕ → List Known → List Image → Type 0
 AreDumpsOf depth replicas tables base [] [] = ⊤
 AreDumpsOf depth replicas tables base (pass ∷ passes) (dump ∷ dumps) =
@@ -53,10 +53,11 @@ pub record HaveMet (depth : Depth) (replicas places count : ℕ) (nodes : List N
   pub count_is : count ≡ tail (log_after replicas history)
   pub ends : tail (log_after replicas history) ≤ places
 
--- a node holds no update, and has applied so many entries
+-- a node holds no update, and has applied so many entries, all of which its replica has taken
 pub record IsDone (replicas count : ℕ) (node : NodeState) : Type 0 where
   pub idle : node.batch ≡ []
   pub all : applied_of replicas node ≡ count
+  pub taken : taken_by replicas node.known.view ≡ applied_of replicas node
 
 -- a node that keeps none of the entries any more that it has applied
 abbrev pub forgotten : ℕ → NodeState → NodeState

@@ -64,6 +64,8 @@ pub enum Does {
     IsFull(u64, u64, [u64; 4]),
     /// It catches up by so many entries, and gives these answers.
     CatchesUp(u64, &'static [Given]),
+    /// It follows the log: it has then applied so many entries, and so many of them are above its replica's local tail.
+    Follows(u64, usize),
     /// It puts the batch that it holds and catches up at once: the first update is the one that is wanted.
     PutsAndCatchesUp([Given; 2]),
     /// It forgets what it has applied: so many entries.
@@ -151,11 +153,16 @@ impl<'a, S: FrameStore, J: LogName> Bench<'a, S, J> {
                 self.put(rt) == Err(AppendFault::Full(tails))
             }
             Does::CatchesUp(count, answers) => self.catches_up(rt, count, answers),
+            Does::Follows(applied, ahead) => {
+                self.follow(rt);
+                self.node.applied() == applied && self.node.ahead() == ahead
+            }
             Does::PutsAndCatchesUp(answers) => {
                 self.collect(rt, answers);
                 self.puts_and_catches_up(rt, answers)
             }
             Does::Forgets(count) => {
+                assert!(rt; self.node.ahead() == 0);
                 self.node.forget();
                 self.node.base() == count && self.node.applied() == count && self.node.has_room()
             }
@@ -206,7 +213,7 @@ impl<'a, S: FrameStore, J: LogName> Bench<'a, S, J> {
     /// Whether it catches up by so many entries, and gives these answers.
     fn catches_up(&mut self, rt: &impl Abort, count: u64, wanted: &[Given]) -> bool {
         let mut answers = ArrayVec::new();
-        assert!(rt; self.node.has_room());
+        assert!(rt; self.node.has_room_to_take());
         if self.node.catch_up(self.log, &mut answers) != Ok(count)
             || answers.len() != wanted.len()
         {
@@ -218,6 +225,15 @@ impl<'a, S: FrameStore, J: LogName> Bench<'a, S, J> {
             }
         }
         true
+    }
+
+    /// Follows the log, where no update that it holds has a place.
+    fn follow(&mut self, rt: &impl Abort) {
+        assert!(rt; self.node.has_room_to_take());
+        match self.node.held() {
+            Held::Placed(_, _) => panic!(rt; "a batch with a place"),
+            _ => self.node.follow(self.log),
+        }
     }
 
     /// Has the slots of the threads be taken with their updates, as where a combiner has collected them.

@@ -87,12 +87,16 @@ static FORGETS: [Does; 14] = [
     Does::CatchesUp(0, &[]),
 ];
 
-/// Other passes have appended 16 entries: the node holds its batch, for which there is no room, also once it has taken them.
-static HAS_NO_ROOM: [Does; 6] = [
+/// Other passes have appended 16 entries: the node holds its batch, for which there is no room, also once it has applied them, and once it
+/// has taken them. None is applied twice.
+static HAS_NO_ROOM: [Does; 9] = [
     Does::Holds([(0, 7, Update::Map), (1, 8, Update::Unmap)]),
     Does::IsFull(16, 0, [0, 0, 0, 0]),
     Does::Has(Held::Unplaced(2)),
-    Does::CatchesUp(16, &[]),
+    Does::Follows(16, 16),
+    Does::Follows(16, 16),
+    Does::IsFull(16, 0, [0, 0, 0, 0]),
+    Does::CatchesUp(0, &[]),
     Does::Has(Held::Unplaced(2)),
     Does::IsFull(16, 16, [16, 0, 0, 0]),
 ];

@@ -1,9 +1,34 @@
-use Rattle.std.proofs.Common.{◌≡◌, ◌<◌, ◌≤◌, List, ◌++◌, length, map, take, drop, get_or, slice_set, ap, subst, ◌∙◌, arith}
-use Rattle.std.proofs.lemmas.List.{append-nil, drop_all, length-set, take_all}
+use Rattle.std.proofs.Common.{◌≡◌, ◌<◌, ◌≤◌, List, ◌++◌, ◌+◌, ◌-◌, ℕ, length, map, take, drop, get_or, slice_set, ap, sym, subst, ◌∙◌, arith}
+use Rattle.std.proofs.Math.Seq.{get_or-append_right}
+use Rattle.std.proofs.lemmas.List.{append-nil, drop_all, get_or-drop, length-map, length-set, length-take-le, take_all}
 use Rattle.std.proofs.lemmas.List.Edits.{map_over_more}
-use Rattle.nr_node.specs.Node.{NodeState}
+use Rattle.nr_node.specs.Node.{NodeState, applied_of, taken_by}
 use Rattle.nr_replicas.specs.inside.Settling.{forgotten}
 use Rattle.nr_replicas.proofs.cutting.forget_all.Goals as goal
+
+-- the next of the nodes is as it was
+as_before : (F : NodeState → NodeState) (was now : List NodeState) (i : ℕ) (d : NodeState) → i ≤ length was → now ≡ map F (take i was) ++ drop i was
+    → get_or now i d ≡ get_or was i d
+as_before F was now i d le is =
+    let front = map F (take i was) in
+    let long : length front ≡ i = length-map (take i was) F ∙ length-take-le i was le in
+    let at : i + (i - length front) ≡ i = omega (arith, long) in
+    ap (λ (l : List NodeState). get_or l i d) is
+    ∙ get_or-append_right front (drop i was) i d (omega (arith, long))
+    ∙ get_or-drop i was (i - length front) d
+    ∙ ap (λ (k : ℕ). get_or was k d) at
+
+pub forget-requires : goal.forget-requires
+forget-requires g c =
+    let is = c.loop-i.invariant in
+    let i = c.loop-i.i in
+    let was = c.args.nodes.now in
+    let now = c.loop-i.nodes in
+    let found = c.index-nodes-i.result in
+    let replicas = g.J.LogName.replicas in
+    let within : i < length was = omega (arith, c.loop-i-test.true, is.0) in
+    let All : NodeState → Type 0 = λ n. taken_by replicas n.known.view ≡ applied_of replicas n in
+    subst All (sym (as_before (forgotten replicas) was now i found (omega (arith, within)) is.1)) (c.requires i found within)
 
 pub loop-i-preserved : goal.loop-i-preserved
 loop-i-preserved g c =

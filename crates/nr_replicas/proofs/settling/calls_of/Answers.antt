@@ -14,7 +14,7 @@ loop-place-init g c =
     let from = c.base-place.result in
     let same : from ≡ base = c.base-place.ensures in
     let is_node = c.is_well_formed.ensures.is_node in
-    let long : length (take from entries) ≡ from = length-take-le from entries (omega (arith, same, is_node.kept, is_node.written)) in
+    let long : length (take from entries) ≡ from = length-take-le from entries (omega (arith, same, is_node.kept, is_node.behind, is_node.written)) in
     let none : drop base (take from entries) ≡ [] = drop_all base (take from entries) (omega (arith, long, same)) in
     (omega (arith, same), c.new-calls.ensures.items ∙ ap (map call_of) (sym none))
 

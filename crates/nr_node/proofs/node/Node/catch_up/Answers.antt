@@ -1,7 +1,7 @@
-use Rattle.std.proofs.Common.{◌≡◌, ◌+◌, ◌≤◌, ◌++◌, ℕ, List, All, None, length, refl, ap, sym, subst, ◌∙◌, arith}
+use Rattle.std.proofs.Common.{◌≡◌, ◌+◌, ◌-◌, ◌≤◌, ◌++◌, ℕ, List, All, None, take, drop, length, refl, ap, sym, subst, ◌∙◌, arith}
 use Rattle.std.proofs.lemmas.Result.{err_from_is_err_and}
 use Rattle.vs_types.specs.LogEntry.{IsLogEntry}
-use Rattle.vs_types.specs.declared.limits.TheConstants.{LOG_PLACES}
+use Rattle.vs_types.specs.declared.limits.TheConstants.{LOG_PLACES, RING}
 use Rattle.vs_types.specs.declared.log_entry.LogEntry.{LogEntry}
 use Rattle.nr_ring.specs.Calls.{HasMoved}
 use Rattle.nr_ring.specs.LogHistory.{log_after}
@@ -10,9 +10,10 @@ use Rattle.nr_node.specs.Calls.{HasCaughtUp, HasStayed, answers_of}
 use Rattle.nr_node.specs.Node.{IsNode, NodeState, applied_of, replica_of}
 use Rattle.nr_node.specs.inside.Node.{node_state}
 use Rattle.nr_node.specs.inside.Replica.{ReplicaState}
-use Rattle.nr_node.proofs.Looks.{looked_owner, looked_taken, took_all}
-use Rattle.nr_node.proofs.Nodes.{answers_after, caught_up, looked_node, looked_follows, next_entries, stands_after, took_fit, took_follows, took_node}
-use Rattle.nr_node.proofs.Nodes.{had_taken}
+use Rattle.nr_node.proofs.Lists.{slice_from}
+use Rattle.nr_node.proofs.Looks.{looked_owner, took_all, took_few}
+use Rattle.nr_node.proofs.Nodes.{had_taken, looked_ahead, looked_follows, looked_node}
+use Rattle.nr_node.proofs.Takes.{answers_after, caught_up, next_entries, stands_after, took_ahead, took_fit, took_follows, took_node}
 use Rattle.nr_node.proofs.node.Node.catch_up.Goals as goal
 
 pub invariant_of-self : goal.invariant_of-self
@@ -22,6 +23,7 @@ invariant_of-self g c =
     let looked = c.in_err-take.ensures.moved.0 in (
       looked_node _ _ self.pass c.take.new.pass self.replica self.batch.items self.first looked is.0,
       looked_follows _ _ self.pass c.take.new.pass self.replica self.batch.items self.first looked is.0 is.1,
+      looked_ahead _ _ self.pass c.take.new.pass self.replica self.ahead looked is.0.owner is.2,
     )
 
 pub returns-in_err-take-clause-stayed : goal.returns-in_err-take-clause-stayed
@@ -33,7 +35,7 @@ returns-in_err-take-clause-stayed g c =
     λ n. HasStayed g.J.LogName.depth g.J.LogName.replicas n (node_state c.take.new.pass self.replica self.batch.items self.first) in
     rw p.1 (subst Stays c.self.view_is (record {
       looked = looked;
-      applied = looked_taken _ _ self.pass.view c.take.new.pass.view looked c.self.invariant.0.owner;
+      applied = refl;
       same = refl;
     }))
 
@@ -51,19 +53,36 @@ returns-in_err-take-clause-ahead g c =
     let owner = looked_owner _ _ c.self.inside.pass.view after moved.0 c.self.invariant.0.owner in
     rw p.1 (omega (arith, moved.2 (replica_of after) owner))
 
+pub slice_bounds-new-count : goal.slice_bounds-new-count
+slice_bounds-new-count g c =
+    let self = c.self.inside in
+    let is = c.self.invariant in
+    let few = took_few _ _ self.pass.view c.take.new.pass.view c.take.new.entries.items self.ahead _ c.in_ok-take.ensures.taken is.0.owner is.2
+    is.0.written in
+    omega (arith, few, ap (λ (l : List LogEntry). length l) c.as_slice.ensures.value)
+
+pub slice_bounds-new-start : goal.slice_bounds-new-start
+slice_bounds-new-start g c =
+    let self = c.self.inside in
+    let is = c.self.invariant in
+    let few = took_few _ _ self.pass.view c.take.new.pass.view c.take.new.entries.items self.ahead _ c.in_ok-take.ensures.taken is.0.owner is.2
+    is.0.written in
+    omega (arith, few, ap (λ (l : List LogEntry). length l) c.as_slice.ensures.value)
+
 pub apply_all-requires-clause-fit : goal.apply_all-requires-clause-fit
 apply_all-requires-clause-fit g c =
     let self = c.self.inside in
     let is = c.self.invariant in
     let Fit : List LogEntry → Type 0 = λ l. All (IsLogEntry self.replica.depth) l in
-    subst Fit (sym c.as_slice.ensures.value) (took_fit _ _ self.pass.view c.take.new.pass.view c.take.new.entries.items self.replica.depth
-    (took_all _ _ self.pass.view c.take.new.pass.view c.take.new.entries.items c.in_ok-take.ensures.taken is.0.owner) is.1.depth_is)
+    subst Fit (sym (slice_from self.ahead c.as_slice.result.now c.take.new.entries.items c.as_slice.ensures.value))
+    (took_fit _ _ _ self.pass.view c.take.new.pass.view (drop self.ahead c.take.new.entries.items) self.replica.depth
+    (took_all _ _ self.pass.view c.take.new.pass.view c.take.new.entries.items self.ahead _ c.in_ok-take.ensures.taken is.0.owner is.2 is.0.written) is.1.depth_is)
 
 pub apply_all-requires-clause-room : goal.apply_all-requires-clause-room
 apply_all-requires-clause-room g c =
     let self = c.self.inside in
     let is = c.self.invariant in
-    let Room : NodeState → Type 0 = λ n. applied_of g.J.LogName.replicas n ≤ n.base + LOG_PLACES in
+    let Room : NodeState → Type 0 = λ n. applied_of g.J.LogName.replicas n ≤ n.base + (LOG_PLACES + RING) in
     let room = subst Room (sym c.self.view_is) c.requires.room in
     let had = had_taken _ _ (node_state self.pass self.replica self.batch.items self.first) self.replica is.0 is.1 in
     omega (arith, room, had, c.as_slice.ensures.fits)
@@ -72,14 +91,16 @@ pub answer-requires-clause-stand : goal.answer-requires-clause-stand
 answer-requires-clause-stand g c =
     let self = c.self.inside in
     let is = c.self.invariant in
-    let entries = c.take.new.entries.items in
+    let whole = c.take.new.entries.items in
+    let entries = drop self.ahead whole in
     let next = c.apply_all.new.self in
     let With : List LogEntry → ReplicaState = λ l. record self.replica { entries = self.replica.entries ++ l } in
-    let applied = c.apply_all.ensures ∙ ap With c.as_slice.ensures.value in
-    let all = took_all _ _ self.pass.view c.take.new.pass.view entries c.in_ok-take.ensures.taken is.0.owner in
+    let new = slice_from self.ahead c.as_slice.result.now whole c.as_slice.ensures.value in
+    let applied = c.apply_all.ensures ∙ ap With new in
+    let all = took_all _ _ self.pass.view c.take.new.pass.view whole self.ahead _ c.in_ok-take.ensures.taken is.0.owner is.2 is.0.written in
     let base = ap (λ (r : ReplicaState). r.base) applied in
     λ place at. (
-      omega (arith, base, is.0.kept, (is.0.placed place at).above),
+      omega (arith, base, is.0.kept, is.0.behind, (is.0.placed place at).above),
       stands_after _ _ self.pass c.take.new.pass self.replica next self.batch.items self.first entries all is.0
           (next_entries _ _ self.pass c.take.new.pass self.replica next self.batch.items self.first entries all is.0 is.1 applied) place at,
     )
@@ -88,47 +109,55 @@ pub invariant_of-self-2 : goal.invariant_of-self-2
 invariant_of-self-2 g c =
     let self = c.self.inside in
     let is = c.self.invariant in
-    let entries = c.take.new.entries.items in
+    let whole = c.take.new.entries.items in
+    let entries = drop self.ahead whole in
     let next = c.apply_all.new.self in
     let With : List LogEntry → ReplicaState = λ l. record self.replica { entries = self.replica.entries ++ l } in
-    let applied = c.apply_all.ensures ∙ ap With c.as_slice.ensures.value in
-    let all = took_all _ _ self.pass.view c.take.new.pass.view entries c.in_ok-take.ensures.taken is.0.owner in
+    let new = slice_from self.ahead c.as_slice.result.now whole c.as_slice.ensures.value in
+    let applied = c.apply_all.ensures ∙ ap With new in
+    let all = took_all _ _ self.pass.view c.take.new.pass.view whole self.ahead _ c.in_ok-take.ensures.taken is.0.owner is.2 is.0.written in
     let Is : List Waiting → Type 0 = λ l. IsNode g.J.LogName.depth g.J.LogName.replicas (node_state c.take.new.pass next l None) in (
       subst Is (sym c.keep_unplaced.ensures) (took_node _ _ self.pass c.take.new.pass self.replica next self.batch.items self.first entries all is.0
-          (ap (λ (r : ReplicaState). r.base) applied)),
+          applied),
       took_follows _ _ self.pass c.take.new.pass self.replica next self.batch.items c.keep_unplaced.new.batch.items self.first None entries
           all is.0 is.1 applied,
+      took_ahead _ _ self.pass c.take.new.pass self.replica next whole entries c.in_ok-take.ensures.taken all applied,
     )
 
 pub returns-clause-caught_up : goal.returns-clause-caught_up
 returns-clause-caught_up g c =
     let self = c.self.inside in
     let is = c.self.invariant in
-    let entries = c.take.new.entries.items in
+    let whole = c.take.new.entries.items in
+    let entries = drop self.ahead whole in
     let next = c.apply_all.new.self in
     let With : List LogEntry → ReplicaState = λ l. record self.replica { entries = self.replica.entries ++ l } in
-    let applied = c.apply_all.ensures ∙ ap With c.as_slice.ensures.value in
+    let new = slice_from self.ahead c.as_slice.result.now whole c.as_slice.ensures.value in
+    let applied = c.apply_all.ensures ∙ ap With new in
     let took = c.in_ok-take.ensures.taken in
-    let all = took_all _ _ self.pass.view c.take.new.pass.view entries took is.0.owner in
+    let all = took_all _ _ self.pass.view c.take.new.pass.view whole self.ahead _ took is.0.owner is.2 is.0.written in
     let ByLeft : List Waiting → Type 0 = λ l. HasCaughtUp g.J.LogName.depth g.J.LogName.replicas (node_state self.pass self.replica self.batch.items self.first)
     (length entries) (node_state c.take.new.pass next l None) in
     let ByCount : ℕ → Type 0 = λ n. HasCaughtUp g.J.LogName.depth g.J.LogName.replicas (node_state self.pass self.replica self.batch.items self.first)
     n (node_state c.take.new.pass next c.keep_unplaced.new.batch.items None) in
     let ByOld : NodeState → Type 0 = λ n. HasCaughtUp g.J.LogName.depth g.J.LogName.replicas n
-    c.len.result (node_state c.take.new.pass next c.keep_unplaced.new.batch.items None) in
-    subst ByOld c.self.view_is (subst ByCount (sym c.len.ensures.value) (subst ByLeft (sym c.keep_unplaced.ensures)
-    (caught_up _ _ self.pass c.take.new.pass self.replica next self.batch.items self.first entries took all is.0 applied)))
+    (length (take (length c.as_slice.result.now - self.ahead) (drop self.ahead c.as_slice.result.now))) (node_state c.take.new.pass next c.keep_unplaced.new.batch.items None) in
+    let count = ap (λ (l : List LogEntry). length l) new in
+    subst ByOld c.self.view_is (subst ByCount (sym count) (subst ByLeft (sym c.keep_unplaced.ensures)
+    (caught_up _ _ self.pass c.take.new.pass self.replica next self.batch.items self.first whole entries took all is.0 applied)))
 
 pub returns-clause-answered : goal.returns-clause-answered
 returns-clause-answered g c =
     let self = c.self.inside in
     let is = c.self.invariant in
-    let entries = c.take.new.entries.items in
+    let whole = c.take.new.entries.items in
+    let entries = drop self.ahead whole in
     let next = c.apply_all.new.self in
     let With : List LogEntry → ReplicaState = λ l. record self.replica { entries = self.replica.entries ++ l } in
-    let applied = c.apply_all.ensures ∙ ap With c.as_slice.ensures.value in
+    let new = slice_from self.ahead c.as_slice.result.now whole c.as_slice.ensures.value in
+    let applied = c.apply_all.ensures ∙ ap With new in
     let later = log_after g.J.LogName.replicas c.take.new.pass.view.seen in
-    let all = took_all _ _ self.pass.view c.take.new.pass.view entries c.in_ok-take.ensures.taken is.0.owner in
+    let all = took_all _ _ self.pass.view c.take.new.pass.view whole self.ahead _ c.in_ok-take.ensures.taken is.0.owner is.2 is.0.written in
     let are = next_entries _ _ self.pass c.take.new.pass self.replica next self.batch.items self.first entries all is.0 is.1 applied in
     let ByOld : NodeState → Type 0 = λ n. c.answer.new.answers.items ≡ answers_of g.J.LogName.depth n.tables later.entries n.first n.batch in
     subst ByOld c.self.view_is (c.answer.ensures

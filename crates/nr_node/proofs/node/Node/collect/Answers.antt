@@ -17,4 +17,5 @@ invariant_of-self g c =
       holding_node _ _ self.pass self.replica self.batch.items batch self.first none c.is_short.ensures
           (λ k d lt. c.requires.fit (get_or batch k d) (c.collect.ensures.rule k d lt)) c.self.invariant.0,
       holding_follows _ _ self.pass self.replica self.batch.items batch self.first c.self.invariant.1,
+      c.self.invariant.2,
     )

@@ -1,4 +1,4 @@
-use Rattle.std.proofs.Common.{◌<◌, ◌≤◌, List, All, length, refl, sym, subst, ◌∙◌}
+use Rattle.std.proofs.Common.{◌<◌, ◌≤◌, List, All, length, refl, sym, subst, ◌∙◌, arith}
 use Rattle.std.proofs.lemmas.Result.{err_from_is_err_and}
 use Rattle.vs_types.specs.LogEntry.{IsLogEntry}
 use Rattle.vs_types.specs.declared.limits.TheConstants.{CALLS}
@@ -7,8 +7,8 @@ use Rattle.nr_ring.specs.Entries.{HasAppended}
 use Rattle.nr_node.specs.Calls.{HasStayed}
 use Rattle.nr_node.specs.Node.{NodeState}
 use Rattle.nr_node.specs.inside.Node.{node_state}
-use Rattle.nr_node.proofs.Looks.{looked_taken}
-use Rattle.nr_node.proofs.Nodes.{appended_node, batch_fits, looked_follows, looked_node}
+use Rattle.nr_node.proofs.Nodes.{looked_ahead, looked_follows, looked_node}
+use Rattle.nr_node.proofs.Puts.{appended_node, batch_fits}
 use Rattle.nr_node.proofs.node.Node.put_batch.Goals as goal
 
 pub append-requires-clause-entries : goal.append-requires-clause-entries
@@ -27,6 +27,7 @@ invariant_of-self g c =
     let looked = c.in_err-first.ensures.refused.0 in (
       looked_node _ _ self.pass c.append.new.pass self.replica self.batch.items self.first looked is.0,
       looked_follows _ _ self.pass c.append.new.pass self.replica self.batch.items self.first looked is.0 is.1,
+      looked_ahead _ _ self.pass c.append.new.pass self.replica self.ahead looked is.0.owner is.2,
     )
 
 pub returns-in_err-first-clause-looked : goal.returns-in_err-first-clause-looked
@@ -38,7 +39,7 @@ returns-in_err-first-clause-looked g c =
     λ n. HasStayed g.J.LogName.depth g.J.LogName.replicas n (node_state c.append.new.pass self.replica self.batch.items self.first) in
     rw p.1 (subst Stays c.self.view_is (record {
       looked = looked;
-      applied = looked_taken _ _ self.pass.view c.append.new.pass.view looked c.self.invariant.0.owner;
+      applied = refl;
       same = refl;
     }))
 
@@ -49,6 +50,7 @@ invariant_of-self-2 g c =
     let Appends : List LogEntry → Type 0 = λ l.
     HasAppended g.J.LogName.depth g.J.LogName.replicas self.pass.view l c.in_ok-first.first c.append.new.pass.view in
     let Some : NodeState → Type 0 = λ n. 1 ≤ length n.batch in
-    appended_node _ _ self.pass c.append.new.pass self.replica self.batch.items self.first c.in_ok-first.first
+    let put = appended_node _ _ self.pass c.append.new.pass self.replica self.batch.items self.first c.in_ok-first.first
     (subst Appends (c.as_slice.ensures.value ∙ c.entries_of-entries.ensures.entries) c.in_ok-first.ensures.appended)
-    (subst Some (sym c.self.view_is) c.requires.some) is.0 is.1
+    (subst Some (sym c.self.view_is) c.requires.some) is.0 is.1 in
+    (put.0, put.1, omega (arith, is.2, put.2))

@@ -3,7 +3,7 @@ use Rattle.std.specs.Arc.{arc_value}
 use Rattle.std.proofs.lemmas.List.{length-map}
 use Rattle.vs_walk.specs.Dump.{Image}
 use Rattle.nr_ring.specs.Pass.{Known, TableId}
-use Rattle.nr_node.specs.Node.{NodeState}
+use Rattle.nr_node.specs.Node.{NodeState, applied_of, taken_by}
 use Rattle.nr_replicas.specs.Replicas.{HasHeard}
 use Rattle.nr_replicas.specs.inside.Replicas.{AreNodes}
 use Rattle.nr_replicas.specs.inside.Settling.{AreDumpsOf, IsDone, WasTold, forgotten}
@@ -11,6 +11,18 @@ use Rattle.nr_replicas.proofs.Cuts.{cut_is, forgotten_nodes, zip_on}
 use Rattle.nr_replicas.proofs.Rests.{written_over}
 use Rattle.nr_replicas.proofs.Settled.{known_of}
 use Rattle.nr_replicas.proofs.replicas.Replicas.cut.Goals as goal
+
+pub forget_all-requires : goal.forget_all-requires
+forget_all-requires g c =
+    let replicas = g.J.LogName.replicas in
+    let vec = c.in_ok-nodes.nodes in
+    let met = c.meet.new.nodes in
+    let count : length met ≡ length vec.items = c.in-Some.ensures.count ∙ ap (λ (l : List NodeState). length l) c.deref_mut.ensures.value in
+    let over : take vec.len (met ++ drop (length met) vec.items) ≡ met = written_over vec.len met vec.items count vec.ok.0 in
+    let Done : NodeState → Type 0 = IsDone replicas c.in-Some.base in
+    let done : All Done met = subst (All Done) (c.deref-2.ensures.value ∙ over) (c.if-not-are_done.ensures refl) in
+    let Taken : List NodeState → Type 0 = All (λ n. taken_by replicas n.known.view ≡ applied_of replicas n) in
+    subst Taken (sym (c.deref_mut-2.ensures.value ∙ over)) (λ k d lt. (done k d lt).taken)
 
 pub invariant_of-replicas : goal.invariant_of-replicas
 invariant_of-replicas g c =
