@@ -28,7 +28,7 @@ use Rattle.nr_script.specs.declared.line.Line.{Line}
 use Rattle.nr_script.proofs.Portions.{requests_behind}
 use Rattle.nr_script.proofs.Shares.{well_formed_requests}
 use Rattle.audit_readers.specs.declared.fault.ProgFault.{ProgFault}
-use Rattle.nrvs.specs.ServedChain.{AreFull, AreGivenBut, BeginsAsScript, IsServedChain}
+use Rattle.nrvs.specs.ServedChain.{AreFull, AreGivenBut, BeginsAsScript, HasRunFront, IsServedChain}
 use Rattle.nrvs.specs.ServedChain.{TellsAll, TellsStopped}
 use Rattle.nrvs.specs.ServedChain.{TellsWrong, chain_layout, end_line, given_to, segment_text, segments_text}
 use Rattle.nrvs.specs.ServedRun.{asked_for}
@@ -116,6 +116,25 @@ segment_goes {J = J} setup chain said lists old now new run next asked size made
   by_cases (Last answers bytes order passes) ended same written = absurd same
   by_cases (Wrong bytes fault) failed same written = absurd same
 
+-- the front of a run that ends early
+abbrev run_so_far : (setup : Setup) (chain : ChainSetup) (said : List Line) (lists : List (List Query)) (old now : Option (List ℕ)) (run : RunState)
+    → HasAsked setup chain said lists old now run → (front behind : List ℕ) (rest : List (List ℕ)) → BeginsAsScript setup.depth front said rest
+    → length rest ≤ 1 → HasRunFront setup chain front (front ++ behind)
+run_so_far setup chain said lists old now run asked front behind rest script one = record {
+  behind = behind;
+  bytes_are = refl;
+  said = said;
+  rest = rest;
+  script = script;
+  one_begun = one;
+  log = asked.log;
+  own = asked.own;
+  segments = asked.segments;
+  full = asked.full;
+  mid = run;
+  runs = asked.runs;
+}
+
 -- what is written of a last segment: its text and the line behind it
 last_text : (as_trace : Bool) (bytes said : List ℕ) → asked_for as_trace bytes said ++ end_line as_trace ≡ asked_for as_trace bytes (said ++ codes "verified\n")
 last_text true bytes said = append-nil bytes
@@ -140,18 +159,7 @@ segment_ends {J = J} setup chain said lists old now new run status asked few mad
         text = front ++ asked_for chain.as_trace bytes (verified_text answers);
         written = Appends-trans old now new front (asked_for chain.as_trace bytes (verified_text answers)) asked.written written;
         tells = λ front behind rest script one. inl (record {
-          behind = behind;
-          bytes_are = refl;
-          said = said;
-          rest = rest;
-          script = script;
-          one_begun = one;
-          log = asked.log;
-          own = asked.own;
-          segments = asked.segments;
-          full = asked.full;
-          mid = run;
-          runs = asked.runs;
+          so_far = run_so_far setup chain said lists old now run asked front behind rest script one;
           last = ran;
           few = few;
           passes = passes;
@@ -172,18 +180,7 @@ segment_ends {J = J} setup chain said lists old now new run status asked few mad
     written =
         Appends-trans old now new (segments_text chain.as_trace asked.segments) (told_of_segment {J = J} chain.as_trace (Wrong bytes fault)) asked.written written;
     tells = λ front behind rest script one. inr (record {
-      behind = behind;
-      bytes_are = refl;
-      said = said;
-      rest = rest;
-      script = script;
-      one_begun = one;
-      log = asked.log;
-      own = asked.own;
-      segments = asked.segments;
-      full = asked.full;
-      mid = run;
-      runs = asked.runs;
+      so_far = run_so_far setup chain said lists old now run asked front behind rest script one;
       scripts = lists;
       few = few;
       given = asked.given;

@@ -85,9 +85,9 @@ pub record TellsAll (setup : Setup) (chain : ChainSetup) (bytes text : List ℕ)
   pub text_is : text ≡ segments_text chain.as_trace (segments ++ last ∷ []) ++ end_line chain.as_trace
   pub status_is : status ≡ 0
 
--- a thread was stopped in the last segment: the same of these segments. They were given what the lines of the front of the bytes ask, but one
--- that has begun, and nothing of the bytes behind the front
-pub record TellsStopped (setup : Setup) (chain : ChainSetup) (front bytes text : List ℕ) (status : ℕ) : Type 0 where
+-- full segments are right up to here. The front of the bytes begins with the lines that asked for them and for what is left; but one line has
+-- begun. Nothing was asked of the bytes behind the front
+pub record HasRunFront (setup : Setup) (chain : ChainSetup) (front bytes : List ℕ) : Type 0 where
   pub behind : List ℕ
   pub bytes_are : bytes ≡ front ++ behind
   pub said : List Line
@@ -100,40 +100,32 @@ pub record TellsStopped (setup : Setup) (chain : ChainSetup) (front bytes text :
   pub full : AreFull chain.most segments
   pub mid : RunState
   pub runs : RunsOn (new_run (chain_layout setup) log) own segments mid
+
+-- a thread was stopped in the last segment: the same of these segments, which were given what the lines of the front ask
+pub record TellsStopped (setup : Setup) (chain : ChainSetup) (front bytes text : List ℕ) (status : ℕ) : Type 0 where
+  pub so_far : HasRunFront setup chain front bytes
   pub last : Ran
   pub few : request_count last.scripts ≤ chain.most
   pub passes : List Known
   pub history : List LogEvent
-  pub is_right : IsRightSegment mid last passes history
+  pub is_right : IsRightSegment so_far.mid last passes history
   pub stopped : AreAllAnswered last.scripts last.answers → ⊥
-  pub given : AreGiven said (segments ++ last ∷ [])
-  pub right : IsRightChain (own ++ last.bytes) (orders_of (segments ++ last ∷ []))
-  pub one_log : IsLogOf (chain_layout setup) (logs_of (segments ++ last ∷ [])) passes
-  pub text_is : text ≡ segments_text chain.as_trace (segments ++ last ∷ []) ++ end_line chain.as_trace
+  pub given : AreGiven so_far.said (so_far.segments ++ last ∷ [])
+  pub right : IsRightChain (so_far.own ++ last.bytes) (orders_of (so_far.segments ++ last ∷ []))
+  pub one_log : IsLogOf (chain_layout setup) (logs_of (so_far.segments ++ last ∷ [])) passes
+  pub text_is : text ≡ segments_text chain.as_trace (so_far.segments ++ last ∷ []) ++ end_line chain.as_trace
   pub status_is : status ≡ 0
 
--- a segment behind right ones is wrong, and this is its first fault. It was the last that was run, and nothing was asked of the bytes behind
--- the front
+-- a segment behind right ones is wrong, and this is its first fault. It was the last that was run
 pub record TellsWrong (setup : Setup) (chain : ChainSetup) (front bytes text : List ℕ) (status : ℕ) : Type 0 where
-  pub behind : List ℕ
-  pub bytes_are : bytes ≡ front ++ behind
-  pub said : List Line
-  pub rest : List (List ℕ)
-  pub script : BeginsAsScript setup.depth front said rest
-  pub one_begun : length rest ≤ 1
-  pub log : TableId
-  pub own : List ℕ
-  pub segments : List Ran
-  pub full : AreFull chain.most segments
-  pub mid : RunState
-  pub runs : RunsOn (new_run (chain_layout setup) log) own segments mid
+  pub so_far : HasRunFront setup chain front bytes
   pub scripts : List (List Query)
   pub few : request_count scripts ≤ chain.most
-  pub given : AreGivenBut (λ thread. slice_index_or scripts thread []) said segments
+  pub given : AreGivenBut (λ thread. slice_index_or scripts thread []) so_far.said so_far.segments
   pub wrong : List ℕ
   pub fault : Fault
-  pub failed : HasFailed mid scripts wrong fault
-  pub text_is : text ≡ segments_text chain.as_trace segments ++ asked_for chain.as_trace wrong (refused_text fault)
+  pub failed : HasFailed so_far.mid scripts wrong fault
+  pub text_is : text ≡ segments_text chain.as_trace so_far.segments ++ asked_for chain.as_trace wrong (refused_text fault)
   pub status_is : status ≡ 1
 
 -- the answer of `run --chain`: of a run that ended early, nothing was asked of the bytes behind this front
