@@ -13,7 +13,7 @@ use Rattle.vs_types.proofs.Lists.{get_left, get_right}
 use Rattle.nr_slots.specs.Updates.{Waiting}
 use Rattle.nr_node.specs.Calls.{IsAnsweredIn, IsOwnPlace, LacksUpdate, entries_of, entry_of}
 use Rattle.nr_node.specs.Spaces.{answer_at, space_of}
-use Rattle.nr_node.specs.Node.{IsNode, NodeState, applied_of, log_of}
+use Rattle.nr_node.specs.Node.{IsNode, NodeState, log_of}
 use Rattle.nr_node.specs.inside.Node.{Follows}
 use Rattle.nr_node.specs.inside.Replica.{ReplicaState}
 use Rattle.nr_node.proofs.Lists.{map_one_more, take_to_one_more}
@@ -136,22 +136,22 @@ pub answer_there : (depth : Depth) (replicas : ℕ) (node view : NodeState) (rep
     → MatchOption result (node.base ≤ place → slice_get replica.entries place ≢ Some entry)
     (λ answer. (slice_get replica.entries place ≡ Some entry)
     × (answer ≡ answer_at replica.depth node.tables replica.entries place entry.op))
-    → MatchOption result (view.base ≤ place → place < applied_of replicas view → slice_get (log_of replicas view).entries place ≢ Some entry)
+    → MatchOption result (view.base ≤ place → place < view.applied → slice_get (log_of replicas view).entries place ≢ Some entry)
     (λ answer. (slice_get (log_of replicas view).entries place ≡ Some entry)
-    × (answer ≡ answer_at depth view.tables (log_of replicas view).entries place entry.op) × (place + 1 ≤ applied_of replicas view))
+    × (answer ≡ answer_at depth view.tables (log_of replicas view).entries place entry.op) × (place + 1 ≤ view.applied))
 answer_there depth replicas node view replica place entry None is follows same none =
-    let Is : NodeState → Type 0 = λ v. v.base ≤ place → place < applied_of replicas v → slice_get (log_of replicas v).entries place ≢ Some entry in
+    let Is : NodeState → Type 0 = λ v. v.base ≤ place → place < v.applied → slice_get (log_of replicas v).entries place ≢ Some entry in
     let had = had_taken depth replicas node replica is follows in
     let all = (log_of replicas node).entries in
-    let n = applied_of replicas node in
+    let n = node.applied in
     let here : length (take n all) ≡ n = length-take-le n all is.written in
     subst Is same (λ low lt there.
     none low (ap (λ (l : List LogEntry). slice_get l place) follows.entries ∙ first_there all n place entry (omega (arith, here, lt)) there))
 answer_there depth replicas node view replica place entry (Some answer) is follows same some =
     let Is : NodeState → Type 0 = λ v. (slice_get (log_of replicas v).entries place ≡ Some entry)
-    × (answer ≡ answer_at depth v.tables (log_of replicas v).entries place entry.op) × (place + 1 ≤ applied_of replicas v) in
+    × (answer ≡ answer_at depth v.tables (log_of replicas v).entries place entry.op) × (place + 1 ≤ v.applied) in
     let all = (log_of replicas node).entries in
-    let n = applied_of replicas node in
+    let n = node.applied in
     let first : slice_get (take n all) place ≡ Some entry = ap (λ (l : List LogEntry). slice_get l place) (sym follows.entries) ∙ some.0 in
     let within = slice_get_within (take n all) place entry first in
     let here : length (take n all) ≡ n = length-take-le n all is.written in

@@ -15,7 +15,7 @@ use Rattle.nr_ring.specs.Pass.{Known}
 use Rattle.vs_types.specs.declared.limits.TheConstants.{RING}
 use Rattle.nr_slots.specs.Updates.{Waiting}
 use Rattle.nr_node.specs.Calls.{entry_of}
-use Rattle.nr_node.specs.Node.{IsNode, NodeState, StandFrom, applied_of, log_of, replica_of, taken_by}
+use Rattle.nr_node.specs.Node.{IsNode, NodeState, StandFrom, log_of, replica_of, taken_by}
 use Rattle.nr_node.specs.inside.Node.{Follows, IsAhead, node_state}
 use Rattle.nr_node.specs.inside.Replica.{ReplicaState}
 use Rattle.nr_node.proofs.Looks.{looked_on, looked_owner, looked_taken}
@@ -137,6 +137,6 @@ looked_ahead depth replicas known after replica ahead p owner is = omega (arith,
 
 -- it had as many entries as it had applied
 pub had_taken : (depth : Depth) (replicas : ℕ) (node : NodeState) (replica : ReplicaState) → IsNode depth replicas node → Follows depth replicas node replica
-    → length replica.entries ≡ applied_of replicas node
+    → length replica.entries ≡ node.applied
 had_taken depth replicas node replica is follows =
-    ap (λ (l : List LogEntry). length l) follows.entries ∙ length-take-le (applied_of replicas node) (log_of replicas node).entries is.written
+    ap (λ (l : List LogEntry). length l) follows.entries ∙ length-take-le node.applied (log_of replicas node).entries is.written

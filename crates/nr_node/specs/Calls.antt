@@ -9,7 +9,7 @@ use Rattle.nr_ring.specs.Entries.{HasAppended}
 use Rattle.nr_ring.specs.declared.view.View.{View}
 use Rattle.nr_slots.specs.Updates.{Answered, Waiting}
 use Rattle.nr_node.specs.Spaces.{answer_at}
-use Rattle.nr_node.specs.Node.{NodeState, StandFrom, applied_of, log_of}
+use Rattle.nr_node.specs.Node.{NodeState, StandFrom, log_of}
 
 -- the entry that a call asks for
 abbrev pub entry_of : Waiting → LogEntry
@@ -50,29 +50,29 @@ pub record LiesWithin (log : Log) (from to first : ℕ) (batch : List Waiting) :
   pub below : first + length batch ≤ to
   pub stand : StandFrom log.entries first batch
 
--- the node looked, and then took so many entries: all that there were. A batch that has places lies among them, and nothing of it is left
+-- the node looked, and then took all entries that there were. So many of them it had not applied before, and has then applied. A batch that
+-- has places lies among these, and nothing of it is left
 pub record HasCaughtUp (depth : Depth) (replicas : ℕ) (before : NodeState) (count : ℕ) (after : NodeState) : Type 0 where
   pub seen_before : View
   pub looked : HasLooked depth replicas before.known.view seen_before
   pub taken : HasTaken replicas seen_before (tail (log_after replicas seen_before.seen)) after.known.view
-  pub risen : applied_of replicas after ≡ applied_of replicas before + count
-  pub all : applied_of replicas after ≡ tail (log_of replicas after)
-  pub fresh : tail (log_of replicas before) ≤ applied_of replicas after
+  pub risen : after.applied ≡ before.applied + count
+  pub all : after.applied ≡ tail (log_of replicas after)
+  pub fresh : tail (log_of replicas before) ≤ after.applied
   pub held : (first : ℕ) → before.first ≡ Some first
-      → LiesWithin (log_of replicas after) (applied_of replicas before) (applied_of replicas after) first before.batch
+      → LiesWithin (log_of replicas after) before.applied after.applied first before.batch
   pub left : after ≡ record before { known = after.known; applied = after.applied; batch = left_of before.first before.batch; first = None }
 
 -- the node looked, and has then applied all entries that there are. It made no event, so its replica's local tail is as it was
 pub record HasFollowed (depth : Depth) (replicas : ℕ) (before after : NodeState) : Type 0 where
   pub looked : HasLooked depth replicas before.known.view after.known.view
-  pub all : applied_of replicas after ≡ tail (log_of replicas after)
-  pub fresh : tail (log_of replicas before) ≤ applied_of replicas after
+  pub all : after.applied ≡ tail (log_of replicas after)
+  pub fresh : tail (log_of replicas before) ≤ after.applied
   pub left : after ≡ record before { known = after.known; applied = after.applied }
 
 -- another pass's event came, and the node has only looked: what it has applied and holds is as before
 pub record HasStayed (depth : Depth) (replicas : ℕ) (before after : NodeState) : Type 0 where
   pub looked : HasLooked depth replicas before.known.view after.known.view
-  pub applied : applied_of replicas after ≡ applied_of replicas before
   pub same : after ≡ record before { known = after.known }
 
 -- the node put its batch into the log, from a place on, and then caught up

@@ -35,13 +35,9 @@ taken_by replicas view = local_of (log_after replicas view.seen) (replica_of vie
 abbrev pub log_of : ℕ → NodeState → Log
 log_of replicas node = log_after replicas node.known.view.seen
 
--- how many entries a node has applied, which may be more than its replica's local tail says
-abbrev pub applied_of : ℕ → NodeState → ℕ
-applied_of replicas node = node.applied
-
 -- the address space of a node: that after the entries that it has applied
 abbrev pub node_space : Depth → ℕ → NodeState → Space
-node_space depth replicas node = space_at depth node.tables (log_of replicas node).entries (applied_of replicas node)
+node_space depth replicas node = space_at depth node.tables (log_of replicas node).entries node.applied
 
 -- the calls of a batch are among entries one after another, from a place on
 abbrev pub StandFrom : List LogEntry → ℕ → List Waiting → Type 0
@@ -59,12 +55,12 @@ pub record IsPlaced (log : Log) (applied first : ℕ) (batch : List Waiting) : T
 -- have places they are there
 pub record IsNode (depth : Depth) (replicas : ℕ) (node : NodeState) : Type 0 where
   pub owner : node.known.view.owns ≡ replica_of node.known.view ∷ []
-  pub behind : taken_by replicas node.known.view ≤ applied_of replicas node
-  pub written : applied_of replicas node ≤ tail (log_of replicas node)
+  pub behind : taken_by replicas node.known.view ≤ node.applied
+  pub written : node.applied ≤ tail (log_of replicas node)
   pub kept : node.base ≤ taken_by replicas node.known.view
   pub fit : All (λ waiting. IsAction depth waiting.op) node.batch
   pub few : length node.batch ≤ RING
-  pub placed : (first : ℕ) → node.first ≡ Some first → IsPlaced (log_of replicas node) (applied_of replicas node) first node.batch
+  pub placed : (first : ℕ) → node.first ≡ Some first → IsPlaced (log_of replicas node) node.applied first node.batch
 
 -- a new node, with this pass and this limit of tables, keeps all and holds nothing
 abbrev pub new_node : Known → ℕ → NodeState

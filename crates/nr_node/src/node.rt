@@ -19,7 +19,7 @@ ghost use Rattle.nr_slots.specs.Batch.{Rises};
 ghost use Rattle.nr_slots.specs.Updates.{Answered, Waiting};
 ghost use Rattle.nr_node.specs.Calls.{HasCaughtUp, HasFollowed, HasPutAndCaughtUp, HasStayed, IsAnsweredIn, IsOwnPlace, LacksUpdate, answers_of};
 ghost use Rattle.nr_node.specs.Calls.{entries_of};
-ghost use Rattle.nr_node.specs.Node.{IsNode, applied_of, held_of, log_of, new_node, node_space, replica_of, taken_by};
+ghost use Rattle.nr_node.specs.Node.{IsNode, held_of, log_of, new_node, node_space, replica_of, taken_by};
 ghost use Rattle.nr_node.specs.Spaces.{answer_at};
 ghost use Rattle.nr_node.specs.declared.held.Held.TheVariants.{Placed};
 
@@ -115,7 +115,7 @@ impl<S: FrameStore + Drop, J: LogName> Node<S, J> {
 impl<S: FrameStore, J: LogName> Node<S, J> {
     /// How many entries of the log it has applied: its replica's local tail, and those above it.
     pub fn applied(&self) -> u64
-        ensures reads { result ≡ applied_of J.replicas self.now }
+        ensures reads { result ≡ self.now.applied }
         ensures is_node { IsNode J.depth J.replicas self.now }
     {
         self.replica.applied()
@@ -133,7 +133,7 @@ impl<S: FrameStore, J: LogName> Node<S, J> {
     #[inline(always)]
     pub fn ahead(&self) -> usize
         ensures { taken_by J.replicas self.now.known.view + result
-            ≡ applied_of J.replicas self.now }
+            ≡ self.now.applied }
     {
         self.ahead
     }
@@ -148,8 +148,8 @@ impl<S: FrameStore, J: LogName> Node<S, J> {
     /// Whether it keeps so few entries that it may put a batch and take what comes with it: 65,536 at most.
     #[inline(always)]
     pub fn has_room(&self) -> bool
-        ensures { MatchBool result (applied_of J.replicas self.now ≤ self.now.base + LOG_PLACES)
-            (self.now.base + LOG_PLACES < applied_of J.replicas self.now) }
+        ensures { MatchBool result (self.now.applied ≤ self.now.base + LOG_PLACES)
+            (self.now.base + LOG_PLACES < self.now.applied) }
     {
         self.replica.kept_count() <= u64::from(LOG_PLACES)
     }
@@ -158,8 +158,8 @@ impl<S: FrameStore, J: LogName> Node<S, J> {
     #[inline(always)]
     pub fn has_room_to_take(&self) -> bool
         ensures { MatchBool result
-            (applied_of J.replicas self.now ≤ self.now.base + (LOG_PLACES + RING))
-            (self.now.base + (LOG_PLACES + RING) < applied_of J.replicas self.now) }
+            (self.now.applied ≤ self.now.base + (LOG_PLACES + RING))
+            (self.now.base + (LOG_PLACES + RING) < self.now.applied) }
     {
         self.replica.kept_count() <= u64::from(LOG_PLACES) + RING as u64
     }
@@ -167,8 +167,8 @@ impl<S: FrameStore, J: LogName> Node<S, J> {
     /// Keeps none of the entries any more that it has applied, all of which its replica has taken: `told` and `answer_to` give none of
     /// them, and there is room again.
     pub fn forget(&mut self)
-        requires { taken_by J.replicas self.old.known.view ≡ applied_of J.replicas self.old }
-        ensures { self.new ≡ record self.old { base = applied_of J.replicas self.old } }
+        requires { taken_by J.replicas self.old.known.view ≡ self.old.applied }
+        ensures { self.new ≡ record self.old { base = self.old.applied } }
     {
         self.pass.has_seen_a_history();
         self.replica.forget(&self.pass);
@@ -271,7 +271,7 @@ impl<S: FrameStore, J: LogName> Node<S, J> {
         requires log { self.old.known.log ≡ log.now }
         requires some { 1 ≤ length self.old.batch }
         requires unplaced { self.old.first ≡ None }
-        requires room { applied_of J.replicas self.old ≤ self.old.base + LOG_PLACES }
+        requires room { self.old.applied ≤ self.old.base + LOG_PLACES }
         requires rule { (answered : Answered) → ∥ P.answered answered ∥₁ }
         requires none { own.old ≡ None }
         ensures log { self.new.known.log ≡ self.old.known.log }
@@ -303,8 +303,8 @@ impl<S: FrameStore, J: LogName> Node<S, J> {
         Ok(())
     }
 
-    /// Takes all entries that the log then has and applies those that it hasn't applied: how many they are. The answers of the held
-    /// updates among them are added to the vector, which is empty, by place.
+    /// Takes all entries that the log then has, and applies those of them that it hasn't applied: how many these are. The answers of the
+    /// held updates among these are added to the vector, which is empty, by place.
     ///
     /// # Errors
     ///
@@ -317,7 +317,7 @@ impl<S: FrameStore, J: LogName> Node<S, J> {
     ) -> Result<u64, Moved>
         requires log { self.old.known.log ≡ log.now }
         requires empty { answers.old.items ≡ [] }
-        requires room { applied_of J.replicas self.old
+        requires room { self.old.applied
             ≤ self.old.base + (LOG_PLACES + RING) }
         ensures log { self.new.known.log ≡ self.old.known.log }
         ensures caught_up { IfOk result (λ count.
@@ -348,8 +348,7 @@ impl<S: FrameStore, J: LogName> Node<S, J> {
         requires log { self.old.known.log ≡ log.now }
         requires unplaced { (place count : ℕ)
             → held_of self.old.batch self.old.first ≢ Placed place count }
-        requires room { applied_of J.replicas self.old
-            ≤ self.old.base + (LOG_PLACES + RING) }
+        requires room { self.old.applied ≤ self.old.base + (LOG_PLACES + RING) }
         ensures log { self.new.known.log ≡ self.old.known.log }
         ensures followed { HasFollowed J.depth J.replicas self.old self.new }
     {
@@ -363,7 +362,7 @@ impl<S: FrameStore, J: LogName> Node<S, J> {
     /// How many entries it has applied, and the translation of a canonical address after them, or `NotMapped`.
     pub fn read(&self, address: u64) -> (u64, Answer)
         requires { IsCanonical J.depth address }
-        ensures at { result.0 ≡ applied_of J.replicas self.now }
+        ensures at { result.0 ≡ self.now.applied }
         ensures answer { result.1 ≡ look (node_space J.depth J.replicas self.now) address }
     {
         (self.replica.applied(), self.replica.resolve(address))
@@ -373,7 +372,7 @@ impl<S: FrameStore, J: LogName> Node<S, J> {
     /// physical address, or `Fault` with the error code.
     pub fn access(&self, address: u64, mode: Mode, access: Access) -> (u64, Answer)
         requires { IsCanonical J.depth address }
-        ensures at { result.0 ≡ applied_of J.replicas self.now }
+        ensures at { result.0 ≡ self.now.applied }
         ensures answer { result.1
             ≡ allow (node_space J.depth J.replicas self.now) address mode access }
     {
@@ -384,11 +383,11 @@ impl<S: FrameStore, J: LogName> Node<S, J> {
     /// The entry of the log at a place and what it was answered; `None` where it has not applied the place's entry, or keeps it no more.
     pub fn told(&self, place: u64) -> Option<(LogEntry, Answer)>
         ensures { MatchOption result
-            ((place < self.now.base) ⊎ (applied_of J.replicas self.now ≤ place)) (λ told.
+            ((place < self.now.base) ⊎ (self.now.applied ≤ place)) (λ told.
             (slice_get (log_of J.replicas self.now).entries place ≡ Some told.0)
             × (told.1 ≡ answer_at J.depth self.now.tables
             (log_of J.replicas self.now).entries place told.0.op)
-            × (place + 1 ≤ applied_of J.replicas self.now)) }
+            × (place + 1 ≤ self.now.applied)) }
     {
         self.replica.told(place)
     }
@@ -397,11 +396,11 @@ impl<S: FrameStore, J: LogName> Node<S, J> {
     #[inline(always)]
     pub fn answer_to(&self, place: u64, entry: PackedEntry) -> Option<Answer>
         ensures { MatchOption result (self.now.base ≤ place
-            → place < applied_of J.replicas self.now → slice_get (log_of J.replicas self.now).entries place ≢ Some entry) (λ answer.
+            → place < self.now.applied → slice_get (log_of J.replicas self.now).entries place ≢ Some entry) (λ answer.
             (slice_get (log_of J.replicas self.now).entries place ≡ Some entry)
             × (answer ≡ answer_at J.depth self.now.tables
             (log_of J.replicas self.now).entries place entry.op)
-            × (place + 1 ≤ applied_of J.replicas self.now)) }
+            × (place + 1 ≤ self.now.applied)) }
     {
         self.replica.answer_to(place, entry)
     }
@@ -413,7 +412,7 @@ impl<S: FrameStore, J: LogName> Node<S, J> {
     /// Out of memory.
     pub fn dump(&self) -> Result<Dump, Memory>
         ensures applied { IfOk result (λ dump.
-            self.now.base + dump.applied ≡ applied_of J.replicas self.now) }
+            self.now.base + dump.applied ≡ self.now.applied) }
         ensures translates { IfOk result (λ dump.
             TranslatesAs J.depth dump.frames dump.root (node_space J.depth J.replicas self.now)) }
         ensures frames { IfOk result (λ dump.

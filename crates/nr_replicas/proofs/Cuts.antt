@@ -15,7 +15,7 @@ use Rattle.nr_ring.specs.declared.log_event.LogEvent.{LogEvent}
 use Rattle.nr_ring.proofs.Histories.{beginning_goes_on, history_fits, tail_rises}
 use Rattle.nr_ring.proofs.LocalTails.{below_greatest, greatest_least}
 use Rattle.nr_slots.specs.Updates.{Waiting}
-use Rattle.nr_node.specs.Node.{IsNode, NodeState, applied_of, held_of, log_of, replica_of, taken_by}
+use Rattle.nr_node.specs.Node.{IsNode, NodeState, held_of, log_of, replica_of, taken_by}
 use Rattle.nr_node.specs.declared.held.Held.TheVariants.{Nothing}
 use Rattle.nr_node.proofs.Nodes.{take_still}
 use Rattle.nr_replicas.specs.Replicas.{HasHeard}
@@ -49,7 +49,7 @@ held_nothing (w ∷ ws) (Some place) e = absurd cc
 -- the nodes when they have forgotten what they have applied
 pub forgotten_nodes : (depth : Depth) (replicas tables base count : ℕ) (log : TableId) (layout : Layout) (slots : List ℕ) (nodes : List NodeState)
     → AreShared depth replicas tables layout slots → length nodes ≡ length slots → All (IsNodeOf log tables base) nodes
-    → All (IsDone replicas count) nodes → AreNodes depth replicas log layout count (map (forgotten replicas) nodes)
+    → All (IsDone replicas count) nodes → AreNodes depth replicas log layout count (map forgotten nodes)
 forgotten_nodes depth replicas tables base count log layout slots nodes are many each done =
     let Of : NodeState → Type 0 = IsNodeOf log layout.tables count in
     let Idle : NodeState → Type 0 = λ n. n.batch ≡ [] in
@@ -57,11 +57,11 @@ forgotten_nodes depth replicas tables base count log layout slots nodes are many
       depth_is = are.depth_is;
       replicas_are = are.replicas_are;
       some = are.some;
-      count = length-map nodes (forgotten replicas) ∙ many ∙ are.count;
-      each = All-map Of (forgotten replicas) nodes (λ k d lt.
+      count = length-map nodes forgotten ∙ many ∙ are.count;
+      each = All-map Of forgotten nodes (λ k d lt.
           let is = each k d lt in
           record { log_is = is.log_is; tables_are = is.tables_are ∙ sym are.tables_are; base_is = (done k d lt).all });
-      idle = All-map Idle (forgotten replicas) nodes (λ k d lt. (done k d lt).idle);
+      idle = All-map Idle forgotten nodes (λ k d lt. (done k d lt).idle);
     }
 
 -- the dumps of nodes that have applied so many entries, which are all that there are

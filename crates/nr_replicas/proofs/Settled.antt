@@ -24,7 +24,7 @@ use Rattle.nr_ring.specs.declared.log_event.LogEvent.{LogEvent}
 use Rattle.nr_ring.specs.declared.log_event.LogEvent.TheVariants.{Advance}
 use Rattle.nr_ring.specs.declared.view.View.{View}
 use Rattle.nr_ring.proofs.Histories.{after_both, as_many_locals, beginning_goes_on, events_go_on, local_since, tail_rises}
-use Rattle.nr_node.specs.Node.{IsNode, NodeState, applied_of, log_of, replica_of, taken_by}
+use Rattle.nr_node.specs.Node.{IsNode, NodeState, log_of, replica_of, taken_by}
 use Rattle.nr_node.proofs.LaterLogs.{same_space}
 use Rattle.nr_node.proofs.Lists.{same_some}
 use Rattle.nr_ring.proofs.Appends.{begins}

@@ -2,7 +2,7 @@
 ghost use Rattle.std.specs.List.{AllZip};
 ghost use Rattle.std.specs.Prelude.{◌≡◌, ◌+◌, ◌∷◌, true, All, IfOk, IfSome, OnOk, length, map};
 ghost use Rattle.nr_ring.specs.View.{StartsWith};
-ghost use Rattle.nr_node.specs.Node.{applied_of, taken_by};
+ghost use Rattle.nr_node.specs.Node.{taken_by};
 ghost use Rattle.nr_replicas.specs.Replicas.{HasHeard};
 ghost use Rattle.nr_replicas.specs.Settled.{IsCut};
 ghost use Rattle.nr_replicas.specs.inside.Replicas.{IsNodeOf};
@@ -239,9 +239,9 @@ fn dumps_of<J: LogName, K: ReplicasName>(
 
 /// Has each node keep none of the entries any more that it has applied, all of which its replica has taken.
 fn forget_all<J: LogName>(nodes: &mut [Node<RawArena, J>])
-    requires { All (λ node. taken_by J.replicas node.known.view ≡ applied_of J.replicas node)
+    requires { All (λ node. taken_by J.replicas node.known.view ≡ node.applied)
         nodes.old }
-    ensures { nodes.new ≡ map (forgotten J.replicas) nodes.old }
+    ensures { nodes.new ≡ map forgotten nodes.old }
 {
     for i in 0..nodes.len() {
         nodes[i].forget();

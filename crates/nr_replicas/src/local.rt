@@ -6,7 +6,7 @@ ghost use Rattle.vs_types.specs.Depth.{IsCanonical};
 ghost use Rattle.nr_ring.specs.LogHistory.{log_after, tail};
 ghost use Rattle.nr_ring.specs.declared.tails.AppendFault.TheVariants.{LogEnded};
 ghost use Rattle.nr_node.specs.Calls.{IsAnsweredIn};
-ghost use Rattle.nr_node.specs.Node.{applied_of, log_of, node_space};
+ghost use Rattle.nr_node.specs.Node.{log_of, node_space};
 ghost use Rattle.nr_replicas.specs.Replicas.{HasHeard, IsAnsweredAt, IsReadAt};
 ghost use Rattle.nr_replicas.specs.inside.Replicas.{IsOwnAnswer, answer_in};
 
@@ -296,7 +296,7 @@ impl<J: LogName, K: ReplicasName> Local<J, K> {
     /// How many entries the node has applied, and what a question is answered after them.
     fn answer(&self, address: u64, question: Question) -> (u64, Answer)
         requires { IsCanonical J.depth address }
-        ensures at { result.0 ≡ applied_of J.replicas self.now }
+        ensures at { result.0 ≡ self.now.applied }
         ensures written { result.0 ≤ tail (log_of J.replicas self.now) }
         ensures answer { result.1
             ≡ answer_in question address (node_space J.depth J.replicas self.now) }

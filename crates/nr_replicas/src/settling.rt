@@ -3,7 +3,7 @@ ghost use Rattle.std.specs.Prelude.{◌≡◌, ◌+◌, ◌<◌, ◌≤◌, ◌+
 ghost use Rattle.nr_ring.specs.LogHistory.{log_after};
 ghost use Rattle.nr_ring.specs.Pass.{AreApart};
 ghost use Rattle.nr_ring.specs.View.{StartsWith};
-ghost use Rattle.nr_node.specs.Node.{IsNode, applied_of, log_of, replica_of, taken_by};
+ghost use Rattle.nr_node.specs.Node.{IsNode, log_of, replica_of, taken_by};
 ghost use Rattle.nr_replicas.specs.Replicas.{HasHeard};
 ghost use Rattle.nr_replicas.specs.Settled.{IsDumpOf, IsSettled};
 ghost use Rattle.nr_replicas.specs.inside.Replicas.{IsNodeOf};

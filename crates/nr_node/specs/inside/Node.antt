@@ -4,7 +4,7 @@ use Rattle.vs_types.specs.declared.depth.Depth.{Depth}
 use Rattle.nr_ring.specs.Pass.{Known}
 use Rattle.nr_ring.specs.declared.view.View.{View}
 use Rattle.nr_slots.specs.Updates.{Waiting}
-use Rattle.nr_node.specs.Node.{NodeState, applied_of, log_of, taken_by}
+use Rattle.nr_node.specs.Node.{NodeState, log_of, taken_by}
 use Rattle.nr_node.specs.inside.Replica.{ReplicaState}
 
 abbrev pub node_state : Known → ReplicaState → List Waiting → Option ℕ → NodeState
@@ -24,4 +24,4 @@ IsAhead replicas view replica ahead = taken_by replicas view + ahead ≡ length 
 -- the replica has applied the first entries of the log
 pub record Follows (depth : Depth) (replicas : ℕ) (node : NodeState) (replica : ReplicaState) : Type 0 where
   pub depth_is : replica.depth ≡ depth
-  pub entries : replica.entries ≡ take (applied_of replicas node) (log_of replicas node).entries
+  pub entries : replica.entries ≡ take node.applied (log_of replicas node).entries

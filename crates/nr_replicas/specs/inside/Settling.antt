@@ -7,7 +7,7 @@ use Rattle.nr_ring.specs.LogHistory.{IsLogHistory, log_after, tail}
 use Rattle.nr_ring.specs.Pass.{Known}
 use Rattle.nr_ring.specs.View.{HasSeenAdvances, StartsWith}
 use Rattle.nr_ring.specs.declared.log_event.LogEvent.{LogEvent}
-use Rattle.nr_node.specs.Node.{NodeState, applied_of, replica_of, taken_by}
+use Rattle.nr_node.specs.Node.{NodeState, replica_of, taken_by}
 use Rattle.nr_replicas.specs.Replicas.{HasHeard}
 use Rattle.nr_replicas.specs.Settled.{IsDumpOf}
 
@@ -56,9 +56,9 @@ pub record HaveMet (depth : Depth) (replicas places count : ℕ) (nodes : List N
 -- a node holds no update, and has applied so many entries, all of which its replica has taken
 pub record IsDone (replicas count : ℕ) (node : NodeState) : Type 0 where
   pub idle : node.batch ≡ []
-  pub all : applied_of replicas node ≡ count
-  pub taken : taken_by replicas node.known.view ≡ applied_of replicas node
+  pub all : node.applied ≡ count
+  pub taken : taken_by replicas node.known.view ≡ node.applied
 
 -- a node that keeps none of the entries any more that it has applied
-abbrev pub forgotten : ℕ → NodeState → NodeState
-forgotten replicas node = record node { base = applied_of replicas node }
+abbrev pub forgotten : NodeState → NodeState
+forgotten node = record node { base = node.applied }

@@ -185,10 +185,25 @@ impl<'a, N: LogName, K: OfLog> Party<'a, N, K> {
         entries
     }
 
+    /// The same in words.
+    pub fn peek(&mut self) -> ArrayVec<PackedEntry, 16> {
+        let mut entries = ArrayVec::new();
+        if let Some(_) = self.pass.replica() {
+            self.log.peek(&mut self.pass, &mut entries);
+        }
+        entries
+    }
+
     /// Whether it fetches entries of these calls.
     pub fn fetches(&mut self, rt: &impl Abort, calls: &[u32]) -> bool {
         let entries = self.fetch();
         self.are_of(rt, &entries, calls)
+    }
+
+    /// Whether it gets the words of entries of these calls.
+    pub fn peeks(&mut self, rt: &impl Abort, calls: &[u32]) -> bool {
+        let entries = self.peek();
+        self.are_packed_of(rt, &entries, calls)
     }
 
     /// Takes all that its replica has still to take, in one exchange; nothing where it owns none.

@@ -19,6 +19,7 @@ enum Event {
 enum Call {
     Look,
     Fetch,
+    Peek,
     Append,
     AppendFull,
     AdvanceLate,
@@ -30,9 +31,10 @@ enum Call {
     AppendAndTake,
 }
 
-static CALLS: [Call; 11] = [
+static CALLS: [Call; 12] = [
     Call::Look,
     Call::Fetch,
+    Call::Peek,
     Call::Append,
     Call::AppendFull,
     Call::AdvanceLate,
@@ -128,6 +130,12 @@ fn get<N: LogName, K: OfLog>(rt: &impl Abort, party: &mut Party<N, K>, tails: &T
     );
 }
 
+/// Peeks, and is to get the words of all entries that its replica has still to take.
+fn peek<N: LogName, K: OfLog>(rt: &impl Abort, party: &mut Party<N, K>, tails: &Tails) {
+    let waiting = to_take(rt, party, tails);
+    assert!(rt; party.peeks(rt, waiting.as_slice()));
+}
+
 /// The other looks, the first appends an entry, and the other is refused an advance if it owns a replica.
 fn advance_late<'a, N: LogName, K: OfLog>(
     rt: &impl Abort,
@@ -171,6 +179,7 @@ fn make_call<'a, N: LogName, K: OfLog>(
     match call {
         Call::Look => look(rt, other, tails),
         Call::Fetch => get(rt, other, tails, false),
+        Call::Peek => peek(rt, other, tails),
         Call::Append => append(rt, other, tails),
         Call::AppendFull => {
             let full = AppendFault::Full(*tails);

@@ -2,7 +2,7 @@ use Rattle.std.proofs.Common.{◌≡◌, ◌<◌, ◌≤◌, List, ◌++◌, ◌
 use Rattle.std.proofs.Math.Seq.{get_or-append_right}
 use Rattle.std.proofs.lemmas.List.{append-nil, drop_all, get_or-drop, length-map, length-set, length-take-le, take_all}
 use Rattle.std.proofs.lemmas.List.Edits.{map_over_more}
-use Rattle.nr_node.specs.Node.{NodeState, applied_of, taken_by}
+use Rattle.nr_node.specs.Node.{NodeState, taken_by}
 use Rattle.nr_replicas.specs.inside.Settling.{forgotten}
 use Rattle.nr_replicas.proofs.cutting.forget_all.Goals as goal
 
@@ -27,8 +27,8 @@ forget-requires g c =
     let found = c.index-nodes-i.result in
     let replicas = g.J.LogName.replicas in
     let within : i < length was = omega (arith, c.loop-i-test.true, is.0) in
-    let All : NodeState → Type 0 = λ n. taken_by replicas n.known.view ≡ applied_of replicas n in
-    subst All (sym (as_before (forgotten replicas) was now i found (omega (arith, within)) is.1)) (c.requires i found within)
+    let All : NodeState → Type 0 = λ n. taken_by replicas n.known.view ≡ n.applied in
+    subst All (sym (as_before forgotten was now i found (omega (arith, within)) is.1)) (c.requires i found within)
 
 pub loop-i-preserved : goal.loop-i-preserved
 loop-i-preserved g c =
@@ -38,7 +38,7 @@ loop-i-preserved g c =
     let now = c.loop-i.nodes in
     let found = c.index-nodes-i.result in
     let node = get_or now i found in
-    let F : NodeState → NodeState = forgotten g.J.LogName.replicas in
+    let F : NodeState → NodeState = forgotten in
     let within : i < length was = omega (arith, c.loop-i-test.true, is.0) in
     let Here : NodeState → Type 0 = λ n. n ≡ get_or now i n in
     let here : node ≡ get_or now i node = subst Here c.index-nodes-i.is c.index-nodes-i.is in (
@@ -51,7 +51,7 @@ returns g c =
     let is = c.loop-i.invariant in
     let i = c.loop-i.i in
     let was = c.args.nodes.now in
-    let F : NodeState → NodeState = forgotten g.J.LogName.replicas in
+    let F : NodeState → NodeState = forgotten in
     let all : length was ≤ i = omega (arith, c.loop-i-test.false, is.0) in
     is.1
     ∙ ap (λ (l : List NodeState). map F l ++ drop i was) (take_all i was all)

@@ -4,4 +4,4 @@ use Rattle.nr_replicas.proofs.cutting.forget_all.Given as goal
 
 abbrev pub invariant-loop-i : goal.invariant-loop-i
 invariant-loop-i g l = (length l.nodes ≡ length l.fn.nodes)
-    × (l.nodes ≡ map (forgotten g.J.LogName.replicas) (take l.i l.fn.nodes) ++ drop l.i l.fn.nodes)
+    × (l.nodes ≡ map forgotten (take l.i l.fn.nodes) ++ drop l.i l.fn.nodes)

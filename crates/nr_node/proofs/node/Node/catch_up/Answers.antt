@@ -7,7 +7,7 @@ use Rattle.nr_ring.specs.Calls.{HasMoved}
 use Rattle.nr_ring.specs.LogHistory.{log_after}
 use Rattle.nr_slots.specs.Updates.{Waiting}
 use Rattle.nr_node.specs.Calls.{HasCaughtUp, HasStayed, answers_of}
-use Rattle.nr_node.specs.Node.{IsNode, NodeState, applied_of, replica_of}
+use Rattle.nr_node.specs.Node.{IsNode, NodeState, replica_of}
 use Rattle.nr_node.specs.inside.Node.{node_state}
 use Rattle.nr_node.specs.inside.Replica.{ReplicaState}
 use Rattle.nr_node.proofs.Lists.{slice_from}
@@ -35,7 +35,6 @@ returns-in_err-take-clause-stayed g c =
     λ n. HasStayed g.J.LogName.depth g.J.LogName.replicas n (node_state c.take.new.pass self.replica self.batch.items self.first) in
     rw p.1 (subst Stays c.self.view_is (record {
       looked = looked;
-      applied = refl;
       same = refl;
     }))
 
@@ -82,7 +81,7 @@ pub apply_all-requires-clause-room : goal.apply_all-requires-clause-room
 apply_all-requires-clause-room g c =
     let self = c.self.inside in
     let is = c.self.invariant in
-    let Room : NodeState → Type 0 = λ n. applied_of g.J.LogName.replicas n ≤ n.base + (LOG_PLACES + RING) in
+    let Room : NodeState → Type 0 = λ n. n.applied ≤ n.base + (LOG_PLACES + RING) in
     let room = subst Room (sym c.self.view_is) c.requires.room in
     let had = had_taken _ _ (node_state self.pass self.replica self.batch.items self.first) self.replica is.0 is.1 in
     omega (arith, room, had, c.as_slice.ensures.fits)

@@ -4,7 +4,7 @@ use Rattle.vs_types.specs.declared.limits.TheConstants.{LOG_PLACES, RING}
 use Rattle.vs_types.specs.declared.log_entry.LogEntry.{LogEntry}
 use Rattle.nr_slots.specs.Updates.{Waiting}
 use Rattle.nr_node.specs.Calls.{HasFollowed}
-use Rattle.nr_node.specs.Node.{IsPlaced, NodeState, applied_of, held_of, log_of}
+use Rattle.nr_node.specs.Node.{IsPlaced, NodeState, held_of, log_of}
 use Rattle.nr_node.specs.declared.held.Held.TheVariants.{Placed}
 use Rattle.nr_node.specs.inside.Node.{node_state}
 use Rattle.nr_node.specs.inside.Replica.{ReplicaState}
@@ -48,7 +48,7 @@ pub apply_all-requires-clause-room : goal.apply_all-requires-clause-room
 apply_all-requires-clause-room g c =
     let self = c.self.inside in
     let is = c.self.invariant in
-    let Room : NodeState → Type 0 = λ n. applied_of g.J.LogName.replicas n ≤ n.base + (LOG_PLACES + RING) in
+    let Room : NodeState → Type 0 = λ n. n.applied ≤ n.base + (LOG_PLACES + RING) in
     let room = subst Room (sym c.self.view_is) c.requires.room in
     omega (arith, room, c.as_slice.ensures.fits)
 

@@ -9,7 +9,7 @@ use Rattle.vs_types.specs.declared.log_entry.LogEntry.{LogEntry}
 use Rattle.nr_ring.specs.LogHistory.{log_after}
 use Rattle.nr_slots.specs.Updates.{Waiting}
 use Rattle.nr_node.specs.Calls.{HasStayed, IsAnsweredIn, IsOwnPlace, LacksUpdate, entries_of, entry_of}
-use Rattle.nr_node.specs.Node.{NodeState, applied_of}
+use Rattle.nr_node.specs.Node.{NodeState}
 use Rattle.nr_node.specs.inside.Node.{node_state}
 use Rattle.nr_node.specs.inside.Replica.{ReplicaState}
 use Rattle.nr_node.proofs.Answering.{both_applied}
@@ -46,7 +46,6 @@ returns-in_err-append_and_take-clause-stayed g c =
     λ n. HasStayed g.J.LogName.depth g.J.LogName.replicas n (node_state c.append_and_take.new.pass self.replica self.batch.items self.first) in
     rw p.1 (subst Stays c.self.view_is (record {
       looked = looked;
-      applied = refl;
       same = refl;
     }))
 
@@ -77,7 +76,7 @@ pub apply_all-requires-clause-room : goal.apply_all-requires-clause-room
 apply_all-requires-clause-room g c =
     let self = c.self.inside in
     let is = c.self.invariant in
-    let Room : NodeState → Type 0 = λ n. applied_of g.J.LogName.replicas n ≤ n.base + LOG_PLACES in
+    let Room : NodeState → Type 0 = λ n. n.applied ≤ n.base + LOG_PLACES in
     let room = subst Room (sym c.self.view_is) c.requires.room in
     let had = had_taken _ _ (node_state self.pass self.replica self.batch.items self.first) self.replica is.0 is.1 in
     omega (arith, room, had, c.as_slice.ensures.fits)
@@ -94,7 +93,7 @@ pub apply_batch-requires-clause-room : goal.apply_batch-requires-clause-room
 apply_batch-requires-clause-room g c =
     let self = c.self.inside in
     let is = c.self.invariant in
-    let Room : NodeState → Type 0 = λ n. applied_of g.J.LogName.replicas n ≤ n.base + LOG_PLACES in
+    let Room : NodeState → Type 0 = λ n. n.applied ≤ n.base + LOG_PLACES in
     let room = subst Room (sym c.self.view_is) c.requires.room in
     let had = had_taken _ _ (node_state self.pass self.replica self.batch.items self.first) self.replica is.0 is.1 in
     omega (

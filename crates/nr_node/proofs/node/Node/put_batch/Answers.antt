@@ -39,7 +39,6 @@ returns-in_err-first-clause-looked g c =
     λ n. HasStayed g.J.LogName.depth g.J.LogName.replicas n (node_state c.append.new.pass self.replica self.batch.items self.first) in
     rw p.1 (subst Stays c.self.view_is (record {
       looked = looked;
-      applied = refl;
       same = refl;
     }))
 

@@ -3,7 +3,7 @@ use Rattle.std.specs.Arc.{arc_value}
 use Rattle.std.proofs.lemmas.List.{length-map}
 use Rattle.vs_walk.specs.Dump.{Image}
 use Rattle.nr_ring.specs.Pass.{Known, TableId}
-use Rattle.nr_node.specs.Node.{NodeState, applied_of, taken_by}
+use Rattle.nr_node.specs.Node.{NodeState, taken_by}
 use Rattle.nr_replicas.specs.Replicas.{HasHeard}
 use Rattle.nr_replicas.specs.inside.Replicas.{AreNodes}
 use Rattle.nr_replicas.specs.inside.Settling.{AreDumpsOf, IsDone, WasTold, forgotten}
@@ -21,7 +21,7 @@ forget_all-requires g c =
     let over : take vec.len (met ++ drop (length met) vec.items) ≡ met = written_over vec.len met vec.items count vec.ok.0 in
     let Done : NodeState → Type 0 = IsDone replicas c.in-Some.base in
     let done : All Done met = subst (All Done) (c.deref-2.ensures.value ∙ over) (c.if-not-are_done.ensures refl) in
-    let Taken : List NodeState → Type 0 = All (λ n. taken_by replicas n.known.view ≡ applied_of replicas n) in
+    let Taken : List NodeState → Type 0 = All (λ n. taken_by replicas n.known.view ≡ n.applied) in
     subst Taken (sym (c.deref_mut-2.ensures.value ∙ over)) (λ k d lt. (done k d lt).taken)
 
 pub invariant_of-replicas : goal.invariant_of-replicas
@@ -39,7 +39,7 @@ invariant_of-replicas g c =
     let done : All Done met = subst (All Done) (c.deref-2.ensures.value ∙ over) (c.if-not-are_done.ensures refl) in
     let Slots : _ → ℕ = λ s. arc_value s.slots in
     let many : length met ≡ length (map Slots shared) = count ∙ c.in_ok-nodes.ensures.count ∙ sym (length-map shared Slots) in
-    let F : NodeState → NodeState = forgotten replicas in
+    let F : NodeState → NodeState = forgotten in
     let first = c.forget_all.ensures ∙ ap (map F) c.deref_mut-2.ensures.value in
     let same : forgot ≡ map F met = first ∙ ap (map F) over in
     let long : length forgot ≡ length back = ap (λ (l : List NodeState). length l) first ∙ length-map back F in
