@@ -1,12 +1,16 @@
 #!/usr/bin/env python3
-"""Writes a long chain: chain.py [HOW] SEGMENTS >CHAIN, where HOW is --touches, --untouched, --crowd, --behind, --behind-one or --threads; or
-one segment as a trace: chain.py --trace >TRACE
+"""Writes a long chain: chain.py [HOW] SEGMENTS >CHAIN, where HOW is --touches, --untouched, --crowd, --released, --replaced, --behind,
+--behind-one or --threads; or one segment as a trace: chain.py --trace >TRACE
 
 A segment has as many events as there may be. In one 16,384 maps, 32,768 reads, and as many unmaps as maps are each answered; it is a right
 trace too. With --touches 30,000 updates of 256 pages have 35,536 touches beside them: half of these are of a page whose update is open, and
 are answered as it was before; --untouched leaves them out. With --crowd 43,690 updates of one page are never answered, and as many touches
 of it, made after them, are each answered as it was before one of them that is drawn. Each segment begins and ends with no page, so that
 all are alike.
+
+With --released 10,000 updates of 256 pages have 33,334 releases beside them: of memory that a page had, or that none has, while an update of
+another page is open. With --replaced a page of 1 GiB is unmapped, and the unmap is never answered; 15,000 small pages replace it, and the
+memory that each of these addresses had is released twice. All of these are right.
 
 With --behind a segment that begins with 32,768 pages comes before so many segments of one touch each, and with --behind-one before one
 segment that has as many touches. With --threads each segment is one event, a call, in a layout of 65,535 threads.
@@ -21,9 +25,11 @@ from recording import ALL, ALLOWED, DONE, FAULT, MAP, REMOVED, RESOLVE, UNMAP, c
 PAGES, READS, THREADS, TABLES = 16384, 32768, 64, 4096
 TOUCHED, UPDATES, TOUCHES = 256, 30000, 35536
 CROWD = 43690                           # updates, and touches
+FREEING, RELEASES = 10000, 33334        # updates, and releases beside them
+REPLACED = 15000                        # pages that replace a large one
 MOST_THREADS = 65535                    # of a segment
 STARTED = 32768                         # pages with which a chain begins
-TOUCH, USER = 5, 1                      # a kind of call; the mode of an access
+TOUCH, RELEASE, USER = 5, 6, 1          # kinds of calls; the mode of an access
 NO_DUMP = bytes(16)
 NO_PAGE = 4                             # the error code of a user's read of no page
 
@@ -99,6 +105,48 @@ def crowd():
     return made
 
 
+class Released(Touched):
+    """Updates as those, with releases in place of touches."""
+
+    def release(self, physical):
+        self.thread = self.thread % (THREADS - 1) + 1
+        number = len(self.events)
+        self.events += [call(0, self.thread, RELEASE, 0, physical=physical), reply(number, 0, DONE)]
+
+    def touches(self, base, updates):
+        """Releases: of what a page had that isn't there, and that is another one than this, if the drawn one is such; or of other memory."""
+        count = -(-self.left // updates)
+        self.left -= count
+        for each in range(count):
+            other = self.draw.randrange(TOUCHED) << 12
+            had = other not in self.pages and other != base
+            self.release(other + (1 << 32) if had else (1 << 40) + (self.draw.randrange(1 << 20) << 12))
+
+
+def released():
+    made, left = Released(RELEASES), FREEING
+    pages = list(range(TOUCHED))
+    for _ in range(FREEING // 2 - TOUCHED):
+        pages += 2 * [made.draw.randrange(TOUCHED)]
+    for page in pages + list(range(TOUCHED)):
+        made.change(page, left)
+        left -= 1
+    return made
+
+
+def replaced():
+    """The large page is mapped by thread 0 and unmapped by the last one, whose call stays open."""
+    made = Released(0)
+    made.events += [call(0, 0, MAP, 0, 2, ALL, 1 << 40), reply(0, 0, DONE), call(0, THREADS, UNMAP, 0)]
+    made.log += [0, 2]
+    for page in range(REPLACED):
+        made.log.append(len(made.events))
+        made.events += [call(0, 0, MAP, page << 12, 0, ALL, (1 << 41) + (page << 12)), reply(made.log[-1], len(made.log) - 1, DONE)]
+    for page in 2 * list(range(REPLACED)):
+        made.release((1 << 40) + (page << 12))
+    return made
+
+
 def counted(log, events, start=0):
     return b"NRVS" + struct.pack(">HBBHHIII", 1, 4, 1, MOST_THREADS, TABLES, log, events, start)
 
@@ -131,11 +179,13 @@ def of_threads(segments):
 
 def segment(made):
     places = struct.pack(f">{len(made.log)}I", *made.log)
-    return b"".join([counted(len(made.log), len(made.events)), places, *made.events, dump(len(made.log), frames({}))])
+    end = NO_DUMP if made.pages or isinstance(made, Released) else dump(len(made.log), frames({}))
+    return b"".join([counted(len(made.log), len(made.events)), places, *made.events, end])
 
 
 def main(words):
-    makers = {"": run, "--touches": lambda: touched(TOUCHES), "--untouched": lambda: touched(0), "--crowd": crowd}
+    makers = {"": run, "--touches": lambda: touched(TOUCHES), "--untouched": lambda: touched(0), "--crowd": crowd, "--released": released,
+              "--replaced": replaced}
     small = {"--behind": (begun, behind), "--behind-one": (begun, behind_one), "--threads": (bytes, of_threads)}
     how = "".join(words[:-1])
     if words == ["--trace"]:

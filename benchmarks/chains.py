@@ -1,7 +1,8 @@
 #!/usr/bin/env python3
 """chains.py PROGRAM RUNS SEGMENTS: a chain of so many segments beside its segments as traces, in one process each, run in turn; a chain of
-one of them; three segments with touches, and the same without; one of touches beside updates that are never answered; and many small
-segments: of one touch each behind 32,768 pages, beside one segment of as many, and of one event each in a layout of 65,535 threads.
+one of them; three segments with touches, and the same without; one of touches beside updates that are never answered; three with releases,
+and one of releases of a large page's memory that small pages replaced; and many small segments: of one touch each behind 32,768 pages,
+beside one segment of as many, and of one event each in a layout of 65,535 threads.
 
 Each line: what is audited, the least processor time of its runs, and the greatest peak of memory. Of the chain and the traces, which have
 the same events, the median of the ratios of neighbouring runs is printed too: how many times as fast the chain is.
@@ -43,6 +44,8 @@ def main(program, runs, segments):
         touched = audit + [written(f"{work}/touched", "--touches", "3")]
         untouched = audit + [written(f"{work}/untouched", "--untouched", "3")]
         crowd = audit + [written(f"{work}/crowd", "--crowd", "1")]
+        released = audit + [written(f"{work}/released", "--released", "3")]
+        replaced = audit + [written(f"{work}/replaced", "--replaced", "1")]
         behind = audit + [written(f"{work}/behind", "--behind", "10000")]
         behind_one = audit + [written(f"{work}/behind-one", "--behind-one", "10000")]
         threads = audit + [written(f"{work}/threads", "--threads", "1000")]
@@ -53,6 +56,8 @@ def main(program, runs, segments):
                             ("90,000 updates, 106,608 touches", [times(touched) for _ in range(int(runs))]),
                             ("90,000 updates, no touches", [times(untouched) for _ in range(int(runs))]),
                             ("43,690 open updates and touches", [times(crowd) for _ in range(int(runs))]),
+                            ("30,000 updates, 100,002 releases", [times(released) for _ in range(int(runs))]),
+                            ("30,000 releases of a replaced page", [times(replaced) for _ in range(int(runs))]),
                             ("10,000 segments of one touch", [times(behind) for _ in range(int(runs))]),
                             ("one segment of 10,000 touches", [times(behind_one) for _ in range(int(runs))]),
                             ("1,000 segments of one event", [times(threads) for _ in range(int(runs))])):

@@ -8,9 +8,9 @@ from dataclasses import dataclass, field
 from typing import NamedTuple
 
 import recording
-from recording import ACCESS, BYTES, EXEC, MAP, PROTECT, RESOLVE, UNMAP, Space
+from recording import ACCESS, BYTES, EXEC, FAULT, MAP, PROTECT, RESOLVE, UNMAP, Space
 
-TOUCH = 5
+TOUCH, RELEASE = 5, 6
 REGIONS = {4: [0, 0x7f8000000000, 0xffff800000000000, 0xffffff8000000000],
            5: [0, 0x7f8000000000, 0xff000000000000, 0xff00000000000000, 0xffffff8000000000]}
 KINDS = [MAP, MAP, MAP, UNMAP, UNMAP, PROTECT, PROTECT, RESOLVE, ACCESS, TOUCH, TOUCH, TOUCH, TOUCH]
@@ -115,6 +115,40 @@ def allowed(segment, call, end):
 def answer_at(segment, call, n):
     asked = segment.events[call]
     return segment.moments[n].access(asked.address, asked.size, asked.rights)
+
+
+def lagging(segment, call, end):
+    """What the touch may be answered from the table of its replica where that lags: the fault of no page, or nothing."""
+    asked, known = segment.events[call], [0]
+    for each in segment.events[:call]:
+        if isinstance(each, Reply):
+            other = segment.events[each.call]
+            if other.replica == asked.replica and other.kind < TOUCH:
+                known.append(each.at + other.is_update())
+    last = allowed(segment, call, end)[-1]
+    return {answer_at(segment, call, m) for m in range(max(known), last + 1) if segment.moments[m].at(asked.address) is None}
+
+
+def widens(before, after):
+    """Pages, by base (or of one address), size, physical address and rights: the second is the first with rights that include those before."""
+    return bool(before and after) and before[:-1] == after[:-1] and before[-1] & after[-1] == before[-1]
+
+
+def kept(segment, call, end):
+    """What the touch may be answered by rights that its page had before more were added: page faults. Where segments before it left updates
+    open, it may be more than that."""
+    asked, spaces, ends, answers = segment.events[call], [], set(), set()
+    for each in segment.earlier:
+        ends |= set() if each.is_closed else set(range(len(spaces), len(spaces) + len(each.moments)))
+        spaces += each.moments
+    ends |= {len(spaces) + n for n in allowed(segment, call, end)}
+    spaces += segment.moments
+    pages = [look(space, asked.address) for space in spaces]
+    for m in ends:
+        while m and m - 1 not in ends and (pages[m - 1] == pages[m] or widens(pages[m - 1], pages[m])):
+            m -= 1
+            answers.add(spaces[m].access(asked.address, asked.size, asked.rights))
+    return {answer for answer in answers if answer[0] == FAULT and answer[3] & 1}
 
 
 def lingering(segment, call):

@@ -5,7 +5,7 @@ its own. Touches are made among them, each answered as the address looked at a m
 How the address looked after each update is put down as it is made, and what may be answered is looked up in all moments.
 """
 import recording
-from drawn_chains import REGIONS, TOUCH, Call, Layout, Reply, Segment
+from drawn_chains import REGIONS, TOUCH, Call, Layout, Reply, Segment, widens
 from recording import ALLOWED, BYTES, DONE, FAULT, MAP, PROTECT, UNMAP, Space
 
 SIZES = ("4 KiB", "2 MiB", "1 GiB")
@@ -92,8 +92,22 @@ class Crowd:
     # ---- one wrong answer
 
     def is_stale(self, number, answer):
+        """No moment gives that answer, not even one at which the table of the touch's replica may lag; nor do rights that were kept."""
         first, last, _ = self.touches[number]
-        return answer not in {self.answer(number, page) for page in set(self.seen[first:last + 1])}
+        replica, events = self.made.events[number].replica, self.made.events
+        known = max((each.at + 1 for each in events[:number]
+                     if isinstance(each, Reply) and events[each.call].kind < TOUCH and events[each.call].replica == replica), default=0)
+        pages = {*self.seen[first:last + 1], *(page for page in self.seen[known:last + 1] if page is None)}
+        return answer not in {self.answer(number, page) for page in pages} and not self.is_kept(number, answer)
+
+    def is_kept(self, number, answer):
+        """It is a page fault by rights that the page had before more were added."""
+        n, is_of_page = self.touches[number][0], answer[0] == FAULT and answer[3] & 1
+        while is_of_page and n and (self.seen[n - 1] == self.seen[n] or widens(self.seen[n - 1], self.seen[n])):
+            n -= 1
+            if self.answer(number, self.seen[n]) == answer:
+                return True
+        return False
 
     def wrong(self, number, name):
         """An answer of that kind which might be wrong."""

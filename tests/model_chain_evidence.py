@@ -88,7 +88,7 @@ def is_head(unit):
 def field_of(data, unit):
     """The first field of an event that isn't what it may be."""
     levels, replicas, threads = struct.unpack(">BBH", data[6:10])
-    return next(evidence.wrong_fields(evidence.Limits(levels, replicas, threads, 1 + chains.TOUCH, 10), unit))
+    return next(evidence.wrong_fields(evidence.Limits(levels, replicas, threads, 1 + chains.RELEASE, 10), unit))
 
 
 def of_format(data, begins, name, numbers):
@@ -135,7 +135,7 @@ def words_of_tables(name, shown):
                 ["one way:", *way_lines(shown["first"]), "another:", *way_lines(shown["second"])])
     if name == "StartReserved":
         return (f"Entry {entry['index']} of frame {entry['frame']:#x} of the start has the reserved bit {shown['bit']} set: a processor "
-                "faults there.", evidence.lines_of("ReservedBit", shown))
+                "faults there.", evidence.lines_of("ReservedBit", shown, 0))
     return f"The start holds {frame} as a table, and no table leads to it.", [f"no table leads to {frame}"]
 
 
@@ -152,47 +152,240 @@ def lingering(joined, entries, address):
     return left[::-1]
 
 
+class Seen:
+    """How many entries of a segment's log a touch may see, and how its address looks, with the changes of that in the segment."""
+
+    def __init__(self, trace, start, address, made, answered):
+        self.alone = chains.Joined(start)
+        self.alone.add(trace)
+        self.places, self.looks = self.alone.changes([address])[address]
+        self.least, self.most = self.alone.window(self.places, made, answered)      # counted in changes
+        self.first = self.places[self.least - 1] + 1 if self.least else 0
+        self.last = self.end_of(self.most, trace)
+
+    def end_of(self, changes, trace):
+        """The most entries that have just so many of the changes."""
+        return self.places[changes] if changes < len(self.places) else len(trace.log)
+
+
+def shown_to(trace, replica, number):
+    """How many entries the replica was known to have applied when that call was made, and the first reply that shows so many, or None."""
+    most, shown = 0, None
+    for index, reply in enumerate(trace.events[:number]):
+        if isinstance(reply, Reply) and trace.events[reply.call].replica == replica and trace.events[reply.call].kind < chains.TOUCH:
+            if evidence.known_by(trace, reply) > most:
+                most, shown = evidence.known_by(trace, reply), index
+    return most, shown
+
+
+def missed_update(trace, first):
+    """The update of the last of the entries that a touch has to see, and its reply, or none."""
+    if first == 0:
+        return None
+    call = trace.log[first - 1]
+    reply = next(i for i, each in enumerate(trace.events) if isinstance(each, Reply) and each.call == call)
+    return {"place": first - 1, "call": event_fact(trace, call), "reply": event_fact(trace, reply)}
+
+
+def took_back(trace, may_see, right):
+    """The first update from the nearest lower number of entries with this answer on, up to those that a touch has to see, that does more to
+    its address than add rights; or none."""
+    if right["before"] is None:
+        return None
+    for k, place in enumerate(may_see.places):
+        if right["before"]["last"] <= place < may_see.first and not chains.grows(may_see.looks[k], may_see.looks[k + 1]):
+            return taken_at(trace, place)
+    return None
+
+
+def touch_answered(trace, start, number, told):
+    """After how many entries the space answers a touch so."""
+    as_access = trace.events[number]._replace(kind=traces.ACCESS)
+    return evidence.right_numbers(trace._replace(events=[as_access if i == number else each for i, each in enumerate(trace.events)]), number, told, start)
+
+
 def of_stale(trace, start, number, left):
-    """How many entries of the log it may see, how its address looks after them, and how it may still look behind the segments before."""
-    replied = {each.call: i for i, each in enumerate(trace.events) if isinstance(each, Reply)}
-    address, end = trace.events[number].address, replied[number]
-    alone = chains.Joined(start)
-    alone.add(trace)
-    places, _ = alone.changes([address])[address]
-    first = max([place + 1 for place in places if replied.get(trace.log[place], end) < number], default=0)
-    last = min([place for place in places if trace.log[place] > end], default=len(trace.log))
-    seen = []
-    for entries in (first, *(place + 1 for place in places if first <= place < last)):
+    """How many entries of the log it may see, how its address looks after them, and how it may still look behind the segments before; the
+    update that it should have seen, and after which entries its answer would be right."""
+    end = next(i for i, each in enumerate(trace.events) if isinstance(each, Reply) and each.call == number)
+    call, told = trace.events[number], trace.events[end].answer
+    may_see = Seen(trace, start, call.address, number, end)
+    places, first, last, address = may_see.places, may_see.first, may_see.last, call.address
+    lags, seen = {}, []
+    if told == chains.allow(trace, None, call):
+        known, shown = shown_to(trace, call.replica, number)
+        lags = {"known": known, "shown": None if shown is None else event_fact(trace, shown)}
+    least = min(first, lags.get("known", first))
+    for entries in (least, *(place + 1 for place in places if least <= place < last)):
         space = start.copy()
         for each in trace.log[:entries]:
             space.apply(trace.events[each])
         seen.append({"entries": entries, "look": looks(space, address)})
-    shown = {"call": event_fact(trace, number), "reply": event_fact(trace, end), "first": first, "last": last, "looks": seen}
+    shown = {"call": event_fact(trace, number), "reply": event_fact(trace, end), "first": first, "last": last, "looks": seen, **lags}
     if left and first == 0:
-        shown["earlier"] = [evidence.answer_words(chains.allow(trace, page, traces.Call(0, 0, traces.RESOLVE, 0, 0, address, 0), traces.RESOLVE))
-                            for page in left]
+        shown["earlier"] = [look_of(trace, page, address) for page in left]
+    right = touch_answered(trace, start, number, trace.events[end].answer)
+    shown |= {"missed": missed_update(trace, first), "right": evidence.nearest(right, first, last)}
+    none = chains.allow(trace, None, call)
+    if told == none._replace(value=none.value | 1):
+        shown["taken"] = took_back(trace, may_see, shown["right"])
     return shown
 
 
-def words_of_stale(shown):
-    first, last, told = shown["first"], shown["last"], shown["reply"]["answer"]
-    return (f"Touch {shown['call']['event']} was answered `{told}`, but it may see only {first} to {last} entries of the log, and after none "
-            "of these its address looks so." + (
-                " Nor does it in what earlier segments leave, whose updates were never answered." if "earlier" in shown else ""),
-            [event_line(shown["call"]), event_line(shown["reply"]), f"entries seen at least: {first}", f"entries seen at most: {last}",
-             *(f"before the segment: {look}" for look in shown.get("earlier", ())), *(f"after {each['entries']}: {each['look']}" for each in shown["looks"])])
+def look_of(trace, page, address):
+    """How an address looks that this page covers, or none."""
+    space = chains.Space(trace.levels, trace.tables)
+    if page:
+        space.add(*page)
+    return looks(space, address)
+
+
+def words_of_stale(shown, places):
+    first, last, told, missed = shown["first"], shown["last"], shown["reply"]["answer"], shown["missed"]
+    lags = [f"entries its replica had applied: {shown['known']}"] if "known" in shown else []
+    lags += [event_line(shown["shown"])] if shown.get("shown") else []
+    by_what, least = ("even by a table that lags ", min(first, shown["known"])) if lags else ("", first)
+    back, nor = [], ""
+    if "taken" in shown:
+        back, nor = taken_lines(shown["taken"]), " Nor is it a fault by rights that were kept."
+        if shown["taken"]:
+            nor = f"{nor[:-1]}: call {shown['taken']['call']['event']} did more than add rights."
+    return (f"Touch {shown['call']['event']} was answered `{told}`, but {by_what}it may see only {least} to {last} entries of the log, and "
+            "after none of these its address looks so." + (
+                " Nor does it in what earlier segments leave, whose updates were never answered." if "earlier" in shown else "") + nor,
+            [event_line(shown["call"]), event_line(shown["reply"]), f"entries seen at least: {first}", f"entries seen at most: {last}", *lags,
+             *(f"before the segment: {look}" for look in shown.get("earlier", ())),
+             *(f"after {each['entries']}: {each['look']}" for each in shown["looks"]),
+             *([f"should have seen place {missed['place']}, {event_line(missed['call'])}", event_line(missed["reply"])] if missed
+               else ["should have seen: none"]), evidence.right_line(shown["right"], places), *back])
+
+
+def taken_lines(taken):
+    """The lines of the update that takes something away, or that none does."""
+    if not taken:
+        return ["taken away by: none"]
+    return [f"taken away by place {taken['place']}, {event_line(taken['call'])}",
+            event_line(taken["reply"]) if taken["reply"] else "no reply to it"]
+
+
+# ---- memory that can still be reached ----
+
+def of_reachable(trace, start, number, joined, entries):
+    """The reply that says otherwise; or else the least address that may lead to the memory, how it looks then, and what takes that away.
+    `joined` is the run with the segments before, whose logs have so many entries; of the first segment there is none."""
+    call = trace.events[number]
+    reply = next((i for i, each in enumerate(trace.events) if isinstance(each, Reply) and each.call == number), None)
+    shown = {"call": event_fact(trace, number), "reply": reply and event_fact(trace, reply)}
+    if reply and trace.events[reply].answer != traces.Answer(traces.DONE):
+        return shown
+    low, high = call.phys, call.phys + traces.SIZES[call.size]
+    for address in ways(joined or Seen(trace, start, 0, number, number).alone, low, high):
+        may_see = Seen(trace, start, address, number, number)
+        found = leading(trace, may_see, address, low, high) or may_see.first == 0 and lingering_lead(trace, joined, entries, address, low, high)
+        if found:
+            return shown | {"address": f"{address:#x}", "first": may_see.first, "last": may_see.last, **found}
+    raise AssertionError("the memory can't be reached")
+
+
+def ways(joined, low, high):
+    """Addresses that once led to the memory, by rising address: of all between which no page ever began or ended, the least."""
+    lives = joined.lives()
+    pages = {life.page for life in lives}
+    ends = {end for base, size, *_ in pages for end in (base, base + traces.SIZES[size])}
+    found = set()
+    for base, size, phys, _ in pages:
+        first, last = base + max(low, phys) - phys, base + min(high, phys + traces.SIZES[size]) - phys
+        if first < last:
+            found |= {first, *(end for end in ends if first < end < last)}
+    return sorted(found)
+
+
+def leads(page, address, low, high):
+    return page is not None and low <= page[2] + address - page[0] < high
+
+
+def leading(trace, may_see, address, low, high):
+    """The last moment of the segment at which the address may lead to the memory, and the update that ends that; or None."""
+    for changes in range(may_see.most, may_see.least - 1, -1):
+        if leads(may_see.looks[changes], address, low, high):
+            ending = next((k for k in range(changes, len(may_see.places)) if not leads(may_see.looks[k + 1], address, low, high)), None)
+            return {"entries": may_see.end_of(changes, trace), "look": look_of(trace, may_see.looks[changes], address),
+                    "taken": None if ending is None else taken_at(trace, may_see.places[ending])}
+    return None
+
+
+def taken_at(trace, place):
+    call = trace.log[place]
+    reply = next((i for i, each in enumerate(trace.events) if isinstance(each, Reply) and each.call == call), None)
+    return {"place": place, "call": event_fact(trace, call), "reply": reply and event_fact(trace, reply)}
+
+
+def lingering_lead(trace, joined, entries, address, low, high):
+    """The last look from before the segment that leads to the memory, or None."""
+    left = [page for page in lingering(joined, entries, address) if leads(page, address, low, high)]
+    return left and {"entries": None, "look": look_of(trace, left[-1], address), "taken": "an earlier segment"}
+
+
+def words_of_reachable(shown):
+    number, reply, taken = shown["call"]["event"], shown["reply"], shown.get("taken")
+    lines = [event_line(shown["call"]), event_line(reply) if reply else "no reply to it"]
+    if "address" not in shown:
+        return f"Release {number} was answered `{reply['answer']}`, and not `done`.", lines
+    lines += [f"address {shown['address']}", f"entries seen at least: {shown['first']}", f"entries seen at most: {shown['last']}",
+              f"{'before the segment' if shown['entries'] is None else 'after %d' % shown['entries']}: {shown['look']}"]
+    if isinstance(taken, dict):
+        lines += taken_lines(taken)
+        when = f"is answered only at event {taken['reply']['event']}" if taken["reply"] else "is never answered"
+        how = f"call {taken['call']['event']} takes it from there, and {when}"
+    else:
+        lines += [f"taken away by: {taken or 'none'}"]
+        how = "an update of an earlier segment took it from there, and was never answered" if taken else "no update takes it from there"
+    return f"Release {number} gives memory away that an access of {shown['address']} may still reach: {how}.", lines
 
 
 # ---- a fault that a trace may have too ----
 
 def of_segment(segment, start, origin, name, numbers):
     """The evidence of 2 to 17, from the space with which the segment begins."""
-    trace = segment.trace if traces.FAULTS.index(name) < 6 else chains.without_touches(segment)
+    trace = segment.trace if traces.FAULTS.index(name) < 6 else chains.in_order(segment)
     of = evidence.OF_FAULT[name]
     shown = of(trace, *numbers, start) if name in ("WrongAnswer", "Differs") else of(trace, *numbers)
     if shown.get("changed", 0) is None:
         shown["changed"] = origin(start, int(shown["address"], 0))
-    return shown, evidence.sentence_of(name, shown, b""), evidence.lines_of(name, shown)
+    return shown, evidence.sentence_of(name, shown, b""), evidence.lines_of(name, shown, len(trace.log))
+
+
+# ---- touches beside updates ----
+
+def changed_pages(trace, start):
+    """For each update, by its call number, the page whose addresses it changes: its base and the address behind it."""
+    space, pages = start.copy(), {}
+    for number in trace.log:
+        call = trace.events[number]
+        before = space.pages.get(call.address)
+        space.apply(call)
+        after = space.pages.get(call.address)
+        if before != after:
+            pages[number] = call.address, call.address + traces.SIZES[(before or after)[0]]
+    return pages
+
+
+def beside(trace, start):
+    """How many answered touches are open while an update is that changes how their address looks: one pass over the events."""
+    pages, told = changed_pages(trace, start), {event.call for event in trace.events if isinstance(event, Reply)}
+    updates, touches, met = {}, {}, set()               # those that are open: the page of each, and the address of each
+    for number, event in enumerate(trace.events):
+        if isinstance(event, Reply):
+            updates.pop(event.call, None)
+            touches.pop(event.call, None)
+        elif number in pages:
+            updates[number] = pages[number]
+            met |= {touch for touch, address in touches.items() if pages[number][0] <= address < pages[number][1]}
+        elif event.kind == chains.TOUCH:
+            touches[number] = event.address
+            if any(base <= event.address < end for base, end in updates.values()):
+                met.add(number)
+    return len(met & told)
 
 
 # ---- the whole answer ----
@@ -210,7 +403,8 @@ class Chain:
         self.before = self.space = None             # the trace and the space of the segment before
         self.joined, self.entries = None, 0         # the run so far, and how many entries it has
         self.first = self.has_start = None          # the space with which the chain begins, and whether it has a start
-        self.counts = dict.fromkeys(("calls", "updates", "reads", "touches", "dumps", "replicas", "pages"), 0)
+        self.counts = dict.fromkeys(("calls", "updates", "reads", "touches", "releases", "dumps", "replicas", "pages", "overlapping",
+                                     "beside"), 0)
 
     def origin(self, space, address):
         """Where comes from how an address looks as a segment begins: that is compared with where the chain begins."""
@@ -227,12 +421,13 @@ class Chain:
 
     def pass_over(self, segment):
         """Goes on behind a segment; raises its first fault."""
-        self.begin(segment)
+        start = self.begin(segment)
         order, self.space, self.joined = chains.check_segment(segment, self.space and self.space.copy(), self.joined)
         self.entries = len(self.joined.entries)
         updates = len(segment.trace.log)
         for words, more in (("calls", len(order)), ("updates", updates), ("reads", len(order) - updates), ("touches", len(segment.touches)),
-                            ("dumps", sum(dump is not None for dump in segment.trace.dumps))):
+                            ("releases", len(segment.releases)), ("dumps", sum(dump is not None for dump in segment.trace.dumps)),
+                            ("overlapping", evidence.overlapping(segment.trace.events)), ("beside", beside(segment.trace, start))):
             self.counts[words] += more
         self.counts |= {"replicas": segment.trace.replicas, "pages": len(self.space.pages)}
         self.position, self.before, self.number = segment.ends, segment.trace, self.number + 1
@@ -249,7 +444,10 @@ class Chain:
         if name == "Stale":
             address = segment.trace.events[numbers[0]].address
             shown = of_stale(segment.trace, start, *numbers, lingering(self.joined, self.entries, address))
-            return shown, *words_of_stale(shown)
+            return shown, *words_of_stale(shown, len(segment.trace.log))
+        if name == "Reachable":
+            shown = of_reachable(segment.trace, start, *numbers, self.joined, self.entries)
+            return shown, *words_of_reachable(shown)
         return of_segment(segment, start, self.origin, name, numbers)
 
 
@@ -266,7 +464,7 @@ def explained(data):
             whole = {"segment": chain.number, "verdict": str(fault), "sentence": sentence, "evidence": {"fault": fault.args[0], **shown}}
             return whole, [f"segment {chain.number}", str(fault), sentence, *lines]
     verdict = f"segments {chain.number}"
-    return {"verdict": verdict, "counts": chain.counts}, [verdict, *(f"{words}: {count}" for words, count in chain.counts.items())]
+    return {"verdict": verdict, "counts": chain.counts}, [verdict, *(f"{evidence.COUNTS.get(words, words)}: {count}" for words, count in chain.counts.items())]
 
 
 def status_of(whole):

@@ -11,14 +11,15 @@ import struct
 import sys
 
 import model_auditor as traces
-from model_auditor import Call, Dump, Fault, Reply, Space, Trace
+from model_auditor import Answer, Call, Dump, Fault, Reply, Space, Trace
 
-TOUCH = 5
-FAULTS = "StartMissing StartShared StartReserved StartStray StartBeyond StartDiffers Stale".split()  # 18 and on
+TOUCH, RELEASE = 5, 6
+FAULTS = "StartMissing StartShared StartReserved StartStray StartBeyond StartDiffers Stale Reachable".split()  # 18 and on
 traces.FAULTS.extend(fault for fault in FAULTS if fault not in traces.FAULTS)
 
-Segment = collections.namedtuple("Segment", "trace start touches ends")  # ends: the index of the first byte behind it
-Entry = collections.namedtuple("Entry", "call called answered")  # of the joined log, and its events in the joined run; answered may be NEVER
+Segment = collections.namedtuple("Segment", "trace start touches releases ends")  # ends: the index of the first byte behind it
+Entry = collections.namedtuple("Entry", "call called answered")  # of the joined log, with its events there; answered may be NEVER
+Life = collections.namedtuple("Life", "page born ended")  # a page, and the places of the entries that made and that ended it
 NEVER = float("inf")
 
 
@@ -36,6 +37,8 @@ class Reader:
 
     def event(self, levels, replicas, threads):
         unit = b"".join(self.unit(24, "24s"))
+        if unit[0] == 0 and unit[4] == RELEASE:
+            return release(unit, replicas, threads)
         if unit[0] == 0 and unit[4] == TOUCH:
             call = traces.event(unit[:4] + bytes([traces.ACCESS]) + unit[5:], 2, levels, replicas, threads)
             return call and call._replace(kind=TOUCH)
@@ -55,6 +58,14 @@ class Reader:
 def expect(fits, *fault):
     if not fits:
         raise Fault("Format", *fault)
+
+
+def release(unit, replicas, threads):
+    """The call that gives memory away, which 24 bytes spell; or None."""
+    _, replica, thread, kind, size, rights, zero, address, phys = struct.unpack(">BBHBBBBQQ", unit)
+    fits = (replica < replicas and thread < threads and size < 3 and rights == zero == address == 0
+            and phys % traces.SIZES[size] == 0 and phys + traces.SIZES[size] <= 1 << 51)
+    return Call(replica, thread, kind, size, rights, address, phys) if fits else None
 
 
 def read_segment(data, position, before):
@@ -81,8 +92,8 @@ def read_segment(data, position, before):
         expect(frames <= 65535 and (frames > 0 or applied == root == 0), "BadCount")
         dumps.append(Dump(applied, root, reader.frames(frames, ["BadFrame", r])) if frames else None)
     trace = Trace(2, levels, replicas, threads, tables, log, events, dumps)
-    touches = {i for i, each in enumerate(events) if isinstance(each, Call) and each.kind == TOUCH}
-    return Segment(trace, start, touches, reader.position)
+    touches, releases = ({i for i, each in enumerate(events) if isinstance(each, Call) and each.kind == kind} for kind in (TOUCH, RELEASE))
+    return Segment(trace, start, touches, releases, reader.position)
 
 
 def space_at_begin(segment, space):
@@ -108,9 +119,9 @@ def space_at_begin(segment, space):
     return begun
 
 
-def without_touches(segment):
-    """The trace with neither touches nor replies to them, each event at its index."""
-    gone = segment.touches
+def in_order(segment):
+    """The trace with neither touches nor releases, and no replies to them, each event at its index."""
+    gone = segment.touches | segment.releases
     events = [None if i in gone or isinstance(each, Reply) and each.call in gone else each for i, each in enumerate(segment.trace.events)]
     return segment.trace._replace(events=events)
 
@@ -125,11 +136,11 @@ class Joined:
     """The segments so far, as one run: the space with which the first begins, all entries, and how many events there were."""
 
     def __init__(self, begin):
-        self.begin, self.entries, self.events = begin.copy(), [], 0
+        self.begin, self.entries, self.events, self.before = begin.copy(), [], 0, 0
 
     def add(self, trace):
-        """A further segment, whose first event has the number `first` in the joined run."""
-        self.first = self.events
+        """A further segment; `before` is how many entries the earlier ones have, `first` the number of its first event."""
+        self.first, self.before = self.events, len(self.entries)
         self.replied = {each.call: i for i, each in enumerate(trace.events) if isinstance(each, Reply)}
         for number in trace.log:
             answered = self.first + self.replied[number] if number in self.replied else NEVER
@@ -161,36 +172,157 @@ class Joined:
         most = min([k for k, place in enumerate(places) if self.entries[place].called > answered], default=len(places))
         return least, most
 
+    def lives(self):
+        """Each page that ever was, with the places of the entries that made it (-1: the begin) and that ended it (NEVER: none did)."""
+        space, lives = self.begin.copy(), []
+        born = {base: -1 for base in space.bases}
+        for place, entry in enumerate(self.entries):
+            before = looks(space, entry.call.address)
+            space.apply(entry.call)
+            after = looks(space, entry.call.address)
+            if before != after:
+                if before:
+                    lives.append(Life(before, born.pop(before[0]), place))
+                if after:
+                    born[after[0]] = place
+        return lives + [Life(looks(space, base), place, NEVER) for base, place in born.items()]
+
+
+def grows(before, after):
+    """The same page with rights that include those before."""
+    return bool(before and after) and before[:3] == after[:3] and before[3] & ~after[3] == 0
+
+
+def is_late(trace, joined, call, answer, known, places, seen, window):
+    """A page fault that comes late: by rights that a page had before more were added, or since no page covers the address, where the table
+    of the touch's replica may lag. `known` is how many entries of the joined run it was known to have applied; the window has the moments
+    from which the touch may be answered, counted in changes of its address."""
+    least, most = window
+    if answer == allow(trace, None, call):
+        return any(page is None for page in seen[bisect.bisect_left(places, known):most + 1])
+    if answer.code != traces.PAGE_FAULT:
+        return False
+    for end in range(least, most + 1):
+        begin = end
+        while begin and grows(seen[begin - 1], seen[begin]):
+            begin -= 1
+            if allow(trace, seen[begin], call) == answer:
+                return True
+    return False
+
+
+def known_of_touches(segment):
+    """Of each touch how many entries of this segment its replica was known to have applied when it was called."""
+    events, known, best, apart = segment.trace.events, {}, collections.Counter(), segment.touches | segment.releases
+    for number, each in enumerate(events):
+        if number in segment.touches:
+            known[number] = best[each.replica]
+        elif isinstance(each, Reply) and each.call not in apart:
+            call = events[each.call]
+            best[call.replica] = max(best[call.replica], each.at + (call.kind < traces.RESOLVE))
+    return known
+
+
 def check_touches(segment, joined):
-    """Each answered touch is answered as its address was at a moment of the joined run that is allowed."""
-    trace = segment.trace
-    answered = sorted(segment.touches & joined.replied.keys())
+    """Each answered touch is answered as its address was at a moment that is allowed, or by a fault that may come late."""
+    trace, known = segment.trace, known_of_touches(segment)
+    answered = sorted(number for number in segment.touches if number in joined.replied)
     changes = joined.changes(sorted({trace.events[number].address for number in answered}))
     for number in answered:
         call, reply = trace.events[number], trace.events[joined.replied[number]]
         places, seen = changes[call.address]           # how it looks before the first of these places, and after each
         least, most = joined.window(places, joined.first + number, joined.first + joined.replied[number])
-        if not any(allow(trace, page, call) == reply.answer for page in seen[least:most + 1]):
+        if (not any(allow(trace, page, call) == reply.answer for page in seen[least:most + 1])
+                and not is_late(trace, joined, call, reply.answer, joined.before + known[number], places, seen, (least, most))):
             raise Fault("Stale", number)
 
 
-def allow(trace, page, call, kind=traces.ACCESS):
+# ---- releases ----
+
+class Lives:
+    """The pages that ever were, to be found by their addresses and by their memory."""
+
+    def __init__(self, joined):
+        self.joined, self.by_memory, self.by_address = joined, Stretches(), Stretches()
+        for life in joined.lives():
+            base, size, phys, _ = life.page
+            self.by_memory.add(size, phys, life)
+            self.by_address.add(size, base, life)
+
+    def is_reachable(self, low, high, event):
+        """A touch of some address, made and answered at this event, could be answered with an address from `low` to below `high`."""
+        return any(self.may_lead(life, low, high, event) for life in self.by_memory.meeting(low, high))
+
+    def may_lead(self, life, low, high, event):
+        """The page may still be found at this event at an address that leads there: no update of that address forbids it."""
+        if self.is_over(life, life.born, event) or self.is_over(life, life.ended, event):
+            return False
+        base, size, phys, _ = life.page
+        parts = [(base + max(low, phys) - phys, base + min(high, phys + traces.SIZES[size]) - phys)]
+        for other in self.by_address.meeting(*parts[0]):
+            if any(self.is_over(life, place, event) for place in (other.born, other.ended)):
+                parts = without(parts, other.page[0], other.page[0] + traces.SIZES[other.page[1]])
+        return bool(parts)
+
+    def is_over(self, life, place, event):
+        """At this event the page can no longer be found, or not yet, at addresses that look otherwise after the entry of that place."""
+        if place in (-1, NEVER):
+            return False
+        entry = self.joined.entries[place]
+        return place >= life.ended and entry.answered < event or place <= life.born and entry.called > event
+
+
+class Stretches:
+    """What lies in stretches of the three sizes, each at a multiple of its size."""
+
+    def __init__(self):
+        self.found = [collections.defaultdict(list) for _ in traces.SIZES]
+
+    def add(self, size, first, what):
+        self.found[size][first // traces.SIZES[size]].append(what)
+
+    def meeting(self, low, high):
+        """All that lies in a stretch which has an address from `low` to below `high`."""
+        for found, size in zip(self.found, traces.SIZES):
+            met = range(low // size, (high - 1) // size + 1)
+            for number in met if len(met) < len(found) else [each for each in found if each in met]:
+                yield from found.get(number, ())
+
+
+def check_releases(segment, joined):
+    """No memory is given away that an access which begins then could reach."""
+    lives = Lives(joined) if segment.releases else None
+    for number in sorted(segment.releases):
+        call, reply = segment.trace.events[number], joined.replied.get(number)
+        is_other = reply is not None and segment.trace.events[reply].answer != Answer(traces.DONE)
+        if is_other or lives.is_reachable(call.phys, call.phys + traces.SIZES[call.size], joined.first + number):
+            raise Fault("Reachable", number)
+
+
+def without(parts, low, high):
+    """What is left of intervals without those from `low` to `high`."""
+    left = [(first, min(last, low)) for first, last in parts] + [(max(first, high), last) for first, last in parts]
+    return [(first, last) for first, last in left if first < last]
+
+
+def allow(trace, page, call):
     """What an access is answered where this page covers its address, or none does."""
     space = Space(trace.levels, trace.tables)
     if page:
         space.add(*page)
-    return space.look(call._replace(kind=kind))
+    return space.look(call._replace(kind=traces.ACCESS))
 
 
 def check_segment(segment, space, joined):
     """The order, and the space after the whole log, and the run so far; raises the first fault."""
     start = space_at_begin(segment, space)
     traces.check_calls(segment.trace)
-    trace = without_touches(segment)
+    trace = in_order(segment)
     order, replies = traces.check_history(trace, start)
     joined = joined or Joined(start)
     joined.add(segment.trace)
     check_touches(segment, joined)
+    check_releases(segment, joined)
     for r in range(trace.replicas):
         if trace.dumps[r]:
             traces.check_replica(trace, r, replies, start)

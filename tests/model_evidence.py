@@ -15,7 +15,7 @@ import sys
 import model_auditor as model
 from model_auditor import Call, Reply
 
-TOUCH = 5                                           # a kind that only calls of chains have
+TOUCH, RELEASE = 5, 6                               # kinds that only calls of chains have
 FORMAT_LINES = {
     "Truncated": "the bytes end before the last unit does",
     "BadMagic": "bytes 0 to 3 are NRVT",
@@ -36,14 +36,15 @@ def rights_words(rights):
 
 
 def request_words(call):
-    """As a script has it; a touch, which no script has, as an access."""
+    """As a script has it; a touch, which no script has, as an access, and a release with its memory."""
     size, rights = model.SIZE_NAMES[call.size], rights_words(call.rights)
     return {model.MAP: f"map {size} {call.address:#x} {call.phys:#x} {rights}",
             model.UNMAP: f"unmap {call.address:#x}",
             model.PROTECT: f"protect {call.address:#x} {rights}",
             model.RESOLVE: f"resolve {call.address:#x}",
             model.ACCESS: f"access {'su'[call.rights & 1]} {'rwx'[call.size]} {call.address:#x}",
-            TOUCH: f"touch {'su'[call.rights & 1]} {'rwx'[call.size]} {call.address:#x}"}[call.kind]
+            TOUCH: f"touch {'su'[call.rights & 1]} {'rwx'[call.size]} {call.address:#x}",
+            RELEASE: f"release {size} {call.phys:#x}"}[call.kind]
 
 
 def answer_words(answer):
@@ -124,6 +125,61 @@ def look(trace, address, places, start=None):
         if space.look(asked) != looks:
             looks, changed = space.look(asked), {"place": place, "call": event_fact(trace, trace.log[place])}
     return looks, changed
+
+
+# ---- what is near a wrong answer ----
+
+def answered(trace, space, number):
+    """What the space answers a call; the space stays as it is."""
+    call = trace.events[number]
+    return space.copy().apply(call) if model.is_update(trace, number) else space.look(call)
+
+
+def stretch(numbers):
+    """The first of some numbers, and those that follow it one by one, up or down."""
+    if not numbers:
+        return None
+    step = 1 if numbers[-1] >= numbers[0] else -1
+    run = [number for k, number in enumerate(numbers) if number == numbers[0] + k * step]
+    return {"first": min(run), "last": max(run)}
+
+
+def right_numbers(trace, number, told, start=None):
+    """After how many entries the space answers a call so."""
+    space, right = begins_with(trace, start), []
+    for entries in range(len(trace.log) + 1):
+        if entries:
+            apply(trace, space, trace.log[entries - 1])
+        if answered(trace, space, number) == told:
+            right.append(entries)
+    return right
+
+
+def nearest(right, below, above):
+    """The nearest of some rising numbers below one number, and above another and not below the one."""
+    return {"before": stretch([n for n in right[::-1] if n < below]), "behind": stretch([n for n in right if above < n >= below])}
+
+
+def memory_of(space, told):
+    """The memory that an answer names, and the least address that the space translates to it."""
+    if told.code not in (model.REMOVED, model.MAPPED, model.ALLOWED):
+        return None
+    addresses = [base + told.value - phys for base, (size, phys, _) in space.pages.items() if phys <= told.value < phys + model.SIZES[size]]
+    return {"phys": f"{told.value:#x}", "address": f"{min(addresses):#x}" if addresses else None}
+
+
+def right_line(right, places):
+    def words(numbers):
+        first, last = numbers["first"], numbers["last"]
+        return f"{first} on" if last == places else str(first) if first == last else f"{first} to {last}"
+
+    return f"right after: {', and '.join(words(numbers) for numbers in (right['before'], right['behind']) if numbers) or 'none'}"
+
+
+def nearby_lines(shown, places):
+    yield right_line(shown["right"], places)
+    if shown["memory"]:
+        yield f"{shown['memory']['phys']} is mapped {'at ' + shown['memory']['address'] if shown['memory']['address'] else 'nowhere'}"
 
 
 def entries_read(trace, dump, address):
@@ -207,10 +263,11 @@ def of_wrong_answer(trace, number, start=None):
     space, call = begins_with(trace, start), trace.events[number]
     for each in trace.log[:reply.at]:
         space.apply(trace.events[each])
-    wanted = space.apply(call) if model.is_update(trace, number) else space.look(call)
+    memory, wanted = memory_of(space, reply.answer), answered(trace, space, number)
     address = wanted.value if wanted.code in (model.OVERLAP, model.INSIDE) else call.address
     return {"call": event_fact(trace, number), "reply": event_fact(trace, index), "wanted": answer_words(wanted),
-            "address": f"{address:#x}", "changed": look(trace, address, reply.at, start)[1]}
+            "address": f"{address:#x}", "changed": look(trace, address, reply.at, start)[1],
+            "right": nearest(right_numbers(trace, number, reply.answer, start), reply.at, reply.at), "memory": memory}
 
 
 def of_prefix_past_log(trace, r):
@@ -268,8 +325,8 @@ OF_FAULT = dict(zip(model.FAULTS[1:], (of_thread_open, of_no_such_call, of_answe
 
 # ---- the lines of text ----
 
-def lines_of(fault, shown):
-    """The lines after the verdict's."""
+def lines_of(fault, shown, places):
+    """The lines after the verdict's, of a trace whose log has so many places."""
     both = [event_line(shown["call"])] if isinstance(shown.get("call"), dict) else []
     both += [event_line(shown["reply"])] if shown.get("reply") else []
     return {
@@ -284,7 +341,7 @@ def lines_of(fault, shown):
         "Early": lambda: [both[0], event_line(shown["own"]) if shown["own"] else "no reply to it",
                           f"entries before it: {shown['entries']}", f"known when it was made: {shown['floor']}", both[1],
                           event_line(shown["answered"])],
-        "WrongAnswer": lambda: both + [f"the space answers: {shown['wanted']}", changed_line(shown)],
+        "WrongAnswer": lambda: both + [f"the space answers: {shown['wanted']}", changed_line(shown), *nearby_lines(shown, places)],
         "PrefixPastLog": lambda: [f"applied: {shown['applied']}", f"entries of the log: {shown['places']}"],
         "PrefixShort": lambda: [f"applied: {shown['applied']}", f"known there: {shown['known']}", both[1], both[0]],
         "MissingFrame": lambda: way_lines(shown["path"]) + [f"frame {shown['frame']:#x}, which the dump doesn't have"],
@@ -303,11 +360,12 @@ def many(count, word):
     return f"{count} {word if count == 1 else word[:-1] + 'ies' if word[-1] == 'y' else word + 's'}"
 
 
-def named_words(named, of_call, of_touch):
-    """What an event is that a number names, where it isn't what it should be."""
+def named_words(named, of_call, of_other):
+    """What an event is that a number names, where it isn't what it should be; `of_other` has a touch or a release."""
     if named is None or "request" not in named:
         return "that event is a reply" if named else "there is no such event"
-    return of_touch if named["request"].startswith("touch ") else of_call
+    kind = named["request"].split()[0]
+    return of_other.format(kind) if kind in ("touch", "release") else of_call
 
 
 def sentence_of(fault, shown, header):
@@ -321,10 +379,10 @@ def sentence_of(fault, shown, header):
         "ThreadOpen": lambda: f"Thread {shown['second']['thread']} makes call {of['second']} while its call {of['first']} has no reply "
                               "yet.",
         "NoSuchCall": lambda: f"Event {of['reply']} replies to call {reply['call']}, which is no call before it: "
-                              f"{named_words(named, 'that call is made later', 'that touch is made later')}.",
+                              f"{named_words(named, 'that call is made later', 'that {} is made later')}.",
         "AnsweredTwice": lambda: f"Event {of['second']} answers call {of['call']} again: event {of['first']} had answered it.",
         "NotAnUpdate": lambda: f"Place {shown['place']} of the log has the number {shown['call']}, which is no update: "
-                               f"{named_words(named, f'that call only reads, {asked}', 'that event is a touch')}.",
+                               f"{named_words(named, f'that call only reads, {asked}', 'that event is a {}')}.",
         "PlacedTwice": lambda: f"Call {of['call']} is in the log twice: at place {shown['first']}, and again at place {shown['second']}.",
         "NotPlaced": lambda: f"Event {of['reply']} says that call {of['call']} is at place {reply['at']} of the log, but the log has "
                              f"{'no such place' if shown['there'] is None else 'call %d there' % shown['there']}.",
@@ -381,18 +439,20 @@ def wrong_fields(limits, unit):
     levels, replicas, threads, kinds, answers = limits
     if unit[0] == 0:
         _, replica, thread, kind, size, rights, unused, address, phys = struct.unpack(">BBHBBBBQQ", unit)
-        is_map, is_access = kind == model.MAP, kind in (model.ACCESS, TOUCH)
+        is_map, is_access, is_release = kind == model.MAP, kind in (model.ACCESS, TOUCH), kind == RELEASE
         yield from below("replica is", replica, replicas)
         yield from below("thread is", thread, threads)
         yield from below("kind is", kind, kinds)
-        yield from below("access is" if is_access else "size is", size, 3 if is_map or is_access else 1)
+        yield from below("access is" if is_access else "size is", size, 3 if is_map or is_access or is_release else 1)
         yield from below("mode is" if is_access else "rights are", rights, 2 if is_access else 8 if is_map or kind == model.PROTECT else 1)
         yield from below("unused bytes are", unused, 1)
-        if not model.is_canonical(levels, address):
+        step = model.SIZES[size] if is_map or is_release else 1 if is_access or kind == model.RESOLVE else 4096
+        if is_release:
+            yield from below("address is", address, 1, hex)
+        elif not model.is_canonical(levels, address):
             yield f"its address is {address:#x}, which isn't canonical with {levels} levels"
-        step = model.SIZES[size] if is_map else 1 if is_access or kind == model.RESOLVE else 4096
         yield from multiple("address", address, step)
-        if is_map:
+        if is_map or is_release:
             yield from multiple("physical address", phys, step)
             if phys + step > 1 << 51:
                 yield f"its physical address is {phys:#x}, and its page ends above {1 << 51:#x}"
@@ -465,13 +525,28 @@ def of_format(data, name, numbers):
 
 # ---- the whole answer ----
 
+COUNTS = {"overlapping": "overlapping calls", "beside": "touches beside an update"}    # the words of a line where they aren't the name
+
+
+def overlapping(events):
+    """How many answered updates and reads are open while another one is: each that is made while one is open, and that one."""
+    still_open, met, told = set(), set(), {event.call for event in events if isinstance(event, Reply)}
+    for index, event in enumerate(events):
+        if isinstance(event, Reply):
+            still_open.discard(event.call)
+        elif event is not None and event.kind < TOUCH:
+            met |= still_open | ({index} if still_open else set())
+            still_open.add(index)
+    return len(met & told)
+
+
 def counts_of(trace, order):
     """How much a right trace has."""
     space, placed = model.Space(trace.levels, trace.tables), set(trace.log)
     for call in trace.log:
         space.apply(trace.events[call])
     return {"calls": len(order), "updates": len(placed), "reads": sum(call not in placed for call in order),
-            "replicas": trace.replicas, "pages": len(space.pages)}
+            "replicas": trace.replicas, "pages": len(space.pages), "overlapping": overlapping(trace.events)}
 
 
 def explained(data):
@@ -480,14 +555,15 @@ def explained(data):
     if status == 0:
         order = [int(word) for word in text.split()[2:]]
         counts = counts_of(model.read(data), order)
-        lines = [f"{words}: {counts[words]}" for words in ("calls", "updates", "reads", "replicas", "pages")]
+        lines = [f"{COUNTS.get(words, words)}: {counts[words]}" for words in ("calls", "updates", "reads", "replicas", "pages", "overlapping")]
         return text, {"verdict": "yes", "order": order, "counts": counts}, lines
     _, _, fault, *numbers = text.split()
     if fault == "Format":
         shown, lines = of_format(data, numbers[0], numbers[1:])
     else:
-        shown = OF_FAULT[fault](model.read(data), *(int(number, 0) for number in numbers))
-        lines = lines_of(fault, shown)
+        trace = model.read(data)
+        shown = OF_FAULT[fault](trace, *(int(number, 0) for number in numbers))
+        lines = lines_of(fault, shown, len(trace.log))
     said = sentence_of(fault, shown, data[:20])
     return text, {"verdict": text.strip(), "sentence": said, "evidence": {"fault": fault, **shown}}, [said, *lines]
 
@@ -517,7 +593,7 @@ def said_of_dump(trace, r, header):
     shown = OF_FAULT[fault](trace, *(int(number, 0) for number in numbers))
     said = sentence_of(fault, shown, header)
     told = {"replica": r, "fault": text[3:], "sentence": said, "evidence": {"fault": fault, **shown}}
-    return told, [f"dump {r}: {text[3:]}", said, *lines_of(fault, shown)]
+    return told, [f"dump {r}: {text[3:]}", said, *lines_of(fault, shown, len(trace.log))]
 
 
 def other_dumps(data):

@@ -6,7 +6,7 @@ a chain with a fault of the format in its segment k, and that line. Both raise N
 import struct
 
 import recording
-from drawn_chains import TOUCH, Call, Reply, allowed, answer_at, lingering, spelled, tables_of, units
+from drawn_chains import RELEASE, TOUCH, Call, Reply, allowed, answer_at, kept, lagging, lingering, spelled, tables_of, units
 from recording import BYTES, MAP, UNMAP
 
 
@@ -87,10 +87,10 @@ def first_early(segment):
     """The least call that comes after fewer entries than a reply before it had shown, or None."""
     replies = segment.replies()
     for number, call in enumerate(segment.events):
-        if isinstance(call, Reply) or call.kind == TOUCH:
+        if isinstance(call, Reply) or call.kind >= TOUCH:
             continue
         shown = [each.at + segment.events[each.call].is_update() for each in segment.events[:number]
-                 if isinstance(each, Reply) and segment.events[each.call].kind != TOUCH]
+                 if isinstance(each, Reply) and segment.events[each.call].kind < TOUCH]
         places = [place for place, placed in enumerate(segment.log) if placed == number]
         at = places if call.is_update() else [segment.events[replies[number]].at] if number in replies else []
         if at and at[0] < max(shown, default=0):
@@ -130,7 +130,7 @@ def changed_answer(draw, answer):
 
 
 def wrong_answer(draw, segment):
-    answered = [i for i, each in enumerate(segment.events) if isinstance(each, Reply) and segment.events[each.call].kind != TOUCH]
+    answered = [i for i, each in enumerate(segment.events) if isinstance(each, Reply) and segment.events[each.call].kind < TOUCH]
     i = some(draw, answered)
     segment.events[i] = segment.events[i]._replace(answer=changed_answer(draw, segment.events[i].answer))
     return f"no 10 WrongAnswer {segment.events[i].call}"
@@ -143,7 +143,8 @@ def stale_as(kind):
         for call, end in segment.replies().items():
             if segment.events[call].kind == TOUCH:
                 moments = allowed(segment, call, end)
-                fitting = {answer_at(segment, call, n) for n in moments} | lingering(segment, call)
+                fitting = {answer_at(segment, call, n) for n in moments} | lingering(segment, call) | lagging(segment, call, end)
+                fitting |= kept(segment, call, end)
                 others = {"over": range(moments[0]), "foreseen": range(moments[-1] + 1, len(segment.moments)), "none": ()}[kind]
                 drawn = changed_answer(draw, segment.events[end].answer)
                 answers = [drawn] if kind == "none" else sorted(answer_at(segment, call, n) for n in others)
@@ -152,6 +153,20 @@ def stale_as(kind):
         segment.events[end] = segment.events[end]._replace(answer=answer)
         return f"no 24 Stale {call}"
     return planted
+
+
+def reachable(draw, segment):
+    """At its end memory is given away in which a page lies, or that nobody has but with another answer than Done."""
+    number, pages, replies = len(segment.events), segment.moments[-1].pages, segment.replies()
+    busy = {each.thread for k, each in enumerate(segment.events) if isinstance(each, Call) and k not in replies}
+    thread = some(draw, [each for each in range(min(segment.layout.threads, 70)) if each not in busy])
+    size, physical, _ = some(draw, pages.values()) if draw.random() < 0.7 else (0, 0, 0)
+    segment.events.append(Call(draw.randrange(segment.layout.replicas), thread, RELEASE, 0, size, 0, physical))
+    answer = draw.choice([each for each in ANSWERS if each[0] != recording.DONE])
+    is_other = not any(physical == phys for _, phys, _ in pages.values()) or draw.random() < 0.3
+    if is_other or draw.random() < 0.5:
+        segment.events.append(Reply(number, draw.randrange(1 << 32), answer if is_other else (recording.DONE, 0, 0, 0)))
+    return f"no 25 Reachable {number}"
 
 
 # ---- dumps and starts ----
@@ -271,11 +286,13 @@ PLANTS = {
     "PrefixPastLog": prefix_past_log, "PrefixShort": prefix_short, "MissingFrame": in_dump("Missing"), "SharedFrame": in_dump("Shared"),
     "ReservedBit": in_dump("Reserved"), "StrayFrame": in_dump("Stray"), "Differs": differs, "StartMissing": in_start("Missing"),
     "StartShared": in_start("Shared"), "StartReserved": in_start("Reserved"), "StartStray": in_start("Stray"), "StartBeyond": start_beyond,
-    "StartDiffers": start_differs, "Stale": stale_as("none"), "Stale as over": stale_as("over"), "Stale as foreseen": stale_as("foreseen")}
+    "StartDiffers": start_differs, "Stale": stale_as("none"), "Stale as over": stale_as("over"), "Stale as foreseen": stale_as("foreseen"),
+    "Reachable": reachable}
 
 # two at once, that don't touch each other: the first is found
 PAIRS = [("StartStray", "ThreadOpen"), ("StartReserved", "WrongAnswer"), ("StartDiffers", "Stale"), ("WrongAnswer", "Stale"),
-         ("Stale", "PrefixPastLog"), ("Stale as over", "StrayFrame"), ("Stale as foreseen", "Differs")]
+         ("Stale", "PrefixPastLog"), ("Stale as over", "StrayFrame"), ("Stale as foreseen", "Differs"), ("WrongAnswer", "Reachable"),
+         ("Stale", "Reachable"), ("Reachable", "Differs")]
 
 
 def plant(name, draw, segment):
@@ -311,7 +328,7 @@ def bad_head(draw, data):
 
 def bad_event(draw, segment, event, data):
     """24 bytes that are no event here: one field is out of its range."""
-    call = [(0, 2), (0, 255), (4, 6), (7, 1), (1, segment.layout.replicas), (1, 255), (8, 1), (5, 3), (6, 8)]
+    call = [(0, 2), (0, 255), (4, 7), (7, 1), (1, segment.layout.replicas), (1, 255), (8, 1), (5, 3), (6, 8)]
     reply = [(0, 2), (1, 10), (1, 255), (2, 3), (3, 8), (12, 1), (15, 128)]
     at, value = draw.choice(call if isinstance(event, Call) else reply)
     if isinstance(event, Call) and event.kind in (MAP, TOUCH) and draw.random() < 0.2:

@@ -134,6 +134,7 @@ CHAIN_REFUSALS = """
     begin 4 1 1 4 4 1 9
     start 1 = no start here
     call 0 0 5 0 0 0x400123 0 = bad event
+    call 0 0 6 0 0 0 0x1000 = bad event
     restart = no segment of this chain
     next = no segment of this chain
     spare 4 1 1 4 4 1 9
@@ -170,7 +171,12 @@ CHAIN_REFUSALS = """
     call 0 65535 5 0 0 0x400123 0 = bad event
     call 0 0 5 3 0 0x400123 0 = bad event
     call 0 0 5 0 2 0x400123 0 = bad event
-    call 0 0 6 0 0 0x400123 0 = bad event
+    call 0 0 7 0 0 0x400123 0 = bad event
+    call 0 65535 6 0 0 0 0 = bad event
+    call 0 0 6 3 0 0 0 = bad event
+    call 0 0 6 0 0 0 0x1001 = bad event
+    call 0 0 6 1 0 0 0x1000 = bad event
+    call 0 0 6 2 0 0 0x8000000000000 = bad event
     call 0 0 5 0 0 0x800000000000 0 = bad event
     call 0 65534 5 1 0 0x400123 0x1000 = ok 0
     start 1 = no start here
@@ -234,7 +240,7 @@ def random_lines(draw):
     """Calls on a recorder, most of which make sense."""
     levels, replicas, threads = draw.choice([4, 4, 5]), draw.randint(1, 4), draw.randint(1, 4)
     room = draw.choice([0, 3, 40, 200])
-    kinds, codes = draw.choice([(range(4), range(8)), (range(6), range(8)), (range(4), range(10)), (range(6), range(10))])
+    kinds, codes = draw.choice([(range(4), range(8)), (range(7), range(8)), (range(4), range(10)), (range(7), range(10))])
     lines = [f"begin {levels} {replicas} {threads} {draw.randint(1, 4096)} {room} {draw.choice([0, 5, 64])} {draw.choice([2, 8, 64, 64])}"]
     lines += [f"word {frame} 511 0" for frame in range(1, 7)]
     for _ in range(draw.randint(0, 40)):
@@ -352,7 +358,7 @@ def random_chain_lines(draw):
         address = draw.choice([0x400000, 0x600000, 0x40000000, 0x400123, 0xffff800000000000])
         what = draw.choice(["call"] * 8 + ["reply"] * 9 + ["place"] * 3 + ["word", "word", "dump", "dump_frame", "finish", "cut", "cut"])
         if what == "call":
-            lines.append(f"call {draw.randrange(replicas)} {draw.choice([0, threads - 1])} {draw.choice([0, 1, 2, 3, 4, 5, 5])} "
+            lines.append(f"call {draw.randrange(replicas)} {draw.choice([0, threads - 1])} {draw.choice([0, 1, 2, 3, 4, 5, 5, 6])} "
                          f"{draw.randint(0, 2)} {draw.randint(0, 1)} {address} {draw.choice([0x1000, 0x200000, 0x40000000])}")
         elif what == "reply":
             lines.append(f"reply {draw.randint(0, 12)} {draw.randint(0, 3)} {draw.randint(0, 9)} {draw.randint(0, 2)} {draw.randint(0, 7)} "
@@ -381,7 +387,7 @@ def random_chain_lines(draw):
 
 # bugs that are there in chains alone; and what else is said in a chain of those that leave something behind, where a dump or a touch
 # meets it first
-OF_CHAINS = ("cached-over-cut", "early-start", "late-flush")
+OF_CHAINS = ("cached-over-cut", "early-start", "late-flush", "freed-early")
 ALSO = {"lost-update": ["no 17 Differs", "no 24 Stale"], "unmap-neighbour": ["no 17 Differs", "no 24 Stale", "no 16 StrayFrame"],
         "swapped-updates": ["no 17 Differs", "no 24 Stale"], "reply-before-place": ["no 9 Early", "no 10 WrongAnswer", "no 24 Stale"]}
 

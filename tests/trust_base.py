@@ -168,7 +168,7 @@ def trust_base(words=None):
 
 
 HEADLINES = (("nr_audit.Headline", "AreRightWith"), ("nr_chain.Headline", "IsRightChain"))    # of a trace, and of a chain
-MOST_LINES = 200
+MOST_LINES = 220
 DECLARED = "### What the code declares"
 
 

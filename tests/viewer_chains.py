@@ -18,7 +18,7 @@ from counting import check
 HERE = os.path.dirname(os.path.abspath(__file__))
 SEGMENTS = 3
 BROWSED = ("stale_touch.chain", "begins_with_a_page_and_denies_it", "start_with_a_shared_table", "start_with_a_stray_frame", "two_segments",
-           "second_begins_elsewhere", "touch_of_a_page", "no_bytes")
+           "second_begins_elsewhere", "touch_of_a_page", "no_bytes", "release_while_the_unmap_is_open", "release_of_a_part_of_a_large_page")
 
 
 def read(path):
@@ -84,7 +84,8 @@ def check_page(name, page, number, at, segment, pages, data):
     check(f"{name}: the segment's number", told["segment"] == number, told["segment"])
     check(f"{name}: its bytes are the segment's", inside == data[at:segment.ends], len(inside))
     events = [inside[told["eventsAt"] + 24 * i:][:24] for i in range(told["events"])]
-    check(f"{name}: its touches", segment.touches == {i for i, each in enumerate(events) if each[0] == 0 and each[4] == 5})
+    for kind, calls in ((model.TOUCH, segment.touches), (model.RELEASE, segment.releases)):
+        check(f"{name}: its calls of kind {kind}", calls == {i for i, each in enumerate(events) if each[0] == 0 and each[4] == kind})
     check(f"{name}: its places", segment.trace.log == [int.from_bytes(inside[told["logAt"] + 4 * i:][:4], "big") for i in range(told["places"])])
     wanted = [dump.applied if dump else 0 for dump in segment.trace.dumps] + [None] * (segment.start is not None)
     check(f"{name}: its dumps and its start", wanted == [dump["applied"] for dump in told["dumps"]], told["dumps"] and wanted)
@@ -96,8 +97,17 @@ def check_fault(name, page, whole):
     told, shown = json.loads(embedded(page, "data")), whole["evidence"]
     check(f"{name}: the verdict", f">segment {whole['segment']}: {html.escape(whole['verdict'])}</div>" in page)
     check(f"{name}: the sentence", re.sub("`([^`]*)`", r"<code>\1</code>", html.escape(whole["sentence"])) in page)
-    window = [shown["call"]["event"], shown["first"], shown["last"]] if shown["fault"] == "Stale" else None
+    is_stale, is_reached = shown["fault"] == "Stale", shown["fault"] == "Reachable" and "address" in shown
+    window = [shown["call"]["event"], min(shown["first"], shown.get("known", shown["first"])), shown["last"]] if is_stale else None
     check(f"{name}: what a stale touch may see", told["window"] == window, told["window"])
+    check(f"{name}: how far a table lags", (is_stale and "known" in shown) == (f"had applied {shown.get('known')} entr" in page))
+    taken = shown.get("taken")
+    kept = "It is no fault by rights that were kept" + (": the entry at place" if taken else ".")
+    check(f"{name}: that it is no fault by rights that were kept", (is_stale and "taken" in shown) == (kept in page))
+    end = taken["reply"]["event"] if isinstance(taken, dict) and taken["reply"] else told["events"]
+    reach = [shown["call"]["event"], shown["entries"] or 0, end] if is_reached else None
+    check(f"{name}: when the memory could be reached", told["reach"] == reach, told["reach"])
+    check(f"{name}: what leads to the memory", not is_reached or f"{shown['address']} leads there: <code>{html.escape(shown['look'])}" in page)
     for look in shown.get("looks", []):
         check(f"{name}: how its address looked", f"After {look['entries']} of them" in page and html.escape(look["look"]) in page)
     if isinstance(shown.get("changed"), str):

@@ -50,10 +50,10 @@ const stopOf = call => fold(endOf(call)) + 0.88;
 /** Shows these calls alone, and the threads that make them; all where there is no set, but of a segment, which may have 65,535 threads, no
  *  thread without a call. */
 function showCalls(shown) {
-  const lanes = Array.from({ length: Math.max(told.threads, 1) }, (_, thread) => ({ thread, calls: [], from: [], reach: [], touches: 0 }));
+  const lanes = Array.from({ length: Math.max(told.threads, 1) }, (_, thread) => ({ thread, calls: [], from: [], reach: [], points: 0 }));
   for (const call of run.calls) if (!shown || shown.has(call)) {
     lanes[threadOf(call)].calls.push(call);
-    if (isTouch(call)) lanes[threadOf(call)].touches++;
+    if (isApart(call)) lanes[threadOf(call)].points++;
   }
   run.shown = shown;
   run.lanes = shown || told.segment !== null ? lanes.filter(lane => lane.calls.length) : lanes;
@@ -83,7 +83,7 @@ const isShown = call => !run.shown || run.shown.has(call);
 /** Updates by place (place P as -1 - P), and each answered read after the entries that it saw: the recorded order of what is shown. */
 function recordedOrder() {
   const reads = [], order = [], saw = call => atOf(run.reply[call]);
-  for (const lane of run.lanes) for (const call of lane.calls) if (!isUpdate(call) && !isTouch(call) && run.reply[call] >= 0) reads.push(call);
+  for (const lane of run.lanes) for (const call of lane.calls) if (!isUpdate(call) && !isApart(call) && run.reply[call] >= 0) reads.push(call);
   reads.sort((one, other) => saw(one) - saw(other) || one - other);
   let next = 0;
   for (const place of run.entries) {

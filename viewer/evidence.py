@@ -25,20 +25,26 @@ class Evidence:
     after: int = None
     sentence: str = ""
     window: list = None                             # a stale touch, and the fewest and the most entries that it may see
+    reach: list = None                              # a release, the entries after which its memory is reached (0: or before), and until when
+    right: list = None                              # from how many entries to how many the answer would be right, nearest to those it has
 
 
 def of_yes(trace, order, counts):
     shown = " ".join(map(str, order[:40])) + (" .." if len(order) > 40 else "")
     has = [many(counts[words + "s"], words) for words in ("update", "read", "replica", "page")]
+    overlap = f"Of its answered updates and reads {counts['overlapping']} were open while another one was."
     return Evidence([f"The order has {many(len(order), 'call')}: {shown}" if order else "There are no calls.",
-                     f"It has {', '.join(has[:-1])}, and in the end {has[-1]}."],
+                     f"It has {', '.join(has[:-1])}, and in the end {has[-1]}.", overlap],
                     sentence="This run is right: in the recorded order each answer is that of one address space, and each dump fits it.")
 
 
 def of_right_chain(trace, number, counts):
     """A segment of a chain that is right up to there."""
-    has = [many(counts[key], noun) for key, noun in (("updates", "update"), ("reads", "read"), ("touches", "touch"), ("pages", "page")) if counts]
-    return Evidence([f"The chain has {', '.join(has[:-1])}, and in the end {has[-1]}."] if counts else [],
+    has = [many(counts[key], noun) for key, noun in (("updates", "update"), ("reads", "read"), ("touches", "touch"), ("releases", "release"),
+                                                           ("pages", "page")) if counts]
+    return Evidence([f"The chain has {', '.join(has[:-1])}, and in the end {has[-1]}.",
+                     f"Of its answered updates and reads {counts['overlapping']} were open while another one was.",
+                     f"Of its answered touches {counts['beside']} were open while an update of their page was."] if counts else [],
                     sentence=f"Segment {number} is right: in the recorded order each answer is that of one address space, from the pages on with "
                              "which the segment begins.")
 
@@ -122,11 +128,32 @@ def last_change(trace, shown):
             {call: f"changed last how the address looks, at place {place}"})
 
 
+def stretches_of(shown):
+    """From how many entries to how many the answer would be right."""
+    return [[numbers["first"], numbers["last"]] for numbers in (shown["right"]["before"], shown["right"]["behind"]) if numbers]
+
+
+def right_fact(trace, stretches):
+    """Where the answer would be right."""
+    words = [f"{first} on" if last == len(trace.log) else f"{first}" if first == last else f"{first} to {last}" for first, last in stretches]
+    if not words:
+        return f"After no other number of entries would its answer be right, of the {len(trace.log)} that the log has."
+    return f"Its answer would be right after {', and after '.join(words)} of the {many(len(trace.log), 'entry')} of the log."
+
+
+def memory_facts(memory):
+    """Where the memory is that the answer names, if it names any."""
+    if memory is None:
+        return []
+    return [f"At that place {memory['phys']} is mapped {'nowhere' if memory['address'] is None else 'at ' + memory['address']}."]
+
+
 def of_wrong_answer(trace, shown):
-    number, reply = shown["call"]["event"], shown["reply"]
+    number, reply, stretches = shown["call"]["event"], shown["reply"], stretches_of(shown)
     places, facts, calls = last_change(trace, shown)
-    return Evidence([f"The call: {trace.call_text(number)}.", *facts], calls | {number: "is answered wrongly"}, [reply["event"]], places,
-                    address=shown["address"], after=reply["at"])
+    return Evidence([f"The call: {trace.call_text(number)}.", *facts, right_fact(trace, stretches), *memory_facts(shown["memory"])],
+                    calls | {number: "is answered wrongly"}, [reply["event"]], places, address=shown["address"], after=reply["at"],
+                    right=stretches)
 
 
 def of_prefix_past_log(trace, shown):
@@ -214,24 +241,67 @@ def of_start_page(trace, shown):
 def of_stale(trace, shown):
     """A touch, how many entries of the log it may see, and the updates at both ends of these."""
     number, first, last, looks = shown["call"]["event"], shown["first"], shown["last"], shown["looks"]
-    calls, address, replied = {number: "is stale"}, trace.events[shown["call"]["event"]].address, trace.first_replies
+    calls, address, missed, stretches = {number: "is stale"}, trace.events[shown["call"]["event"]].address, shown["missed"], stretches_of(shown)
     facts = [f"Too late: {trace.call_text(number)}.",
-             f"It may see {first} to {last} entries of the log, which has {len(trace.log)}."]
+             f"It may see {first} to {last} entries of the log, which has {len(trace.log)}.", *lag_facts(trace, shown)]
     for look in shown.get("earlier", ()):
         facts.append(f"Behind the segments before, {address:#x} may still look so: `{look}`.")
     for each in looks:
         facts.append(f"After {each['entries']} of them {address:#x} looks so: `{each['look']}`.")
-    if first:
-        before = trace.log[first - 1]
-        facts.append(f"It has to see the entry at place {first - 1}, {trace.call_text(before)}: event {replied[before][0]} answered that, before "
-                     f"the touch was made.")
+    if missed:
+        before = missed["call"]["event"]
+        facts.append(f"It has to see the entry at place {missed['place']}, {trace.call_text(before)}: event {missed['reply']['event']} answered that, "
+                     f"before the touch was made.")
         calls[before] = "was answered, so that its flush was over, before the touch was made"
     if last < len(trace.log):
         behind = trace.log[last]
         facts.append(f"It may not see the entry at place {last}, {trace.call_text(behind)}: that was made after the touch was answered.")
         calls[behind] = "was made after the touch was answered"
+    facts.append(right_fact(trace, stretches))
+    if "taken" in shown:
+        facts.append(kept_fact(trace, shown["taken"]))
     places = [place for place in (first - 1, last) if 0 <= place < len(trace.log)]
-    return Evidence(facts, calls, [shown["reply"]["event"]], places, address=hex(address), after=first, window=[number, first, last])
+    return Evidence(facts, calls, [shown["reply"]["event"]], places, address=hex(address), after=first,
+                    window=[number, min(first, shown.get("known", first)), last], right=stretches)
+
+
+def kept_fact(trace, taken):
+    """Of a page fault of a page: which update did more than add rights, so that it can't be by rights that were kept."""
+    if not taken:
+        return "It is no fault by rights that were kept."
+    return (f"It is no fault by rights that were kept: the entry at place {taken['place']} did more than add rights, "
+            f"{trace.call_text(taken['call']['event'])}.")
+
+
+def lag_facts(trace, shown):
+    """Of a page fault without a page: how far the table of its replica may lag."""
+    if "known" not in shown:
+        return []
+    replica, told = shown["call"]["replica"], shown["shown"]
+    by = f": event {told['event']} shows it, the reply to {trace.call_text(told['call'])}" if told else ""
+    return [f"The table of replica {replica} may lag, but had applied {many(shown['known'], 'entry')} when the touch was made{by}."]
+
+
+def of_reachable(trace, shown):
+    """A release, how an address leads to its memory, and what takes that away; or its reply, which says otherwise."""
+    number, reply, taken = shown["call"]["event"], shown["reply"], shown.get("taken")
+    calls, events, places, end = {number: "gives memory away"}, [reply["event"]] if reply else [], [], len(trace.events)
+    facts = [f"The release: {trace.call_text(number)}."]
+    if "address" not in shown:
+        return Evidence(facts, calls, events)
+    entries = shown["entries"]
+    when = "Behind the segments before" if entries is None else f"After {many(entries, 'entry')} of the log"
+    facts.append(f"{when} {shown['address']} leads there: `{shown['look']}`.")
+    facts.append(f"An access that begins at the release may see {shown['first']} to {many(shown['last'], 'entry')} of the log.")
+    if isinstance(taken, dict):
+        place, call, end = taken["place"], taken["call"]["event"], taken["reply"]["event"] if taken["reply"] else end
+        facts.append(f"The entry at place {place} takes it from there, {trace.call_text(call)}"
+                     + (f": event {end} answered that, after the release." if taken["reply"] else "."))
+        calls, places = calls | {call: "takes the page away, and isn't answered before the release"}, [place]
+        events += [end] if taken["reply"] else []
+    else:
+        facts.append("An earlier segment took it from there, and never answered that." if taken else "No update takes it from there.")
+    return Evidence(facts, calls, events, places, address=shown["address"], after=entries or 0, reach=[number, entries or 0, end])
 
 
 OF_FAULT = {
@@ -241,6 +311,7 @@ OF_FAULT = {
     "MissingFrame": of_missing_frame, "SharedFrame": of_shared_frame, "ReservedBit": of_reserved_bit, "StrayFrame": of_stray_frame,
     "Differs": of_differs, "StartMissing": of_start_missing, "StartShared": of_start_shared, "StartReserved": of_start_reserved,
     "StartStray": of_start_stray, "StartBeyond": of_start_page, "StartDiffers": of_start_page, "Stale": of_stale,
+    "Reachable": of_reachable,
 }
 
 # what each fault means most often (docs/RECORDING.md)
@@ -268,12 +339,14 @@ MEANS = {
     "StartBeyond": "a page of memory that the processor hasn't",
     "StartDiffers": "a start that was copied while a thread still changed the tables, or updates that weren't recorded",
     "Stale": "an update that was answered before the TLBs were flushed",
+    "Reachable": "memory that was freed before the TLBs were flushed",
 }
 
 
 def check_events(trace, shown):
     """Raises where a call or a reply that is shown isn't the trace's."""
-    for fact in shown.values():
+    taken = shown.get("taken")
+    for fact in [*shown.values(), *(taken.values() if isinstance(taken, dict) else ())]:
         if isinstance(fact, dict) and "event" in fact:
             event = trace.events[fact["event"]]
             is_call = trace.is_call(fact["event"])

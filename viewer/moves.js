@@ -67,7 +67,7 @@ function describe(call) {
     ["Thread", threadOf(call)], ["Replica", replicaOf(call)],
     ["Events", `made at ${call}, ` + (reply < 0 ? "not answered" : `answered at ${reply}`)]];
   if (run.place[call] >= 0) fields.push(["Place in the log", run.place[call]]);
-  if (reply >= 0 && !isTouch(call)) fields.push([isUpdate(call) ? "Place that its reply says" : "Entries that it saw", atOf(reply)]);
+  if (reply >= 0 && !isApart(call)) fields.push([isUpdate(call) ? "Place that its reply says" : "Entries that it saw", atOf(reply)]);
   if (told.window && told.window[0] === call) fields.push(["Entries that it may see", `${told.window[1]} to ${told.window[2]}`]);
   if (call in told.calls) fields.push(["Marked", told.calls[call]]);
   $("details").replaceChildren(...fields.map(([name, value]) => {

@@ -8,9 +8,22 @@ function stretchOf(text) {
   return { address, first: page - page % span, after: page - page % span + span };
 }
 
-/** The calls that name a page of the stretch, and the updates that changed one. */
+/** The calls that name a page of the stretch, the updates that changed one, and the releases of memory that such a page ever had. */
 function callsOver({ first, after }) {
+  const over = callsAt(first, after), pages = told.begins.filter(([base, size]) => base < after && first < base + SPAN[size]);
+  const memory = pages.map(([, size, physical]) => [BigInt(physical), size]);
+  memory.push(...over.filter(call => kindOf(call) === 0).map(map => [physicalOf(map), sizeOf(map)]));
+  const isMet = call => memory.some(([physical, size]) => meet(physical, size, physicalOf(call), sizeOf(call)));
+  return [...over, ...run.calls.filter(call => isRelease(call) && isMet(call))].sort((one, other) => one - other);
+}
+
+/** Whether two stretches of memory have an address in common. */
+const meet = (one, size, other, otherSize) => one < other + bytesOf(otherSize) && other < one + bytesOf(size);
+const bytesOf = size => BigInt(SPAN[size]) << 12n;
+
+function callsAt(first, after) {
   return run.calls.filter(call => {
+    if (isRelease(call)) return false;
     const page = pageOf(call), place = run.place[call], changed = place < 0 ? -1 : space.base[place];
     const asked = page < after && first < page + (kindOf(call) === 0 ? SPAN[sizeOf(call)] : 1);
     return asked || changed >= 0 && changed < after && first < changed + SPAN[space.size[place]];

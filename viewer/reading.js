@@ -1,7 +1,7 @@
 "use strict";
 const $ = id => document.getElementById(id);
 const told = JSON.parse($("data").textContent);
-const KINDS = ["map", "unmap", "protect", "resolve", "access", "touch"], SIZES = ["4K", "2M", "1G"];
+const KINDS = ["map", "unmap", "protect", "resolve", "access", "touch", "release"], SIZES = ["4K", "2M", "1G"];
 const ANSWERS = ["done", "overlap", "full", "removed", "not mapped", "inside", "changed", "mapped", "allowed", "fault"];
 const REFUSED = new Set([1, 2, 4, 5, 9]);
 
@@ -35,7 +35,9 @@ const rightsOf = call => bytes.getUint8(offset(call) + 6);
 const physicalOf = map => bytes.getBigUint64(offset(map) + 16);
 /** The number of the 4 KiB page that a call's address lies in: below 2^52, so that a number has it exactly. */
 const pageOf = call => bytes.getUint32(offset(call) + 8) * 2 ** 20 + (bytes.getUint32(offset(call) + 12) >>> 12);
-const isUpdate = call => kindOf(call) < 3, isTouch = call => kindOf(call) === 5;
+const isUpdate = call => kindOf(call) < 3, isRelease = call => kindOf(call) === 6;
+/** Touches and releases are apart from the order: they are drawn as points. */
+const isApart = call => kindOf(call) > 4;
 const answerOf = reply => bytes.getUint8(offset(reply) + 1);
 const answeredBy = reply => bytes.getUint32(offset(reply) + 4);
 const atOf = reply => bytes.getUint32(offset(reply) + 8);
@@ -45,6 +47,7 @@ const rightsText = rights => (rights & 1 ? "w" : "-") + (rights & 2 ? "u" : "-")
 function requestText(call) {
   const kind = kindOf(call), size = sizeOf(call), rights = rightsOf(call), address = hex(addressOf(call));
   if (kind === 0) return `map ${SIZES[size]} ${address} to ${hex(physicalOf(call))} ${rightsText(rights)}`;
+  if (kind === 6) return `release ${SIZES[size]} ${hex(physicalOf(call))}`;
   if (kind > 3) return `${KINDS[kind]} ${"su"[rights]} ${"rwx"[size]} ${address}`;
   return `${KINDS[kind]} ${address}` + (kind === 2 ? " " + rightsText(rights) : "");
 }
@@ -79,13 +82,13 @@ function indexRun() {
 
 const endOf = call => run.reply[call] < 0 ? told.events : run.reply[call];
 
-/** The calls that come after fewer entries than a reply before them makes known; what a touch is given at says nothing of that. */
+/** The calls that come after fewer entries than a reply before them makes known; what a touch or a release is given at says nothing of that. */
 function earlyCalls() {
   const early = new Set();
   let known = 0;
   for (let event = 0; event < told.events; event++) {
     const named = isCall(event) ? event : answeredBy(event), reply = isCall(event) ? run.reply[event] : event;
-    const at = !isCall(named) || isTouch(named) ? -1 : isUpdate(named) && isCall(event) ? run.place[named] : reply >= 0 ? atOf(reply) : -1;
+    const at = !isCall(named) || isApart(named) ? -1 : isUpdate(named) && isCall(event) ? run.place[named] : reply >= 0 ? atOf(reply) : -1;
     if (isCall(event) && at >= 0 && at < known) early.add(event);
     if (!isCall(event) && at >= 0 && at <= told.places) known = Math.max(known, at + (isUpdate(named) ? 1 : 0));
   }

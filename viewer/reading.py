@@ -4,11 +4,12 @@ import collections
 import functools
 import struct
 
-MAP, UNMAP, PROTECT, RESOLVE, ACCESS, TOUCH = range(6)
+MAP, UNMAP, PROTECT, RESOLVE, ACCESS, TOUCH, RELEASE = range(7)
 DONE, OVERLAP, FULL, REMOVED, NOT_MAPPED, INSIDE, CHANGED, MAPPED, ALLOWED, FAULT = range(10)
 BYTES = (1 << 12, 1 << 21, 1 << 30)                 # of a page, by the code of its size
 SIZES = ("4K", "2M", "1G")
-CALL_FIELDS = ("size rights address physical", "address", "rights address", "address", "size rights address", "size rights address")  # by kind
+CALL_FIELDS = ("size rights address physical", "address", "rights address", "address", "size rights address", "size rights address",
+               "size physical")                     # by kind
 ANSWER_FIELDS = ("", "value", "value", "size rights value", "", "value", "rights", "size rights value", "value", "value")
 
 Call = collections.namedtuple("Call", "replica thread kind size rights address physical")
@@ -28,6 +29,8 @@ def call_words(call):
         return f"map {SIZES[call.size]} {call.address:#x} to {call.physical:#x} {rights_words(call.rights)}"
     if call.kind in (ACCESS, TOUCH):
         return f"{'touch' if call.kind == TOUCH else 'access'} {'su'[call.rights]} {'rwx'[call.size]} {call.address:#x}"
+    if call.kind == RELEASE:
+        return f"release {SIZES[call.size]} {call.physical:#x}"
     rights = f" {rights_words(call.rights)}" if call.kind == PROTECT else ""
     return f"{('map', 'unmap', 'protect', 'resolve')[call.kind]} {call.address:#x}{rights}"
 
@@ -121,7 +124,7 @@ class Trace:
         """Adds the event that the bytes spell; else says why they spell none."""
         if unit[0] > 1:
             return f"its tag is {unit[0]}, and has to be 0 or 1"
-        kinds, answers = (6, 10) if self.is_segment else (4, 8) if self.version == 1 else (5, 10)
+        kinds, answers = (7, 10) if self.is_segment else (4, 8) if self.version == 1 else (5, 10)
         if unit[0] == 0:
             _, replica, thread, kind, size, rights, zero, address, physical = struct.unpack(">BBHBBBBQQ", unit)
             event = fields = Call(replica, thread, kind, size, rights, address, physical)
@@ -149,14 +152,15 @@ class Trace:
 
     def malformed(self, call):
         """Why the call isn't well formed, if it isn't."""
-        size = BYTES[call.size] if call.kind == MAP else BYTES[0] if call.kind <= PROTECT else 1
+        has_memory = call.kind in (MAP, RELEASE)
+        size = BYTES[call.size] if has_memory else BYTES[0] if call.kind <= PROTECT else 1
         if call.address >> (11 + 9 * self.levels) not in (0, (1 << (53 - 9 * self.levels)) - 1):
             return f"its address {call.address:#x} isn't canonical"
         if call.address % size:
             return f"its address {call.address:#x} isn't a multiple of {size:#x}"
-        if call.kind == MAP and call.physical % size:
+        if has_memory and call.physical % size:
             return f"its physical address {call.physical:#x} isn't a multiple of {size:#x}"
-        return f"its page doesn't end below {1 << 51:#x}" if call.physical + size > 1 << 51 else None
+        return f"its memory doesn't end below {1 << 51:#x}" if call.physical + size > 1 << 51 else None
 
     def read_dumps(self):
         least, most = (0, 65535) if self.is_segment else (1, 4096)
@@ -206,9 +210,6 @@ class Trace:
     def known_by(self, reply):
         """How many entries of the log the reply makes known."""
         return reply.at + self.is_update(reply.call)
-
-    def is_touch(self, number):
-        return self.is_call(number) and self.events[number].kind == TOUCH
 
     def call_text(self, number):
         """A call in one line: who asks what where, and what it is answered."""

@@ -29,7 +29,7 @@ function sized(canvas, height) {
   return [pen, width];
 }
 
-/** The height of lanes: threads with a marked call have room for words, none has less than a line, and those with touches have one of
+/** The height of lanes: threads with a marked call have room for words, none has less than a line, and those with touches or releases have one of
  *  points below. */
 function heightsOf(lanes) {
   const usual = Math.max(LEAST_LANE, Math.min(38, Math.floor((window.innerHeight * 0.62 - 90) / lanes.length)));
@@ -37,13 +37,13 @@ function heightsOf(lanes) {
   return lanes.map(lane => (loud.has(lane.thread) ? Math.max(usual, 26) : usual) + pointsOf(lane));
 }
 
-const pointsOf = lane => lane.touches ? POINTS : 0;
+const pointsOf = lane => lane.points ? POINTS : 0;
 
 /** The dumps of which it is known how much of the log they have applied: not the start of a segment, and none that isn't there. */
 const appliedDumps = () => told.dumps.map((dump, index) => ({ ...dump, index })).filter(dump => dump.applied !== null && dump.frames.length);
 
-/** The lines below the log: of each such dump, and of a stale touch. */
-const linesOfLog = () => appliedDumps().length + (told.window ? 1 : 0);
+/** The lines below the log: of each such dump, of a stale touch or memory that can be reached, and of where a wrong answer would be right. */
+const linesOfLog = () => appliedDumps().length + (told.window || told.reach ? 1 : 0) + (told.right ? 1 : 0);
 
 /** Where lanes and log lie: half of the lanes above the log, the others below; or all below it, to be scrolled, where they don't fit. */
 function layOut() {
@@ -128,9 +128,14 @@ function drawLogLabels(pen, width, place) {
     const name = width < NARROW ? `r${dump.index}: ` : `replica ${dump.index}: `;
     pen.fillText(name + counted(dump.applied), left, place.log + 28 + 11 * line);
   });
-  if (!told.window) return;
+  if (told.right) {
+    pen.fillStyle = colours.soft;
+    pen.fillText(width < NARROW ? "right" : "right after", left, place.log + 28 + 11 * (linesOfLog() - 1));
+  }
+  if (!told.window && !told.reach) return;
+  const [short, long] = told.window ? [`t. ${told.window[0]}`, `touch ${told.window[0]} may see`] : [`m. ${told.reach[0]}`, `memory of ${told.reach[0]}`];
   pen.fillStyle = colours.fault;
-  pen.fillText(width < NARROW ? `t. ${told.window[0]}` : `touch ${told.window[0]} may see`, left, place.log + 28 + 11 * appliedDumps().length);
+  pen.fillText(width < NARROW ? short : long, left, place.log + 28 + 11 * appliedDumps().length);
 }
 
 const counted = number => number.toLocaleString("en");
@@ -204,7 +209,8 @@ function drawLog(pen, width, place) {
   const after = firstFrom(run.from, picture.to);
   for (let index = first; index < after; index++) drawEntry(pen, width, place, index, cells, hasArrows(place));
   appliedDumps().forEach((dump, line) => drawApplied(pen, width, top + 28 + 11 * line, dump, dump.index));
-  if (told.window) drawWindow(pen, width, top + 28 + 11 * appliedDumps().length);
+  if (told.window || told.reach) drawWindow(pen, width, top + 28 + 11 * appliedDumps().length);
+  if (told.right) drawRight(pen, width, top + 28 + 11 * (linesOfLog() - 1));
 }
 
 function drawEntry(pen, width, place, index, cells, arrows) {
@@ -242,15 +248,31 @@ function afterEntries(count) {
   return [many ? run.to[many - 1] : 0, many < run.from.length ? run.from[many] : axis.length];
 }
 
-/** From where to where in the log a stale touch may see: after the fewest entries, up to before the one that it may see no more. */
+/** From where to where in the log a stale touch may see: after the fewest entries, up to before the one that it may see no more. Or from when
+ *  to when the memory of a release could be reached: from the call that mapped it there to the answer of the one that takes it away. */
+function spanBelowLog() {
+  if (told.window) return [afterEntries(told.window[1])[0], afterEntries(told.window[2])[1]];
+  const place = placeOfPage(told.reach[1], BigInt(told.address));
+  return [place < 0 ? 0 : startOf(logAt(place)), fold(told.reach[2]) + (told.reach[2] < told.events ? 0.88 : 0)];
+}
+
 function drawWindow(pen, width, y) {
-  const [, first, last] = told.window, left = toX(afterEntries(first)[0], width), right = Math.max(toX(afterEntries(last)[1], width), left + 2);
+  const span = spanBelowLog(), left = toX(span[0], width), right = Math.max(toX(span[1], width), left + 2);
   pen.fillStyle = colours.fault;
   pen.globalAlpha = 0.3;
   pen.fillRect(left, y - 4, right - left, 7);
   pen.globalAlpha = 1;
   pen.fillRect(left, y - 6, 2, 11);
   pen.fillRect(right - 2, y - 6, 2, 11);
+}
+
+/** Where in the log a wrong answer would be right: from after so many entries up to before the one that ends that. */
+function drawRight(pen, width, y) {
+  pen.fillStyle = colours.soft;
+  for (const [first, last] of told.right) {
+    const left = toX(afterEntries(first)[0], width), right = Math.max(toX(afterEntries(last)[1], width), left + 2);
+    pen.fillRect(left, y - 4, right - left, 7);
+  }
 }
 
 /** Whether so few events are in view that each call's arrow can be seen apart from the others; marked ones are always drawn. */
@@ -287,7 +309,7 @@ function drawCalls(pen, width, place, lane, row) {
     const call = calls[index], left = toX(from[index] + 0.12, width), right = toX(stopOf(call), width);
     if (right < last + 2 && !(call in told.calls)) continue;
     last = Math.max(last, right);
-    if (isTouch(call)) {
+    if (isApart(call)) {
       drawPoint(pen, call, left, right, y + tall + POINTS / 2 - 1);
       continue;
     }
@@ -297,10 +319,12 @@ function drawCalls(pen, width, place, lane, row) {
   }
 }
 
-/** A touch: a point at its reply, and a line from when it was made; one that faults is hollow, one without a reply is only the line. */
+/** A touch: a point at its reply, and a line from when it was made; one that faults is hollow, one without a reply is only the line. A
+ *  release: a square where it is made, from when on the memory is somebody else's. */
 function drawPoint(pen, call, left, right, y) {
   const reply = run.reply[call], x = Math.max(left, right - 4);
-  pen.fillStyle = pen.strokeStyle = call in told.calls ? colours.fault : colours.touch;
+  pen.fillStyle = pen.strokeStyle = call in told.calls ? colours.fault : colours[KINDS[kindOf(call)]];
+  if (isRelease(call)) return pen.fillRect(left - 3, y - 3, 6, 6);
   pen.fillRect(left, y - 0.5, Math.max(x - left, 1), 1);
   if (reply < 0) return;
   pen.lineWidth = 1.5;

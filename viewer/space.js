@@ -66,10 +66,17 @@ function pagesAfter(count) {
   return [...pages.values()].sort((one, other) => one.base - other.base);
 }
 
+/** The last place up to so many entries that changed the page which covers an address then; -1 where it began so, or none covers it. */
+function placeOfPage(count, address) {
+  const pages = pagesAfter(count), number = Number(address >> 12n), page = pages[lastUpTo(pages, number)];
+  return page && number < page.base + SPAN[page.size] ? page.place : -1;
+}
+
 /** How many entries of the log a call comes after, with itself; -1 where it isn't known. */
 function entriesWith(call) {
   if (run.place[call] >= 0) return run.place[call] + 1;
-  if (isTouch(call)) return told.window && told.window[0] === call ? told.window[1] : -1;
+  if (told.reach && told.reach[0] === call) return told.reach[1];
+  if (isApart(call)) return told.window && told.window[0] === call ? told.window[1] : -1;
   return isUpdate(call) || run.reply[call] < 0 ? -1 : Math.min(atOf(run.reply[call]), told.places);
 }
 

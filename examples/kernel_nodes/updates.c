@@ -144,6 +144,16 @@ static void look_for_lost(struct slot *slot, uint64_t found, uint32_t written)
 	__atomic_store_n(&slot->written, 0, __ATOMIC_SEQ_CST);
 }
 
+/* While all other processors are held, the memory of a page that was unmapped is given to somebody else; that of 1 GiB is shared. */
+static void give_away(unsigned processor, const struct slot *slot, enum kind kind, struct state was)
+{
+	const uint64_t page = page_of(slot, was.which), bytes = pages_of(slot) * bytes_of(slot->size);
+	if (kind != UNMAP || processor != 0 || !processors_are_held() || slot->size == NRVS_1G || slots_lead_to(slot, page, bytes))
+		return;
+	for (unsigned k = 0; k < pages_of(slot); k++)
+		record_release(0, page + k * bytes_of(slot->size), slot->size);
+}
+
 /* What gives something, as a map, is answered as soon as it is in the log, and other nodes learn of it by a fault. What takes something
  * away is answered once each node is done with it.
  */
@@ -158,6 +168,8 @@ static void change_to(unsigned processor, struct slot *slot, enum kind kind, str
 		__atomic_store_n(&slot->written, 0, __ATOMIC_SEQ_CST);
 	slot_begins(slot, state);
 	update(&batch);
+	if (is_planted(PLANT_GIVEN))
+		give_away(processor, slot, kind, was);
 	if (kind == UNMAP || kind == REMAP || (kind == PROTECT && was.writable))
 		found = wait_for_all(&batch);
 	slot_ends(slot);
@@ -165,6 +177,8 @@ static void change_to(unsigned processor, struct slot *slot, enum kind kind, str
 	if (kind == UNMAP || kind == REMAP)
 		look_for_lost(slot, found, written);
 	reply(&batch);
+	if (!is_planted(PLANT_GIVEN))
+		give_away(processor, slot, kind, was);
 }
 
 static void change_own(unsigned processor, struct slot *slot, uint64_t *seed)

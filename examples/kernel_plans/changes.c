@@ -115,6 +115,17 @@ static void record_unmap(const struct slot *slot, struct state state, unsigned k
 		     nrvs_removed(page_of(slot, state.which) + k * bytes_of(size), (nrvs_size)size, rights_of(state)));
 }
 
+/* The memory of a page that leads elsewhere now, or nowhere, is somebody else's from here on. That of 1 GiB is the other pages' too. */
+static void give_away(const struct slot *slot, struct state was, struct state state)
+{
+	const uint64_t page = page_of(slot, was.which);
+	if (!was.mapped || (state.mapped && state.which == was.which) || slot->size == NRVS_1G || slots_lead_to(slot, page, bytes_of(slot->size)))
+		return;
+	for (unsigned k = 0; k < SPACES; k++)
+		if (slot->space == ALL_SPACES || slot->space == k)
+			record_release(k, page, slot->size);
+}
+
 /* From one state to another: a mend maps what is missing, other changes unmap all and map all. */
 static void record_change(const struct slot *slot, enum kind kind, struct state was, struct state state)
 {
@@ -208,11 +219,15 @@ unsigned changes_make(unsigned which, uint64_t *seed)
 		__atomic_store_n(&slot->written, 0, __ATOMIC_SEQ_CST);
 	slot_begins(slot, state);
 	written = __atomic_load_n(&slot->written, __ATOMIC_SEQ_CST);
+	if (is_planted(PLANT_GIVEN))
+		give_away(slot, was, state);
 	carry_out(&plan, &target, slot, kind, was);
 	slot_ends(slot);
 	if (!is_answered(slot, kind, was, plan.reply))
 		stop("a change is answered", plan.reply.code);
 	close_updates();
+	if (!is_planted(PLANT_GIVEN))
+		give_away(slot, was, state);
 	record_allow(is_planted(PLANT_SHOOTDOWN) ? 40 : 2);
 	look_for_lost(slot, kind, &plan, written);
 	return (unsigned)(slot - slots);

@@ -91,11 +91,13 @@ static void change_twice(uint64_t *seed)
 	processors_release();
 }
 
-/* Whether a planted mistake was seen; where no processor flushes, also in what was recorded. One or two of these accesses may come
- * before the replies to the change are recorded, and so be right there.
+/* Whether a planted mistake was seen: memory that is given away too early isn't seen here. Where no processor flushes, also in what was
+ * recorded. One or two of these accesses may come before the replies to the change are recorded, and so be right there.
  */
 static int is_seen(void)
 {
+	if (is_planted(PLANT_GIVEN))
+		return 1;
 	return is_planted(PLANT_SHOOTDOWN) ? slots_recorded() > 8 : slots_differ() + slots_lost() > 0;
 }
 

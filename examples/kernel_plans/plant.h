@@ -14,6 +14,7 @@ enum plant {
 	PLANT_SWAPPED,   /* of two stores each writes the word of the other */
 	PLANT_UNFILLED,  /* of a split, the new table isn't filled */
 	PLANT_GAP,       /* where parts of a page are unmapped, one more is */
+	PLANT_GIVEN,     /* a page's memory is given away before the flush; only what is recorded shows it */
 
 	/* in examples/kernel_nodes */
 	PLANT_REPLY, /* a reply before each node is done with the update */

@@ -12,6 +12,7 @@ static struct chain {
 	nrvs_atomic places[MOST_PLACES];
 	nrvs_frame frames[MOST_IN_DUMPS];
 	int is_begun, is_sent;
+	unsigned levels;
 } chains[CHAINS];
 
 static uint32_t allowed[PROCESSORS];
@@ -22,11 +23,27 @@ static void must(nrvs_status status)
 		stop(nrvs_status_text(status), status);
 }
 
-/* The kernel's addresses are physical ones. */
+static const uint64_t *words_of(uint64_t frame)
+{
+	return (const uint64_t *)(frame * 4096); /* the kernel's addresses are physical ones */
+}
+
+/* The map of all memory, by which each frame can be reached, isn't recorded: it is the first entry of a table of level 4. */
+static uint64_t table_of_all(uint64_t root, unsigned levels)
+{
+	return levels == 4 ? root : words_of(root)[0] >> 12 & ((UINT64_C(1) << 40) - 1);
+}
+
 static int lend(void *context, uint64_t number, const uint64_t **words)
 {
-	(void)context;
-	*words = (const uint64_t *)(number * 4096);
+	static uint64_t without_first[512];
+	const uint64_t *has_all = context;
+	*words = words_of(number);
+	if (number != *has_all)
+		return 0;
+	for (unsigned i = 1; i < 512; i++)
+		without_first[i] = (*words)[i];
+	*words = without_first;
 	return 0;
 }
 
@@ -41,13 +58,15 @@ static int send(void *context, const uint8_t *bytes, uint32_t length)
 void record_begin(unsigned which, unsigned copies, const struct nrvs_target *target, int is_sent)
 {
 	struct chain *chain = &chains[which];
+	uint64_t has_all = table_of_all(target->root, target->levels);
 	const nrvs_config config = {
-		.levels = (uint8_t)target->levels, .replicas = (uint8_t)copies, .threads = MOST_THREADS, .tables = MOST_TABLES,
+		.levels = (uint8_t)target->levels, .replicas = (uint8_t)copies, .threads = 1 + MOST_THREADS, .tables = MOST_TABLES,
 		.events = chain->events, .event_room = MOST_EVENTS, .log = chain->places, .log_room = MOST_PLACES,
 		.frames = chain->frames, .frame_room = MOST_IN_DUMPS,
 	};
 	must(nrvs_begin_chain(&chain->trace, &config));
-	must(nrvs_start(&chain->trace, target->root, lend, 0));
+	must(nrvs_start(&chain->trace, target->root, lend, &has_all));
+	chain->levels = target->levels;
 	chain->is_begun = 1;
 	chain->is_sent = is_sent;
 }
@@ -67,6 +86,11 @@ void record_place(unsigned chain, uint32_t place, uint32_t call)
 void record_reply(unsigned chain, uint32_t call, uint32_t at, nrvs_answer answer)
 {
 	must(nrvs_reply(&chains[chain].trace, call, at, answer));
+}
+
+void record_release(unsigned chain, uint64_t physical, unsigned size)
+{
+	record_reply(chain, record_call(chain, 0, RELEASES, nrvs_release(physical, (nrvs_size)size)), 0, nrvs_done());
 }
 
 void record_allow(unsigned number)
@@ -110,7 +134,8 @@ void record_cut(void)
 
 void record_dump(unsigned chain, unsigned copy, uint32_t applied, uint64_t root)
 {
-	must(nrvs_dump(&chains[chain].trace, copy, applied, root, lend, 0));
+	uint64_t has_all = table_of_all(root, chains[chain].levels);
+	must(nrvs_dump(&chains[chain].trace, copy, applied, root, lend, &has_all));
 }
 
 void record_end(unsigned chain)

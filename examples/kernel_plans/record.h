@@ -5,13 +5,13 @@
 #include "nrvs_plan.h"
 #include "nrvs_trace.h"
 
-enum { CHAINS = 2, MOST_THREADS = 516 };
+enum { CHAINS = 2, MOST_THREADS = 516, RELEASES = MOST_THREADS /* a thread of its own */ };
 
 /* The serial ports, by which chains are sent. */
 void ports_begin(void);
 
-/* Begins a chain of so many copies of a page table, with its tables as they are. It is sent by the serial port 1 + chain, or nobody
- * listens.
+/* Begins a chain of so many copies of a page table, with its tables as they are, but without the map of all memory at its own address. It
+ * is sent by the serial port 1 + chain, or nobody listens.
  */
 void record_begin(unsigned chain, unsigned copies, const struct nrvs_target *target, int is_sent);
 
@@ -19,6 +19,9 @@ void record_begin(unsigned chain, unsigned copies, const struct nrvs_target *tar
 uint32_t record_call(unsigned chain, unsigned copy, unsigned thread, nrvs_request request);
 void record_place(unsigned chain, uint32_t place, uint32_t call);
 void record_reply(unsigned chain, uint32_t call, uint32_t at, nrvs_answer answer);
+
+/* Memory is given to somebody else from here on. One processor at a time says so. */
+void record_release(unsigned chain, uint64_t physical, unsigned size);
 
 /* So many accesses of each processor are recorded from here on. */
 void record_allow(unsigned number);

@@ -80,6 +80,17 @@ struct state slot_state(const struct slot *slot)
 	return slot->was[slot->next % HISTORY];
 }
 
+int slots_lead_to(const struct slot *but, uint64_t physical, uint64_t bytes)
+{
+	for (const struct slot *slot = slots; slot < slots + SLOTS; slot++) {
+		const struct state state = slot_state(slot);
+		const uint64_t page = page_of(slot, state.which);
+		if (slot != but && state.mapped && page < physical + bytes && physical < page + bytes_of(slot->size))
+			return 1;
+	}
+	return 0;
+}
+
 void slot_begins(struct slot *slot, struct state state)
 {
 	__atomic_store_n(&changed_last, slot, __ATOMIC_SEQ_CST);

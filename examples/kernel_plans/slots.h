@@ -55,6 +55,9 @@ static inline unsigned rights_of(struct state state)
 /* The state of a slot after the call under way, and before it. */
 struct state slot_state(const struct slot *slot);
 
+/* Whether a page of another slot leads to some of this memory. */
+int slots_lead_to(const struct slot *but, uint64_t physical, uint64_t bytes);
+
 /* A call is under way that leads to a state; it is over. */
 void slot_begins(struct slot *slot, struct state state);
 void slot_ends(struct slot *slot);

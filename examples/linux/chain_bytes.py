@@ -1,9 +1,9 @@
-"""A segment of a chain, in the making: a trace with touches, more threads, a start, and a dump or none."""
+"""A segment of a chain, in the making: a trace with touches and releases, more threads, a start, and a dump or none."""
 import struct
 
-from trace_bytes import Frames, Trace, spell_frames
+from trace_bytes import DONE, Frames, Trace, spell_frames
 
-TOUCH = 5
+TOUCH, RELEASE = 5, 6
 TABLES = 65535
 
 
@@ -14,6 +14,12 @@ class Segment(Trace):
         """An access through a TLB, and its answer."""
         call = self.call(thread, TOUCH, address, access, int(is_user))
         self.reply(call, 0, answer, value=value)
+        return call
+
+    def release(self, thread: int, size: int, physical: int) -> int:
+        """Memory is given to somebody else from here on."""
+        call = self.call(thread, RELEASE, 0, size, physical=physical)
+        self.reply(call, 0, DONE)
         return call
 
     def spell_segment(self, root: int, start: Frames, dump: Frames) -> bytes:

@@ -1,11 +1,13 @@
 #!/usr/bin/env python3
-"""Makes a trace of a recorder's log: each change of a translation is an update, each access and each page fault an access.
+"""Makes a trace of a recorder's log: each change of a translation is an update, each access and each page fault an access. In a chain these
+are touches, and memory that the kernel frees is a release.
 
-    convert.py [--no-intent] [--every-access | --chain N] [--most N] [--calls FILE] LOG >TRACE
+    convert.py [--no-intent] [--every-access | --chain N [--no-releases]] [--most N] [--calls FILE] LOG >TRACE
 
 LOG is a file, or - for standard input. One that ends with .xz is unpacked.
 --no-intent: what mprotect and munmap promised is left to the tables.   --every-access: also those between a store and its flush.
 --chain: a chain of segments of some N updates each, with all accesses as touches; it may begin with tables that have pages.
+--no-releases: what the kernel frees is left out.
 --most: stop after so many updates.   --calls: where each call comes from, a line each, parted by tabs: its number, the processor or
 the task, what ended the time of an update that takes away, and the instructions, each an address and its place in the kernel: that of
 the store or the access, and those to which the calls return that led there.
@@ -17,13 +19,14 @@ import collections
 import lzma
 import os
 import sys
-from collections.abc import Callable, Iterable
+from collections.abc import Callable, Iterable, Iterator
 from dataclasses import dataclass, field
 from typing import NamedTuple, TextIO
 
 sys.dont_write_bytecode = True
 import log_lines
-from log_lines import Access, Born, Dumped, End, Entered, Entry, Fault, Flushed, InUser, Line, Note, Returned, Store, Symbol, Table, Word
+from log_lines import (Access, Born, Dumped, End, Entered, Entry, Fault, Flushed, InUser, Line, Note, Released, Returned, Store, Symbol,
+                       Table, Word)
 from page_tables import BYTES, Change, Page, PageTables
 from chain_bytes import Segment
 from promises import MUNMAP, PROTECTS, Promises, allowed_by, rounded
@@ -44,6 +47,7 @@ class Options:
     every_access: bool = False
     most: int = 0
     chain: int = 0
+    releases: bool = True
 
 
 class Answer(NamedTuple):
@@ -219,6 +223,25 @@ class Converter:
         access = 2 if line.code & 16 else line.code >> 1 & 1
         self.access(line.processor, bool(line.code & 4), access, line.address, Answer(FAULT, line.code & 0x17), 0)
 
+    # ---- memory that is given away ----
+
+    def release(self, line: Released) -> None:
+        """Its frames are somebody else's from here on. A processor's thread has no open call, so it can make one."""
+        if not isinstance(self.trace, Segment) or not self.options.releases:
+            return
+        for size, physical in parts_of(line.frame, line.count):
+            call = self.trace.release(line.processor % PROCESSORS, size, physical)
+            self.sources.append(Source(self.name(call), f"task {line.task:x}", line.pcs))
+            self.counts["releases"] += 1
+        self.end_flushes(line.frame * BYTES[0], (line.frame + line.count) * BYTES[0])
+
+    def end_flushes(self, begin: int, end: int) -> None:
+        """Who has taken pages of this memory away owes no flush of them any more: now it is too late. A thread of the kernel's own, which
+        isn't seen in user mode, owes it until here."""
+        for (_, base), owners in list(self.windows.items()):
+            for task in [each for each, updates in owners.items() if any(has_had(update.change, begin, end) for update in updates)]:
+                self.close(task, base, base + 1, "not flushed when its memory was given away")
+
     # ---- what system calls promise ----
 
     def note_stored(self, change: Change, task: int) -> None:
@@ -292,6 +315,8 @@ class Converter:
             case InUser(processor, task):
                 self.close(task, 0, EVERYTHING, f"not flushed, and its task in user mode on processor {processor}")
                 self.in_user(task)
+            case Released():
+                self.release(line)
             case Entered():
                 self.enter(line)
             case Returned():
@@ -350,7 +375,7 @@ class Converter:
     def put(self, line: Line) -> None:
         """Takes the next line of a log; of one that is too long, the first part of it."""
         self.is_cut = self.is_cut or self.is_enough()
-        if self.options.chain and not self.tables.linked and isinstance(line, Store | Access | Fault):
+        if self.options.chain and not self.tables.linked and isinstance(line, Store | Access | Fault | Released):
             self.begin()
         if not self.is_cut or isinstance(line, Symbol):
             self.take(line)
@@ -374,7 +399,7 @@ class Converter:
 
     def summary(self) -> str:
         """One line for what is in the trace, and one for each that isn't."""
-        kinds = ("stores", "maps", "unmaps", "protects", "accesses", "page faults")
+        kinds = ["stores", "maps", "unmaps", "protects", "accesses", "page faults", *(["releases"] if self.options.chain else [])]
         lines = [", ".join(f"{self.counts[kind]} {kind}" for kind in kinds) + f", {len(self.pages)} pages at the end"]
         lines += [f"{kind}: {count}" for kind, count in sorted(self.counts.items()) if kind not in kinds and count]
         return "\n".join(lines + self.notes)
@@ -384,6 +409,21 @@ class Converter:
         for call, who, pcs, until in self.sources:
             rows.append("\t".join([call, who, until, *(f"{pc:#x} {self.symbols.get(pc, '')}".rstrip() for pc in pcs)]) + "\n")
         return "".join(rows)
+
+
+def has_had(change: Change, begin: int, end: int) -> bool:
+    """Before it, a page led into this memory."""
+    page = change.before
+    return page is not None and page.physical < end and begin < page.physical + BYTES[page.size]
+
+
+def parts_of(frame: int, count: int) -> Iterator[tuple[int, int]]:
+    """Frames as memory of the sizes of pages, the largest that fit: each a size's code and a physical address."""
+    at, end = frame * BYTES[0], (frame + count) * BYTES[0]
+    while at < end:
+        size = next(code for code in (2, 1, 0) if at % BYTES[code] == 0 and at + BYTES[code] <= end)
+        yield size, at
+        at += BYTES[size]
 
 
 def open_lines(path: str) -> TextIO:
@@ -408,15 +448,16 @@ def convert(lines: Iterable[str], options: Options = Options(), put_segment: Cal
 
 
 def main() -> int:
-    parser = argparse.ArgumentParser(usage="convert.py [--no-intent] [--every-access | --chain N] [--most N] [--calls FILE] LOG >TRACE")
+    parser = argparse.ArgumentParser(usage=__doc__.split("\n")[3].strip())
     parser.add_argument("--no-intent", action="store_true")
     parser.add_argument("--every-access", action="store_true")
     parser.add_argument("--chain", type=int, default=0)
+    parser.add_argument("--no-releases", action="store_true")
     parser.add_argument("--most", type=int, default=0)
     parser.add_argument("--calls")
     parser.add_argument("log")
     words = parser.parse_args()
-    options = Options(not words.no_intent, words.every_access, words.most, words.chain)
+    options = Options(not words.no_intent, words.every_access, words.most, words.chain, not words.no_releases)
     try:
         with open_lines(words.log) as lines:
             converter = convert(lines, options, sys.stdout.buffer.write)

@@ -28,6 +28,12 @@ PACKAGES = {"qemu-system-x86_64": "qemu-system-x86", "busybox": "busybox-static"
 CONFIGURED = ("X86_64", "BLK_DEV_INITRD", "BINFMT_ELF", "BINFMT_SCRIPT", "PROC_FS", "SYSFS", "DEVTMPFS", "TMPFS", "SERIAL_8250_CONSOLE")
 BANNER = re.compile(rb"Linux version [0-9][^\n\0]*#[^\n\0]*")
 FLUSHERS = ("flush_tlb_mm_range", "arch_tlbbatch_flush")
+NESTED_FLUSHERS = ("kvm_flush_remote_tlbs",)    # KVM's other flushes of nested tables end with a call of it, without Hyper-V
+# Those that free frames: each stores to the flags of the frame's struct page. Which of them there are is the compiler's choice, but for
+# LISTED, which other files call.
+RELEASERS = ("free_unref_page", "free_unref_page_list", "free_unref_folios", "free_unref_page_prepare", "free_pcp_prepare",
+             "free_pages_prepare", "__free_pages_ok")
+LISTED = ("free_unref_page_list", "free_unref_folios")
 # Where the plugin looks for members; what differs between kernels it gets to know.
 FIXED = {"pt_regs": {"r10": 0x38, "ax": 0x50, "dx": 0x60, "si": 0x68, "di": 0x70, "orig_ax": 0x78},
          "flush_tlb_info": {"mm": 0, "start": 8, "end": 16}}
@@ -143,6 +149,12 @@ class Kernel:
         at = bisect.bisect_right(addresses, pc) - 1
         return (names[at], pc - addresses[at]) if at >= 0 else ("", pc)
 
+    def releasers(self) -> list[str]:
+        """The symbols of those that free frames, of parts that the compiler made of them too."""
+        if not any(name in self.by_name for name in LISTED):
+            raise Missing(f"this kernel, {self.version}, has no symbol {' or '.join(LISTED)}; the recorder knows Linux 6.1 to 6.12")
+        return sorted(name for name in self.by_name if name.partition(".")[0] in RELEASERS)
+
     def offset(self, structure: str, member: str) -> int:
         found = self.types.offset(structure, member)
         if found is None:
@@ -170,7 +182,7 @@ class Kernel:
                     raise Missing(f"struct {structure} of this kernel, {self.version}, has {member} at {self.offset(structure, member)}; "
                                   f"the recorder knows it at {place}")
 
-    def settings(self) -> list[str]:
+    def settings(self, flushers: Iterable[str] = FLUSHERS) -> list[str]:
         """What the plugin has to know, as name=value."""
         self.check_fixed()
         mask, kind = self.kind_of_tables()
@@ -178,15 +190,16 @@ class Kernel:
                    "loaded": self.address("cpu_tlbstate") + self.offset("tlb_state", "loaded_mm"), "current": self.current(),
                    "flushing": self.address("flush_tlb_info"), "entry": self.address("do_syscall_64"),
                    "entry_end": self.end("do_syscall_64"), "text": self.address("_stext"), "text_end": self.address("_etext"),
-                   "page_bytes": self.types.size("page") or 64, "page_type": self.offset("page", "page_type"), "table_mask": mask,
-                   "table_kind": kind}
-        flushers = [f"flusher={self.address(name):#x}-{self.end(name):#x}" for name in FLUSHERS]
-        return [f"{name}={value:#x}" for name, value in numbers.items()] + flushers
+                   "page_bytes": self.types.size("page") or 64, "page_flags": self.offset("page", "flags"),
+                   "page_type": self.offset("page", "page_type"), "table_mask": mask, "table_kind": kind}
+        functions = [("flusher", name) for name in flushers] + [("releaser", name) for name in self.releasers()]
+        ranges = [f"{kind}={self.address(name):#x}-{self.end(name):#x}" for kind, name in functions]
+        return [f"{name}={value:#x}" for name, value in numbers.items()] + ranges
 
     def nested_settings(self) -> list[str]:
-        """The same of KVM, where nested tables are watched."""
+        """The same where nested tables are watched, which KVM loads and flushes."""
         name = "svm_load_mmu_pgd"
-        return [f"nested={self.address(name):#x}", f"nested_end={self.end(name):#x}"]
+        return [f"nested={self.address(name):#x}", f"nested_end={self.end(name):#x}", *self.settings(NESTED_FLUSHERS)]
 
 
 @dataclass(frozen=True)

@@ -3,7 +3,7 @@
     @fault CPU CODE ADDRESS             a page fault: made of what QEMU says of an exception and of the registers
     @symbol PC PLACE                    a place in the kernel that other lines name, as symbol+offset
 
-and behind the words of a @store the addresses to which the calls return that led there, the innermost first.
+and behind the words of a @store or @released the addresses to which the calls return that led there, the innermost first.
 """
 import re
 from collections.abc import Callable, Iterable, Iterator
@@ -41,6 +41,15 @@ class Flushed(NamedTuple):
     task: int
     begin: int
     end: int
+
+
+class Released(NamedTuple):
+    """Frames that the kernel frees."""
+    processor: int
+    task: int
+    pcs: tuple[int, ...]    # of the store to the first one's flags, and behind the calls that led there
+    frame: int
+    count: int
 
 
 class InUser(NamedTuple):
@@ -99,7 +108,8 @@ class End(NamedTuple):
     why: str
 
 
-Line = Store | Access | Fault | Flushed | InUser | Entered | Returned | Born | Table | Word | Dumped | Entry | Symbol | Note | End
+Line = (Store | Access | Fault | Flushed | Released | InUser | Entered | Returned | Born | Table | Word | Dumped | Entry | Symbol | Note
+        | End)
 
 
 def number(text: str) -> int:
@@ -119,6 +129,10 @@ def store(words: list[str]) -> Store:
     return Store(number(words[2]), words[3] == "1", tuple(map(number, [words[4], *words[9:]])), *map(number, words[5:9]))
 
 
+def released(words: list[str]) -> Released:
+    return Released(int(words[1]), number(words[2]), tuple(map(number, [words[3], *words[6:]])), number(words[4]), int(words[5]))
+
+
 def access(words: list[str]) -> Access:
     return Access(int(words[1]), number(words[2]), words[3] == "u", "rwx".index(words[4]), *map(number, words[5:8]))
 
@@ -128,6 +142,7 @@ PARSERS: dict[str, Callable[[list[str]], Line]] = {
     "@access": access,
     "@fault": lambda words: Fault(int(words[1]), number(words[2]), number(words[3])),
     "@flushed": lambda words: Flushed(int(words[1]), *map(number, words[2:5])),
+    "@released": released,
     "@user": lambda words: InUser(int(words[1]), number(words[2])),
     "@entered": entered,
     "@returned": returned,
@@ -157,6 +172,7 @@ CONTROL = re.compile(r"CR0=[0-9a-f]+ CR2=([0-9a-f]+) CR3=([0-9a-f]+) ")
 OF_EXCEPTIONS = frozenset(" 0123456789TC")       # with one of these a line begins that one of them may fit
 PAGE_FAULT = "0e"
 CALLERS = 6
+PLACES_OF_CALLED = {"@store": 4, "@released": 3}        # which word of a line that gets callers is its instruction
 
 
 class Slimmer:
@@ -190,8 +206,9 @@ class Slimmer:
         words = line.split()
         if words[0] == "@callers":
             self.callers = [(back, int(called, 16)) for back, called in (each.split(":") for each in words[1:])]
-        elif words[0] == "@store":
-            pcs = [words[4], *self.calls_to(int(words[4], 16))]
+        elif words[0] in PLACES_OF_CALLED:
+            pc = words[PLACES_OF_CALLED[words[0]]]
+            pcs = [pc, *self.calls_to(int(pc, 16))]
             yield from self.names(pcs)
             self.callers = []
             yield " ".join(words + pcs[1:]) + "\n"

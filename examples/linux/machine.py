@@ -39,7 +39,7 @@ TELL_SYMBOLS = "$b grep -E ' [tTwW] |__per_cpu_offset|cpu_tlbstate|current_task|
 SYMBOLS_END = "the symbols end"
 UNUSED = shutil.ignore_patterns("doc", "man", "locale", "gconv", "info", "icons", "libLLVM*", "dri")      # of Debian's packages
 WORKLOAD = "workload"
-SECOND = "watch-second.so"      # a second copy of the plugin watches a process while the first watches nested tables
+SECOND = "second-"              # a second copy of the plugin watches a process while the first watches nested tables
 TAG, SECOND_TAG = "@", "%"                          # with which their lines begin
 
 
@@ -117,7 +117,9 @@ def compile_parts() -> None:
         sources = sorted(f"{HERE}/{folder}/{each}" for each in os.listdir(f"{HERE}/{folder}") if each.endswith((".c", ".h")))
         if not is_newer(f"{OUT}/{name}", sources):
             said("gcc", *flags, *more, "-o", f"{OUT}/{name}", *(each for each in sources if each.endswith(".c")))
-    shutil.copy(f"{OUT}/{plugin()}", f"{OUT}/{SECOND}")
+    if not is_newer(f"{OUT}/{SECOND}{plugin()}", [f"{OUT}/{plugin()}"]):
+        shutil.copy(f"{OUT}/{plugin()}", f"{OUT}/{SECOND}{plugin()}.part")
+        os.rename(f"{OUT}/{SECOND}{plugin()}.part", f"{OUT}/{SECOND}{plugin()}")   # another QEMU may run one that is there
 
 
 def plain_command(image: str, initrd: str) -> list[str]:
@@ -192,10 +194,11 @@ def plant(name: str, guest: Guest, kernel: Kernel, qemu: subprocess.Popen[bytes]
 
 def plugins(memory: str, guest: Guest, kernel: Kernel) -> list[str]:
     """The plugins, with what each gets to know."""
-    told = [f"memory={memory}", f"levels={guest.levels}", f"isolated={int(guest.isolated)}", f"rest={guest.rest}", *kernel.settings()]
-    words = ["-plugin", ",".join([f"{OUT}/{plugin()}", *told, *(kernel.nested_settings() if guest.nested else [])])]
+    told = [f"memory={memory}", f"levels={guest.levels}", f"isolated={int(guest.isolated)}", f"rest={guest.rest}"]
+    watched = kernel.nested_settings() if guest.nested else kernel.settings()
+    words = ["-plugin", ",".join([f"{OUT}/{plugin()}", *told, *watched])]
     if guest.monitor:
-        words += ["-plugin", ",".join([f"{OUT}/{SECOND}", *told, f"tag={SECOND_TAG}"])]
+        words += ["-plugin", ",".join([f"{OUT}/{SECOND}{plugin()}", *told, *kernel.settings(), f"tag={SECOND_TAG}"])]
     return words
 
 

@@ -15,6 +15,7 @@ BRANCH_TARGET = bytes.fromhex("f30f1efa")       # endbr64
 # lea -0x1000(%rcx), %rax; cmp %rdx, %rax; cmova %rax, %rcx; ret: the fourth argument is a page less where it stays above the third
 PAGE_SHORT = bytes.fromhex("488d8100f0ffff4839d0480f47c8c3")
 CALL = 0xE8
+AT_ONCE = 16    # bytes of code
 
 
 @dataclass(frozen=True)
@@ -47,15 +48,14 @@ class Detoured:
 
 @dataclass(frozen=True)
 class Silenced:
-    """The function doesn't make a call that it makes; all of these, or the one of this number."""
+    """The function doesn't make a call that it makes; all of these, or those behind which a call of another function comes at once."""
     function: str
     called: str
-    only: int | None = None
+    before: str = ""
 
-    def places(self, kernel: Kernel, stub: Stub) -> list[int]:
-        """Where the calls are in the code as it runs: the kernel has changed some of it while it booted."""
-        begin, target = kernel.address(self.function), kernel.address(self.called)
-        code = stub.read(begin, kernel.end(self.function) - begin)
+    def places(self, kernel: Kernel, code: bytes, called: str) -> list[int]:
+        """Where such calls are in the function's code, as it runs: the kernel has changed some of it while it booted."""
+        begin, target = kernel.address(self.function), kernel.address(called)
         found = []
         for at in range(len(code) - 4):
             distance = int.from_bytes(code[at + 1:at + 5], "little", signed=True)
@@ -64,10 +64,15 @@ class Silenced:
         return found
 
     def plant(self, kernel: Kernel, stub: Stub) -> None:
-        found = self.places(kernel, stub)
-        chosen = found if self.only is None else found[self.only:self.only + 1]
+        begin = kernel.address(self.function)
+        code = stub.read(begin, kernel.end(self.function) - begin)
+        chosen = self.places(kernel, code, self.called)
+        if self.before:
+            others = self.places(kernel, code, self.before)
+            chosen = [place for place in chosen if any(place < other < place + AT_ONCE for other in others)]
         if not chosen:
-            raise Missing(f"{self.function} of this kernel, {kernel.version}, doesn't call {self.called}")
+            behind = f" before {self.before}" if self.before else ""
+            raise Missing(f"{self.function} of this kernel, {kernel.version}, doesn't call {self.called}{behind}")
         for place in chosen:
             stub.write(place, NOTHING)
 
@@ -85,7 +90,8 @@ class Plant:
     processors: int = 1         # with one, nothing but the kernel's own flushes comes between a store and what the process does next
     tick: int = 0
     nested: str = ""            # a monitor of KVM meets it: what this does
-    is_seen: bool = True        # by a processor: else the verdict is yes
+    is_seen: bool = True        # by a processor, or where memory is freed: else the verdict is yes
+    is_given: bool = False      # it is seen where memory is freed, so only in a chain
 
 
 PLANTS = {
@@ -113,5 +119,20 @@ PLANTS = {
                        nested="logged"),
     "kvm-kick": Plant("KVM notes that its processors have to flush, and interrupts none",
                       (Silenced("kvm_make_all_cpus_request_except", "smp_call_function_many"),), "", 60, 3, nested="pair"),
+    "kvm-notify": Plant("KVM takes pages away that its host frees, and doesn't flush",
+                        (Silenced("kvm_mmu_notifier_invalidate_range_start", "kvm_flush_remote_tlbs"),), "", 30, 2, nested="monitor",
+                        is_given=True),
+    "gather": Plant("munmap and madvise free pages, and don't flush",
+                    (Silenced("tlb_flush_mmu", "flush_tlb_mm_range"), Silenced("tlb_finish_mmu", "flush_tlb_mm_range")), "given",
+                    is_given=True),
+    "reclaim": Plant("reclaim frees pages, and doesn't make its flush for all of them",
+                     (Silenced("shrink_folio_list", "try_to_unmap_flush"),), "lazy", 5, 3, 50, is_given=True),
+    "reclaim-large": Plant("reclaim frees a large page before that flush",
+                           (Silenced("shrink_folio_list", "try_to_unmap_flush", "destroy_large_folio"),), "lazy-large", 5, 3, 50,
+                           is_given=True),
+    "merge": Plant("KSM makes one page of many, and doesn't flush", (Silenced("ptep_clear_flush", "flush_tlb_mm_range"),), "equal",
+                   is_given=True),
+    "migrate": Plant("compaction moves a page, and doesn't flush", (Silenced("ptep_clear_flush", "flush_tlb_mm_range"),), "compacted",
+                     is_given=True),
     "no-unmap": Plant("munmap leaves the pages mapped", (Replaced("unmap_page_range", RETURN),), "threads", 5),
 }

@@ -2,12 +2,13 @@
 """Draws slips in a log, one at a time, and has the program judge the trace that comes of each: a recorder or a kernel that did
 otherwise than the processors saw has to be found.
 
-    slips.py [--count N] [--seed S] LOG
+    slips.py [--flushes] [--count N] [--seed S] LOG
 
 Of each kind N are drawn among the stores to entries of pages: one is dropped, one is altered (another frame, or a right more or
 less), or one is moved behind some of the lines that follow. It prints for each kind what shows them: an access of a processor, the
 word that a later store overwrote, the tables at the end, or what a system call promised, as the converter counts. A slip that makes
-the same trace isn't counted. NRVS says where the program is, else it is crates/nrvs/out/nrvs.
+the same trace isn't counted. With --flushes N flushes are dropped, one at a time, and the log is a chain, once with what the kernel
+frees and once without. NRVS says where the program is, else it is crates/nrvs/out/nrvs.
 """
 import argparse
 import collections
@@ -25,6 +26,8 @@ WRITABLE, OF_USERS, NO_EXECUTE = 2, 4, 1 << 63
 FRAME_BIT = 1 << 12
 FARTHEST = 2000     # lines that a store may be moved by
 NOTHING = "nothing"
+WHOLE = 60000       # updates: the chain is one segment
+SHOWN_BY = {"segments": NOTHING, "Stale": "an access", "Reachable": "memory that was given away"}
 
 
 def stores_of_pages(lines: list[str]) -> list[int]:
@@ -94,15 +97,43 @@ def draw_slips(lines: list[str], count: int, seed: int) -> dict[str, collections
     return results
 
 
+def chain_verdict(lines: list[str], releases: bool) -> tuple[bytes, str]:
+    """The chain of these lines, and what shows that it isn't right."""
+    chain = convert.convert(lines, convert.Options(chain=WHOLE, releases=releases)).spell()
+    done = subprocess.run([explain.program(), "audit", "--chain", "--quiet"], input=chain, stdout=subprocess.PIPE)
+    words = done.stdout.decode().split()
+    return chain, SHOWN_BY.get(words[-2], words[-2])
+
+
+def draw_flushes(lines: list[str], count: int, seed: int) -> dict[str, collections.Counter[str]]:
+    """The same of flushes that are dropped, those that change the chain, with releases and without."""
+    sound, said = chain_verdict(lines, True)
+    if said != NOTHING:
+        raise Missing(f"the log itself isn't sound: that shows {said}")
+    flushes = [number for number, line in enumerate(lines) if line.startswith("@flushed")]
+    results = {what: collections.Counter() for what in ("with releases", "without releases")}
+    draw = random.Random(f"{seed} flushes")
+    draw.shuffle(flushes)
+    for number in flushes:
+        if results["with releases"].total() == count:
+            break
+        chain, said = chain_verdict(dropped(lines, number, draw), True)
+        if chain != sound:
+            results["with releases"][said] += 1
+            results["without releases"][chain_verdict(dropped(lines, number, draw), False)[1]] += 1
+    return results
+
+
 def main() -> int:
-    parser = argparse.ArgumentParser(usage="slips.py [--count N] [--seed S] LOG")
+    parser = argparse.ArgumentParser(usage="slips.py [--flushes] [--count N] [--seed S] LOG")
+    parser.add_argument("--flushes", action="store_true")
     parser.add_argument("--count", type=int, default=50)
     parser.add_argument("--seed", type=int, default=1)
     parser.add_argument("log")
     words = parser.parse_args()
     try:
         explain.check_program()
-        results = draw_slips(convert.read_lines(words.log), words.count, words.seed)
+        results = (draw_flushes if words.flushes else draw_slips)(convert.read_lines(words.log), words.count, words.seed)
     except Missing as why:
         print(f"slips.py: {why}", file=sys.stderr)
         return 2

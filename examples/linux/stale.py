@@ -1,5 +1,6 @@
 #!/usr/bin/env python3
-"""Shows what a stale access of a chain saw, and who changed its page: what `run` prints where a chain's fault is a Stale.
+"""Shows what a stale access of a chain saw, and who changed its page, or of a release who gave memory away, and which page still led there:
+what `run` prints where a chain's fault is a Stale or a Reachable.
 
     stale.py SEGMENTS NUMBER CALL CALLS
 
@@ -9,11 +10,13 @@ the call that the fault names, CALLS what the converter wrote beside the chain. 
 import re
 import struct
 import sys
+from dataclasses import dataclass
 from typing import NamedTuple
 
 sys.dont_write_bytecode = True
 import chains
 import explain
+from chain_bytes import RELEASE
 from page_tables import BYTES
 from trace_bytes import ALLOWED, MAP, PROTECT, UNMAP
 
@@ -36,6 +39,17 @@ class Reply(NamedTuple):
     answer: int
     size: int
     value: int
+
+
+@dataclass
+class Life:
+    """A page, with the segments and the calls that made it and took it away."""
+    base: int
+    size: int
+    physical: int
+    made: tuple[int, Call] | None           # none: it is older than the segments that are there
+    taken: tuple[int, Call] | None = None
+    is_over: bool = False                   # what took it away was answered before the call that is looked at
 
 
 def begin_of_events(segment: bytes) -> tuple[int, int]:
@@ -92,6 +106,8 @@ def rights_text(rights: int) -> str:
 
 def request(call: Call) -> str:
     """As a script has it."""
+    if call.kind == RELEASE:
+        return f"release {BYTES[call.size] >> 10}K {call.physical:#x}"
     if call.kind not in NAMES:
         return f"touch {'su'[call.rights]} {'rwx'[call.size]} {call.address:#x}"
     rest = {MAP: f" {call.physical:#x} {rights_text(call.rights)}", PROTECT: f" {rights_text(call.rights)}", UNMAP: ""}[call.kind]
@@ -128,28 +144,77 @@ def shown(segments: list[bytes], number: int, touch: int, sources: dict[str, lis
     return lines if updates else [*lines, f"no update of its page was answered before it{begin}"]
 
 
+def lives(segments: list[bytes], number: int, until: int) -> list[Life]:
+    """The pages of the segments' updates, up to this call of the last segment, whose number is `number`."""
+    here: dict[int, Life] = {}
+    found = []
+    for at, (calls, replies) in enumerate(map(events, segments), number - len(segments) + 1):
+        for call in calls:
+            reply = replies.get(call.number)
+            is_over = reply is not None and (at < number or reply.event < until)
+            if at == number and call.number > until:
+                break
+            if call.kind == MAP:
+                here[call.address] = Life(call.address, call.size, call.physical, (at, call))
+                found.append(here[call.address])
+            elif call.kind == UNMAP and (call.address in here or reply):
+                life = here.pop(call.address, None)
+                if not life:
+                    life = Life(call.address, reply.size, reply.value, None)
+                    found.append(life)
+                life.taken, life.is_over = (at, call), is_over
+    return found
+
+
+def leads_there(life: Life, release: Call) -> bool:
+    """An access that begins with the release could reach its memory by the page."""
+    end = release.physical + BYTES[release.size]
+    return not life.is_over and life.physical < end and release.physical < life.physical + BYTES[life.size]
+
+
+def shown_release(segments: list[bytes], number: int, release: int, sources: dict[str, list[str]]) -> list[str]:
+    """The release, and the pages that still led there, two of them at most. Segment `number` is the last of these."""
+    found = next(each for each in events(segments[-1])[0] if each.number == release)
+    lines = [f"call {release}, thread {found.thread}: {request(found)}", *made_by(f"{number}.{release}", sources)]
+    for life in [each for each in lives(segments, number, release) if leads_there(each, found)][:2]:
+        for what, by in (("a page leads there", life.made), ("taken away, and not answered before", life.taken)):
+            if by:
+                where = f"segment {by[0]}, " if by[0] < number else ""
+                lines.append(f"{what}: {where}call {by[1].number}, thread {by[1].thread}: {request(by[1])}")
+                lines += made_by(f"{by[0]}.{by[1].number}", sources)
+        if not life.taken:
+            lines.append("nobody has taken it away")
+    return lines
+
+
 def read_sources(path: str) -> dict[str, list[str]]:
     rows = (line.rstrip("\n").split("\t") for line in open(path))
     return {name: words for name, *words in rows}
 
 
+def of_fault(segments: list[bytes], number: int, call: int, calls: str) -> list[str]:
+    """What is shown of a call that a fault names, a touch or a release; `calls` is the file with who made calls."""
+    kind = next(each.kind for each in events(segments[-1])[0] if each.number == call)
+    return (shown_release if kind == RELEASE else shown)(segments, number, call, read_sources(calls))
+
+
 def of_chain(chain: chains.Chain, path: str) -> list[str]:
-    """The same of a chain that was judged, where its fault is a stale access. The segments go to PATH.segments; PATH.calls is there."""
-    found = re.fullmatch("segment ([0-9]+)\nno 24 Stale ([0-9]+)", "\n".join(chain.verdict))
+    """The same of a chain that was judged, where its fault is one of these. The segments go to PATH.segments; PATH.calls is there."""
+    found = re.fullmatch("segment ([0-9]+)\nno 2[45] (?:Stale|Reachable) ([0-9]+)", "\n".join(chain.verdict))
     segments = chain.segments_to(int(found.group(1))) if found else []
     if not found or not segments:
         return []
     with open(f"{path}.segments", "wb") as file:
         file.write(b"".join(segments))
-    return shown(segments, int(found.group(1)), int(found.group(2)), read_sources(f"{path}.calls"))
+    return of_fault(segments, int(found.group(1)), int(found.group(2)), f"{path}.calls")
 
 
 def main() -> int:
     if len(sys.argv) != 5:
         print(__doc__, file=sys.stderr)
         return 2
-    path, number, touch, calls = sys.argv[1:]
-    print("\n".join(shown(split(open(path, "rb").read()), int(number), int(touch), read_sources(calls))))
+    path, number, call, calls = sys.argv[1:]
+    print("\n".join(of_fault(split(open(path, "rb").read()), int(number), int(call), calls)))
     return 0
 
 

@@ -51,6 +51,8 @@ WORKLOADS = {
     "five": Workload("five levels, 2 processors", "live SEED 5 threads shootdown cow huge moved files", 2, 50, levels=5),
     "isolated": Workload("the user's table of page-table isolation, 2 processors",
                          "live SEED 5 threads shootdown cow huge moved files", 2, 50, isolated=True),
+    "given": Workload("pages that are freed: by munmap, reclaim, KSM and compaction, 3 processors",
+                      "live SEED 5 given lazy lazy-large equal compacted", 3, 50, chain=1000),
     "fork": Workload("the address space that fork makes of one with 1,000 pages, to the child's exit, 2 processors",
                      "fork SEED 1000", 2, 50),
     "busybox": Workload("a shell of busybox with pipes, from exec to exit, 2 processors",
@@ -89,4 +91,4 @@ def planted(plant: Plant) -> Workload:
     """The process that meets a planted bug; it waits for it when it runs already."""
     how, is_pair = plant.nested or "live", plant.nested == "pair"
     return Workload(plant.what, f"{how} SEED {plant.rounds} planted {plant.parts}", plant.processors, plant.tick, nested=bool(plant.nested),
-                    monitor=is_pair, chain=1000 if is_pair else 0, options=WITHOUT_TICKS[plant.processors] if plant.nested else "")
+                    monitor=is_pair, chain=1000 if is_pair or plant.is_given else 0, options=WITHOUT_TICKS[plant.processors] if plant.nested else "")

@@ -11,6 +11,7 @@
 #include "space.h"
 
 enum { MOST_EVENTS = 1 << 16, MOST_PLACES = 1 << 15, MOST_FRAMES = 192, MOST_TABLES = 512, MOST_PROCESSORS = 64 };
+enum { RELEASES = 1 + MOST_PROCESSORS + PARTS };
 
 static struct {
 	nrvs_trace trace;
@@ -53,7 +54,7 @@ static int send(void *context, const uint8_t *bytes, uint32_t length)
 
 int record_begin(unsigned port)
 {
-	nrvs_config config = { .replicas = 1, .threads = 1 + MOST_PROCESSORS + PARTS, .tables = MOST_TABLES, .event_room = MOST_EVENTS,
+	nrvs_config config = { .replicas = 1, .threads = 1 + RELEASES, .tables = MOST_TABLES, .event_room = MOST_EVENTS,
 			       .log_room = MOST_PLACES, .frame_room = MOST_FRAMES };
 	chain = vzalloc(sizeof(*chain));
 	if (!chain)
@@ -75,7 +76,9 @@ void record_end(void)
 	vfree(chain);
 }
 
-/* A thread has one call open at a time: who changes pages is thread 0, and as many more as it needs; processor k is thread 1 + k. */
+/* A thread has one call open at a time: who changes pages is thread 0, and as many more as it needs; processor k is thread 1 + k. The last
+ * one is who gives memory away, which may be while updates are open.
+ */
 void record_update(nrvs_request request, nrvs_answer answer)
 {
 	const uint32_t at = chain->open_count++, thread = at == 0 ? 0 : MOST_PROCESSORS + at;
@@ -89,6 +92,13 @@ void record_replies(void)
 	for (uint32_t i = 0; i < chain->open_count; i++)
 		must(nrvs_reply(&chain->trace, chain->open[i].call, chain->placed - chain->open_count + i, chain->open[i].answer));
 	chain->open_count = 0;
+}
+
+void record_release(uint64_t physical, unsigned size)
+{
+	uint32_t call;
+	must(nrvs_call(&chain->trace, 0, RELEASES, nrvs_release(physical, (nrvs_size)size), &call));
+	must(nrvs_reply(&chain->trace, call, 0, nrvs_done()));
 }
 
 void record_allow(unsigned number)

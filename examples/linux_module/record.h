@@ -42,6 +42,9 @@ void record_end(void);
 void record_update(nrvs_request request, nrvs_answer answer);
 void record_replies(void);
 
+/* The memory is given to somebody else from here on. */
+void record_release(uint64_t physical, unsigned size);
+
 /* So many accesses of each processor are recorded from here on. */
 void record_allow(unsigned number);
 

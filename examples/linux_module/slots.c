@@ -221,6 +221,24 @@ static void look_for_lost(const struct slot *slot, enum kind kind, const struct 
 		counts.lost += was_written && !are_dirty(plan->fill.frame);
 }
 
+/* Whether the page of some slot leads to some of these frames. */
+static bool is_led_to(uint64_t frame, uint64_t count)
+{
+	for (unsigned k = 0; k < SLOTS; k++) {
+		const struct state is = slots[k].was[slots[k].next % HISTORY];
+		if (is.frame != NONE && is.frame < frame + count && frame < is.frame + frames_of(slots[k].size))
+			return true;
+	}
+	return false;
+}
+
+/* The memory to which no page leads any more is somebody else's from here on. */
+static void give_away(const struct slot *slot, struct state was)
+{
+	if (was.frame != NONE && !is_led_to(was.frame, frames_of(slot->size)))
+		record_release(was.frame << PAGE_SHIFT, slot->size);
+}
+
 /* The change is over: no access may find what was before it. */
 static void end(struct slot *slot)
 {
@@ -230,9 +248,11 @@ static void end(struct slot *slot)
 }
 
 /* The stores, the flush, and then the end; the tables that were unlinked are free. */
-static void carry_out(struct slot *slot, struct nrvs_plan *plan)
+static void carry_out(struct slot *slot, struct nrvs_plan *plan, struct state was)
 {
 	space_store(plan);
+	if (is_planted(PLANT_GIVEN))
+		give_away(slot, was);
 	if (is_planted(PLANT_EARLY)) {
 		end(slot);
 		space_free(plan);
@@ -243,6 +263,8 @@ static void carry_out(struct slot *slot, struct nrvs_plan *plan)
 		return;
 	end(slot);
 	space_free(plan);
+	if (is_planted(PLANT_NONE))
+		give_away(slot, was);
 }
 
 /* A change is under way. */
@@ -270,7 +292,7 @@ static void change(struct slot *slot, enum kind kind, struct state is, bool wait
 	}
 	if (waits)
 		processors_go_on(300);
-	carry_out(slot, &plan);
+	carry_out(slot, &plan, was);
 	look_for_lost(slot, kind, &plan, was_written);
 	counts.changes[kind]++;
 }

@@ -1,8 +1,8 @@
 /*
  * Bugs that page tables of real systems have had, each behind one name; docs/RECORDING.md says what the auditor says of
  * each. A run has at most one of them. Those that begin at once are in the random requests too; the others only begin with
- * the closing requests, since what they leave behind would be met in different ways by different schedules. The last three
- * are of chains: two are there only across a cut, and one is seen by touches alone.
+ * the closing requests, since what they leave behind would be met in different ways by different schedules. The last four
+ * are of chains: two are there only across a cut, one is seen by touches alone, and one where memory is released.
  */
 #ifndef BUGS_H
 #define BUGS_H
@@ -24,6 +24,7 @@ enum bug {
 	CACHED_OVER_CUT,      /* at a cut each cached translation is taken as one of now */
 	EARLY_START,          /* a start is copied while a thread still changes the tables */
 	LATE_FLUSH,           /* an update is answered before the TLBs are flushed */
+	FREED_EARLY,          /* the memory of a page that is gone is released before the TLBs are flushed */
 	BUGS
 };
 
@@ -35,7 +36,7 @@ extern int closing;       /* the closing requests have begun */
 /* Is the bug there now? One that begins at once is there at one of `period` chances, by the caller's count of them. */
 static inline int bug(enum bug name, unsigned period, unsigned count)
 {
-	const unsigned only_closing = 1u << FREED_TABLE | 1u << SHARED_TABLE;
+	const unsigned only_closing = 1u << FREED_TABLE | 1u << SHARED_TABLE | 1u << FREED_EARLY;
 
 	return chosen_bug == name && segment >= bug_from &&
 	       (closing || (!(only_closing >> name & 1) && count % period == period - 1));

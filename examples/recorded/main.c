@@ -24,7 +24,7 @@ int closing = 0;
 static const char *const bug_names[BUGS] = {
 	"none", "answered-twice", "reply-before-place", "stale-read", "no-shootdown", "lost-update", "swapped-updates",
 	"unmap-neighbour", "freed-table", "shared-table", "unaligned-large-page", "leaked-table", "leaf-rights",
-	"cached-over-cut", "early-start", "late-flush",
+	"cached-over-cut", "early-start", "late-flush", "freed-early",
 };
 
 struct settings settings = { .threads = 4, .requests = 200, .tables = 24, .dumps = 1, .seed = 1 };
@@ -299,9 +299,10 @@ static void fill(void)
 static void usage(void)
 {
 	fprintf(stderr, "recorded [--threads 1..8] [--requests N] [--seed N] [--tables 8..%u] [--bug NAME] >TRACE\n"
-		"recorded .. [--segments N] [--start] [--starts N] [--dumps N] [--touching 1..8] [--from K] >CHAIN\n"
+		"recorded .. [--segments N] [--start] [--starts N] [--dumps N] [--touching 1..8] [--late] [--from K] >CHAIN\n"
 		"N requests a thread, and of a chain a segment; a start or dump each N segments; --start: begins with pages;\n"
-		"--touching: threads that access through TLBs; --from: the segment with which the bug begins\n"
+		"--touching: threads that access through TLBs; --late: no flush where rights are added;\n"
+		"--from: the segment with which the bug begins\n"
 		"bugs:", FRAME_ROOM);
 	for (unsigned k = 0; k < BUGS; k++)
 		fprintf(stderr, " %s", bug_names[k]);
@@ -359,6 +360,8 @@ int main(int count, char **words)
 	for (int k = 1; k < count; k++) {
 		if (!strcmp(words[k], "--start"))
 			settings.is_filled = 1;
+		else if (!strcmp(words[k], "--late"))
+			settings.is_late = 1;
 		else if (k + 1 == count)
 			usage();
 		else

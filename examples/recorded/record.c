@@ -64,6 +64,26 @@ static void begin_work(struct worker *worker)
 		sched_yield();
 }
 
+/* Rights were added to a page, and nothing was taken away: a processor that kept the old ones faults once more, and walks again. */
+static int adds_rights(nrvs_request request, nrvs_answer answer)
+{
+	return request.kind == NRVS_KIND_PROTECT && answer.code == nrvs_changed(0).code && (answer.rights & ~request.rights) == 0;
+}
+
+/*
+ * The memory of the page is somebody else's from here on. The closing requests release what they had mapped, since no other
+ * page has that memory. It is recorded on a thread of its own: that of the worker may have its call open.
+ */
+static void give_back(nrvs_request request, nrvs_answer answer)
+{
+	uint32_t call;
+
+	if (!closing || settings.segments == 0 || request.kind != NRVS_KIND_UNMAP || answer.code != nrvs_removed(0, NRVS_4K, 0).code)
+		return;
+	must(nrvs_call(trace, 0, worker_count, nrvs_release(answer.value, (nrvs_size)answer.size), &call)); /* chain */
+	must(nrvs_reply(trace, call, 0, nrvs_done()));             /* chain */
+}
+
 static void update(struct worker *worker, nrvs_request request)
 {
 	uint32_t call, at;
@@ -90,9 +110,14 @@ static void update(struct worker *worker, nrvs_request request)
 		flush(request);
 		return;
 	}
-	flush(request);
+	if (bug(FREED_EARLY, 1, 0))
+		give_back(request, answer);
+	if (!settings.is_late || !adds_rights(request, answer))
+		flush(request);
 	if (!bug(REPLY_BEFORE_PLACE, 1, 0))
 		must(nrvs_reply(trace, call, at, answer));         /* trace */
+	if (chosen_bug != FREED_EARLY)
+		give_back(request, answer);
 	if (bug(ANSWERED_TWICE, 16, at))
 		must(nrvs_reply(trace, call, at, answer));
 }
@@ -307,7 +332,7 @@ static void cut_where_full(struct worker *worker)
 static void begin_one(nrvs_trace *it, uint32_t calls)
 {
 	nrvs_config config = {
-		.levels = 4, .replicas = 1, .threads = (uint16_t)worker_count, .tables = (uint16_t)settings.tables,
+		.levels = 4, .replicas = 1, .threads = (uint16_t)(worker_count + (settings.segments > 0)), .tables = (uint16_t)settings.tables,
 		.event_room = 2 * calls + calls / 8 + 16, .log_room = calls, .frame_room = 2 * settings.tables,
 	};
 

@@ -27,6 +27,7 @@ struct settings {
 	unsigned segments;            /* 0: a trace */
 	unsigned starts, dumps;       /* each so manieth segment has a start, or a dump; 0: none has */
 	int is_filled;                /* the page table isn't empty at first */
+	int is_late;                  /* no TLB is flushed where rights are added */
 	uint64_t seed;
 };
 

@@ -22,6 +22,8 @@ int tlb_find(struct tlb *tlb, uint64_t address, nrvs_mode mode, nrvs_act act, nr
 		if (into < tlb->entries[k].bytes) {
 			*answer = access_answer(nrvs_mapped(tlb->entries[k].phys + into, NRVS_4K, tlb->entries[k].rights), mode, act);
 			is_there = 1;
+			if (answer->code == nrvs_fault(0).code)
+				tlb->entries[k].bytes = 0; /* a fault drops it, and the next access walks */
 		}
 	}
 	pthread_mutex_unlock(&tlb->lock);

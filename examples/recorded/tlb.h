@@ -19,7 +19,7 @@ struct tlb {
 
 void tlb_make(struct tlb *tlb);
 
-/* The answer to an access by an entry that is kept; 0 where there is none. */
+/* The answer to an access by an entry that is kept; 0 where there is none. An entry by which it faults is dropped. */
 int tlb_find(struct tlb *tlb, uint64_t address, nrvs_mode mode, nrvs_act act, nrvs_answer *answer);
 
 /* Keeps what a resolve of the address was answered: under the page table's lock, so that no flush of it is missed. */

@@ -79,6 +79,7 @@ fn request(n: &[u64]) -> Result<Request, Refusal> {
         3 => Ok(Request::Resolve { address }),
         4 => Ok(Request::Access { address, mode: mode(n[4])?, access: access(n[3])? }),
         5 => Ok(Request::Touch { address, mode: mode(n[4])?, access: access(n[3])? }),
+        6 => Ok(Request::Release { phys: n[6], size }),
         _ => Err(Refusal::BadEvent),
     }
 }

@@ -23,7 +23,7 @@ use Rattle.nr_chain.proofs.Restarts.{begins_in}
 use Rattle.audit_texts.specs.Listing.{pages_text}
 use Rattle.audit_texts.proofs.Texts.{equal_spaces}
 use Rattle.audit_readers.specs.ChainAudit.{IsChainAudit}
-use Rattle.audit_readers.specs.ChainPages.{IsChainEnd, IsChainStart, ShowsEnd, ShowsStart, TellsFault}
+use Rattle.audit_readers.specs.ChainPages.{IsChainEnd, IsChainStart, IsSettledBefore, ShowsEnd, ShowsStart, TellsFault}
 use Rattle.audit_texts.specs.ChainText.{end_lines, quiet_lines}
 
 abbrev Same : List ℕ → List ℕ → ℕ → ℕ → Type 0
@@ -108,7 +108,7 @@ same_ends as_ranges front back text status same end start layout =
     equal_spaces as_ranges end.last.trace.layout.depth (end_of end.last) (first_space None start.first) end.is_space there (sym end.text_is ∙ start.text_is)
 
 module _ (as_ranges : Bool) (front back text : List ℕ) (status same : ℕ) (end : ShowsEnd as_ranges front text status)
-    (start : ShowsStart as_ranges back text same) (layout : start.first.layout ≡ end.last.trace.layout) where
+    (start : ShowsStart as_ranges back text same) (layout : start.first.layout ≡ end.last.trace.layout) (settled : IsSettledBefore end.last back) where
   follows : MayFollow end.last back
   follows = record {
     first = start.first;
@@ -116,6 +116,7 @@ module _ (as_ranges : Bool) (front back text : List ℕ) (status same : ℕ) (en
     begins = start.begins;
     layout = layout;
     pages = sym (same_ends as_ranges front back text status same end start layout);
+    settled = settled;
   }
 
   -- the front comes to an orderly run

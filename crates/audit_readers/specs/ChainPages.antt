@@ -6,12 +6,13 @@ use Rattle.nr_trace.specs.Recording.{Recording}
 use Rattle.nr_trace.specs.FirstFault.{HasSegmentFault}
 use Rattle.nr_trace.specs.declared.fault.Format.TheVariants.{Truncated}
 use Rattle.nr_audit.specs.Faults.{IsSoundAfter}
+use Rattle.nr_audit.specs.Releases.{IsSettled}
 use Rattle.nr_audit.specs.Start.{first_space}
 use Rattle.nr_trace.specs.declared.fault.Fault.{Fault}
-use Rattle.nr_chain.specs.Bytes.{BeginsWith, GoesOnSo}
+use Rattle.nr_chain.specs.Bytes.{BeginsWith, GoesOnSo, SpellAll}
 use Rattle.nr_joined.specs.Run.{Run, end_of}
 use Rattle.nr_chain.specs.Headline.{IsRightChain}
-use Rattle.nr_chain.specs.Parts.{ComesTo}
+use Rattle.nr_chain.specs.Parts.{ComesTo, HaveReleases}
 use Rattle.audit_texts.specs.Listing.{pages_text}
 use Rattle.audit_texts.specs.ChainText.{end_lines}
 
@@ -41,6 +42,10 @@ pub record ShowsEnd (as_ranges : Bool) (bytes text : List ℕ) (status : ℕ) : 
   pub is_space : IsSpace last.trace.layout.depth (end_of last)
   pub text_is : text ≡ pages_text as_ranges (pages (end_of last))
   pub status_is : status ≡ 0
+
+-- where a part gives memory away, no address may still be found to look otherwise behind the run before it
+abbrev pub IsSettledBefore : Run → List ℕ → Type 0
+IsSettledBefore end back = (segments : List Recording) → SpellAll None back segments → HaveReleases segments → IsSettled end
 
 -- the answer of `pages --start`: the text is that of the start; or the first segment has a fault
 abbrev pub IsChainStart : Bool → List ℕ → List ℕ → ℕ → Type 0

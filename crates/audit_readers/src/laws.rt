@@ -12,7 +12,7 @@ ghost use Rattle.nr_chain.specs.Headline.{IsRightChain};
 ghost use Rattle.nr_joined.specs.Run.{end_of};
 ghost use Rattle.nr_audit.specs.Start.{first_space};
 ghost use Rattle.audit_readers.specs.ChainAudit.{IsChainAudit};
-ghost use Rattle.audit_readers.specs.ChainPages.{IsChainEnd, IsChainStart, ShowsEnd, ShowsStart, TellsFault};
+ghost use Rattle.audit_readers.specs.ChainPages.{IsChainEnd, IsChainStart, IsSettledBefore, ShowsEnd, ShowsStart, TellsFault};
 ghost use Rattle.audit_readers.specs.PagesAnswers.{dump_fault};
 ghost use Rattle.audit_texts.specs.ChainText.{quiet_lines};
 
@@ -27,9 +27,9 @@ pub fn a_chain_has_one_text()
 {}
 
 /// Let two parts of a chain have one layout, and let the same be printed for the end of the first and for the start of the second. Then
-/// the space at the one is that at the other. If the second is right, they are right as one, with the orders one after the other. What is
-/// printed for the end of the whole is what is printed for the end of the second, so that a third part may follow. So any number of
-/// parts can be judged, each elsewhere.
+/// the space at the one is that at the other. Let the second give no memory away, or let nothing be left open behind the first. If the
+/// second is right, they are right as one, with the orders one after the other. What is printed for the end of the whole is what is
+/// printed for the end of the second, so that a third part may follow. So any number of parts can be judged, each elsewhere.
 pub fn parts_with_equal_ends_are_right_as_one()
     ensures spaces { (as_ranges : Bool) (front back text : List ℕ) (status same : ℕ)
         (end : ShowsEnd as_ranges front text status) (start : ShowsStart as_ranges back text same)
@@ -38,11 +38,12 @@ pub fn parts_with_equal_ends_are_right_as_one()
     ensures right { (as_ranges : Bool) (front back text : List ℕ) (status same : ℕ)
         (others : List (List ℕ)) (end : ShowsEnd as_ranges front text status)
         (start : ShowsStart as_ranges back text same) → start.first.layout ≡ end.last.trace.layout
-        → GoesOnSo None back others None → IsRightChain (front ++ back) (end.orders ++ others) }
+        → IsSettledBefore end.last back → GoesOnSo None back others None
+        → IsRightChain (front ++ back) (end.orders ++ others) }
     ensures ends { (as_ranges : Bool) (front back text last : List ℕ) (status same : ℕ)
         (end : ShowsEnd as_ranges front text status) (start : ShowsStart as_ranges back text same)
-        → start.first.layout ≡ end.last.trace.layout → ShowsEnd as_ranges back last 0
-        → ShowsEnd as_ranges (front ++ back) last 0 }
+        → start.first.layout ≡ end.last.trace.layout → IsSettledBefore end.last back
+        → ShowsEnd as_ranges back last 0 → ShowsEnd as_ranges (front ++ back) last 0 }
 {}
 
 /// For a chain that is refused the last lines of its audit are printed.

@@ -24,6 +24,7 @@ fn kind_of(event: Option<Event>) -> u64 {
         Some(Event::Call { .. }) => 1,
         Some(Event::Reply { .. }) => 2,
         Some(Event::Touch { .. }) => 3,
+        Some(Event::Release { .. }) => 4,
         None => 0,
     }
 }

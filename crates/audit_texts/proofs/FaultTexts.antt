@@ -47,6 +47,7 @@ code_words (faults.StartStray number) = codes "21"
 code_words (faults.StartBeyond number) = codes "22"
 code_words (faults.StartDiffers number) = codes "23"
 code_words (faults.Stale number) = codes "24"
+code_words (faults.Reachable number) = codes "25"
 
 coded : (fault : Fault) → code_words fault ≡ decimal (fault_code fault)
 unfolding digits fault_code
@@ -74,6 +75,7 @@ coded (faults.StartStray number) = refl
 coded (faults.StartBeyond number) = refl
 coded (faults.StartDiffers number) = refl
 coded (faults.Stale number) = refl
+coded (faults.Reachable number) = refl
 
 -- what comes behind the number
 abbrev behind_code : Fault → List ℕ
@@ -118,6 +120,7 @@ as_told (faults.StartStray number) = last (codes "21 StartStray ") (decimal numb
 as_told (faults.StartBeyond base) = last (codes "22 StartBeyond ") (hexadecimal base)
 as_told (faults.StartDiffers address) = last (codes "23 StartDiffers ") (hexadecimal address)
 as_told (faults.Stale call) = last (codes "24 Stale ") (decimal call)
+as_told (faults.Reachable call) = last (codes "25 Reachable ") (decimal call)
 
 pub named_as_told : (fault : Fault) → fault_text fault ≡ named_fault_text fault
 named_as_told fault = as_told fault ∙ ap (λ (l : List ℕ). l ++ behind_code fault) (coded fault)

@@ -3,7 +3,7 @@ use Rattle.std.proofs.Common.{◌≡◌, ℕ, Bool, false, ◌||◌, ◌++◌, L
 use Rattle.serde_json.specs.View.{items_of}
 use Rattle.serde_json.specs.Written.{has_float, items_have_float}
 use Rattle.nr_trace.specs.declared.event.Event.{Event}
-use Rattle.nr_trace.specs.declared.event.Event.TheVariants.{Call, Reply, Touch}
+use Rattle.nr_trace.specs.declared.event.Event.TheVariants.{Call, Release, Reply, Touch}
 use Rattle.nr_explain.specs.declared.trace.evidence.RecordedReply.{RecordedReply}
 use Rattle.nr_explain.specs.declared.trace.evidence.MissingTable.{MissingTable}
 use Rattle.nr_explain.specs.declared.trace.evidence.Owner.{Owner}
@@ -12,6 +12,10 @@ use Rattle.nr_explain.specs.declared.trace.evidence.PlacedUpdate.{PlacedUpdate}
 use Rattle.nr_explain.specs.declared.trace.evidence.ReservedEntry.{ReservedEntry}
 use Rattle.nr_explain.specs.declared.trace.evidence.SharedTable.{SharedTable}
 use Rattle.nr_explain.specs.declared.trace.evidence.TableEntry.{TableEntry}
+use Rattle.nr_explain.specs.declared.chain.evidence.MissedUpdate.{MissedUpdate}
+use Rattle.nr_explain.specs.declared.trace.nearby.NamedMemory.{NamedMemory}
+use Rattle.nr_explain.specs.declared.trace.nearby.RightAfter.{RightAfter}
+use Rattle.nr_explain.specs.declared.trace.nearby.Stretch.{Stretch}
 use Rattle.nr_explain.specs.declared.trace.evidence.Evidence.{Evidence}
 use Rattle.nr_explain.specs.declared.trace.evidence.Evidence.TheVariants as evidence
 use Rattle.nr_explain.specs.declared.trace.explaining.Explanation.{Explanation}
@@ -20,13 +24,14 @@ use Rattle.nr_explain.specs.declared.trace.all_dumps.DumpExplanation.{DumpExplan
 use Rattle.nr_explain.specs.declared.trace.all_dumps.DumpExplanation.TheVariants.{Sound, Faulty}
 use Rattle.audit_texts.specs.FullExplained.{dump_data, full_data}
 use Rattle.audit_texts.specs.EvidenceJson.{changed_data, event_data, number_data, option_data, own_data, step_data, way_data}
+use Rattle.audit_texts.specs.NearbyText.{address_data, memory_data, missed_data, right_data, stretch_data}
 use Rattle.audit_texts.specs.Parts.{parts_data, says_data}
 use Rattle.audit_texts.specs.Evidence.{counts_parts, evidence_data, evidence_parts}
 use Rattle.audit_texts.specs.Evidence.{bad_unit_parts, difference_parts, early_parts, long_prefix_parts, misplaced_parts, missing_parts, no_update_parts}
 use Rattle.audit_texts.specs.Evidence.{open_parts, other_answer_parts}
 use Rattle.audit_texts.specs.Evidence.{past_end_parts, reserved_parts, shared_parts, short_prefix_parts, stray_parts, stray_reply_parts, two_places_parts}
 use Rattle.audit_texts.specs.Evidence.{two_replies_parts}
-use Rattle.audit_texts.specs.Evidence.{answer_parts, changed_parts, look_parts, missing_frame_parts, owner_parts, read_parts, replica_parts, reserved_entry_parts}
+use Rattle.audit_texts.specs.Evidence.{answer_parts, changed_parts, look_parts, missing_frame_parts, nearby_parts, owner_parts, read_parts, replica_parts, reserved_entry_parts}
 use Rattle.audit_texts.specs.Evidence.{shared_frame_parts, stray_frame_parts, unlike_parts}
 use Rattle.audit_texts.specs.Explained.{explanation_data}
 
@@ -49,13 +54,14 @@ event : (index : ℕ) (named : Option Event) → has_float (event_data index nam
 event index None = refl
 event index (Some (Call replica thread request)) = refl
 event index (Some (Touch replica thread address mode access)) = refl
+event index (Some (Release replica thread size phys)) = refl
 event index (Some (Reply call at answer)) = refl
 
 changed : (update : Option PlacedUpdate) → has_float (changed_data update) ≡ false
 changed None = refl
 changed (Some update) = refl
 
-own : (reply : Option RecordedReply) → has_float (own_data reply) ≡ false
+pub own : (reply : Option RecordedReply) → has_float (own_data reply) ≡ false
 own None = refl
 own (Some reply) = refl
 
@@ -65,6 +71,25 @@ one b = b || false
 
 abbrev pub two : Bool → Bool → Bool
 two a b = a || (b || false)
+
+stretch : (numbers : Option Stretch) → has_float (stretch_data numbers) ≡ false
+stretch None = refl
+stretch (Some numbers) = refl
+
+pub right : (found : RightAfter) → has_float (right_data found) ≡ false
+right found = ap₂ two (stretch found.before) (stretch found.behind)
+
+address : (n : Option ℕ) → has_float (address_data n) ≡ false
+address None = refl
+address (Some n) = refl
+
+pub memory : (named : Option NamedMemory) → has_float (memory_data named) ≡ false
+memory None = refl
+memory (Some named) = ap one (address named.address)
+
+pub missed : (update : Option MissedUpdate) → has_float (missed_data update) ≡ false
+missed None = refl
+missed (Some update) = refl
 
 missing : (owner : Owner) (fault end : List ℕ) (path : List TableEntry) (frame : ℕ)
     → has_float (parts_data (missing_frame_parts fault path frame end ++ owner_parts owner)) ≡ false
@@ -100,7 +125,7 @@ pub evidence_has_no_float : (shown : Evidence) → has_float (evidence_data show
 unfolding evidence_parts says_data bad_unit_parts open_parts stray_reply_parts two_replies_parts no_update_parts two_places_parts
     misplaced_parts past_end_parts early_parts other_answer_parts long_prefix_parts short_prefix_parts
     stray_parts difference_parts read_parts stray_frame_parts
-    answer_parts look_parts unlike_parts changed_parts replica_parts
+    answer_parts look_parts unlike_parts changed_parts nearby_parts replica_parts
 evidence_has_no_float (evidence.Format bad) = refl
 evidence_has_no_float (evidence.ThreadOpen calls) = refl
 evidence_has_no_float (evidence.NoSuchCall stray) = ap one (event stray.reply.call stray.named)
@@ -110,7 +135,8 @@ evidence_has_no_float (evidence.PlacedTwice places) = refl
 evidence_has_no_float (evidence.NotPlaced wrong) = ap₂ two (option wrong.own) (option wrong.there)
 evidence_has_no_float (evidence.PastLog wrong) = refl
 evidence_has_no_float (evidence.Early early) = ap one (own early.own)
-evidence_has_no_float (evidence.WrongAnswer wrong) = ap one (changed wrong.changed)
+evidence_has_no_float (evidence.WrongAnswer wrong) =
+    ap₂ (λ (a b : Bool). a || b) (changed wrong.changed) (ap₂ two (memory wrong.memory) (right wrong.right))
 evidence_has_no_float (evidence.PrefixPastLog wrong) = refl
 evidence_has_no_float (evidence.PrefixShort wrong) = refl
 evidence_has_no_float (evidence.MissingFrame wrong) = missing_has_no_float wrong

@@ -58,6 +58,7 @@ fault_code (faults.StartStray number) = 21
 fault_code (faults.StartBeyond base) = 22
 fault_code (faults.StartDiffers address) = 23
 fault_code (faults.Stale call) = 24
+fault_code (faults.Reachable call) = 25
 
 -- the name of a fault of the format, with that of all such faults before it
 unfoldable pub format_name : Format → List ℕ
@@ -97,6 +98,7 @@ fault_name (faults.StartStray number) = codes "StartStray"
 fault_name (faults.StartBeyond base) = codes "StartBeyond"
 fault_name (faults.StartDiffers address) = codes "StartDiffers"
 fault_name (faults.Stale call) = codes "Stale"
+fault_name (faults.Reachable call) = codes "Reachable"
 
 -- the numbers of a fault of the format
 unfoldable pub format_numbers : Format → List FaultNumber
@@ -136,6 +138,7 @@ fault_numbers (faults.StartStray number) = counted number ∷ []
 fault_numbers (faults.StartBeyond base) = addressed base ∷ []
 fault_numbers (faults.StartDiffers address) = addressed address ∷ []
 fault_numbers (faults.Stale call) = counted call ∷ []
+fault_numbers (faults.Reachable call) = counted call ∷ []
 
 -- the text of a fault, put together from its number, its name and its numbers
 abbrev pub named_fault_text : Fault → List ℕ

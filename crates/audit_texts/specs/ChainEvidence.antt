@@ -17,6 +17,7 @@ use Rattle.nr_explain.specs.declared.chain.evidence.Origin.TheVariants.{Nothing,
 use Rattle.nr_explain.specs.declared.chain.evidence.BadSegment.{BadSegment}
 use Rattle.nr_explain.specs.declared.chain.evidence.StartBeyond.{StartBeyond}
 use Rattle.nr_explain.specs.declared.chain.evidence.StartDiffers.{StartDiffers}
+use Rattle.nr_explain.specs.declared.chain.evidence.Kept.{Kept}
 use Rattle.nr_explain.specs.declared.chain.evidence.Moment.{Moment}
 use Rattle.nr_explain.specs.declared.chain.evidence.StaleTouch.{StaleTouch}
 use Rattle.nr_explain.specs.declared.chain.evidence.SegmentEvidence.{SegmentEvidence}
@@ -25,9 +26,10 @@ use Rattle.nr_explain.specs.declared.chain.explanation.ChainCounts.{ChainCounts}
 use Rattle.audit_texts.specs.Text.{answer_text, line_end}
 use Rattle.audit_texts.specs.EvidenceJson.{number_data}
 use Rattle.audit_texts.specs.Parts.{Part, Says, in_both, in_json, in_lines, words, parts_data, parts_text, put_part}
-use Rattle.audit_texts.specs.Parts.{address, allowed, call, changed, count, nothing, reply, steps, text, unit, walk}
-use Rattle.audit_texts.specs.Evidence.{answer_parts, evidence_parts, fault_is, look_parts, missing_parts, read_parts, reserved_parts}
+use Rattle.audit_texts.specs.Parts.{address, allowed, call, changed, count, missed, nothing, reply, right, steps, text, unit, walk}
+use Rattle.audit_texts.specs.Evidence.{answer_parts, evidence_parts, fault_is, look_parts, missing_parts, nearby_parts, read_parts, reserved_parts}
 use Rattle.audit_texts.specs.Evidence.{shared_parts, stray_frame_parts, unlike_parts}
+use Rattle.audit_texts.specs.ChainReleases.{away_parts, lag_parts, why_parts}
 
 -- what an address looks like that no update of the segment has changed
 unfoldable pub origin_says : Origin → Says
@@ -46,7 +48,7 @@ change_parts None origin = origin_parts origin
 
 -- the parts on an answer that the space does not give, with what gave the address its look
 unfoldable pub other_answer_parts : OtherAnswer → Origin → List Part
-other_answer_parts wrong origin = answer_parts wrong ++ change_parts wrong.changed origin
+other_answer_parts wrong origin = (answer_parts wrong ++ change_parts wrong.changed origin) ++ nearby_parts wrong.right wrong.memory
 
 -- the parts on an address that is translated otherwise, with what gave it its look
 unfoldable pub difference_parts : Difference → Origin → List Part
@@ -102,6 +104,25 @@ window_parts touch = fault_is (codes "Stale") ∷ in_both (codes "call") (call t
     ∷ words (codes "entries seen at least: ") ∷ in_both (codes "first") (count touch.first) ∷ words (codes "\nentries seen at most: ")
     ∷ in_both (codes "last") (count touch.last) ∷ words line_end ∷ []
 
+-- a stale touch, and how far the table of its replica may lag, if that counts
+unfoldable pub stale_parts : StaleTouch → List Part
+stale_parts touch = window_parts touch ++ lag_parts touch.lag
+
+-- which update a touch should have seen, and after which entries its answer would be right
+unfoldable pub seen_parts : StaleTouch → List Part
+seen_parts touch = in_both (codes "missed") (missed touch.missed) ∷ words (codes "right after: ")
+    ∷ in_both (codes "right") (right touch.right) ∷ words line_end ∷ []
+
+-- which update took away rights that may be kept, of a fault of a page
+unfoldable pub kept_parts : Option Kept → List Part
+kept_parts None = []
+kept_parts (Some kept) = away_parts kept.taken
+
+-- both of a stale touch
+unfoldable pub missed_parts : SegmentEvidence → List Part
+missed_parts (shown.Stale touch) = seen_parts touch ++ kept_parts touch.kept
+missed_parts _ = []
+
 -- how an address looked at a moment
 unfoldable pub moment_line : Moment → List ℕ
 moment_line moment = codes "after " ++ (decimal moment.entries ++ (codes ": " ++ (answer_text moment.look ++ line_end)))
@@ -132,7 +153,8 @@ segment_parts (shown.StartReserved wrong) = reserved_parts wrong
 segment_parts (shown.StartStray number) = start_stray_parts number
 segment_parts (shown.StartBeyond wrong) = start_beyond_parts wrong
 segment_parts (shown.StartDiffers wrong) = start_differs_parts wrong
-segment_parts (shown.Stale touch) = window_parts touch
+segment_parts (shown.Stale touch) = stale_parts touch
+segment_parts (shown.Reachable wrong) = why_parts wrong.call wrong.why
 
 -- the moments of a touch
 unfoldable pub looks_of : SegmentEvidence → List Moment
@@ -147,7 +169,8 @@ earlier_of _ = []
 -- the lines of the evidence
 abbrev pub segment_evidence_text : SegmentEvidence → List ℕ
 segment_evidence_text evidence =
-    (parts_text (segment_parts evidence) ++ flat_map earlier_line (earlier_of evidence)) ++ flat_map moment_line (looks_of evidence)
+    ((parts_text (segment_parts evidence) ++ flat_map earlier_line (earlier_of evidence)) ++ flat_map moment_line (looks_of evidence))
+    ++ parts_text (missed_parts evidence)
 
 -- the members with the moments of a touch
 unfoldable pub with_looks : SegmentEvidence → Members → Members
@@ -171,15 +194,18 @@ with_earlier _ members = members
 -- the evidence as JSON
 abbrev pub segment_evidence_data : SegmentEvidence → Data
 segment_evidence_data evidence =
-    object (with_earlier evidence (with_looks evidence (fold put_part no_members (segment_parts evidence))))
+    object (fold put_part (with_earlier evidence (with_looks evidence (fold put_part no_members (segment_parts evidence)))) (missed_parts evidence))
 
 -- how much a right chain has
 unfoldable pub chain_counts_parts : ChainCounts → List Part
 chain_counts_parts counts = words (codes "calls: ") ∷ in_both (codes "calls") (count counts.calls) ∷ words (codes "\nupdates: ")
     ∷ in_both (codes "updates") (count counts.updates) ∷ words (codes "\nreads: ") ∷ in_both (codes "reads") (count counts.reads)
-    ∷ words (codes "\ntouches: ") ∷ in_both (codes "touches") (count counts.touches) ∷ words (codes "\ndumps: ")
+    ∷ words (codes "\ntouches: ") ∷ in_both (codes "touches") (count counts.touches) ∷ words (codes "\nreleases: ")
+    ∷ in_both (codes "releases") (count counts.releases) ∷ words (codes "\ndumps: ")
     ∷ in_both (codes "dumps") (count counts.dumps) ∷ words (codes "\nreplicas: ") ∷ in_both (codes "replicas") (count counts.replicas)
-    ∷ words (codes "\npages: ") ∷ in_both (codes "pages") (count counts.pages) ∷ words line_end ∷ []
+    ∷ words (codes "\npages: ") ∷ in_both (codes "pages") (count counts.pages) ∷ words (codes "\noverlapping calls: ")
+    ∷ in_both (codes "overlapping") (count counts.overlapping) ∷ words (codes "\ntouches beside an update: ")
+    ∷ in_both (codes "beside") (count counts.beside) ∷ words line_end ∷ []
 
 -- the counts of a right chain, as lines
 abbrev pub chain_counts_lines : ChainCounts → List ℕ

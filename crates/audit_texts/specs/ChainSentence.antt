@@ -1,16 +1,21 @@
 -- The sentence of a fault of a chain.
-use Rattle.std.specs.Prelude.{ℕ, ◌++◌, ◌==◌, if◌then◌else◌, List, [], length, codes, decimal}
+use Rattle.std.specs.Prelude.{ℕ, ◌++◌, ◌==◌, if◌then◌else◌, List, [], length, codes, decimal, Option, Some, None}
 use Rattle.vs_types.specs.declared.answer.Answer.{Answer}
 use Rattle.vs_text.specs.Words.{hexadecimal}
 use Rattle.nr_trace.specs.declared.fault.Format.{Format}
 use Rattle.nr_trace.specs.declared.fault.Format.TheVariants as formats
 use Rattle.nr_explain.specs.declared.units.BadUnit.{BadUnit}
+use Rattle.nr_explain.specs.ChainEvidence.{fewest}
+use Rattle.nr_explain.specs.declared.chain.evidence.Kept.{Kept}
+use Rattle.nr_explain.specs.declared.chain.evidence.Lag.{Lag}
+use Rattle.nr_explain.specs.declared.chain.evidence.TakenAway.{TakenAway}
 use Rattle.nr_explain.specs.declared.chain.evidence.StartBeyond.{StartBeyond}
 use Rattle.nr_explain.specs.declared.chain.evidence.StartDiffers.{StartDiffers}
 use Rattle.nr_explain.specs.declared.chain.evidence.StaleTouch.{StaleTouch}
 use Rattle.nr_explain.specs.declared.chain.evidence.SegmentEvidence.{SegmentEvidence}
 use Rattle.nr_explain.specs.declared.chain.evidence.SegmentEvidence.TheVariants as shown
 use Rattle.audit_texts.specs.Text.{answer_text, walk_words}
+use Rattle.audit_texts.specs.ChainReleases.{release_sentence}
 use Rattle.audit_texts.specs.EvidenceText.{bytes_text}
 use Rattle.audit_texts.specs.Sentence.{difference_sentence, missing_sentence, other_answer_sentence, reason_text, reserved_sentence, sentence_text, shared_sentence}
 
@@ -47,11 +52,27 @@ window_text first last = decimal first ++ (codes " to " ++ (decimal last ++ code
 unfoldable pub earlier_words : List Answer → List ℕ
 earlier_words looks = if length looks == 0 then [] else codes " Nor does it in what earlier segments leave, whose updates were never answered."
 
+-- what limits the entries that a touch may see
+unfoldable pub limit_words : Option Lag → List ℕ
+limit_words None = codes "it may see only "
+limit_words (Some lag) = codes "even by a table that lags it may see only "
+
+-- that rights which were kept don't make a fault of a page right: which update took them away
+unfoldable pub back_words : Option TakenAway → List ℕ
+back_words None = codes " Nor is it a fault by rights that were kept."
+back_words (Some taken) =
+    codes " Nor is it a fault by rights that were kept: call " ++ (decimal taken.update.call.event ++ codes " did more than add rights.")
+
+-- so it is said of a fault of a page
+unfoldable pub kept_words : Option Kept → List ℕ
+kept_words None = []
+kept_words (Some kept) = back_words kept.taken
+
 -- the sentence on a touch that is stale
 abbrev pub stale_sentence : StaleTouch → List ℕ
 stale_sentence touch = codes "Touch " ++ (decimal touch.call.event ++ (codes " was answered `" ++ (answer_text touch.reply.answer
-    ++ (codes "`, but it may see only " ++ (window_text touch.first touch.last
-    ++ (codes ", and after none of these its address looks so." ++ earlier_words touch.earlier.items))))))
+    ++ (codes "`, but " ++ (limit_words touch.lag ++ (window_text (fewest touch.first touch.lag) touch.last
+    ++ (codes ", and after none of these its address looks so." ++ (earlier_words touch.earlier.items ++ kept_words touch.kept))))))))
 
 -- the sentence of the evidence
 unfoldable pub segment_sentence : SegmentEvidence → List ℕ
@@ -66,3 +87,4 @@ segment_sentence (shown.StartStray frame) = start_stray_sentence frame
 segment_sentence (shown.StartBeyond wrong) = start_beyond_sentence wrong
 segment_sentence (shown.StartDiffers wrong) = start_differs_sentence wrong
 segment_sentence (shown.Stale touch) = stale_sentence touch
+segment_sentence (shown.Reachable wrong) = release_sentence wrong.call wrong.why

@@ -17,6 +17,8 @@ use Rattle.nr_explain.specs.declared.trace.evidence.Misplaced.{Misplaced}
 use Rattle.nr_explain.specs.declared.trace.evidence.PastEnd.{PastEnd}
 use Rattle.nr_explain.specs.declared.trace.evidence.EarlyCall.{EarlyCall}
 use Rattle.nr_explain.specs.declared.trace.evidence.OtherAnswer.{OtherAnswer}
+use Rattle.nr_explain.specs.declared.trace.nearby.NamedMemory.{NamedMemory}
+use Rattle.nr_explain.specs.declared.trace.nearby.RightAfter.{RightAfter}
 use Rattle.nr_explain.specs.declared.trace.evidence.LongPrefix.{LongPrefix}
 use Rattle.nr_explain.specs.declared.trace.evidence.ShortPrefix.{ShortPrefix}
 use Rattle.nr_explain.specs.declared.trace.evidence.MissingTable.{MissingTable}
@@ -32,7 +34,7 @@ use Rattle.audit_texts.specs.Text.{line_end}
 use Rattle.audit_texts.specs.Owners.{of_owner}
 use Rattle.audit_texts.specs.Parts.{Part, in_both, in_json, in_lines, words, parts_data, parts_text}
 use Rattle.audit_texts.specs.Parts.{address, allowed, answer, bytes, call, changed, count, event, frame, own, place, reply, reserved, step, steps, text, unit}
-use Rattle.audit_texts.specs.Parts.{walk, way}
+use Rattle.audit_texts.specs.Parts.{memory, right, walk, way}
 
 -- the name of the fault
 abbrev pub fault_is : List ℕ → Part
@@ -70,6 +72,11 @@ unfoldable pub answer_parts : OtherAnswer → List Part
 answer_parts wrong = fault_is (codes "WrongAnswer") ∷ in_both (codes "call") (call wrong.call) ∷ in_both (codes "reply") (reply wrong.reply)
     ∷ words (codes "the space answers: ") ∷ in_both (codes "wanted") (answer wrong.wanted) ∷ words (codes "\naddress ")
     ∷ in_both (codes "address") (address wrong.address) ∷ []
+
+-- what is near a wrong answer, behind its address
+unfoldable pub nearby_parts : RightAfter → Option NamedMemory → List Part
+nearby_parts found named = words (codes "right after: ") ∷ in_both (codes "right") (right found) ∷ words line_end
+    ∷ in_both (codes "memory") (memory named) ∷ []
 
 -- how tables translate an address, and how it looks in the space, up to the address
 unfoldable pub look_parts : Walk → List TableEntry → Answer → ℕ → List Part
@@ -148,7 +155,7 @@ early_parts early = fault_is (codes "Early") ∷ in_both (codes "call") (call ea
 
 -- the parts on an answer that the space does not give
 unfoldable pub other_answer_parts : OtherAnswer → List Part
-other_answer_parts wrong = answer_parts wrong ++ changed_parts wrong.changed
+other_answer_parts wrong = (answer_parts wrong ++ changed_parts wrong.changed) ++ nearby_parts wrong.right wrong.memory
 
 -- the parts on a dump that has applied more entries than there are
 unfoldable pub long_prefix_parts : LongPrefix → List Part
@@ -219,7 +226,8 @@ unfoldable pub counts_parts : Counts → List Part
 counts_parts counts = words (codes "calls: ") ∷ in_both (codes "calls") (count counts.calls) ∷ words (codes "\nupdates: ")
     ∷ in_both (codes "updates") (count counts.updates) ∷ words (codes "\nreads: ") ∷ in_both (codes "reads") (count counts.reads)
     ∷ words (codes "\nreplicas: ") ∷ in_both (codes "replicas") (count counts.replicas) ∷ words (codes "\npages: ")
-    ∷ in_both (codes "pages") (count counts.pages) ∷ words line_end ∷ []
+    ∷ in_both (codes "pages") (count counts.pages) ∷ words (codes "\noverlapping calls: ")
+    ∷ in_both (codes "overlapping") (count counts.overlapping) ∷ words line_end ∷ []
 
 -- the counts of a right trace, as lines
 abbrev pub counts_lines : Counts → List ℕ

@@ -3,12 +3,13 @@ use Rattle.std.specs.Prelude.{ℕ, true, false, List, codes, map, Option, Some, 
 use Rattle.serde_json.specs.Data.{Data, array, member, no_members, null, number, object, string, unsigned}
 use Rattle.serde_json.specs.View.{items_of}
 use Rattle.nr_trace.specs.declared.event.Event.{Event}
-use Rattle.nr_trace.specs.declared.event.Event.TheVariants.{Call, Reply, Touch}
+use Rattle.nr_trace.specs.declared.event.Event.TheVariants.{Call, Release, Reply, Touch}
+use Rattle.nr_explain.specs.declared.chain.evidence.TakenAway.{TakenAway}
 use Rattle.nr_explain.specs.declared.trace.evidence.RecordedCall.{RecordedCall}
 use Rattle.nr_explain.specs.declared.trace.evidence.RecordedReply.{RecordedReply}
 use Rattle.nr_explain.specs.declared.trace.evidence.PlacedUpdate.{PlacedUpdate}
 use Rattle.nr_explain.specs.declared.trace.evidence.TableEntry.{TableEntry}
-use Rattle.vs_types.specs.declared.request.Query.TheVariants.{Access}
+use Rattle.vs_types.specs.declared.request.Query.TheVariants.{Access, Resolve}
 use Rattle.vs_text.specs.Words.{hexadecimal}
 use Rattle.audit_texts.specs.Text.{answer_text}
 use Rattle.audit_texts.specs.EvidenceText.{asked_text}
@@ -32,7 +33,7 @@ called_data event replica thread asked = object
 
 -- a recorded call, as a JSON object
 abbrev pub call_data : RecordedCall → Data
-call_data call = called_data call.event call.replica call.thread (asked_text call.touch call.request)
+call_data call = called_data call.event call.replica call.thread (asked_text call.touch call.gives call.request)
 
 -- a recorded reply, as a JSON object
 abbrev pub reply_data : RecordedReply → Data
@@ -47,13 +48,21 @@ abbrev pub own_data : Option RecordedReply → Data
 own_data None = null
 own_data (Some reply) = reply_data reply
 
--- the event that a number names: a call, a touch, a reply, or null
+-- the event that a number names: a call, a touch, a release, a reply, or null
 abbrev pub event_data : ℕ → Option Event → Data
 event_data index None = null
 event_data index (Some (Call replica thread request)) =
-    call_data record { event = index; replica = replica; thread = thread; request = request; touch = false }
+    call_data record { event = index; replica = replica; thread = thread; request = request; touch = false; gives = None }
 event_data index (Some (Touch replica thread address mode access)) =
-    call_data record { event = index; replica = replica; thread = thread; request = Access address mode access; touch = true }
+    call_data record { event = index; replica = replica; thread = thread; request = Access address mode access; touch = true; gives = None }
+event_data index (Some (Release replica thread size phys)) = call_data record {
+  event = index;
+  replica = replica;
+  thread = thread;
+  request = Resolve 0;
+  touch = true;
+  gives = Some (record { size = size; phys = phys });
+}
 event_data index (Some (Reply call at answer)) = reply_data record { event = index; call = call; at = at; answer = answer }
 
 -- an update and its place, or null
@@ -62,6 +71,13 @@ changed_data None = null
 changed_data (Some update) = object
     (member (codes "call") (call_data update.call)
     (member (codes "place") (number_data update.place) no_members))
+
+-- the update that takes away that an address leads somewhere, its place, and the reply to it
+abbrev pub taken_data : TakenAway → Data
+taken_data taken = object
+    (member (codes "call") (call_data taken.update.call)
+    (member (codes "place") (number_data taken.update.place)
+    (member (codes "reply") (own_data taken.reply) no_members)))
 
 -- an entry of a table
 abbrev pub step_data : TableEntry → Data

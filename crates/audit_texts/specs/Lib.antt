@@ -4,6 +4,7 @@ pub mod FieldText
 pub mod Owners
 pub mod Sentence
 pub mod EvidenceJson
+pub mod NearbyText
 pub mod Parts
 pub mod Evidence
 pub mod AuditJson
@@ -11,6 +12,7 @@ pub mod Explained
 pub mod FullExplained
 pub mod ChainJson
 pub mod ChainText
+pub mod ChainReleases
 pub mod ChainEvidence
 pub mod ChainSentence
 pub mod ChainExplained

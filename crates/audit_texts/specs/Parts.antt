@@ -7,14 +7,20 @@ use Rattle.vs_walk.specs.declared.walk.Walk.{Walk}
 use Rattle.nr_trace.specs.declared.event.Event.{Event}
 use Rattle.nr_trace.specs.declared.fault.Format.{Format}
 use Rattle.nr_trace.specs.declared.refusal.TraceUnit.{TraceUnit}
+use Rattle.nr_explain.specs.declared.chain.evidence.TakenAway.{TakenAway}
 use Rattle.nr_explain.specs.declared.trace.evidence.RecordedCall.{RecordedCall}
 use Rattle.nr_explain.specs.declared.trace.evidence.RecordedReply.{RecordedReply}
 use Rattle.nr_explain.specs.declared.trace.evidence.PlacedUpdate.{PlacedUpdate}
 use Rattle.nr_explain.specs.declared.trace.evidence.TableEntry.{TableEntry}
+use Rattle.nr_explain.specs.declared.chain.evidence.MissedUpdate.{MissedUpdate}
+use Rattle.nr_explain.specs.declared.trace.nearby.NamedMemory.{NamedMemory}
+use Rattle.nr_explain.specs.declared.trace.nearby.RightAfter.{RightAfter}
 use Rattle.audit_texts.specs.Text.{answer_text, format_text, walk_words}
 use Rattle.audit_texts.specs.EvidenceText.{bytes_text, call_line, changed_line, event_line, format_lines, option_text, own_line}
-use Rattle.audit_texts.specs.EvidenceText.{read_text, reply_line, reserved_text, step_line, steps_lines, unit_text, way_lines}
-use Rattle.audit_texts.specs.EvidenceJson.{call_data, changed_data, event_data, number_data, option_data, own_data, reply_data, step_data, way_data}
+use Rattle.audit_texts.specs.EvidenceText.{read_text, reply_line, reserved_text, step_line, steps_lines, taken_lines, unit_text, way_lines}
+use Rattle.audit_texts.specs.EvidenceJson.{call_data, changed_data, event_data, number_data, option_data, own_data, reply_data, step_data}
+use Rattle.audit_texts.specs.EvidenceJson.{taken_data, way_data}
+use Rattle.audit_texts.specs.NearbyText.{memory_data, memory_line, missed_data, missed_lines, right_data, right_text}
 use Rattle.audit_texts.specs.declared.parts.Says.{Says as Spoken}
 use Rattle.audit_texts.specs.declared.parts.Says.TheVariants as spoken
 use Rattle.audit_texts.specs.declared.parts.Part.{Part as Spelled}
@@ -28,6 +34,7 @@ pub data Says : Type 0 where
   own : Option RecordedReply → Says
   event : ℕ → Option Event → Says
   changed : Option PlacedUpdate → Says
+  taken : TakenAway → Says
   step : TableEntry → Says
   steps : List TableEntry → Says
   way : List TableEntry → Says
@@ -42,6 +49,9 @@ pub data Says : Type 0 where
   allowed : Format → Says
   reserved : ℕ → Says
   text : List ℕ → Says
+  right : RightAfter → Says
+  memory : Option NamedMemory → Says
+  missed : Option MissedUpdate → Says
 
 -- the text of a fact, as it comes in the lines
 unfoldable pub says_text : Says → List ℕ
@@ -51,6 +61,7 @@ says_text (reply it) = reply_line it
 says_text (own it) = own_line it
 says_text (event number it) = event_line number it
 says_text (changed it) = changed_line it
+says_text (taken it) = taken_lines it
 says_text (step it) = step_line it
 says_text (steps it) = steps_lines it
 says_text (way it) = way_lines it
@@ -65,6 +76,9 @@ says_text (bytes it) = read_text it
 says_text (allowed it) = format_lines it
 says_text (reserved it) = reserved_text it
 says_text (text it) = it
+says_text (right it) = right_text it
+says_text (memory it) = memory_line it
+says_text (missed it) = missed_lines it
 
 -- the value of a fact, as it comes in JSON
 unfoldable pub says_data : Says → Data
@@ -74,6 +88,7 @@ says_data (reply it) = reply_data it
 says_data (own it) = own_data it
 says_data (event number it) = event_data number it
 says_data (changed it) = changed_data it
+says_data (taken it) = taken_data it
 says_data (step it) = step_data it
 says_data (steps it) = way_data it
 says_data (way it) = way_data it
@@ -88,6 +103,9 @@ says_data (bytes it) = string (bytes_text it)
 says_data (allowed it) = string (format_text it)
 says_data (reserved it) = string (reserved_text it)
 says_data (text it) = string it
+says_data (right it) = right_data it
+says_data (memory it) = memory_data it
+says_data (missed it) = missed_data it
 
 -- a part of what is printed: words in the lines alone, or a fact in the lines, in both or in JSON, with its name there
 pub data Part : Type 0 where
@@ -136,6 +154,7 @@ says_of (spoken.Reply it) = reply it
 says_of (spoken.Own it) = own it
 says_of (spoken.Event number it) = event number it
 says_of (spoken.Changed it) = changed it
+says_of (spoken.Taken it) = taken it
 says_of (spoken.Step it) = step it
 says_of (spoken.Steps it) = steps it.now
 says_of (spoken.Way it) = way it.now
@@ -150,6 +169,9 @@ says_of (spoken.Bytes it) = bytes it.now
 says_of (spoken.Allowed it) = allowed it
 says_of (spoken.Reserved it) = reserved it
 says_of (spoken.Text it) = text it.now
+says_of (spoken.Right it) = right it
+says_of (spoken.Memory it) = memory it
+says_of (spoken.Missed it) = missed it
 
 -- the part that a value of the code is
 abbrev pub part_of : Spelled → Part

@@ -5,7 +5,7 @@ use Rattle.vs_types.specs.declared.request.Query.TheVariants.{Update, Resolve, A
 use Rattle.vs_text.specs.Requests.{request_text}
 use Rattle.vs_text.specs.Words.{hexadecimal, space}
 use Rattle.nr_trace.specs.declared.event.Event.{Event}
-use Rattle.nr_trace.specs.declared.event.Event.TheVariants.{Call, Reply, Touch}
+use Rattle.nr_trace.specs.declared.event.Event.TheVariants.{Call, Release, Reply, Touch}
 use Rattle.nr_trace.specs.declared.fault.Format.{Format}
 use Rattle.nr_trace.specs.declared.fault.Format.TheVariants as formats
 use Rattle.nr_trace.specs.FirstFault.{unit_size}
@@ -101,6 +101,7 @@ unfoldable pub stray_text : Option Event → List ℕ
 stray_text None = codes "there is no such event"
 stray_text (Some (Call replica thread request)) = codes "that call is made later"
 stray_text (Some (Touch replica thread address mode access)) = codes "that touch is made later"
+stray_text (Some (Release replica thread size phys)) = codes "that release is made later"
 stray_text (Some (Reply call at answer)) = codes "that event is a reply"
 
 -- the sentence on a reply to no earlier call
@@ -118,6 +119,7 @@ unfoldable pub unlogged_text : Option Event → List ℕ
 unlogged_text None = codes "there is no such event"
 unlogged_text (Some (Call replica thread request)) = codes "that call only reads, " ++ request_text request
 unlogged_text (Some (Touch replica thread address mode access)) = codes "that event is a touch"
+unlogged_text (Some (Release replica thread size phys)) = codes "that event is a release"
 unlogged_text (Some (Reply call at answer)) = codes "that event is a reply"
 
 -- the sentence on a place that has no update

@@ -54,6 +54,7 @@ fault_text (faults.StartStray number) = codes "21 StartStray " ++ decimal number
 fault_text (faults.StartBeyond base) = codes "22 StartBeyond " ++ hexadecimal base
 fault_text (faults.StartDiffers address) = codes "23 StartDiffers " ++ hexadecimal address
 fault_text (faults.Stale call) = codes "24 Stale " ++ decimal call
+fault_text (faults.Reachable call) = codes "25 Reachable " ++ decimal call
 
 -- the line of a trace that is wrong
 abbrev pub no_text : Fault → List ℕ

@@ -49,6 +49,7 @@ fn fault_code(fault: Fault) -> u8
         Fault::StartBeyond(_) => 22,
         Fault::StartDiffers(_) => 23,
         Fault::Stale(_) => 24,
+        Fault::Reachable(_) => 25,
     }
 }
 
@@ -100,6 +101,7 @@ fn fault_name(fault: Fault) -> &'static str
         Fault::StartBeyond(_) => "StartBeyond",
         Fault::StartDiffers(_) => "StartDiffers",
         Fault::Stale(_) => "Stale",
+        Fault::Reachable(_) => "Reachable",
     }
 }
 
@@ -180,7 +182,8 @@ fn fault_numbers(alloc: Global, fault: Fault) -> Result<Value, AllocError>
         | Fault::PastLog(number)
         | Fault::Early(number)
         | Fault::WrongAnswer(number)
-        | Fault::Stale(number) => counts_value(alloc, &[u64::from(number)]),
+        | Fault::Stale(number)
+        | Fault::Reachable(number) => counts_value(alloc, &[u64::from(number)]),
         Fault::PrefixPastLog(replica) | Fault::PrefixShort(replica) => {
             counts_value(alloc, &[u64::from(replica)])
         }

@@ -5,6 +5,8 @@ pub(crate) mod earlier;
 pub(crate) mod evidence;
 pub(crate) mod explanation;
 pub(crate) mod json;
+pub(crate) mod missed;
+pub(crate) mod releases;
 pub(crate) mod sentence;
 pub(crate) mod style;
 pub(crate) mod text;

@@ -10,6 +10,7 @@ ghost use Rattle.audit_texts.specs.Evidence.{past_end_parts, replica_parts, rese
 ghost use Rattle.audit_texts.specs.Evidence.{stray_reply_parts, two_places_parts, two_replies_parts};
 ghost use Rattle.audit_texts.specs.Parts.{part_of, put_all};
 
+use crate::nearby::put_nearby;
 use crate::output::Output;
 use crate::owner::of_owner;
 use crate::part_json::parts_value;
@@ -217,8 +218,11 @@ fn put_other_answer<O: Output>(
     ensures { OnOk result (O.held out.new ≡ put_all (other_answer_parts wrong) (O.held out.old)) }
 {
     let changed = wrong.changed;
+    let right = wrong.right;
+    let memory = wrong.memory;
     put_answer(out, alloc, wrong)?;
-    put_changed(out, alloc, changed)
+    put_changed(out, alloc, changed)?;
+    put_nearby(out, alloc, right, memory)
 }
 
 #[tactic(auto, unfolding(crate::specs::Evidence::long_prefix_parts))]
@@ -385,7 +389,7 @@ pub(crate) fn evidence_value(alloc: Global, shown: &Evidence) -> Result<Value, A
 }
 
 #[tactic(auto, unfolding(crate::specs::Evidence::counts_parts))]
-fn counts_parts<'a>(counts: Counts) -> [Part<'a>; 11]
+fn counts_parts<'a>(counts: Counts) -> [Part<'a>; 13]
     ensures { map part_of result ≡ counts_parts counts }
 {
     [
@@ -399,6 +403,8 @@ fn counts_parts<'a>(counts: Counts) -> [Part<'a>; 11]
         Part::InBoth("replicas", Says::Count(u64::from(counts.replicas))),
         Part::Words("\npages: "),
         Part::InBoth("pages", Says::Count(counts.pages)),
+        Part::Words("\noverlapping calls: "),
+        Part::InBoth("overlapping", Says::Count(counts.overlapping)),
         Part::Words("\n"),
     ]
 }

@@ -5,15 +5,15 @@ ghost use Rattle.serde_json.specs.Data.{put as with_member, string};
 ghost use Rattle.serde_json.specs.View.{members_view, view};
 ghost use Rattle.nr_trace.specs.declared.event.Event.TheVariants as events;
 ghost use Rattle.audit_texts.specs.EvidenceJson.{call_data, called_data, changed_data, event_data, option_data, own_data, reply_data};
-ghost use Rattle.audit_texts.specs.EvidenceJson.{step_data, way_data};
+ghost use Rattle.audit_texts.specs.EvidenceJson.{step_data, taken_data, way_data};
 
 use crate::answer::answer_text;
-use crate::fact_text::{address_text, asked_text, touch_text};
-use nr_explain::{PlacedUpdate, RecordedCall, RecordedReply, TableEntry};
+use crate::fact_text::{address_text, asked_text, release_text, touch_text};
+use nr_explain::{PlacedUpdate, RecordedCall, RecordedReply, TableEntry, TakenAway};
 use nr_trace::Event;
 use serde_json::{Map, Value, put};
 use std::alloc::{AllocError, Global};
-use vs_types::{Access, Mode};
+use vs_types::{Access, Mode, Size};
 
 /// The members of an object.
 pub type Members = Map<String, Value>;
@@ -68,7 +68,7 @@ fn called_value(
 pub(crate) fn call_value(alloc: Global, call: RecordedCall) -> Result<Value, AllocError>
     ensures { IfOk result (λ value. view value ≡ call_data call) }
 {
-    let asked = asked_text(alloc, call.touch, call.request)?;
+    let asked = asked_text(alloc, call.touch, call.gives, call.request)?;
     called_value(alloc, call.event, call.replica, call.thread, asked)
 }
 
@@ -95,6 +95,7 @@ pub(crate) fn own_value(alloc: Global, own: Option<RecordedReply>) -> Result<Val
     }
 }
 
+#[tactic(auto, unfolding(crate::specs::EvidenceText::asked_text, crate::specs::EvidenceText::outside_text))]
 fn touch_value(
     alloc: Global,
     index: u32,
@@ -108,6 +109,22 @@ fn touch_value(
         ≡ event_data index (Some (events.Touch replica thread address mode access))) }
 {
     let asked = touch_text(alloc, address, mode, access)?;
+    called_value(alloc, index, replica, thread, asked)
+}
+
+#[tactic(auto, unfolding(crate::specs::EvidenceText::asked_text, crate::specs::EvidenceText::outside_text))]
+fn release_value(
+    alloc: Global,
+    index: u32,
+    replica: u8,
+    thread: u16,
+    size: Size,
+    phys: u64,
+) -> Result<Value, AllocError>
+    ensures { IfOk result (λ value. view value
+        ≡ event_data index (Some (events.Release replica thread size phys))) }
+{
+    let asked = release_text(alloc, size, phys)?;
     called_value(alloc, index, replica, thread, asked)
 }
 
@@ -126,6 +143,7 @@ fn one_event_value(alloc: Global, index: u32, event: Event) -> Result<Value, All
                 thread,
                 request,
                 touch: false,
+                gives: None,
             };
             call_value(alloc, call)
         }
@@ -136,6 +154,12 @@ fn one_event_value(alloc: Global, index: u32, event: Event) -> Result<Value, All
             mode,
             access,
         } => touch_value(alloc, index, replica, thread, address, mode, access),
+        Event::Release {
+            replica,
+            thread,
+            size,
+            phys,
+        } => release_value(alloc, index, replica, thread, size, phys),
         Event::Reply { call, at, answer } => {
             let reply = RecordedReply {
                 event: index,
@@ -148,7 +172,7 @@ fn one_event_value(alloc: Global, index: u32, event: Event) -> Result<Value, All
     }
 }
 
-/// The event that a number names: a call, a touch, a reply, or null.
+/// The event that a number names: a call, a touch, a release, a reply, or null.
 pub(crate) fn event_value(
     alloc: Global,
     index: u32,
@@ -183,6 +207,20 @@ pub(crate) fn changed_value(
         None => Ok(Value::Null),
         Some(update) => update_value(alloc, update),
     }
+}
+
+/// The update that takes away that an address leads somewhere, its place, and the reply to it.
+pub(crate) fn taken_value(alloc: Global, taken: TakenAway) -> Result<Value, AllocError>
+    ensures { IfOk result (λ value. view value ≡ taken_data taken) }
+{
+    let place = Value::from(taken.update.place);
+    let call = call_value(alloc, taken.update.call)?;
+    let reply = own_value(alloc, taken.reply)?;
+    let mut members = Map::new(alloc);
+    put(&mut members, alloc, "call", call)?;
+    put(&mut members, alloc, "place", place)?;
+    put(&mut members, alloc, "reply", reply)?;
+    Ok(Value::Object(members))
 }
 
 /// An entry of a table.

@@ -1,46 +1,69 @@
 //! The lines of what evidence is made of: calls, replies, entries of tables.
 
-ghost use Rattle.std.specs.Prelude.{◌≡◌, ◌++◌, IfOk, OnOk, Some, decimal, string_bytes, true};
-ghost use Rattle.vs_types.specs.declared.request.Query.TheVariants as queries;
+ghost use Rattle.std.specs.Prelude.{◌≡◌, ◌++◌, IfOk, OnOk, Some, decimal, string_bytes};
 ghost use Rattle.nr_trace.specs.declared.event.Event.TheVariants as events;
 ghost use Rattle.vs_text.specs.Words.{hexadecimal};
 ghost use Rattle.audit_texts.specs.EvidenceText.{asked_text, call_line, changed_line, event_line, format_lines, option_text, own_line};
-ghost use Rattle.audit_texts.specs.EvidenceText.{reply_line, reserved_text, step_line, steps_lines, way_lines};
+ghost use Rattle.audit_texts.specs.EvidenceText.{outside_text, release_text, reply_line, reserved_text, step_line, steps_lines};
+ghost use Rattle.audit_texts.specs.EvidenceText.{taken_lines, touch_text, way_lines};
 
 use crate::answer::answer_text;
-use nr_explain::{PlacedUpdate, RecordedCall, RecordedReply, TableEntry};
+use nr_explain::{Given, PlacedUpdate, RecordedCall, RecordedReply, TableEntry, TakenAway};
 use nr_trace::{Event, Format};
 use std::alloc::{AllocError, Global};
-use vs_text::{access_text, mode_text, request_text};
-use vs_types::{Access, Answer, Mode, Query, Request};
+use vs_text::{access_text, mode_text, request_text, size_text};
+use vs_types::{Access, Answer, Mode, Query, Request, Size};
 
 /// What a touch asks.
-#[tactic(auto, unfolding(crate::specs::EvidenceText::asked_text))]
 pub(crate) fn touch_text(
     alloc: Global,
     address: u64,
     mode: Mode,
     access: Access,
 ) -> Result<String, AllocError>
-    ensures { IfOk result (λ text. string_bytes text
-        ≡ asked_text true (queries.Access address mode access)) }
+    ensures { IfOk result (λ text. string_bytes text ≡ touch_text address mode access) }
 {
     let mode = mode_text(mode);
     let access = access_text(access);
     format!(in alloc; "touch {mode} {access} 0x{address:x}")
 }
 
-/// What a call asks.
-#[tactic(auto, unfolding(crate::specs::EvidenceText::asked_text))]
-pub(crate) fn asked_text(alloc: Global, touch: bool, request: Request) -> Result<String, AllocError>
-    ensures { IfOk result (λ text. string_bytes text ≡ asked_text touch request) }
+/// What a release gives away.
+pub(crate) fn release_text(alloc: Global, size: Size, phys: u64) -> Result<String, AllocError>
+    ensures { IfOk result (λ text. string_bytes text ≡ release_text size phys) }
 {
-    if !touch {
-        return request_text(alloc, request);
+    let size = size_text(size);
+    format!(in alloc; "release {size} 0x{phys:x}")
+}
+
+/// What a call asks that isn't of the order.
+#[tactic(auto, unfolding(crate::specs::EvidenceText::outside_text))]
+fn outside_text(alloc: Global, gives: Option<Given>, request: Request) -> Result<String, AllocError>
+    ensures { IfOk result (λ text. string_bytes text ≡ outside_text gives request) }
+{
+    if let Some(given) = gives {
+        return release_text(alloc, given.size, given.phys);
     }
     match request.query() {
         Query::Access(address, mode, access) => touch_text(alloc, address, mode, access),
         Query::Update(_) | Query::Resolve(_) => request_text(alloc, request),
+    }
+}
+
+/// What a call asks.
+#[tactic(auto, unfolding(crate::specs::EvidenceText::asked_text))]
+pub(crate) fn asked_text(
+    alloc: Global,
+    touch: bool,
+    gives: Option<Given>,
+    request: Request,
+) -> Result<String, AllocError>
+    ensures { IfOk result (λ text. string_bytes text ≡ asked_text touch gives request) }
+{
+    if touch {
+        outside_text(alloc, gives, request)
+    } else {
+        request_text(alloc, request)
     }
 }
 
@@ -49,7 +72,7 @@ pub(crate) fn asked_text(alloc: Global, touch: bool, request: Request) -> Result
 pub(crate) fn call_line(alloc: Global, call: RecordedCall) -> Result<String, AllocError>
     ensures { IfOk result (λ text. string_bytes text ≡ call_line call) }
 {
-    let asked = asked_text(alloc, call.touch, call.request)?;
+    let asked = asked_text(alloc, call.touch, call.gives, call.request)?;
     let event = call.event;
     let thread = call.thread;
     let replica = call.replica;
@@ -80,7 +103,7 @@ pub(crate) fn own_line(alloc: Global, own: Option<RecordedReply>) -> Result<Stri
 }
 
 /// The line of a touch.
-#[tactic(auto, unfolding(crate::specs::EvidenceText::event_line, crate::specs::EvidenceText::call_line))]
+#[tactic(auto, unfolding(crate::specs::EvidenceText::event_line, crate::specs::EvidenceText::call_line, crate::specs::EvidenceText::asked_text, crate::specs::EvidenceText::outside_text))]
 fn touch_line(
     alloc: Global,
     index: u32,
@@ -94,6 +117,23 @@ fn touch_line(
         ≡ event_line index (Some (events.Touch replica thread address mode access))) }
 {
     let asked = touch_text(alloc, address, mode, access)?;
+    format!(in alloc; "call {index}, thread {thread}, replica {replica}: {asked}\n")
+}
+
+/// The line of a release.
+#[tactic(auto, unfolding(crate::specs::EvidenceText::event_line, crate::specs::EvidenceText::call_line, crate::specs::EvidenceText::asked_text, crate::specs::EvidenceText::outside_text))]
+fn release_line(
+    alloc: Global,
+    index: u32,
+    replica: u8,
+    thread: u16,
+    size: Size,
+    phys: u64,
+) -> Result<String, AllocError>
+    ensures { IfOk result (λ text. string_bytes text
+        ≡ event_line index (Some (events.Release replica thread size phys))) }
+{
+    let asked = release_text(alloc, size, phys)?;
     format!(in alloc; "call {index}, thread {thread}, replica {replica}: {asked}\n")
 }
 
@@ -114,6 +154,7 @@ fn one_event_line(alloc: Global, index: u32, event: Event) -> Result<String, All
                 thread,
                 request,
                 touch: false,
+                gives: None,
             };
             call_line(alloc, call)
         }
@@ -124,6 +165,12 @@ fn one_event_line(alloc: Global, index: u32, event: Event) -> Result<String, All
             mode,
             access,
         } => touch_line(alloc, index, replica, thread, address, mode, access),
+        Event::Release {
+            replica,
+            thread,
+            size,
+            phys,
+        } => release_line(alloc, index, replica, thread, size, phys),
         Event::Reply { call, at, answer } => {
             let reply = RecordedReply {
                 event: index,
@@ -192,6 +239,17 @@ pub(crate) fn changed_line(
             format!(in alloc; "last changed by place {place}, {call}")
         }
     }
+}
+
+/// The update that takes away that an address leads somewhere, and the reply to it.
+#[tactic(auto, unfolding(crate::specs::EvidenceText::taken_lines))]
+pub(crate) fn taken_lines(alloc: Global, taken: TakenAway) -> Result<String, AllocError>
+    ensures { IfOk result (λ text. string_bytes text ≡ taken_lines taken) }
+{
+    let place = taken.update.place;
+    let call = call_line(alloc, taken.update.call)?;
+    let reply = own_line(alloc, taken.reply)?;
+    format!(in alloc; "taken away by place {place}, {call}{reply}")
 }
 
 /// The line of an entry of a table.

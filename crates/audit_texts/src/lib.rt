@@ -12,6 +12,7 @@ mod fact_text;
 mod field_text;
 mod full;
 pub mod laws;
+mod nearby;
 mod output;
 mod owner;
 mod pages;

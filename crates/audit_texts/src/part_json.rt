@@ -5,11 +5,13 @@ ghost use Rattle.serde_json.specs.View.{members_view, view};
 ghost use Rattle.audit_texts.specs.Parts.{part_of, parts_data, put_part, says_data, says_of};
 
 use crate::answer::answer_text;
+use crate::chain::missed::missed_value;
 use crate::fact_json::{
     Members, call_value, changed_value, event_value, option_value, own_value, reply_value,
-    step_value, way_value,
+    step_value, taken_value, way_value,
 };
 use crate::fact_text::{address_text, reserved_text};
+use crate::nearby::{memory_value, right_value};
 use crate::parts::{Part, Says};
 use crate::text::{format_text, walk_words};
 use crate::units::{bytes_text, unit_text};
@@ -28,6 +30,7 @@ fn says_value(alloc: Global, says: &Says) -> Result<Value, AllocError>
         Says::Own(own) => own_value(alloc, *own),
         Says::Event(number, named) => event_value(alloc, *number, *named),
         Says::Changed(changed) => changed_value(alloc, *changed),
+        Says::Taken(taken) => taken_value(alloc, *taken),
         Says::Step(step) => step_value(alloc, *step),
         Says::Steps(steps) => way_value(alloc, *steps),
         Says::Way(steps) => way_value(alloc, *steps),
@@ -42,6 +45,9 @@ fn says_value(alloc: Global, says: &Says) -> Result<Value, AllocError>
         Says::Allowed(fault) => Ok(Value::String(format_text(alloc, *fault)?)),
         Says::Reserved(level) => Ok(Value::String(reserved_text(alloc, *level)?)),
         Says::Text(text) => Value::try_from_str(alloc, *text),
+        Says::Right(right) => right_value(alloc, *right),
+        Says::Memory(memory) => memory_value(alloc, *memory),
+        Says::Missed(missed) => missed_value(alloc, *missed),
     }
 }
 

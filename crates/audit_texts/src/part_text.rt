@@ -4,10 +4,12 @@ ghost use Rattle.std.specs.Prelude.{◌≡◌, ◌++◌, IfOk, OnOk, map, string
 ghost use Rattle.audit_texts.specs.Parts.{part_of, part_text, parts_text, says_of, says_text};
 
 use crate::answer::answer_text;
+use crate::chain::missed::missed_lines;
 use crate::fact_text::{
     address_text, call_line, changed_line, event_line, format_lines, number_text, option_text,
-    own_line, reply_line, reserved_text, step_line, steps_lines, way_lines,
+    own_line, reply_line, reserved_text, step_line, steps_lines, taken_lines, way_lines,
 };
+use crate::nearby::{memory_line, right_text};
 use crate::parts::{Part, Says};
 use crate::text::walk_words;
 use crate::units::{read_text, unit_text};
@@ -25,6 +27,7 @@ fn says_text(alloc: Global, says: &Says) -> Result<String, AllocError>
         Says::Own(own) => own_line(alloc, *own),
         Says::Event(number, named) => event_line(alloc, *number, *named),
         Says::Changed(changed) => changed_line(alloc, *changed),
+        Says::Taken(taken) => taken_lines(alloc, *taken),
         Says::Step(step) => step_line(alloc, *step),
         Says::Steps(steps) => steps_lines(alloc, *steps),
         Says::Way(steps) => way_lines(alloc, *steps),
@@ -39,6 +42,9 @@ fn says_text(alloc: Global, says: &Says) -> Result<String, AllocError>
         Says::Allowed(fault) => format_lines(alloc, *fault),
         Says::Reserved(level) => reserved_text(alloc, *level),
         Says::Text(text) => String::from_str(alloc, *text),
+        Says::Right(right) => right_text(alloc, *right),
+        Says::Memory(memory) => memory_line(alloc, *memory),
+        Says::Missed(missed) => missed_lines(alloc, *missed),
     }
 }
 

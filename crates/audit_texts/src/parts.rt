@@ -1,6 +1,9 @@
 //! What is said of a fault, as a list of parts: words, and facts with their names.
 
-use nr_explain::{PlacedUpdate, RecordedCall, RecordedReply, TableEntry};
+use nr_explain::{
+    MissedUpdate, NamedMemory, PlacedUpdate, RecordedCall, RecordedReply, RightAfter, TableEntry,
+    TakenAway,
+};
 use nr_trace::{Event, Format, TraceUnit};
 use vs_types::Answer;
 use vs_walk::Walk;
@@ -18,6 +21,8 @@ pub enum Says<'a> {
     Event(u32, Option<Event>),
     /// The last update that changed how an address looks, if there is one.
     Changed(Option<PlacedUpdate>),
+    /// The update that takes away that an address leads somewhere, and the reply to it.
+    Taken(TakenAway),
     /// An entry of a table.
     Step(TableEntry),
     /// The entries that are read on a way: a line each, and none where there are none.
@@ -43,6 +48,12 @@ pub enum Says<'a> {
     /// What is reserved in an entry of this level.
     Reserved(u8),
     Text(&'a str),
+    /// After how many entries, nearest to those that a call had, its answer is the space's.
+    Right(RightAfter),
+    /// The memory that an answer names, if it names any: a line, or none.
+    Memory(Option<NamedMemory>),
+    /// The update that a touch should have seen, if there is one, to the end of its reply's line.
+    Missed(Option<MissedUpdate>),
 }
 
 /// A part of what is said, by where it is printed; in JSON a fact is a member of this name.

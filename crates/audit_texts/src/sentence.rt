@@ -143,6 +143,7 @@ fn stray_text(named: Option<Event>) -> &'static str
         None => "there is no such event",
         Some(Event::Call { .. }) => "that call is made later",
         Some(Event::Touch { .. }) => "that touch is made later",
+        Some(Event::Release { .. }) => "that release is made later",
         Some(Event::Reply { .. }) => "that event is a reply",
     }
 }
@@ -180,6 +181,7 @@ fn unlogged_event(alloc: Global, event: Event) -> Result<String, AllocError>
             format!(in alloc; "that call only reads, {asked}")
         }
         Event::Touch { .. } => String::from_str(alloc, "that event is a touch"),
+        Event::Release { .. } => String::from_str(alloc, "that event is a release"),
         Event::Reply { .. } => String::from_str(alloc, "that event is a reply"),
     }
 }

@@ -83,6 +83,7 @@ pub fn fault_text(alloc: Global, fault: Fault) -> Result<String, AllocError>
         Fault::StartBeyond(base) => format!(in alloc; "22 StartBeyond 0x{base:x}"),
         Fault::StartDiffers(address) => format!(in alloc; "23 StartDiffers 0x{address:x}"),
         Fault::Stale(call) => format!(in alloc; "24 Stale {call}"),
+        Fault::Reachable(call) => format!(in alloc; "25 Reachable {call}"),
     }
 }
 

@@ -13,19 +13,22 @@ use Rattle.nr_joined.proofs.Associated.{joined_associate}
 use Rattle.nr_joined.proofs.Orderly.{clean_is_orderly, orderly_both}
 use Rattle.nr_joined.proofs.Orderly.{space_of_both as ends_so}
 use Rattle.nr_audit.specs.Start.{begins_in, BeginsRight}
+use Rattle.nr_audit.specs.Releases.{HasRightReleases}
 use Rattle.nr_audit.specs.Touches.{HasRightTouches}
 use Rattle.nr_audit.specs.Faults.{IsSoundAfter}
 use Rattle.nr_audit.specs.Segments.{last_space, run_after}
 use Rattle.nr_chain.specs.Bytes.{layout_before, SpellAll, SpellsChain, GoesOnSo}
-use Rattle.chain_cuts.specs.Cut.{orders_of, AreCut, AreRecorded, AreSoundAfter, HasNoDumps, HaveNoStarts, IsCutAt, IsSameRun, MayCome}
+use Rattle.chain_cuts.specs.Cut.{orders_of, AreCut, AreRecorded, AreSoundAfter, HasNoDumps, HaveAllCaughtUp, HaveCaughtUp, HaveNoStarts, IsCutAt}
+use Rattle.chain_cuts.specs.Cut.{IsSameRun, MayCome}
 use Rattle.nr_chain.specs.Headline.{traces}
 use Rattle.nr_joined.specs.Joined.{joined_traces}
 use Rattle.nr_chain.specs.Joined.{Segment, both, joined}
 use Rattle.nr_chain.specs.Run.{AreFaultlessFrom}
-use Rattle.nr_audit.proofs.Judgements.{begins_of, clean_of, faultless_of, sound_by}
+use Rattle.nr_audit.proofs.Judgements.{begins_of, clean_of, faultless_of, releases_of, sound_by}
 use Rattle.chain_cuts.proofs.Cuts.{faultless_apart, faultless_both, whole_from_segments}
 use Rattle.nr_chain.proofs.OneChain.{one_front}
 use Rattle.chain_cuts.proofs.SameRuns.{same_back, sound_as_same}
+use Rattle.chain_cuts.proofs.ReleasesApart.{releases_apart, releases_as_one}
 use Rattle.chain_cuts.proofs.TouchesApart.{touches_apart, touches_as_one}
 
 -- the joined run begins as the first one
@@ -64,7 +67,7 @@ module _ (before : Option Run) (first next : Segment) (may : MayCome before firs
 
   pub sound_both : IsSoundAfter before first.trace → IsSoundAfter (Some so_far) next.trace → IsSoundAfter before whole
   sound_both front rest = sound_by before whole (begins_of before first.trace front.faultless)
-      (subst (λ (space : Space). IsFaultlessFrom space whole) (sym (same_first before first.trace next.trace)) clean) touches where
+      (subst (λ (space : Space). IsFaultlessFrom space whole) (sym (same_first before first.trace next.trace)) clean) touches releases where
         clean_front : IsFaultlessFrom start first.trace
         clean_front = faultless_of before first.trace front.faultless
 
@@ -80,11 +83,22 @@ module _ (before : Option Run) (first next : Segment) (may : MayCome before firs
             (touches_as_one start first.trace next.trace same_layout (clean_if_faultless start first.trace clean_front) before may
             (front.touches, λ touch has. rest.touches touch has))
 
-  pub sound_apart : next.trace.start ≡ None → IsSoundAfter before whole → IsSoundAfter before first.trace × IsSoundAfter (Some so_far) next.trace
-  sound_apart no_start sound = (
-    sound_by before first.trace (begins_of before whole sound.faultless) parts.0 touches.0,
+        releases : HasRightReleases before (begins_in before whole) whole
+        releases =
+            subst (λ (space : Space). HasRightReleases before space whole) (sym (same_first before first.trace next.trace))
+            (releases_as_one start first.trace next.trace same_layout (clean_if_faultless start first.trace clean_front) before may (
+              releases_of before first.trace front,
+              subst (λ (space : Space). HasRightReleases (Some so_far) space next.trace) (end_after before first.trace may)
+                  (releases_of (Some so_far) next.trace rest),
+            ))
+
+  pub sound_apart : next.trace.start ≡ None → HaveCaughtUp first.trace next.trace → IsSoundAfter before whole
+      → IsSoundAfter before first.trace × IsSoundAfter (Some so_far) next.trace
+  sound_apart no_start caught sound = (
+    sound_by before first.trace (begins_of before whole sound.faultless) parts.0 touches.0 releases.0,
     sound_by (Some so_far) next.trace begins (subst (λ (space : Space). IsFaultlessFrom space next.trace) (sym (end_after before first.trace may)) parts.1)
-        (λ touch has. touches.1 touch has),
+        (λ touch has. touches.1 touch has)
+        (subst (λ (space : Space). HasRightReleases (Some so_far) space next.trace) (sym (end_after before first.trace may)) releases.1),
   ) where
     parts : IsFaultlessFrom start first.trace × IsFaultlessFrom (last_space before first.trace) next.trace
     parts =
@@ -93,8 +107,13 @@ module _ (before : Option Run) (first next : Segment) (may : MayCome before firs
 
     touches : HasRightTouches before start first.trace × HasRightTouches (Some so_far) (last_space before first.trace) next.trace
     touches =
-        touches_apart start first.trace next.trace same_layout (clean_if_faultless start first.trace parts.0) before may
+        touches_apart start first.trace next.trace same_layout (clean_if_faultless start first.trace parts.0) before may caught
         (subst (λ (space : Space). HasRightTouches before space whole) (same_first before first.trace next.trace) sound.touches)
+
+    releases : HasRightReleases before start first.trace × HasRightReleases (Some so_far) (last_space before first.trace) next.trace
+    releases =
+        releases_apart start first.trace next.trace same_layout (clean_if_faultless start first.trace parts.0) before may
+        (subst (λ (space : Space). HasRightReleases before space whole) (same_first before first.trace next.trace) (releases_of before whole sound))
 
     begins : BeginsRight (Some (end_of so_far)) next.trace
     begins fault (image, is, holds) = absurd (let some : None ≡ Some image = sym no_start ∙ is in cc)
@@ -113,14 +132,14 @@ whole_sound before layout first (next ∷ more) may (closed, none, cuts) has_lay
     )
 
 pub segments_sound : (before : Option Run) (layout : Layout) (first : Segment) (more : List Segment) → MayCome before layout → AreCut first more
-    → first.trace.layout ≡ layout → AreRecorded layout more → HaveNoStarts more → IsSoundAfter before (joined first more).trace
+    → first.trace.layout ≡ layout → AreRecorded layout more → HaveNoStarts more → HaveAllCaughtUp first more → IsSoundAfter before (joined first more).trace
     → AreSoundAfter before (first ∷ more)
-segments_sound before layout first [] may cuts has_layout recorded starts sound = (sound, tt)
-segments_sound before layout first (next ∷ more) may (closed, none, cuts) has_layout (next_layout, order, others) (no_start, starts) sound =
+segments_sound before layout first [] may cuts has_layout recorded starts caught sound = (sound, tt)
+segments_sound before layout first (next ∷ more) may (closed, none, cuts) has_layout (next_layout, order, others) (no_start, starts) (caught, later) sound =
     let same_layout : next.trace.layout ≡ first.trace.layout = next_layout ∙ sym has_layout in
     let own = subst (MayCome before) (sym has_layout) may in
-    let (whole, rest) = segments_sound before layout (both first next) more may cuts has_layout others starts sound in
-    let (front, behind) = sound_apart before first next own same_layout closed none no_start whole in
+    let (whole, rest) = segments_sound before layout (both first next) more may cuts has_layout others starts later sound in
+    let (front, behind) = sound_apart before first next own same_layout closed none no_start caught whole in
     (front, (behind, subst (λ (run : Run). AreSoundAfter (Some run) more) (run_after_both before first.trace next.trace) rest))
 
 -- sound segments have no fault
@@ -208,8 +227,9 @@ module _ (whole cut : List ℕ) (run : Recording) (first : Segment) (more : List
       (whole_sound None first.trace.layout first more tt cuts refl recorded.2 sound) in
       goes_well whole run.layout as_one [] one (refl, order ∙ sym same_order, tt) (of_run, tt)
 
-  pub cut_if_whole : HaveNoStarts more → GoesOnSo None whole (as_one.order ∷ []) None → GoesOnSo None cut (orders_of (first ∷ more)) None
-  cut_if_whole starts well =
+  pub cut_if_whole : HaveNoStarts more → HaveAllCaughtUp first more → GoesOnSo None whole (as_one.order ∷ []) None
+      → GoesOnSo None cut (orders_of (first ∷ more)) None
+  cut_if_whole starts caught well =
       let sound : IsSoundAfter None run = (sound_if_well None whole (as_one ∷ []) one well).0 in
       goes_well cut first.trace.layout first more many recorded
-      (segments_sound None first.trace.layout first more tt cuts refl recorded.2 starts (sound_as_same None run (joined first more).trace alike sound))
+      (segments_sound None first.trace.layout first more tt cuts refl recorded.2 starts caught (sound_as_same None run (joined first more).trace alike sound))

@@ -59,7 +59,7 @@ clean_without_dumps start trace faultless = record {
 }
 
 -- no reply makes more known than the log has
-known_within : (trace : Recording) (index : ℕ) (reply : Response) → HasCleanLog trace → reply_of trace index ≡ Some reply
+pub known_within : (trace : Recording) (index : ℕ) (reply : Response) → HasCleanLog trace → reply_of trace index ≡ Some reply
     → known_by trace reply ≤ length trace.log
 known_within trace index reply clean is = by_kind (ordered_or_touch trace reply.call (reply_behind_call trace index reply clean is).1) where
   stands : IsOrdered trace reply.call → StandsAfter trace reply.call reply.at × (reply.at ≤ length trace.log)

@@ -2,6 +2,9 @@ pub mod CutFront
 pub mod CutRest
 pub mod CutWhole
 pub mod Cuts
+pub mod KnownApart
+pub mod ShownMoments
 pub mod TouchesApart
+pub mod ReleasesApart
 pub mod SameRuns
 pub mod CutVerdicts

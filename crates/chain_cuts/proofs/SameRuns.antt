@@ -1,5 +1,5 @@
 -- Runs that are the same but for dumps that are not there have the same faults, and the same right touches.
-use Rattle.std.proofs.Common.{◌≡◌, ℕ, List, [], slice_get, Option, Some, None, refl, sym, subst}
+use Rattle.std.proofs.Common.{◌≡◌, ℕ, inl, inr, List, [], length, slice_get, Option, Some, None, refl, sym, subst}
 use Rattle.std.proofs.lemmas.Option.{none-some}
 use Rattle.vs_types.specs.Space.{Space}
 use Rattle.vs_walk.specs.Dump.{Image}
@@ -10,16 +10,47 @@ use Rattle.nr_trace.specs.declared.fault.Fault.{Fault}
 use Rattle.nr_trace.specs.declared.fault.Fault.TheVariants.{ThreadOpen, WrongAnswer, PrefixPastLog, PrefixShort, MissingFrame, SharedFrame, ReservedBit}
 use Rattle.nr_trace.specs.declared.fault.Fault.TheVariants.{StrayFrame, Differs}
 use Rattle.nr_joined.specs.Run.{Run}
-use Rattle.nr_touch.specs.Touches.{IsRightBehind}
+use Rattle.nr_joined.specs.Joined.{joined_traces}
+use Rattle.nr_touch.specs.Releases.{IsWrongRelease}
+use Rattle.nr_touch.specs.Touches.{touch_behind, IsAllowedPrefix, IsAnsweredAt, IsLagging, IsRightBehind, IsRightTouch, OnlyWidens}
+use Rattle.nr_touch.specs.declared.touch.Touch.{Touch}
 use Rattle.nr_audit.specs.Start.{begins_in}
+use Rattle.nr_audit.specs.Releases.{HasRelease, HasRightReleases}
 use Rattle.nr_audit.specs.Touches.{HasTouch, HasRightTouches}
 use Rattle.nr_audit.specs.Faults.{IsSoundAfter}
-use Rattle.nr_audit.proofs.Judgements.{begins_of, faultless_of, sound_by}
+use Rattle.nr_audit.proofs.Judgements.{begins_of, faultless_of, releases_of, sound_by}
 use Rattle.chain_cuts.specs.Cut.{without_dumps, HasNoDumps, IsSameRun}
 
 -- the dumps that are there among some are among others
 abbrev AreAmong : List Image → List Image → Type 0
 AreAmong some others = (replica : ℕ) (dump : Image) → IsThere dump → slice_get some replica ≡ Some dump → slice_get others replica ≡ Some dump
+
+right_as : (start : Space) (one other : Recording) (touch : Touch)
+    → ((n : ℕ) → IsAllowedPrefix start one touch n → IsAllowedPrefix start other touch n)
+    → ((n : ℕ) → IsAnsweredAt start one touch n → IsAnsweredAt start other touch n)
+    → ((m n : ℕ) → OnlyWidens start one touch.address m n → OnlyWidens start other touch.address m n)
+    → ((m : ℕ) → IsLagging start one touch m → IsLagging start other touch m) → IsRightTouch start one touch → IsRightTouch start other touch
+right_as start one other touch allows answers widens lags (inl (n, allowed, answered)) = inl (n, allows n allowed, answers n answered)
+right_as start one other touch allows answers widens lags (inr (inl (fault, m, n, it))) = inr (inl (
+  fault,
+  m,
+  n,
+  record { allowed = allows n it.allowed; before = it.before; widens = widens m n it.widens; answered = answers m it.answered },
+))
+right_as start one other touch allows answers widens lags (inr (inr (fault, m, it))) = inr (inr (fault, m, lags m it))
+
+-- a right touch is right with other dumps
+right_without : (trace : Recording) (some others : List Image) (before : Option Run) (start : Space) (touch : Touch)
+    → IsRightBehind before start (record trace { dumps = some }) touch → IsRightBehind before start (record trace { dumps = others }) touch
+right_without trace some others None start touch right =
+    right_as start (record trace { dumps = some }) (record trace { dumps = others }) touch
+    (λ n is. record { within = is.within; flushed = is.flushed; not_foreseen = is.not_foreseen }) (λ n is. is) (λ m n is. is)
+    (λ m is. record { within = is.within; known = is.known; not_foreseen = is.not_foreseen; absent = is.absent }) right
+right_without trace some others (Some run) start touch right =
+    right_as run.start (joined_traces run.trace (record trace { dumps = some })) (joined_traces run.trace (record trace { dumps = others }))
+    (touch_behind (length run.trace.events) (length run.trace.log) touch)
+    (λ n is. record { within = is.within; flushed = is.flushed; not_foreseen = is.not_foreseen }) (λ n is. is) (λ m n is. is)
+    (λ m is. record { within = is.within; known = is.known; not_foreseen = is.not_foreseen; absent = is.absent }) right
 
 module _ (trace : Recording) (some others : List Image) where
   abbrev with_some : Recording
@@ -74,15 +105,26 @@ module _ (trace : Recording) (some others : List Image) where
   same_fault start among fault h = h
 
   same_touches : (before : Option Run) (start : Space) → HasRightTouches before start with_some → HasRightTouches before start with_others
-  same_touches before start right touch has = as_right before (right touch own) where
+  same_touches before start right touch has = right_without trace some others before start touch (right touch own) where
     own : HasTouch with_some touch
-    own = record { asks = has.asks; reply = has.reply; is_reply = has.is_reply; of_it = has.of_it; answer = has.answer }
+    own = record { asks = has.asks; reply = has.reply; is_reply = has.is_reply; of_it = has.of_it; answer = has.answer; known = has.known }
 
-    as_right : (b : Option Run) → IsRightBehind b start with_some touch → IsRightBehind b start with_others touch
-    as_right None (n, allowed, answered) =
-        (n, record { within = allowed.within; flushed = allowed.flushed; not_foreseen = allowed.not_foreseen }, answered)
-    as_right (Some run) (n, allowed, answered) =
-        (n, record { within = allowed.within; flushed = allowed.flushed; not_foreseen = allowed.not_foreseen }, answered)
+  same_releases : (before : Option Run) (start : Space) → HasRightReleases before start with_some → HasRightReleases before start with_others
+  same_releases before start right release has wrong = right release own (as_wrong wrong) where
+    own : HasRelease with_some release
+    own = record { gives = has.gives; done = has.done }
+
+    as_wrong : IsWrongRelease before start with_others release → IsWrongRelease before start with_some release
+    as_wrong (inl undone) = inl undone
+    as_wrong (inr it) = inr (record {
+      touch = it.touch;
+      made = it.made;
+      answered = it.answered;
+      phys = it.phys;
+      finds = it.finds;
+      within = it.within;
+      right = right_without trace others some before start it.touch it.right;
+    })
 
   same_begin : (before : Option Run) → begins_in before with_some ≡ begins_in before with_others
   same_begin None = refl
@@ -91,7 +133,7 @@ module _ (trace : Recording) (some others : List Image) where
 same_sound : (before : Option Run) (trace : Recording) (some others : List Image) → AreAmong others some
     → IsSoundAfter before (record trace { dumps = some }) → IsSoundAfter before (record trace { dumps = others })
 same_sound before trace some others among sound =
-    sound_by before (record trace { dumps = others }) (begins_of before (record trace { dumps = some }) sound.faultless) clean touches where
+    sound_by before (record trace { dumps = others }) (begins_of before (record trace { dumps = some }) sound.faultless) clean touches releases where
       start : Space
       start = begins_in before (record trace { dumps = some })
 
@@ -102,6 +144,11 @@ same_sound before trace some others among sound =
       touches =
           subst (λ (space : Space). HasRightTouches before space (record trace { dumps = others })) begin
           (same_touches trace some others before start sound.touches)
+
+      releases : HasRightReleases before (begins_in before (record trace { dumps = others })) (record trace { dumps = others })
+      releases =
+          subst (λ (space : Space). HasRightReleases before space (record trace { dumps = others })) begin
+          (same_releases trace some others before start (releases_of before (record trace { dumps = some }) sound))
 
       clean : IsFaultlessFrom (begins_in before (record trace { dumps = others })) (record trace { dumps = others })
       clean fault h =

@@ -5,7 +5,10 @@ use Rattle.vs_walk.specs.Dump.{Image}
 use Rattle.nr_trace.specs.Recording.{IsThere, Recording}
 use Rattle.nr_trace.specs.Calls.{Invocation, call_of, Answers}
 use Rattle.nr_trace.specs.Orders.{recorded_order}
+use Rattle.nr_touch.specs.Touches.{IsFaultOfNone}
+use Rattle.nr_touch.specs.declared.touch.Touch.{Touch}
 use Rattle.nr_audit.specs.Faults.{IsSoundAfter}
+use Rattle.nr_audit.specs.Touches.{known_at, HasTouch}
 use Rattle.nr_joined.specs.Run.{Run, IsOrderly}
 use Rattle.nr_audit.specs.Segments.{run_after}
 use Rattle.nr_chain.specs.Joined.{Segment, both}
@@ -38,6 +41,16 @@ pub record IsSameRun (first second : Recording) : Type 0 where
 abbrev pub AreCut : Segment → List Segment → Type 0
 AreCut first [] = ⊤
 AreCut first (next ∷ more) = IsCutAt first.trace next.trace × HasNoDumps first.trace × AreCut (both first next) more
+
+-- the replica of each touch of the second run that faults since no page has its address was known at the cut to have applied the whole log of the first
+abbrev pub HaveCaughtUp : Recording → Recording → Type 0
+HaveCaughtUp first second = (touch : Touch) (made : Invocation) → HasTouch second touch → IsFaultOfNone touch → call_of second touch.made ≡ Some made
+    → known_at first made.replica (length first.events) ≡ length first.log
+
+-- so it is at each cut of several
+abbrev pub HaveAllCaughtUp : Segment → List Segment → Type 0
+HaveAllCaughtUp first [] = ⊤
+HaveAllCaughtUp first (next ∷ more) = HaveCaughtUp first.trace next.trace × HaveAllCaughtUp (both first next) more
 
 -- each segment has the layout, and its order is the one that it records
 abbrev pub AreRecorded : Layout → List Segment → Type 0

@@ -139,6 +139,45 @@ const FINDS_A_THIRD: Part = Bytes(&[
     0, 0, 0, 0, 0, 0, 0, 0, 0, 0, 0, 0, 0, 0, 0, 0, // no dump
 ]);
 
+/// Laid out as the map: the page's memory is given to somebody else.
+const RELEASES_THE_PAGE: Part = Bytes(&[
+    0x4e, 0x52, 0x56, 0x53, 0, 1, 4, 1, 0, 1, 0, 4, 0, 0, 0, 0, 0, 0, 0, 2, 0, 0, 0, 0, // counts
+    0, 0, 0, 0, 6, 0, 0, 0, 0, 0, 0, 0, 0, 0, 0, 0, 0, 0, 0, 0, 0, 0, 0x10, 0, // call
+    1, 0, 0, 0, 0, 0, 0, 0, 0, 0, 0, 0, 0, 0, 0, 0, 0, 0, 0, 0, 0, 0, 0, 0, // reply
+    0, 0, 0, 0, 0, 0, 0, 0, 0, 0, 0, 0, 0, 0, 0, 0, // no dump
+]);
+
+/// The memory behind it, and the reply isn't done.
+const RELEASE_IS_FULL: Part = Bytes(&[
+    0x4e, 0x52, 0x56, 0x53, 0, 1, 4, 1, 0, 1, 0, 4, 0, 0, 0, 0, 0, 0, 0, 2, 0, 0, 0, 0, // counts
+    0, 0, 0, 0, 6, 0, 0, 0, 0, 0, 0, 0, 0, 0, 0, 0, 0, 0, 0, 0, 0, 0, 0x20, 0, // call
+    1, 4, 0, 0, 0, 0, 0, 0, 0, 0, 0, 0, 0, 0, 0, 0, 0, 0, 0, 0, 0, 0, 0, 0, // reply
+    0, 0, 0, 0, 0, 0, 0, 0, 0, 0, 0, 0, 0, 0, 0, 0, // no dump
+]);
+
+/// Two replicas: a map of the page at the first one, done; and a read of it through a TLB.
+const MAPS_AT_THE_FIRST: Part = Bytes(&[
+    0x4e, 0x52, 0x56, 0x53, 0, 1, 4, 2, 0, 2, 0, 4, 0, 0, 0, 1, 0, 0, 0, 4, 0, 0, 0, 0, // counts
+    0, 0, 0, 0, // place
+    0, 0, 0, 0, 0, 0, 7, 0, 0, 0, 0, 0, 0, 0x40, 0, 0, 0, 0, 0, 0, 0, 0, 0x10, 0, // call
+    1, 0, 0, 0, 0, 0, 0, 0, 0, 0, 0, 0, 0, 0, 0, 0, 0, 0, 0, 0, 0, 0, 0, 0, // reply
+]);
+
+const TOUCHES_AT_THE_FIRST: Part = Bytes(&[
+    0, 0, 0, 1, 5, 0, 0, 0, 0, 0, 0, 0, 0, 0x40, 1, 0x23, 0, 0, 0, 0, 0, 0, 0, 0, // call
+]);
+
+const TOUCHES_AT_THE_SECOND: Part = Bytes(&[
+    0, 1, 0, 1, 5, 0, 0, 0, 0, 0, 0, 0, 0, 0x40, 1, 0x23, 0, 0, 0, 0, 0, 0, 0, 0, // call
+]);
+
+/// It finds no page.
+const FAULTS: Part = Bytes(&[
+    1, 9, 0, 0, 0, 0, 0, 2, 0, 0, 0, 0, 0, 0, 0, 0, 0, 0, 0, 0, 0, 0, 0, 0, // reply
+    0, 0, 0, 0, 0, 0, 0, 0, 0, 0, 0, 0, 0, 0, 0, 0, // no dump
+    0, 0, 0, 0, 0, 0, 0, 0, 0, 0, 0, 0, 0, 0, 0, 0, // no dump
+]);
+
 const TRUNCATED: Fault = Fault::Format(Format::Truncated);
 
 const BAD_MAGIC: Fault = Fault::Format(Format::BadMagic);
@@ -148,7 +187,7 @@ const BAD_VERSION: Fault = Fault::Format(Format::BadVersion);
 const BAD_CHAIN: Fault = Fault::Format(Format::BadChain);
 
 /// Each chain.
-pub static CASES: [Case; 17] = [
+pub static CASES: [Case; 22] = [
     Case {
         name: "two segments",
         parts: &[MAPS, Frames(TABLES), UNMAPS, Frames(ROOT)],
@@ -244,6 +283,42 @@ pub static CASES: [Case; 17] = [
         parts: &[OPEN_UPDATES, FINDS_A_THIRD],
         orders: &[],
         fault: Some(Fault::Stale(4)),
+    },
+    Case {
+        name: "a release of a page that is there",
+        parts: &[MAPS, Frames(TABLES), RELEASES_THE_PAGE],
+        orders: &[&[0, 2]],
+        fault: Some(Fault::Reachable(0)),
+    },
+    Case {
+        name: "a release of a page that is gone",
+        parts: &[
+            MAPS,
+            Frames(TABLES),
+            UNMAPS,
+            Frames(ROOT),
+            RELEASES_THE_PAGE,
+        ],
+        orders: &[&[0, 2], &[0], &[]],
+        fault: None,
+    },
+    Case {
+        name: "a release of other memory, answered otherwise",
+        parts: &[MAPS, Frames(TABLES), RELEASE_IS_FULL],
+        orders: &[&[0, 2]],
+        fault: Some(Fault::Reachable(0)),
+    },
+    Case {
+        name: "a fault by a table that lags",
+        parts: &[MAPS_AT_THE_FIRST, TOUCHES_AT_THE_SECOND, FAULTS],
+        orders: &[&[0]],
+        fault: None,
+    },
+    Case {
+        name: "a fault at the replica that has the page",
+        parts: &[MAPS_AT_THE_FIRST, TOUCHES_AT_THE_FIRST, FAULTS],
+        orders: &[],
+        fault: Some(Fault::Stale(2)),
     },
     Case {
         name: "version 2",

@@ -22,21 +22,21 @@ use Rattle.nr_audit.specs.Dumps.{at_replica}
 use Rattle.nr_audit.specs.inside.Prefixes.{AreNeeds}
 use Rattle.nr_audit.proofs.Ranks.{IsRanked, none_from, first_from, lower_number}
 
-pub dump_ranks : (trace : Recording) → IsRanked IsDumpFaultAt 8 trace
-dump_ranks trace replica (PrefixPastLog at) among = (11, ap (λ i. 8 ∷ i ∷ 11 ∷ []) among)
-dump_ranks trace replica (PrefixShort at) among = (12, ap (λ i. 8 ∷ i ∷ 12 ∷ []) among)
-dump_ranks trace replica (MissingFrame at number) among = (13, ap (λ i. 8 ∷ i ∷ 13 ∷ []) among)
-dump_ranks trace replica (SharedFrame at number) among = (14, ap (λ i. 8 ∷ i ∷ 14 ∷ []) among)
-dump_ranks trace replica (ReservedBit at number index) among = (15, ap (λ i. 8 ∷ i ∷ 15 ∷ []) among)
-dump_ranks trace replica (StrayFrame at number) among = (16, ap (λ i. 8 ∷ i ∷ 16 ∷ []) among)
-dump_ranks trace replica (Differs at address) among = (17, ap (λ i. 8 ∷ i ∷ 17 ∷ []) among)
+pub dump_ranks : (trace : Recording) → IsRanked IsDumpFaultAt 9 trace
+dump_ranks trace replica (PrefixPastLog at) among = (11, ap (λ i. 9 ∷ i ∷ 11 ∷ []) among)
+dump_ranks trace replica (PrefixShort at) among = (12, ap (λ i. 9 ∷ i ∷ 12 ∷ []) among)
+dump_ranks trace replica (MissingFrame at number) among = (13, ap (λ i. 9 ∷ i ∷ 13 ∷ []) among)
+dump_ranks trace replica (SharedFrame at number) among = (14, ap (λ i. 9 ∷ i ∷ 14 ∷ []) among)
+dump_ranks trace replica (ReservedBit at number index) among = (15, ap (λ i. 9 ∷ i ∷ 15 ∷ []) among)
+dump_ranks trace replica (StrayFrame at number) among = (16, ap (λ i. 9 ∷ i ∷ 16 ∷ []) among)
+dump_ranks trace replica (Differs at address) among = (17, ap (λ i. 9 ∷ i ∷ 17 ∷ []) among)
 dump_ranks trace replica fault among = absurd among
 
 -- the first fault of a replica, after replicas that have none, is the first of the dumps
 pub first_dump_fault : (start : Space) (trace : Recording) (replica : ℕ) (fault : Fault)
     → ((lower : ℕ) → lower < replica → HasNoneFrom start (IsDumpFaultAt lower) trace)
     → IsFirstAmongFrom start (IsDumpFaultAt replica) trace fault → IsFirstAmongFrom start IsDumpFault trace fault
-first_dump_fault start trace = first_from start IsDumpFaultAt 8 trace (dump_ranks trace)
+first_dump_fault start trace = first_from start IsDumpFaultAt 9 trace (dump_ranks trace)
 
 -- a dump, as it is read
 pub read_dump : (dumps real : List Image) (i : ℕ) (dump : Image) → dumps ≡ real → i < length real → dump ≡ get_or dumps i dump → slice_get real i ≡ Some dump
@@ -98,11 +98,11 @@ number_of (StrayFrame at number) = 16
 number_of (Differs at address) = 17
 number_of fault = 0
 
-module _ (trace : Recording) (replica number : ℕ) (fault : Fault) (is : rank trace fault ≡ 8 ∷ replica ∷ number ∷ []) where
-  ordered : (other : Fault) (at own : ℕ) → rank trace other ≡ 8 ∷ at ∷ own ∷ [] → at ≡ replica → Earlier trace other fault → own < number
+module _ (trace : Recording) (replica number : ℕ) (fault : Fault) (is : rank trace fault ≡ 9 ∷ replica ∷ number ∷ []) where
+  ordered : (other : Fault) (at own : ℕ) → rank trace other ≡ 9 ∷ at ∷ own ∷ [] → at ≡ replica → Earlier trace other fault → own < number
   ordered other at own ranks same earlier =
-      lower_number 8 at own replica number
-      (subst (λ r. slice_cmp nat_cmp (8 ∷ at ∷ own ∷ []) r ≡ Less) is (subst (λ r. slice_cmp nat_cmp r (rank trace fault) ≡ Less) ranks earlier)) same
+      lower_number 9 at own replica number
+      (subst (λ r. slice_cmp nat_cmp (9 ∷ at ∷ own ∷ []) r ≡ Less) is (subst (λ r. slice_cmp nat_cmp r (rank trace fault) ≡ Less) ranks earlier)) same
 
   lower : (other : Fault) → IsDumpFaultAt replica other → Earlier trace other fault → number_of other < number
   lower (PrefixPastLog at) among = ordered (PrefixPastLog at) at 11 refl among
@@ -145,7 +145,7 @@ number_in (of_dump.ReservedBit frame index) = 15
 number_in (of_dump.StrayFrame frame) = 16
 number_in (of_dump.Differs address) = 17
 
-rank_in : (trace : Recording) (replica : ℕ) (fault : DumpFault) → rank trace (at_replica replica fault) ≡ 8 ∷ replica ∷ number_in fault ∷ []
+rank_in : (trace : Recording) (replica : ℕ) (fault : DumpFault) → rank trace (at_replica replica fault) ≡ 9 ∷ replica ∷ number_in fault ∷ []
 rank_in trace replica (of_dump.MissingFrame frame) = refl
 rank_in trace replica _ = refl
 

@@ -1,5 +1,5 @@
 -- At most one fault of a segment is the first.
-use Rattle.std.proofs.Common.{◌≡◌, ℕ, ◌<◌, Option, List, get_or, refl, sym, ap, ◌∙◌, arith}
+use Rattle.std.proofs.Common.{◌≡◌, ◌<◌, Option, get_or, refl, ap, ◌∙◌, arith}
 use Rattle.std.specs.FinMap as finite
 use Rattle.std.specs.Ordering.{nat_cmp, ordering_reverse}
 use Rattle.std.specs.Cmp.Lexicographic.{slice_cmp}
@@ -9,7 +9,7 @@ use Rattle.std.proofs.lemmas.Cmp.{nat_list_cmp_total}
 use Rattle.nr_trace.specs.Recording.{Recording}
 use Rattle.nr_trace.specs.Faults.{rank, HasFaultFrom, IsFirstFrom}
 use Rattle.nr_trace.specs.declared.fault.Fault.{Fault}
-use Rattle.nr_trace.specs.declared.fault.Fault.TheVariants.{StartMissing, StartShared, StartReserved, StartStray, StartBeyond, StartDiffers, Stale}
+use Rattle.nr_trace.specs.declared.fault.Fault.TheVariants.{StartMissing, StartShared, StartReserved, StartStray, StartBeyond, StartDiffers, Stale, Reachable}
 use Rattle.nr_trace.proofs.LawsOfFaults.{number_of, one_first}
 use Rattle.nr_joined.specs.Run.{Run}
 use Rattle.nr_audit.specs.Start.{begins_in, space_before}
@@ -28,6 +28,7 @@ within before segment (StartStray number) h = absurd h
 within before segment (StartBeyond base) h = absurd h
 within before segment (StartDiffers address) h = absurd h
 within before segment (Stale call) h = absurd h
+within before segment (Reachable call) h = absurd h
 within before segment _ h = h
 
 -- and those below number 18 are such
@@ -40,6 +41,7 @@ own before segment (StartStray number) lt h = absurd (omega arith)
 own before segment (StartBeyond base) lt h = absurd (omega arith)
 own before segment (StartDiffers address) lt h = absurd (omega arith)
 own before segment (Stale call) lt h = absurd (omega arith)
+own before segment (Reachable call) lt h = absurd (omega arith)
 own before segment _ lt h = h
 
 pub first_within : (before : Option Run) (segment : Recording) (fault : Fault) → number_of segment fault < 18 → IsFirstAfter before segment fault
@@ -60,6 +62,7 @@ same_rank before segment (StartStray a) (StartStray b) x y e = one_start (space_
 same_rank before segment (StartBeyond a) (StartBeyond b) x y e = one_start (space_before before) segment _ _ x.holds y.holds refl
 same_rank before segment (StartDiffers a) (StartDiffers b) x y e = one_start (space_before before) segment _ _ x.holds y.holds refl
 same_rank before segment (Stale a) (Stale b) x y e = ap Stale (ap (λ ns. get_or ns 1 0) e)
+same_rank before segment (Reachable a) (Reachable b) x y e = ap Reachable (ap (λ ns. get_or ns 1 0) e)
 same_rank before segment f g x y e =
     let number : number_of segment f ≡ number_of segment g = ap (λ ns. get_or ns 2 0) e in
     let low : number_of segment f < 18 = omega arith in

@@ -10,7 +10,7 @@ use Rattle.nr_trace.specs.declared.fault.Fault.{Fault}
 use Rattle.nr_trace.specs.declared.fault.Fault.TheVariants.{Format, ThreadOpen, NoSuchCall, AnsweredTwice, NotAnUpdate, PlacedTwice, NotPlaced, PastLog, Early}
 use Rattle.nr_trace.specs.declared.fault.Fault.TheVariants.{WrongAnswer, PrefixPastLog, PrefixShort, MissingFrame, SharedFrame, ReservedBit, StrayFrame}
 use Rattle.nr_trace.specs.declared.fault.Fault.TheVariants.{Differs}
-use Rattle.nr_trace.specs.declared.fault.Fault.TheVariants.{StartMissing, StartShared, StartReserved, StartStray, StartBeyond, StartDiffers, Stale}
+use Rattle.nr_trace.specs.declared.fault.Fault.TheVariants.{StartMissing, StartShared, StartReserved, StartStray, StartBeyond, StartDiffers, Stale, Reachable}
 use Rattle.nr_trace.proofs.LawsOfFaults.{pass as pass_of, earlier_parts}
 use Rattle.vs_types.specs.Refusal.{IfRefused}
 use Rattle.vs_types.specs.declared.refusal.Fail.{Fail}
@@ -18,7 +18,7 @@ use Rattle.vs_types.specs.declared.refusal.Fail.TheVariants.{Memory, Refused}
 use Rattle.nr_audit.specs.inside.Search.{HasFaultOn, HasNoFaultOn, HasNone, HasNoneFrom, IsFirstAmong, IsFirstAmongFrom, IsFirstFromAny, IsFirstOn}
 use Rattle.nr_audit.specs.inside.Search.{HasFaultBehind, IsFirstBehind}
 use Rattle.nr_joined.specs.Run.{Run}
-use Rattle.nr_audit.specs.inside.Passes.{IsCallFault, IsLogFault, IsPositionFault, IsFloorFault, IsAnswerFault, IsTouchFault, IsDumpFault}
+use Rattle.nr_audit.specs.inside.Passes.{IsCallFault, IsLogFault, IsPositionFault, IsFloorFault, IsAnswerFault, IsTouchFault, IsReleaseFault, IsDumpFault}
 
 -- the faults among these are those of the pass
 pub record AreOfPass (pass : ℕ) (Among : Fault → Type 0) : Type 0 where
@@ -83,10 +83,12 @@ module _ (before : Option Run) (start : Space) (segment : Recording) where
   -- a fault of the passes before that of touches holds as it does without a run
   pub early_on : (fault : Fault) → pass_of fault < 7 → HasFaultBehind before start segment fault → HasFaultOn start segment fault
   early_on (Stale call) low h = absurd (omega arith)
+  early_on (Reachable call) low h = absurd (omega arith)
   early_on _ low h = h
 
   pub on_behind : (fault : Fault) → HasFaultOn start segment fault → HasFaultBehind before start segment fault
   on_behind (Stale call) h = absurd h
+  on_behind (Reachable call) h = absurd h
   on_behind _ h = h
 
   -- the first of such a pass, where none of an earlier pass holds, is the first behind a run
@@ -129,6 +131,7 @@ of_any : (one other : Space) (trace : Recording) (fault : Fault) → pass_of fau
 of_any one other trace (WrongAnswer call) low holds = absurd (omega arith)
 of_any one other trace (Differs replica address) low holds = absurd (omega arith)
 of_any one other trace (Stale call) low holds = absurd (omega arith)
+of_any one other trace (Reachable call) low holds = absurd (omega arith)
 of_any one other trace _ low holds = holds
 
 pub none_before_from : (start : Space) (trace : Recording) → HasNoneBefore no_pages 6 trace → HasNoneBefore start 6 trace
@@ -161,7 +164,7 @@ abbrev IsOfPass : ℕ → Fault → Type 0
 IsOfPass pass fault =
     MatchBool (pass == 2) (IsCallFault fault) (MatchBool (pass == 3) (IsLogFault fault) (MatchBool (pass == 4) (IsPositionFault fault)
     (MatchBool (pass == 5) (IsFloorFault fault) (MatchBool (pass == 6) (IsAnswerFault fault) (MatchBool (pass == 7) (IsTouchFault fault)
-    (MatchBool (pass == 8) (IsDumpFault fault) ⊤))))))
+    (MatchBool (pass == 8) (IsReleaseFault fault) (MatchBool (pass == 9) (IsDumpFault fault) ⊤)))))))
 
 own_pass : (fault : Fault) → IsOfPass (pass_of fault) fault
 own_pass (ThreadOpen index) = (index, refl)
@@ -232,7 +235,19 @@ none_of_touches start trace _ among holds = absurd among
 pub touch_faults : AreOfPass 7 IsTouchFault
 touch_faults = record { all = λ fault e. subst (λ pass. IsOfPass pass fault) e (own_pass fault); only = from_touch }
 
-from_dump : (fault : Fault) → IsDumpFault fault → pass_of fault ≡ 8
+from_release : (fault : Fault) → IsReleaseFault fault → pass_of fault ≡ 8
+from_release (Reachable call) among = refl
+from_release fault among = absurd among
+
+-- nor one of releases
+none_of_releases : (start : Space) (trace : Recording) → HasNoneFrom start IsReleaseFault trace
+none_of_releases start trace (Reachable call) among holds = holds
+none_of_releases start trace _ among holds = absurd among
+
+pub release_faults : AreOfPass 8 IsReleaseFault
+release_faults = record { all = λ fault e. subst (λ pass. IsOfPass pass fault) e (own_pass fault); only = from_release }
+
+from_dump : (fault : Fault) → IsDumpFault fault → pass_of fault ≡ 9
 from_dump (PrefixPastLog replica) among = refl
 from_dump (PrefixShort replica) among = refl
 from_dump (MissingFrame replica number) among = refl
@@ -242,15 +257,15 @@ from_dump (StrayFrame replica number) among = refl
 from_dump (Differs replica address) among = refl
 from_dump fault among = absurd among.1
 
-pub dump_faults : AreOfPass 8 IsDumpFault
+pub dump_faults : AreOfPass 9 IsDumpFault
 dump_faults = record { all = λ fault e. subst (λ pass. IsOfPass pass fault) e (own_pass fault); only = from_dump }
 
 -- a fault is of one of the passes
-last_pass : (fault : Fault) → pass_of fault < 9
+last_pass : (fault : Fault) → pass_of fault < 10
 last_pass (Format fault) = lit< tt
 last_pass _ = lit< tt
 
-pub faultless_after_all : (start : Space) (trace : Recording) → HasNoneBefore start 9 trace → HasNoFaultOn start trace
+pub faultless_after_all : (start : Space) (trace : Recording) → HasNoneBefore start 10 trace → HasNoFaultOn start trace
 faultless_after_all start trace none fault holds = none fault (last_pass fault) holds
 
 -- nothing is wrong with the events, the log and the positions
@@ -294,5 +309,8 @@ module _ (trace : Recording) (calls : HasNone IsCallFault trace) where
             pub after_touches : HasNoneBefore start 8 trace
             after_touches = none_before_next start 7 IsTouchFault trace touch_faults after_answers (none_of_touches start trace)
 
-            pub after_dumps : HasNoneFrom start IsDumpFault trace → HasNoneBefore start 9 trace
-            after_dumps dumps = none_before_next start 8 IsDumpFault trace dump_faults after_touches dumps
+            pub after_releases : HasNoneBefore start 9 trace
+            after_releases = none_before_next start 8 IsReleaseFault trace release_faults after_touches (none_of_releases start trace)
+
+            pub after_dumps : HasNoneFrom start IsDumpFault trace → HasNoneBefore start 10 trace
+            after_dumps dumps = none_before_next start 9 IsDumpFault trace dump_faults after_releases dumps

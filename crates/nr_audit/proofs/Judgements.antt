@@ -1,6 +1,8 @@
 -- The verdict on a segment: from the faults of its start, and of what comes behind it.
-use Rattle.std.proofs.Common.{◌≡◌, ℕ, ◌<◌, ◌≤◌, inl, inr, IsSome, Option, refl, sym, subst, arith}
+use Rattle.std.proofs.Common.{◌≡◌, ℕ, ◌≤◌, inl, inr, IsSome, IfSome, Option, Some, None, refl, sym, subst, arith}
 use Rattle.std.proofs.lemmas.Bool.{cases_lt}
+use Rattle.std.proofs.lemmas.Option.{none-some, same_Some}
+use Rattle.std.specs.Prelude.{IfNone}
 use Rattle.vs_types.specs.Refusal.{IfRefused}
 use Rattle.vs_types.specs.declared.refusal.Fail.{Fail}
 use Rattle.vs_types.specs.declared.refusal.Fail.TheVariants.{Memory, Refused}
@@ -11,16 +13,17 @@ use Rattle.nr_trace.specs.Faults.{Earlier}
 use Rattle.nr_trace.specs.Laws.{HasCleanLog, IsFaultlessFrom}
 use Rattle.nr_trace.specs.declared.fault.Fault.TheVariants.{ThreadOpen, NoSuchCall, AnsweredTwice, NotAnUpdate, PlacedTwice, NotPlaced, PastLog}
 use Rattle.nr_trace.specs.declared.fault.Fault.{Fault}
-use Rattle.nr_trace.specs.declared.fault.Fault.TheVariants.{Format, StartMissing, StartShared, StartReserved, StartStray, StartBeyond, StartDiffers, Stale}
+use Rattle.nr_trace.specs.declared.fault.Fault.TheVariants.{Format, StartMissing, StartShared, StartReserved, StartStray, StartBeyond, StartDiffers, Stale, Reachable}
 use Rattle.nr_trace.proofs.LawsOfFaults.{pass as pass_of}
 use Rattle.nr_audit.specs.Start.{begins_in, space_before, HasStartFault, BeginsRight, BeginsWrong}
 use Rattle.nr_audit.specs.Faults.{HasFaultAfter, HasNoFaultAfter, IsFirstAfter, IsSoundAfter}
+use Rattle.nr_audit.specs.Releases.{HasRightReleases}
 use Rattle.nr_audit.specs.Touches.{IsStale, HasRightTouches}
-use Rattle.nr_audit.specs.inside.Begun.{HasSomeTouch, IsFirstStale}
-use Rattle.nr_audit.specs.inside.Search.{HasFaultBehind, HasFaultOn, HasNoFaultBehind, HasNoFaultOn, IsFirstBehind, IsFirstOn}
+use Rattle.nr_audit.specs.inside.Begun.{HasSomeTouch, IsFirstStale, IsFirstWrong}
+use Rattle.nr_audit.specs.inside.Search.{late_fault, HasFaultBehind, HasFaultOn, HasNoFaultBehind, HasNoFaultOn, IsFirstBehind, IsFirstOn}
 use Rattle.nr_audit.proofs.FirstFaults.{within}
 use Rattle.nr_audit.proofs.FirstOfPasses.{early_on, not_later, on_behind, HasNoneBefore}
-use Rattle.nr_audit.proofs.Ranks.{touch_number}
+use Rattle.nr_audit.proofs.Ranks.{release_number, touch_number}
 use Rattle.nr_audit.proofs.Starts.{start_pass}
 
 -- ---- touches
@@ -30,10 +33,11 @@ pub none_stale : (before : Option Run) (start : Space) (segment : Recording) →
 none_stale before start segment right call stale = stale.3 (right stale.0 stale.1)
 
 module _ (before : Option Run) (start : Space) (segment : Recording) where
-  -- where the touches are right, a fault holds as it does without a run
-  module _ (right : HasRightTouches before start segment) where
+  -- where the touches and the releases are right, a fault holds as it does without a run
+  module _ (right : HasRightTouches before start segment) (released : HasRightReleases before start segment) where
     all_on : (fault : Fault) → HasFaultBehind before start segment fault → HasFaultOn start segment fault
     all_on (Stale call) h = absurd (none_stale before start segment right call h)
+    all_on (Reachable call) h = absurd (released h.0 h.1 h.3)
     all_on _ h = h
 
     pub refused_late : (fail : Fail Fault) → IfRefused (IsFirstOn start segment) fail → IfRefused (IsFirstBehind before start segment) fail
@@ -57,6 +61,39 @@ module _ (before : Option Run) (start : Space) (segment : Recording) where
           | inl low ↦ none other low (early_on before start segment other low h)
           | inr high ↦ omega (arith, below, high)
         ]
+
+  -- the wrong release of the lowest number is the first fault where the touches are right
+  pub wrong_first : (call : ℕ) → HasNoneBefore start 7 segment → HasRightTouches before start segment → IsFirstWrong before start segment call
+      → IsFirstBehind before start segment (Reachable call)
+  wrong_first call none right first = record { holds = first.wrong; none_earlier = earlier } where
+    earlier : (other : Fault) → HasFaultBehind before start segment other → Earlier segment other (Reachable call) → ⊥
+    earlier (Stale other) h less = none_stale before start segment right other h
+    earlier (Reachable other) h less = first.none_lower other (release_number other call less) h
+    earlier other h less =
+        let below = not_later segment other (Reachable call) less in
+        elim (cases_lt (pass_of other) 7) [
+          | inl low ↦ none other low (early_on before start segment other low h)
+          | inr high ↦ omega (arith, below, high)
+        ]
+
+  -- the first fault of touches and releases
+  pub late_first : (stale reachable : Option ℕ) (fault : Fault) → late_fault stale reachable ≡ Some fault → IfNone stale (HasRightTouches before start segment)
+      → IfSome stale (IsFirstStale before start segment) → IfSome reachable (IsFirstWrong before start segment) → HasNoneBefore start 7 segment
+      → IsFirstBehind before start segment fault
+  late_first (Some call) reachable fault e right first wrong none =
+      subst (IsFirstBehind before start segment) (same_Some (Stale call) fault e) (stale_first call none first)
+  late_first None (Some call) fault e right first wrong none =
+      subst (IsFirstBehind before start segment) (same_Some (Reachable call) fault e) (wrong_first call none right wrong)
+  late_first None None fault e right first wrong none = absurd (none-some fault e)
+
+pub no_stale : (stale reachable : Option ℕ) → late_fault stale reachable ≡ None → stale ≡ None
+no_stale None reachable e = refl
+no_stale (Some call) reachable e = absurd (none-some (Stale call) (sym e))
+
+pub no_wrong : (stale reachable : Option ℕ) → late_fault stale reachable ≡ None → reachable ≡ None
+no_wrong None None e = refl
+no_wrong None (Some call) e = absurd (none-some (Reachable call) (sym e))
+no_wrong (Some call) reachable e = absurd (none-some (Stale call) (sym e))
 
 -- a segment without a touch has right touches
 pub no_touches : (before : Option Run) (start : Space) (segment : Recording) → (HasSomeTouch segment → ⊥) → HasRightTouches before start segment
@@ -97,8 +134,8 @@ of_behind before segment _ h = h
 
 -- a segment is sound where its start is right, no fault that a trace may have too holds from its first space on, and its touches are right
 pub sound_by : (before : Option Run) (segment : Recording) → BeginsRight (space_before before) segment → IsFaultlessFrom (begins_in before segment) segment
-    → HasRightTouches before (begins_in before segment) segment → IsSoundAfter before segment
-sound_by before segment begins clean right = record { faultless = none; touches = right } where
+    → HasRightTouches before (begins_in before segment) segment → HasRightReleases before (begins_in before segment) segment → IsSoundAfter before segment
+sound_by before segment begins clean right released = record { faultless = none; touches = right } where
   none : (fault : Fault) → HasFaultAfter before segment fault → ⊥
   none (StartMissing number) h = begins (StartMissing number) h
   none (StartShared number) h = begins (StartShared number) h
@@ -107,6 +144,7 @@ sound_by before segment begins clean right = record { faultless = none; touches 
   none (StartBeyond base) h = begins (StartBeyond base) h
   none (StartDiffers address) h = begins (StartDiffers address) h
   none (Stale call) h = h.3 (right h.0 h.1)
+  none (Reachable call) h = released h.0 h.1 h.3
   none fault h = clean fault h
 
 pub begins_of : (before : Option Run) (segment : Recording) → HasNoFaultAfter before segment → BeginsRight (space_before before) segment
@@ -152,6 +190,10 @@ start_first before segment fault wrong = record { holds = of_start before segmen
   none (StartDiffers address) h less = wrong.none_earlier (StartDiffers address) h less
   none (Format fault) h less = h
   none other h less = let low = late other less in omega arith
+
+-- no release of a sound segment is wrong
+pub releases_of : (before : Option Run) (segment : Recording) → IsSoundAfter before segment → HasRightReleases before (begins_in before segment) segment
+releases_of before segment sound release has wrong = sound.faultless (Reachable release.made) (release, has, refl, wrong)
 
 -- nothing is wrong with the events, the log and the positions of a sound segment
 pub clean_of : (before : Option Run) (segment : Recording) → IsSoundAfter before segment → HasCleanLog segment

@@ -1,8 +1,9 @@
 -- What is kept of a run, and a segment that goes on with it.
-use Rattle.std.proofs.Common.{◌≡◌, ℕ, slice_get, Option, Some, None, option_map, IfSome, refl, sym, ap, ◌∙◌, subst}
+use Rattle.std.proofs.Common.{◌≡◌, ℕ, false, slice_get, Option, Some, None, option_map, IfSome, refl, sym, ap, ◌∙◌, subst}
 use Rattle.std.proofs.lemmas.Option.{slice_get_within}
 use Rattle.vs_types.specs.Config.{Layout}
-use Rattle.vs_types.specs.Space.{Space}
+use Rattle.vs_types.specs.Space.{IsSpace, Space}
+use Rattle.vs_types.specs.declared.op.Action.TheVariants.{Protect}
 use Rattle.vs_plain.specs.Plain.{BoundedSpace}
 use Rattle.nr_trace.specs.Recording.{Recording}
 use Rattle.nr_trace.specs.Laws.{HasCleanLog}
@@ -12,11 +13,13 @@ use Rattle.nr_joined.proofs.Orderly.{clean_is_orderly, space_of_both}
 use Rattle.nr_touch.specs.Tails.{GoesOn, IsSoundTail, IsTailOf, IsTailOfRun}
 use Rattle.nr_touch.specs.declared.tail.Tail.{Tail}
 use Rattle.nr_touch.proofs.NoneLeft.{nothing_left}
+use Rattle.nr_touch.proofs.Behind.{change_within}
+use Rattle.nr_touch.proofs.NotWidened.{place_widens_not, HasNoProtect}
 use Rattle.nr_audit.specs.Segments.{pages_before, run_after, FitsLayout, FitsPast, IsBehind, IsKept}
 use Rattle.nr_audit.specs.Start.{begins_in, first_space, space_before, BeginsRight}
 use Rattle.nr_audit.specs.Verdict.{space_of}
 use Rattle.nr_audit.specs.declared.past.Past.{Past}
-use Rattle.nr_audit.specs.inside.Begun.{IsQuiet}
+use Rattle.nr_audit.specs.inside.Begun.{is_protect, ArePlacesPlain, IsQuiet}
 
 tail_behind : (run : Option Run) (past : Option Past) (segment : Recording) (tail : Tail) → IsBehind run past segment
     → IfSome past (λ (p : Past). tail ≡ p.tail) → (past ≡ None → IsTailOf None tail) → IsTailOf run tail
@@ -93,9 +96,16 @@ pub tail_sound : (layout : Layout) (past : Option Past) (tail : Tail) → IfSome
 tail_sound layout None tail fits is none = none refl
 tail_sound layout (Some past) tail fits is none = subst IsSoundTail (sym is) fits.tail
 
+no_protect : (segment : Recording) → ArePlacesPlain segment → HasNoProtect segment
+no_protect segment plain place call base rights placed is =
+    let none = plain place (slice_get_within segment.log place call placed) call placed in
+    absurd (let both : is_protect (Some (Protect base rights)) ≡ false = sym (ap is_protect is) ∙ none in cc)
+
 -- a segment that need not be replayed leaves what was left
 pub left_quiet : (run : Option Run) (start : Space) (segment : Recording) (tail : Tail) → IsTailOf run tail → GoesOn run segment start
-    → HasCleanLog segment → IsQuiet segment tail → IsTailOf (Some (run_with run start segment)) tail
-left_quiet run start segment tail of_tail goes_on clean quiet =
-    nothing_left segment (λ place call is. quiet.answered place (slice_get_within segment.log place call is) call is)
-    run start tail of_tail quiet.none goes_on (clean_is_orderly segment clean)
+    → HasCleanLog segment → IsQuiet segment tail → IsSpace segment.layout.depth start → IsTailOf (Some (run_with run start segment)) tail
+left_quiet run start segment tail of_tail goes_on clean quiet is =
+    nothing_left segment (λ place call at. quiet.answered place (slice_get_within segment.log place call at) call at)
+    run start tail of_tail quiet.none goes_on (clean_is_orderly segment clean) (λ address place changes widened.
+    place_widens_not segment quiet.in_range clean (no_protect segment quiet.plain) start is address place
+    (change_within start segment address place changes) widened changes)

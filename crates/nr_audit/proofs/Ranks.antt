@@ -93,6 +93,16 @@ touch_number m n e = elim (below_from_less 7 m 24 7 n 24 e) [
   ]
 ]
 
+-- and of two releases
+pub release_number : (m n : ℕ) → slice_cmp nat_cmp (8 ∷ m ∷ 25 ∷ []) (8 ∷ n ∷ 25 ∷ []) ≡ Less → m < n
+release_number m n e = elim (below_from_less 8 m 25 8 n 25 e) [
+  | inl low ↦ absurd (omega arith)
+  | inr rest ↦ elim rest [
+    | inl low ↦ low.1
+    | inr same ↦ (let less = same.2 in absurd (omega arith))
+  ]
+]
+
 -- what is refused, by what it is besides
 pub refused_as : (P Q : Fault → Type 0) (fail : Fail Fault) → ((fault : Fault) → P fault → Q fault) → IfRefused P fail → IfRefused Q fail
 refused_as P Q Memory widen refused = tt

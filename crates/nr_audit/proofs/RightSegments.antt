@@ -1,9 +1,9 @@
 -- What a segment is right with where it is sound.
-use Rattle.std.proofs.Common.{◌≡◌, ℕ, List, Option, sym, subst}
+use Rattle.std.proofs.Common.{◌≡◌, ℕ, List, Option}
 use Rattle.nr_trace.specs.Orders.{recorded_order}
 use Rattle.nr_trace.specs.Recording.{Recording}
 use Rattle.nr_trace.proofs.LawsOfHistories.{history_if_faultless}
-use Rattle.nr_audit.proofs.Judgements.{faultless_of}
+use Rattle.nr_audit.proofs.Judgements.{faultless_of, releases_of}
 use Rattle.nr_audit.proofs.PartsOfVerdicts.{legal_order, dumps_of_order}
 use Rattle.nr_audit.specs.Faults.{IsSoundAfter}
 use Rattle.nr_joined.specs.Run.{Run}
@@ -23,4 +23,5 @@ parts_after before segment order sound is =
       answers = legal.answers;
       dumps = dumps_of_order start segment order faultless is;
       touches = sound.touches;
+      releases = releases_of before segment sound;
     }

@@ -32,11 +32,13 @@ use Rattle.nr_touch.specs.Touches.{IsRightTouch}
 use Rattle.nr_touch.proofs.Behind.{right_rest}
 use Rattle.nr_audit.specs.Start.{begins_in, space_before, space_of_pages, start_space, BeginsRight, HasPageBeyond, HasStartFault}
 use Rattle.nr_audit.specs.Faults.{HasNoFaultAfter, IsSoundAfter}
+use Rattle.nr_audit.specs.Releases.{HasRightReleases, HasSettledReleases}
 use Rattle.nr_trace.specs.declared.fault.Fault.{Fault}
 use Rattle.nr_trace.specs.declared.fault.Fault.TheVariants.{StartMissing, StartShared, StartReserved, StartStray, StartBeyond, StartDiffers}
 use Rattle.nr_audit.specs.inside.Begun.{HasNoStartFault}
 use Rattle.nr_audit.proofs.FilledSpaces.{of_own_pages}
-use Rattle.nr_audit.proofs.Judgements.{begins_of, faultless_of, sound_by}
+use Rattle.nr_audit.proofs.Judgements.{begins_of, faultless_of, releases_of, sound_by}
+use Rattle.nr_audit.proofs.ReleasesBehind.{released_behind}
 use Rattle.nr_audit.proofs.Starts.{none_walked}
 
 -- ---- the frames of a start are whole
@@ -120,9 +122,11 @@ module _ (segment : Recording) (start : Image) (run : Run) (orderly : IsOrderly 
       differs.0.1 (own address differs.0.0)
   none_behind begins _ h = absurd h.2
 
-  pub sound_behind : IsSoundAfter None segment → IsSoundAfter (Some run) segment
-  sound_behind sound =
+  pub sound_behind : HasSettledReleases run segment → IsSoundAfter None segment → IsSoundAfter (Some run) segment
+  sound_behind settled sound =
       sound_by (Some run) segment (none_behind (begins_of None segment sound.faultless))
       (subst (λ s. IsFaultlessFrom s segment) leads (faultless_of None segment sound.faultless))
       (λ touch has. right_rest run.start run.trace segment same_layout (own_calls run.trace orderly) orderly.earlier orderly.own touch
       (subst (λ s. IsRightTouch s segment touch) leads (sound.touches touch has)))
+      (released_behind run segment orderly same_layout settled
+      (subst (λ s. HasRightReleases None s segment) leads (releases_of None segment sound)))

@@ -14,14 +14,14 @@ use Rattle.vs_types.specs.declared.access.Mode.{Mode}
 use Rattle.vs_types.specs.declared.request.Query.{Query}
 use Rattle.vs_types.specs.declared.request.Query.TheVariants as queries
 use Rattle.nr_trace.specs.Recording.{Recording}
-use Rattle.nr_trace.specs.Calls.{Invocation, made_by, touch_of, Response, reply_in, reply_of, Answers}
+use Rattle.nr_trace.specs.Calls.{Invocation, made_by, operation_of, touch_of, Response, reply_in, reply_of, Answers}
 use Rattle.nr_trace.specs.declared.event.Event.{Event}
 use Rattle.nr_trace.specs.declared.event.Event.TheVariants as events
 use Rattle.nr_joined.specs.Run.{Run}
 use Rattle.nr_touch.specs.Stale.{FindsStale}
 use Rattle.nr_touch.specs.declared.touch.Touch.{Touch}
-use Rattle.nr_audit.specs.Touches.{HasRightTouches, HasTouch, IsStale}
-use Rattle.nr_audit.specs.inside.Begun.{touch_by, touch_between, AreTouchesBelow, IsPlaceAnswered, IsFirstStale, IsTouchAt}
+use Rattle.nr_audit.specs.Touches.{known_when, HasRightTouches, HasTouch, IsStale}
+use Rattle.nr_audit.specs.inside.Begun.{is_protect, touch_by, touch_between, AreTouchesBelow, IsPlaceAnswered, IsPlacePlain, IsFirstStale, IsTouchAt}
 use Rattle.nr_audit.specs.inside.Tables.{IsReplyBelow}
 use Rattle.nr_audit.proofs.CallsAndReplies.{answers_only}
 
@@ -46,26 +46,30 @@ pub has_between : (segment : Recording) (touch : Touch) → HasTouch segment tou
 has_between segment touch has =
     let asked = of_asked (slice_get segment.events touch.made) touch.address touch.mode touch.access has.asks in
     let replied = of_replied (slice_get segment.events touch.answered) has.reply has.is_reply in
-    ap (λ event. touch_by touch.made touch.answered event (slice_get segment.events touch.answered)) asked.2
-    ∙ ap (λ event. touch_by touch.made touch.answered (Some (events.Touch asked.0 asked.1 touch.address touch.mode touch.access)) event) replied
+    ap (λ known. touch_by touch.made touch.answered known (slice_get segment.events touch.made) (slice_get segment.events touch.answered)) (sym has.known)
+    ∙ ap (λ event. touch_by touch.made touch.answered touch.known event (slice_get segment.events touch.answered)) asked.2
+    ∙ ap (λ event. touch_by touch.made touch.answered touch.known (Some (events.Touch asked.0 asked.1 touch.address touch.mode touch.access)) event) replied
     ∙ ap (λ answer. Some (record touch { answer = answer })) has.answer
 
 -- what lies between two events is a touch of the segment, where the second answers the first
 record Lies (segment : Recording) (made answered : ℕ) (touch : Touch) : Type 0 where
   pub made_so : touch.made ≡ made
   pub answered_so : touch.answered ≡ answered
+  pub known_so : touch.known ≡ known_when segment made
   pub asks : asked_in (slice_get segment.events made) ≡ Some (queries.Access touch.address touch.mode touch.access)
   pub call : ℕ
   pub at : ℕ
   pub replies : option_and_then reply_in (slice_get segment.events answered) ≡ Some (record { call = call; at = at; answer = touch.answer })
 
 lies_by : (segment : Recording) (made answered : ℕ) (touch : Touch) (asked replied : Option Event) → slice_get segment.events made ≡ asked
-    → slice_get segment.events answered ≡ replied → touch_by made answered asked replied ≡ Some touch → Lies segment made answered touch
+    → slice_get segment.events answered ≡ replied → touch_by made answered (known_when segment made) asked replied ≡ Some touch → Lies segment made answered touch
 lies_by segment made answered touch (Some (events.Touch replica thread address mode access)) (Some (events.Reply call at answer)) a r e =
-    let same : record { made = made; answered = answered; address = address; mode = mode; access = access; answer = answer } ≡ touch = cc in
+    let same : record { made = made; answered = answered; known = known_when segment made; address = address; mode = mode; access = access; answer = answer }
+    ≡ touch = cc in
     subst (Lies segment made answered) same record {
       made_so = refl;
       answered_so = refl;
+      known_so = refl;
       asks = ap asked_in a;
       call = call;
       at = at;
@@ -84,6 +88,7 @@ between_has segment made answered touch e answers =
         is_reply = subst (λ index. reply_of segment index ≡ Some reply) (sym lies.answered_so) lies.replies;
         of_it = answers_only segment answered made reply lies.replies answers ∙ sym lies.made_so;
         answer = refl;
+        known = lies.known_so ∙ ap (known_when segment) (sym lies.made_so);
       },
       lies.made_so,
       lies.answered_so,
@@ -107,16 +112,16 @@ answered_within segment touch has =
 
 -- ---- a list with one element more
 
-pushed_new : {X : Type 0} (xs : List X) (x : X) → slice_get (xs ++ x ∷ []) (length xs) ≡ Some x
+pub pushed_new : {X : Type 0} (xs : List X) (x : X) → slice_get (xs ++ x ∷ []) (length xs) ≡ Some x
 pushed_new [] x = refl
 pushed_new (y ∷ ys) x = pushed_new ys x
 
-pushed_old : {X : Type 0} (xs : List X) (x : X) (k : ℕ) (y : X) → slice_get xs k ≡ Some y → slice_get (xs ++ x ∷ []) k ≡ Some y
+pub pushed_old : {X : Type 0} (xs : List X) (x : X) (k : ℕ) (y : X) → slice_get xs k ≡ Some y → slice_get (xs ++ x ∷ []) k ≡ Some y
 pushed_old [] x k y e = cc
 pushed_old (z ∷ zs) x zero y e = e
 pushed_old (z ∷ zs) x (suc k) y e = pushed_old zs x k y e
 
-pushed_cases : {X : Type 0} (xs : List X) (x : X) (k : ℕ) (y : X) → slice_get (xs ++ x ∷ []) k ≡ Some y → (slice_get xs k ≡ Some y) ⊎ (x ≡ y)
+pub pushed_cases : {X : Type 0} (xs : List X) (x : X) (k : ℕ) (y : X) → slice_get (xs ++ x ∷ []) k ≡ Some y → (slice_get xs k ≡ Some y) ⊎ (x ≡ y)
 pushed_cases [] x zero y e = inr (cc)
 pushed_cases [] x (suc k) y e = cc
 pushed_cases (z ∷ zs) x zero y e = inl e
@@ -218,6 +223,18 @@ answered_here segment place o placed read is (Some reply) below some = λ call t
 pub answered_nowhere : (segment : Recording) (place : ℕ) (o : Option (Bor ℕ)) → option_copied o ≡ slice_get segment.log place → o ≡ None
     → IsPlaceAnswered segment place
 answered_nowhere segment place o read is = λ call there.
+    absurd (let wrong : None ≡ Some call = sym (ap option_copied is) ∙ read ∙ there in cc)
+
+-- no protect is there
+pub plain_here : (segment : Recording) (place : ℕ) (o : Option (Bor ℕ)) (placed : Bor ℕ) → option_copied o ≡ slice_get segment.log place
+    → o ≡ Some placed → is_protect (operation_of segment placed.now) ≡ false → IsPlacePlain segment place
+plain_here segment place o placed read is none = λ call there.
+    let same : Some placed.now ≡ Some call = sym (ap option_copied is) ∙ read ∙ there in
+    subst (λ (c : ℕ). is_protect (operation_of segment c) ≡ false) (same_Some placed.now call same) none
+
+pub plain_nowhere : (segment : Recording) (place : ℕ) (o : Option (Bor ℕ)) → option_copied o ≡ slice_get segment.log place → o ≡ None
+    → IsPlacePlain segment place
+plain_nowhere segment place o read is = λ call there.
     absurd (let wrong : None ≡ Some call = sym (ap option_copied is) ∙ read ∙ there in cc)
 
 -- ---- what the search finds

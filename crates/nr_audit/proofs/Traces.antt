@@ -1,9 +1,9 @@
 -- A trace is a first segment without a start and without touches.
-use Rattle.std.proofs.Common.{◌≡◌, ℕ, ◌≤◌, List, length, get_or, IsSome, Option, Some, None, refl, sym, ap, subst, arith}
-use Rattle.std.specs.Prelude.{All, IfSome, slice_get, option_and_then, if◌then◌else◌}
+use Rattle.std.proofs.Common.{◌≡◌, ℕ, ◌≤◌, IsSome, Option, Some, None, refl, sym, ap, subst, arith}
+use Rattle.std.specs.Prelude.{IfSome, slice_get, option_and_then, if◌then◌else◌}
 use Rattle.std.proofs.lemmas.Option.{get_or_from_slice_get, slice_get_within}
 use Rattle.vs_types.specs.Config.{Layout}
-use Rattle.vs_types.specs.Space.{Space, no_pages}
+use Rattle.vs_types.specs.Space.{no_pages}
 use Rattle.vs_walk.specs.Dump.{Image}
 use Rattle.nr_trace.specs.Calls.{made_by, Invocation, IsTouch}
 use Rattle.nr_trace.specs.Faults.{HasFaultFrom, IsFirst}
@@ -13,7 +13,7 @@ use Rattle.nr_trace.specs.Versions.{most_start, IsVersionOf, KnowsTouch}
 use Rattle.nr_trace.specs.declared.event.Event.{Event}
 use Rattle.nr_trace.specs.declared.event.Event.TheVariants as events
 use Rattle.nr_trace.specs.declared.fault.Fault.{Fault}
-use Rattle.nr_trace.specs.declared.fault.Fault.TheVariants.{StartMissing, StartShared, StartReserved, StartStray, StartBeyond, StartDiffers, Stale}
+use Rattle.nr_trace.specs.declared.fault.Fault.TheVariants.{StartMissing, StartShared, StartReserved, StartStray, StartBeyond, StartDiffers, Stale, Reachable}
 use Rattle.nr_trace.specs.declared.version.Form.TheVariants as forms
 use Rattle.nr_trace.specs.declared.version.Version.{Version}
 use Rattle.nr_trace.specs.declared.version.Version.TheVariants as versions
@@ -21,6 +21,7 @@ use Rattle.nr_audit.specs.Faults.{HasFaultAfter, HasNoFaultAfter, IsFirstAfter, 
 use Rattle.nr_audit.specs.Start.{begins_in, start_space}
 use Rattle.nr_audit.specs.Verdict.{IsTrace}
 use Rattle.nr_audit.proofs.Judgements.{no_touches}
+use Rattle.nr_audit.proofs.ReleaseLists.{no_releases}
 use Rattle.nr_audit.proofs.FirstFaults.{within}
 
 -- ---- what a trace has not
@@ -44,6 +45,7 @@ unknown _ of_form knows = knows
 no_touch_in : (version : Version) (layout : Layout) (event : Event) → IsVersionOf forms.Trace version → IsEvent version layout event
     → IsSome (option_and_then (λ (made : Invocation). if made.touch then Some made.request else None) (made_by event)) → ⊥
 no_touch_in version layout (events.Touch replica thread address mode access) of_form is some = unknown version of_form is.3
+no_touch_in version layout (events.Release replica thread size phys) of_form is some = unknown version of_form is.3
 no_touch_in version layout (events.Call replica thread request) of_form is some = cc
 no_touch_in version layout (events.Reply call at answer) of_form is some = cc
 
@@ -73,6 +75,8 @@ of_trace trace is (StartBeyond base) h = no_image trace is h.0 h.1
 of_trace trace is (StartDiffers address) h = no_image trace is h.0 h.1
 of_trace trace is (Stale call) (touch, has, made, wrong) =
     wrong (no_touches None (begins_in None trace) trace (λ some. no_touch trace is.in_range is.of_form some.0 some.1) touch has)
+of_trace trace is (Reachable call) (release, has, made, wrong) =
+    no_releases None (begins_in None trace) trace (λ some. no_touch trace is.in_range is.of_form some.0 some.1) release has wrong
 of_trace trace is _ h = h
 
 from_empty : (trace : Recording) → IsTrace trace → (fault : Fault) → HasFaultAfter None trace fault → HasFaultFrom no_pages trace fault

@@ -3,9 +3,10 @@ use Rattle.std.specs.Prelude.{Option}
 use Rattle.nr_trace.specs.Recording.{Recording}
 use Rattle.nr_trace.specs.Faults.{Earlier, HasFaultFrom}
 use Rattle.nr_trace.specs.declared.fault.Fault.{Fault}
-use Rattle.nr_trace.specs.declared.fault.Fault.TheVariants.{StartMissing, StartShared, StartReserved, StartStray, StartBeyond, StartDiffers, Stale}
+use Rattle.nr_trace.specs.declared.fault.Fault.TheVariants.{StartMissing, StartShared, StartReserved, StartStray, StartBeyond, StartDiffers, Stale, Reachable}
 use Rattle.nr_joined.specs.Run.{Run}
 use Rattle.nr_audit.specs.Start.{begins_in, space_before, HasStartFault}
+use Rattle.nr_audit.specs.Releases.{IsWrongAt}
 use Rattle.nr_audit.specs.Touches.{HasRightTouches, IsStale}
 
 -- what each fault but that of the format says of a segment, where that is the run before it, or no segment is
@@ -17,6 +18,7 @@ HasFaultAfter before segment (StartStray number) = HasStartFault (space_before b
 HasFaultAfter before segment (StartBeyond base) = HasStartFault (space_before before) segment (StartBeyond base)
 HasFaultAfter before segment (StartDiffers address) = HasStartFault (space_before before) segment (StartDiffers address)
 HasFaultAfter before segment (Stale call) = IsStale before (begins_in before segment) segment call
+HasFaultAfter before segment (Reachable call) = IsWrongAt before (begins_in before segment) segment call
 HasFaultAfter before segment fault = HasFaultFrom (begins_in before segment) segment fault
 
 -- the fault holds of the segment, and no earlier one does

@@ -6,6 +6,7 @@ pub mod Served
 -- a segment, and the space before it
 pub mod Start
 pub mod Touches
+pub mod Releases
 pub mod Faults
 pub mod Segments
 -- the passes
@@ -16,3 +17,4 @@ pub use Rattle.vs_plain.specs.Plain
 pub use Rattle.nr_trace.specs.Recording
 pub use Rattle.nr_trace.specs.Faults as FaultsOfTraces
 pub use Rattle.nr_touch.specs.Touches as TouchesOfTraces
+pub use Rattle.nr_touch.specs.Releases as ReleasesOfTraces

@@ -10,6 +10,7 @@ use Rattle.nr_audit.specs.Headline.{HasDumpsFrom}
 use Rattle.nr_joined.specs.Run.{Run, end_of, run_with}
 use Rattle.nr_touch.specs.Tails.{IsSoundTail, IsTailOfRun}
 use Rattle.nr_audit.specs.Start.{begins_in}
+use Rattle.nr_audit.specs.Releases.{HasRightReleases}
 use Rattle.nr_audit.specs.Touches.{HasRightTouches}
 use Rattle.nr_audit.specs.declared.past.Past.{Past}
 
@@ -49,7 +50,8 @@ IsBehind before past segment = ⊥
 -- the segment is right with the order, from the space on with which it begins: its events are a well-formed history; all its answered
 -- updates and reads and some unanswered updates are in the order, each once; a call answered before another was made comes first; each
 -- answer is that of one sequential address space; each dump that is there translates every address as that space does after some of
--- the updates; and every answered touch is answered as its address was at a moment that no flush had ended before
+-- the updates; every answered touch is answered as its address was at a moment that no flush had ended before, or faults by a table that
+-- lags; and no memory is given away while an access that begins then could reach it: one that began before may
 pub record IsRightAfter (before : Option Run) (segment : Recording) (order : List ℕ) : Type 0 where
   pub events : IsWellFormedHistory segment
   pub members : HasItsCalls segment order
@@ -57,3 +59,4 @@ pub record IsRightAfter (before : Option Run) (segment : Recording) (order : Lis
   pub answers : HasAnswersFrom (begins_in before segment) segment order
   pub dumps : HasDumpsFrom (begins_in before segment) segment order
   pub touches : HasRightTouches before (begins_in before segment) segment
+  pub releases : HasRightReleases before (begins_in before segment) segment

@@ -49,7 +49,7 @@ fn is_same(recorded: Answer, given: Answer) -> bool
 }
 
 /// Whether what a call is answered, if anything is, is this answer.
-fn agrees(told: Option<Answer>, answer: Answer) -> bool
+pub(crate) fn agrees(told: Option<Answer>, answer: Answer) -> bool
     ensures { IsTrue result ↔ IfSome told (λ told. told ≡ answer) }
 {
     match told {

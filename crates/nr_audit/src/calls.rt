@@ -14,12 +14,13 @@ use nr_trace::{Event, Fault, Recorded, Trace};
 use std::alloc::Global;
 use vs_types::Fail;
 
-/// The thread of the call or touch that an event is, or `None` where it is neither.
+/// The thread of the call, the touch or the release that an event is, or `None` where it is a reply.
 fn thread_of(event: Event) -> Option<u16>
     ensures { result ≡ option_map (λ made. made.thread) (made_by event) }
 {
     match event {
-        Event::Call { thread, .. } | Event::Touch { thread, .. } => Some(thread),
+        Event::Call { thread, .. } | Event::Touch { thread, .. } | Event::Release { thread, .. } =>
+            Some(thread),
         Event::Reply { .. } => None,
     }
 }
@@ -42,8 +43,8 @@ fn is_open(last: Option<u32>, replies: &[MaybeIndex]) -> bool
 }
 
 /// Looks for a call of a thread whose earlier call has no reply yet, a reply to what is no earlier call, and a second
-/// reply to a call; a touch is a call here. Gives the history, and allocates memory for it, four bytes for each event, and for the
-/// last calls of the threads.
+/// reply to a call; a touch and a release are calls here. Gives the history, and allocates memory for it, four bytes for each event,
+/// and for the last calls of the threads.
 pub(crate) fn check_calls<'a>(alloc: Global, trace: &'a Trace) -> Result<History<'a>, Fail<Fault>>
     ensures history { IfOk result (λ history. history ≡ trace.now) }
     ensures clean { OnOk result (HasNone IsCallFault trace.now) }

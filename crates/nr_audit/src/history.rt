@@ -1,8 +1,9 @@
 //! A trace with the reply to each of its calls.
 
 ghost use Rattle.std.specs.Prelude.{◌≡◌, ◌<◌, IfSome, length, option_map, is_some};
-ghost use Rattle.nr_trace.specs.Calls.{address_of, call_of, operation_of, touch_of, IsCall};
+ghost use Rattle.nr_trace.specs.Calls.{address_of, call_of, operation_in, operation_of, touch_of, IsCall};
 ghost use Rattle.nr_trace.specs.Recording.{IsRecording};
+ghost use Rattle.nr_audit.specs.inside.Begun.{is_protect};
 ghost use Rattle.nr_audit.specs.inside.LastEvents.{IsLastEvent};
 ghost use Rattle.nr_audit.specs.inside.Replies.{position_of};
 ghost use Rattle.nr_audit.specs.inside.Tables.{AreReplies, IsReplyBelow};
@@ -12,7 +13,7 @@ use crate::requests::request_of;
 use crate::tables::MaybeIndex;
 use nr_trace::{Event, Recorded, Trace};
 use std::marker::Model;
-use vs_types::Query;
+use vs_types::{Action, Query, Request};
 
 /// The calls of a trace by number, the index of the event: what kind each is, where it was made, and the reply to it.
 ///
@@ -71,6 +72,16 @@ impl<'a> History<'a> {
         }
     }
 
+    /// Whether a protect has this number.
+    pub(crate) fn is_protect(&self, call: u32) -> bool
+        ensures { result ≡ is_protect (operation_of self.now call) }
+    {
+        match request_of(self.trace, call) {
+            Some(request) => protects(request),
+            None => false,
+        }
+    }
+
     /// Whether a read has this number: a call that asks for a resolve or an access.
     pub(crate) fn is_read(&self, call: u32) -> bool
         ensures { result ≡ is_some (address_of self.now call) }
@@ -81,12 +92,12 @@ impl<'a> History<'a> {
         }
     }
 
-    /// Whether a touch has this number.
+    /// Whether a touch or a release has this number.
     pub(crate) fn is_touch(&self, call: u32) -> bool
         ensures { result ≡ is_some (touch_of self.now call) }
     {
         match self.trace.events().get(call as usize) {
-            Some(event) => matches!(event.event(), Event::Touch { .. }),
+            Some(event) => matches!(event.event(), Event::Touch { .. } | Event::Release { .. }),
             None => false,
         }
     }
@@ -97,7 +108,9 @@ impl<'a> History<'a> {
         ensures in_range { IfSome result (λ replica. replica < 4) }
     {
         match self.trace.events().get(call as usize)?.event() {
-            Event::Call { replica, .. } | Event::Touch { replica, .. } => Some(replica),
+            Event::Call { replica, .. }
+            | Event::Touch { replica, .. }
+            | Event::Release { replica, .. } => Some(replica),
             Event::Reply { .. } => None,
         }
     }
@@ -132,5 +145,16 @@ impl<'a> History<'a> {
             Some(index) => index,
             None => call,
         }
+    }
+}
+
+/// Whether a request is a protect.
+fn protects(request: Request) -> bool
+    ensures { result ≡ is_protect (operation_in request) }
+{
+    match request.query() {
+        Query::Update(op) => matches!(op.action(), Action::Protect(_, _)),
+        Query::Resolve(_) => false,
+        Query::Access(_, _, _) => false,
     }
 }

@@ -41,8 +41,8 @@ fn parts_of(alloc: Global, before: Option<Past>) -> (Option<PlainSpace>, Tail)
 }
 
 /// The recorded order of a segment that is right, and what is kept for the next one: the space after its whole log, and how addresses
-/// may still be found to look otherwise. Behind a segment this is what that one left; else it is the first one of its chain. A trace
-/// is such a first one, without a start and without touches.
+/// may still be found to look otherwise. `before` is what the segment before left; without one the segment is the first of its chain. A
+/// trace is such a first one, without a start, touches and releases.
 ///
 /// The space that is kept, where there is one, has the depth and the limit of the segment's layout. A segment with a start is then
 /// compared with that space, and goes on from it; the first one begins with the pages of its start, or with none. The recorded order
@@ -51,13 +51,13 @@ fn parts_of(alloc: Global, before: Option<Past>) -> (Option<PlainSpace>, Tail)
 /// Of a right one the events are a well-formed history; the order has all answered updates and reads and some unanswered updates, each
 /// once, and keeps what came before what; each answer is that of one sequential address space, from the space on with which the
 /// segment begins; each dump that is there translates every canonical address as that space does after so many updates as the
-/// replica had applied; and each answered touch was answered as its address was at some moment of the whole run so far which no flush
-/// had ended before the touch began: an update that its segment doesn't answer is never over. That it is refused does not say that no
-/// other order explains it.
+/// replica had applied; each answered touch was answered as its address was at some moment of the whole run so far which no flush had
+/// ended before the touch began, or faulted by rights that were kept or by a table that lags; and no release is wrong. An update that
+/// its segment doesn't answer is never over. A refusal does not say that no other order explains it.
 ///
 /// Allocates memory beside the trace: at most 16 bytes for each event and 4 for each thread, or where there are more threads than
-/// events an entry of a map for each thread that makes a call; where there are touches, 8 bytes more for each event, the touches, and
-/// the changes of the space, which are done and undone; and, when these are freed but for 4 bytes for each call of the order, for
+/// events an entry of a map for each thread that makes a call; where there are touches or releases, 8 bytes more for each event, these,
+/// and the changes of the space, which are done and undone; and, when these are freed but for 4 bytes for each call of the order, for
 /// the pages of the space and what the check of a dump takes. It takes time for the segment's own events, log, start and dumps, and
 /// for the changes of updates without a reply, and not for the pages of the space before.
 ///

@@ -66,7 +66,7 @@ pub(crate) fn call_at(trace: &Trace, event: u32) -> u32
     ensures { result ≡ call_at trace.now event }
 {
     match trace.events()[event as usize].event() {
-        Event::Call { .. } | Event::Touch { .. } => event,
+        Event::Call { .. } | Event::Touch { .. } | Event::Release { .. } => event,
         Event::Reply { call, .. } => call,
     }
 }
@@ -78,7 +78,7 @@ pub(crate) fn answer_at(trace: &Trace, event: u32) -> Option<Answer>
     ensures { result ≡ option_map (λ reply. reply.answer) (reply_of trace.now event) }
 {
     match trace.events()[event as usize].event() {
-        Event::Call { .. } | Event::Touch { .. } => None,
+        Event::Call { .. } | Event::Touch { .. } | Event::Release { .. } => None,
         Event::Reply { answer, .. } => Some(answer),
     }
 }
@@ -90,7 +90,7 @@ pub(crate) fn position_at(trace: &Trace, event: u32) -> Option<u32>
     ensures { result ≡ option_map (λ reply. reply.at) (reply_of trace.now event) }
 {
     match trace.events()[event as usize].event() {
-        Event::Call { .. } | Event::Touch { .. } => None,
+        Event::Call { .. } | Event::Touch { .. } | Event::Release { .. } => None,
         Event::Reply { at, .. } => Some(at),
     }
 }

@@ -1,15 +1,20 @@
 //! Laws of the definitions in `specs/`. Each function does nothing: its clauses say what holds of all bytes, traces and segments.
 
-ghost use Rattle.std.specs.Prelude.{◌≡◌, ◌↔◌, ℕ, IfSome, List, Option, Some, None};
-ghost use Rattle.vs_types.specs.Space.{IsSpace};
+ghost use Rattle.std.specs.Prelude.{◌≡◌, ◌↔◌, ◌⊎◌, ℕ, length, IfSome, List, Option, Some, None};
+ghost use Rattle.vs_types.specs.Space.{IsSpace, Space};
 ghost use Rattle.vs_walk.specs.Dump.{Image};
 ghost use Rattle.vs_walk.specs.Walk.{TranslatesAs};
 ghost use Rattle.nr_trace.specs.Recording.{Recording, IsRecording};
 ghost use Rattle.nr_trace.specs.Faults.{IsFirst};
-ghost use Rattle.nr_trace.specs.Laws.{IsFaultless};
+ghost use Rattle.nr_trace.specs.Laws.{HasCleanLog, IsFaultless};
 ghost use Rattle.nr_trace.specs.declared.fault.Fault.{Fault};
 ghost use Rattle.nr_audit.specs.Faults.{HasNoFaultAfter, IsFirstAfter, IsSoundAfter};
+ghost use Rattle.nr_joined.specs.Joined.{joined_traces};
 ghost use Rattle.nr_joined.specs.Run.{Run, end_of, IsOrderly};
+ghost use Rattle.nr_touch.specs.Touches.{touch_behind, IsAnsweredInTime, IsFaultOfKept, IsRightBehind, IsRightTouch};
+ghost use Rattle.nr_touch.specs.declared.touch.Touch.{Touch};
+ghost use Rattle.nr_audit.specs.Touches.{HasTouch};
+ghost use Rattle.nr_audit.specs.Releases.{HasSettledReleases};
 ghost use Rattle.nr_audit.specs.Start.{begins_in, space_before, start_space};
 ghost use Rattle.nr_audit.specs.Headline.{AreRightWith};
 ghost use Rattle.nr_audit.specs.Verdict.{IsTrace, IsVerdictOf, IsVerdictOn};
@@ -52,11 +57,29 @@ pub fn right_starts_translate()
         → TranslatesAs segment.layout.depth start.frames start.root (begins_in before segment) }
 {}
 
-/// A segment with a start that is right as the first one is right behind any run that leads to the space of its start.
+/// A segment with a start that is right as the first one is right behind any run that leads to the space of its start; where it gives
+/// memory away, no address may still be found to look otherwise behind that run.
 pub fn segments_go_on_from_their_starts()
     ensures { (segment : Recording) (start : Image) (run : Run) → IsRecording segment
         → IsOrderly run.trace → segment.layout ≡ run.trace.layout
         → segment.start ≡ Some start
         → start_space segment.layout.depth segment.start ≡ end_of run
-        → IsSoundAfter None segment → IsSoundAfter (Some run) segment }
+        → HasSettledReleases run segment → IsSoundAfter None segment
+        → IsSoundAfter (Some run) segment }
+{}
+
+/// The table of the only replica never lags: where a segment has one, a touch is right just where it is answered as its address was at a
+/// moment that no flush had ended before, or faults by rights that were kept; by itself, and behind other segments.
+pub fn one_replica_never_lags()
+    ensures alone { (start : Space) (segment : Recording) (touch : Touch) → IsRecording segment
+        → segment.layout.replicas ≡ 1 → HasCleanLog segment → HasTouch segment touch
+        → IsRightTouch start segment touch
+        ↔ (IsAnsweredInTime start segment touch ⊎ IsFaultOfKept start segment touch) }
+    ensures behind { (run : Run) (start : Space) (segment : Recording) (touch : Touch)
+        → IsRecording segment → segment.layout.replicas ≡ 1 → HasCleanLog segment
+        → HasTouch segment touch → IsOrderly run.trace
+        → let whole : Recording = joined_traces run.trace segment in
+        let later : Touch = touch_behind (length run.trace.events) (length run.trace.log) touch in
+        IsRightBehind (Some run) start segment touch
+        ↔ (IsAnsweredInTime run.start whole later ⊎ IsFaultOfKept run.start whole later) }
 {}

@@ -23,6 +23,7 @@ mod order;
 mod past;
 mod positions;
 mod reads;
+mod releases;
 mod requests;
 mod search;
 mod start;

@@ -10,7 +10,7 @@ use crate::history::History;
 use vs_types::REPLICAS;
 
 /// How many entries of the log are known by a reply: those up to the update's own, or those that the read saw; by one to a
-/// touch none.
+/// touch or a release none.
 pub(crate) fn entries_known(history: &History, call: u32, at: u32) -> u64
     ensures { (answer : Answer)
         → let reply : Response = record { call = call; at = at; answer = answer } in

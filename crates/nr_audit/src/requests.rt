@@ -14,6 +14,6 @@ pub fn request_of(trace: &Trace, call: u32) -> Option<Request>
 {
     match trace.events().get(call as usize)?.event() {
         Event::Call { request, .. } => Some(request),
-        Event::Touch { .. } | Event::Reply { .. } => None,
+        Event::Touch { .. } | Event::Release { .. } | Event::Reply { .. } => None,
     }
 }

@@ -7,7 +7,7 @@ ghost use Rattle.nr_joined.specs.Run.{Run, run_with};
 ghost use Rattle.nr_touch.specs.Tails.{GoesOn, IsSoundTail, IsTailOf};
 ghost use Rattle.nr_audit.specs.Touches.{HasRightTouches};
 ghost use Rattle.nr_audit.specs.Verdict.{space_of};
-ghost use Rattle.nr_audit.specs.inside.Search.{HasNoFaultBehind, IsFirstBehind};
+ghost use Rattle.nr_audit.specs.inside.Search.{late_fault, HasNoFaultBehind, IsFirstBehind};
 
 use crate::answers::check_answers;
 use crate::calls::check_calls;
@@ -24,6 +24,16 @@ use nr_trace::{Fault, Trace};
 use std::alloc::Global;
 use vs_plain::PlainSpace;
 use vs_types::{Fail, REPLICAS};
+
+/// The fault of the stale touch of this number, or else of the release of that number, which is wrong; or `None`.
+fn late_fault(stale: Option<u32>, reachable: Option<u32>) -> Option<Fault>
+    ensures { result ≡ late_fault stale reachable }
+{
+    match stale {
+        Some(call) => Some(Fault::Stale(call)),
+        None => Some(Fault::Reachable(reachable?)),
+    }
+}
 
 /// The passes over a trace, or over a segment behind others that left this, one after another, up to the first fault from the start on.
 /// Where there is none, gives the recorded order, and what is kept for the next segment.
@@ -56,14 +66,19 @@ pub(crate) fn search(
     let places = check_log(alloc, &history)?;
     let standing = check_replies(alloc, &history, places)?;
     let touched = stale_touch(alloc, trace, &history, tail, start)?;
-    let Touched { stale, tail, start } = touched;
+    let Touched {
+        stale,
+        reachable,
+        tail,
+        start,
+    } = touched;
     let needed = standing.needed;
     let order = list_order(alloc, &history, standing)?;
     let events = LastEvents::of(history, order);
     let mut faults = [None; REPLICAS as usize];
     let (order, space) = check_answers(alloc, trace, events, start, &mut faults)?;
-    if let Some(call) = stale {
-        return Err(Fail::Refused(Fault::Stale(call)));
+    if let Some(fault) = late_fault(stale, reachable) {
+        return Err(Fail::Refused(fault));
     }
     check_dumps(alloc, trace, &needed, &space, &mut faults)?;
     Ok((order, Past { space, tail }))

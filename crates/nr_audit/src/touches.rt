@@ -1,32 +1,41 @@
 //! The touches of a segment.
 
-ghost use Rattle.std.specs.Prelude.{◌≡◌, ◌↔◌, ◌+◌, ◌^◌, ◌<◌, IfNone, IfOk, IfSome, IsTrue, OnOk, length};
+ghost use Rattle.std.specs.Prelude.{◌≡◌, ◌↔◌, ◌+◌, ◌^◌, ◌<◌, false, IfNone, IfOk, IfSome, IsTrue, OnOk, length};
 ghost use Rattle.std.specs.Prelude.{option_and_then, option_map, slice_get, Option, Some};
 ghost use Rattle.nr_trace.specs.Laws.{HasCleanLog};
 ghost use Rattle.nr_joined.specs.Run.{Run, run_with};
 ghost use Rattle.nr_touch.specs.Tails.{GoesOn, IsSoundTail, IsTailOf};
 ghost use Rattle.nr_audit.specs.Verdict.{space_of};
-ghost use Rattle.nr_audit.specs.Touches.{HasRightTouches};
-ghost use Rattle.nr_audit.specs.inside.Begun.{touch_between, ArePlacesAnswered, AreTouchesBelow, HasSomeTouch, IsPlaceAnswered};
-ghost use Rattle.nr_audit.specs.inside.Begun.{IsFirstStale, IsQuiet, IsTouchAt};
+ghost use Rattle.nr_audit.specs.Releases.{HasRightReleases};
+ghost use Rattle.nr_audit.specs.Touches.{known_when, HasRightTouches};
+ghost use Rattle.nr_trace.specs.Calls.{operation_of};
+ghost use Rattle.nr_trace.specs.Recording.{IsRecording};
+ghost use Rattle.nr_audit.specs.inside.Begun.{is_protect, touch_between, ArePlacesAnswered, ArePlacesPlain, AreTouchesBelow};
+ghost use Rattle.nr_audit.specs.inside.Begun.{HasSomeTouch, IsPlaceAnswered, IsPlacePlain};
+ghost use Rattle.nr_audit.specs.inside.Begun.{IsFirstStale, IsFirstWrong, IsQuiet, IsTouchAt};
+ghost use Rattle.nr_audit.specs.inside.Prefixes.{AreNeeds};
 
 use crate::forms::is_trace;
 use crate::history::History;
+use crate::last_events::{call_at, position_at};
+use crate::needs::{entries_known, raise_need};
+use crate::releases::{release_number, releases_of};
 use nr_touch::{Followed, Tail, Touch, follow};
 use nr_trace::{Event, Trace};
 use std::alloc::Global;
 use vs_plain::PlainSpace;
-use vs_types::Memory;
+use vs_plain::laws::pages_are_a_space;
+use vs_types::{Memory, REPLICAS};
 
-/// Whether there is a touch among the events: a trace has none.
+/// Whether there is a touch or a release among the events: a trace has none.
 fn has_touches(segment: &Trace) -> bool
     ensures { IsTrue result ↔ HasSomeTouch segment.now }
 {
     !is_trace(segment)
-        && segment
-            .events()
-            .iter()
-            .any(|event| matches!(event.event(), Event::Touch { .. }))
+        && segment.events().iter().any(|event| matches!(
+            event.event(),
+            Event::Touch { .. } | Event::Release { .. }
+        ))
 }
 
 /// Whether the call that the log has at the place is answered, if there is one.
@@ -53,7 +62,40 @@ fn are_answered(segment: &Trace, history: &History) -> bool
     true
 }
 
-/// Whether nothing is left by the segments so far, the segment has no touch, and nothing is left by it: then it need not be replayed.
+/// Whether a call is no protect.
+fn is_plain(history: &History, call: u32) -> bool
+    ensures { IsTrue result → is_protect (operation_of history.now call) ≡ false }
+{
+    !history.is_protect(call)
+}
+
+/// Whether the call that the log has at the place is no protect, if there is one.
+fn is_plain_at(segment: &Trace, history: &History, place: usize) -> bool
+    requires { history.now ≡ segment.now }
+    ensures { IsTrue result → IsPlacePlain segment.now place }
+{
+    match segment.log().get(place) {
+        Some(call) => is_plain(history, *call),
+        None => true,
+    }
+}
+
+/// Whether the log has no protect.
+fn are_plain(segment: &Trace, history: &History) -> bool
+    requires { history.now ≡ segment.now }
+    ensures plain { IsTrue result → ArePlacesPlain segment.now }
+    ensures in_range { IsRecording segment.now }
+{
+    for place in 0..segment.log().len() {
+        if !is_plain_at(segment, history, place) {
+            return false;
+        }
+    }
+    true
+}
+
+/// Whether nothing is left by the segments so far, the segment has no touch, release or protect, and nothing is left by it: then it need
+/// not be replayed.
 fn is_quiet(segment: &Trace, history: &History, tail: &Tail) -> bool
     requires { history.now ≡ segment.now }
     ensures { IsTrue result → IsQuiet segment.now tail.now }
@@ -61,14 +103,44 @@ fn is_quiet(segment: &Trace, history: &History, tail: &Tail) -> bool
     if has_touches(segment) {
         return false;
     }
-    if tail.is_none() {
-        return are_answered(segment, history);
+    if !tail.is_none() {
+        return false;
     }
-    false
+    if !are_answered(segment, history) {
+        return false;
+    }
+    are_plain(segment, history)
 }
 
-/// The touch that was made at an event and answered at another, if these are that.
-fn touch_at(segment: &Trace, made: u32, answered: u32) -> Option<Touch>
+/// How many entries its replica was known to have applied when a call was made, of what the replies before that show.
+fn known_of(segment: &Trace, history: &History, call: u32, needed: &[u64; REPLICAS as usize]) -> u64
+    requires same { history.now ≡ segment.now }
+    requires needs { AreNeeds segment.now call needed.now }
+    ensures { result ≡ known_when segment.now call }
+{
+    match history.replica(call) {
+        Some(replica) => needed[replica as usize],
+        None => 0,
+    }
+}
+
+/// Raises what a replica is known to have applied, where the event is a reply to a call that was made there.
+fn pass(segment: &Trace, history: &History, index: u32, needed: &mut [u64; REPLICAS as usize])
+    requires same { history.now ≡ segment.now }
+    requires within { index < length segment.now.events }
+    ensures { AreNeeds segment.now index needed.old
+        → AreNeeds segment.now (index + 1) needed.new }
+{
+    if let Some(at) = position_at(segment, index) {
+        let call = call_at(segment, index);
+        let known = entries_known(history, call, at);
+        raise_need(history, needed, call, known);
+    }
+}
+
+/// The touch that was made at an event and answered at another, if these are that; so many entries were known at it.
+fn touch_at(segment: &Trace, made: u32, answered: u32, known: u64) -> Option<Touch>
+    requires { known ≡ known_when segment.now made }
     ensures { result ≡ touch_between segment.now made answered }
 {
     let asked = segment.events().get(made as usize)?.event();
@@ -85,6 +157,7 @@ fn touch_at(segment: &Trace, made: u32, answered: u32) -> Option<Touch>
         ) => Some(Touch {
             made,
             answered,
+            known,
             address,
             mode,
             access,
@@ -95,14 +168,15 @@ fn touch_at(segment: &Trace, made: u32, answered: u32) -> Option<Touch>
 }
 
 /// The touch that was made at an event, if it is one and was answered.
-fn answered_touch(segment: &Trace, history: &History, made: usize) -> Option<Touch>
+fn answered_touch(segment: &Trace, history: &History, made: usize, known: u64) -> Option<Touch>
     requires same { history.now ≡ segment.now }
     requires few { made < 2 ^ 32 }
+    requires known { known ≡ known_when segment.now made }
     ensures { IsTouchAt segment.now made result }
 {
     match history.reply(made as u32) {
         None => None,
-        Some(answered) => touch_at(segment, made as u32, answered),
+        Some(answered) => touch_at(segment, made as u32, answered, known),
     }
 }
 
@@ -111,14 +185,16 @@ fn push_touch(
     segment: &Trace,
     history: &History,
     made: usize,
+    known: u64,
     touches: &mut Vec<Touch>,
 ) -> Result<(), Memory>
     requires same { history.now ≡ segment.now }
     requires few { made < 2 ^ 32 }
+    requires known { known ≡ known_when segment.now made }
     ensures { AreTouchesBelow segment.now made touches.old.items
         → OnOk result (AreTouchesBelow segment.now (made + 1) touches.new.items) }
 {
-    match answered_touch(segment, history, made) {
+    match answered_touch(segment, history, made, known) {
         None => Ok(()),
         Some(touch) => {
             touches.push(touch)?;
@@ -134,8 +210,11 @@ fn touches_of(alloc: Global, segment: &Trace, history: &History) -> Result<Vec<T
         (λ touches. AreTouchesBelow segment.now (length segment.now.events) touches.items) }
 {
     let mut touches = Vec::new(alloc);
+    let mut needed = [0; REPLICAS as usize];
     for made in 0..segment.events().len() {
-        push_touch(segment, history, made, &mut touches)?;
+        let known = known_of(segment, history, made as u32, &needed);
+        push_touch(segment, history, made, known, &mut touches)?;
+        pass(segment, history, made as u32, &mut needed);
     }
     Ok(touches)
 }
@@ -149,19 +228,21 @@ fn number_in(touches: &[Touch], index: Option<usize>) -> Option<u32>
     Some(touch.made)
 }
 
-/// What is found of a segment's touches: the call number of the first that is stale, or `None`; what is left for the touches of later
+/// What is found of a segment's touches and releases: the call number of the first touch that is stale, or `None`; that of the first
+/// release that is wrong, or `None`; what is left for the touches of later
 /// segments; and the space with which the segment begins.
 #[derive(Drop)]
 pub(crate) struct Touched {
     pub(crate) stale: Option<u32>,
+    pub(crate) reachable: Option<u32>,
     pub(crate) tail: Tail,
     pub(crate) start: PlainSpace,
 }
 
-/// The call number of the first touch that is stale, where the segment begins with this space, behind segments that left this, or
-/// `None`; what is left then; and the space again. Of a segment whose log isn't clean nothing is said but that the space comes back.
-/// Where nothing is left so far, no touch is made and each call of the log is answered, nothing is replayed. It allocates memory for the
-/// touches, and for the replay of the log, which is undone.
+/// The call numbers of the first touch that is stale, and of the first release that is wrong, or `None` each, where the segment begins with
+/// this space, behind segments that left this; what is left then; and the space again. Of a segment whose log isn't clean nothing is said
+/// but that the space comes back. Where nothing is left so far, no touch, release or protect is made and each call of the log is answered,
+/// nothing is replayed. It allocates memory for the touches, and for the replay of the log, which is undone.
 pub(crate) fn stale_touch(
     alloc: Global,
     segment: &Trace,
@@ -178,19 +259,42 @@ pub(crate) fn stale_touch(
     ensures some { (before : Option Run) → IsTailOf before tail
         → GoesOn before segment.now start.space → HasCleanLog segment.now → IfOk result
         (λ found. IfSome found.stale (IsFirstStale before start.space segment.now)) }
+    ensures released { (before : Option Run) → IsTailOf before tail
+        → GoesOn before segment.now start.space → HasCleanLog segment.now → IfOk result
+        (λ found. IfNone found.reachable (HasRightReleases before start.space segment.now)) }
+    ensures reaches { (before : Option Run) → IsTailOf before tail
+        → GoesOn before segment.now start.space → HasCleanLog segment.now → IfOk result
+        (λ found. IfSome found.reachable (IsFirstWrong before start.space segment.now)) }
     ensures tail { (before : Option Run) → IsTailOf before tail
         → GoesOn before segment.now start.space → HasCleanLog segment.now → IfOk result
         (λ found. IsTailOf (Some (run_with before start.space segment.now)) found.tail) }
     ensures sound { IfOk result (λ found. IsSoundTail found.tail) }
     ensures start { IfOk result (λ found. found.start ≡ start) }
 {
+    pages_are_a_space(&start);
     if is_quiet(segment, history, &tail) {
-        let stale = None;
-        return Ok(Touched { stale, tail, start });
+        return Ok(Touched {
+            stale: None,
+            reachable: None,
+            tail,
+            start,
+        });
     }
     let touches = touches_of(alloc, segment, history)?;
-    let followed = follow(alloc, tail, segment, start, &touches)?;
-    let Followed { stale, tail, start } = followed;
+    let releases = releases_of(alloc, segment, history)?;
+    let followed = follow(alloc, tail, segment, start, &touches, &releases)?;
+    let Followed {
+        stale,
+        reachable,
+        tail,
+        start,
+    } = followed;
     let stale = number_in(&touches, stale);
-    Ok(Touched { stale, tail, start })
+    let reachable = release_number(&releases, reachable);
+    Ok(Touched {
+        stale,
+        reachable,
+        tail,
+        start,
+    })
 }

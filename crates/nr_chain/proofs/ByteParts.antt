@@ -1,5 +1,5 @@
 -- Parts of the bytes of a chain, one behind the other.
-use Rattle.std.proofs.Common.{◌≡◌, ℕ, ◌+◌, List, [], ◌∷◌, ◌++◌, length, map, Option, Some, None, option_map, refl, sym, ap, subst, ◌∙◌, arith}
+use Rattle.std.proofs.Common.{◌≡◌, inl, inr, ℕ, ◌+◌, List, [], ◌∷◌, ◌++◌, length, map, Option, Some, None, option_map, refl, sym, ap, subst, ◌∙◌, arith}
 use Rattle.std.specs.Prelude.{IfSome}
 use Rattle.std.proofs.lemmas.List.{append_assoc, length-append, length-map}
 use Rattle.std.proofs.lemmas.Option.{same_Some}
@@ -8,19 +8,25 @@ use Rattle.vs_types.specs.Space.{Space}
 use Rattle.nr_trace.specs.Recording.{Recording}
 use Rattle.nr_trace.specs.Orders.{space_from}
 use Rattle.nr_trace.specs.Laws.{IsFaultlessFrom}
-use Rattle.nr_joined.specs.Joined.{event_behind, joined_traces}
+use Rattle.nr_joined.specs.Joined.{calls_behind, event_behind, joined_traces}
 use Rattle.nr_joined.specs.Run.{Run, end_of, IsOrderly}
 use Rattle.nr_joined.proofs.Associated.{joined_associate}
 use Rattle.nr_joined.proofs.Orderly.{clean_is_orderly, orderly_both, own_calls, space_of_both}
-use Rattle.nr_touch.specs.Touches.{IsRightTouch, touch_behind}
+use Rattle.nr_touch.specs.Releases.{IsReachable, IsWrongRelease}
+use Rattle.nr_touch.specs.Touches.{touch_behind, IsAnsweredInTime, IsRightTouch}
+use Rattle.nr_touch.specs.declared.release.Release.{Release}
 use Rattle.nr_touch.specs.declared.touch.Touch.{Touch}
-use Rattle.nr_touch.proofs.Behind.{right_rest}
+use Rattle.nr_touch.proofs.Behind.{in_time_parts, right_rest}
 use Rattle.nr_audit.specs.Faults.{IsSoundAfter}
 use Rattle.nr_audit.specs.Segments.{run_after}
+use Rattle.nr_audit.specs.Releases.{HasRightReleases, HasSettledReleases, IsSettled}
 use Rattle.nr_audit.specs.Start.{BeginsRight}
-use Rattle.nr_audit.proofs.Judgements.{begins_of, clean_of, faultless_of, sound_by}
-use Rattle.nr_chain.specs.Bytes.{layout_before, BeginsWith, EndsWith, GoesOnSo}
-use Rattle.nr_chain.specs.Parts.{run_behind, ComesTo, MayFollow, SpellUpTo}
+use Rattle.nr_audit.proofs.Judgements.{begins_of, clean_of, faultless_of, releases_of, sound_by}
+use Rattle.nr_audit.proofs.ReleasesBehind.{found_in_time}
+use Rattle.nr_trace.specs.Versions.{Follows}
+use Rattle.nr_trace.specs.declared.version.Form.TheVariants as forms
+use Rattle.nr_chain.specs.Bytes.{layout_before, BeginsWith, EndsWith, GoesOnSo, SpellAll}
+use Rattle.nr_chain.specs.Parts.{run_behind, ComesTo, HaveReleases, MayFollow, SpellUpTo}
 use Rattle.nr_chain.proofs.OneChain.{begins_some, one_front}
 use Rattle.nr_chain.proofs.Restarts.{behind_any}
 
@@ -85,41 +91,140 @@ module _ (end : Run) (orderly : IsOrderly end.trace) (run : Run) (own : IsOrderl
       length-append end.trace.events (map (event_behind (length end.trace.events) (length end.trace.log)) run.trace.events)
       ∙ ap (λ (n : ℕ). length end.trace.events + n) (length-map run.trace.events (event_behind (length end.trace.events) (length end.trace.log)))
 
-  same_touch : (touch : Touch)
-      → touch_behind (length end.trace.events) (touch_behind (length run.trace.events) touch) ≡ touch_behind (length (joined_traces end.trace run.trace).events) touch
+  many_places : length (joined_traces end.trace run.trace).log ≡ length end.trace.log + length run.trace.log
+  many_places =
+      length-append end.trace.log (calls_behind (length end.trace.events) run.trace.log)
+      ∙ ap (λ (n : ℕ). length end.trace.log + n) (length-map run.trace.log (λ (call : ℕ). length end.trace.events + call))
+
+  abbrev behind_end : Touch → Touch
+  behind_end touch = touch_behind (length end.trace.events) (length end.trace.log) touch
+
+  abbrev behind_run : Touch → Touch
+  behind_run touch = touch_behind (length run.trace.events) (length run.trace.log) touch
+
+  abbrev behind_both : Touch → Touch
+  behind_both touch = touch_behind (length (joined_traces end.trace run.trace).events) (length (joined_traces end.trace run.trace).log) touch
+
+  same_touch : (touch : Touch) → behind_end (behind_run touch) ≡ behind_both touch
   same_touch touch =
       let number : (k : ℕ) → length end.trace.events + (length run.trace.events + k) ≡ length (joined_traces end.trace run.trace).events + k =
       λ k. omega (arith, many_events) in
-      λ i. record touch { made = number touch.made i; answered = number touch.answered i }
+      let places : length end.trace.log + (length run.trace.log + touch.known) ≡ length (joined_traces end.trace run.trace).log + touch.known =
+      omega (arith, many_places) in
+      λ i. record touch { made = number touch.made i; answered = number touch.answered i; known = places i }
+
+  -- a touch of a segment that is right behind the one is right behind both; and one that is answered in time behind both is so behind the
+  -- one, where the first is settled
+  right_later : (segment : Recording) (touch : Touch) → IsRightTouch run.start (joined_traces run.trace segment) (behind_run touch)
+      → IsRightTouch end.start (joined_traces (joined_traces end.trace run.trace) segment) (behind_both touch)
+  right_later segment touch right =
+      subst (λ (t : Touch). IsRightTouch end.start (joined_traces (joined_traces end.trace run.trace) segment) t) (same_touch touch)
+      (subst (λ (r : Recording). IsRightTouch end.start r (behind_end (behind_run touch))) (sym (joined_associate end.trace run.trace segment))
+      (right_rest end.start end.trace (joined_traces run.trace segment) same_layout (own_calls end.trace orderly) orderly.earlier orderly.own
+      (behind_run touch) (subst (λ (s : Space). IsRightTouch s (joined_traces run.trace segment) (behind_run touch)) leads right)))
+
+  in_time_before : IsSettled end → (segment : Recording) (touch : Touch)
+      → IsAnsweredInTime end.start (joined_traces (joined_traces end.trace run.trace) segment) (behind_both touch)
+      → IsAnsweredInTime run.start (joined_traces run.trace segment) (behind_run touch)
+  in_time_before settled segment touch in_time =
+      let there : IsAnsweredInTime end.start (joined_traces end.trace (joined_traces run.trace segment)) (behind_end (behind_run touch)) =
+      subst (λ (r : Recording). IsAnsweredInTime end.start r (behind_end (behind_run touch))) (joined_associate end.trace run.trace segment)
+      (subst (λ (t : Touch). IsAnsweredInTime end.start (joined_traces (joined_traces end.trace run.trace) segment) t) (sym (same_touch touch)) in_time) in
+      elim (in_time_parts end.start end.trace (joined_traces run.trace segment) same_layout (own_calls end.trace orderly) orderly.earlier orderly.own
+      (behind_run touch) there) [
+        | inl own_time ↦ subst (λ (s : Space). IsAnsweredInTime s (joined_traces run.trace segment) (behind_run touch)) (sym leads) own_time
+        | inr earlier ↦ absurd (settled touch.address earlier.1 earlier.2)
+      ]
+
+  reached_before : IsSettled end → (segment : Recording) (release : Release)
+      → IsReachable (Some (run_behind end run)) (end_of (run_behind end run)) segment release → IsReachable (Some run) (end_of run) segment release
+  reached_before settled segment release it = record {
+    touch = it.touch;
+    made = it.made;
+    answered = it.answered;
+    phys = it.phys;
+    finds = it.finds;
+    within = it.within;
+    right = inl (in_time_before settled segment it.touch
+        (found_in_time end.start (joined_traces (joined_traces end.trace run.trace) segment) (behind_both it.touch) it.phys it.finds it.right));
+  }
+
+  released_later : (segment : Recording) → HasSettledReleases end segment → HasRightReleases (Some run) (end_of run) segment
+      → HasRightReleases (Some (run_behind end run)) (end_of (run_behind end run)) segment
+  released_later segment settled right release has wrong = right release has (before wrong) where
+    before : IsWrongRelease (Some (run_behind end run)) (end_of (run_behind end run)) segment release
+        → IsWrongRelease (Some run) (end_of run) segment release
+    before (inl undone) = inl undone
+    before (inr it) = inr (reached_before (settled release has) segment release it)
 
   -- a segment that is sound behind the one is sound behind both
-  sound_later : (segment : Recording) → IsSoundAfter (Some run) segment → IsSoundAfter (Some (run_behind end run)) segment
-  sound_later segment sound =
+  sound_later : (segment : Recording) → HasSettledReleases end segment → IsSoundAfter (Some run) segment → IsSoundAfter (Some (run_behind end run)) segment
+  sound_later segment settled sound =
       sound_by (Some (run_behind end run)) segment
       (subst (λ (s : Space). BeginsRight (Some s) segment) (sym same_end) (begins_of (Some run) segment sound.faultless))
       (subst (λ (s : Space). IsFaultlessFrom s segment) (sym same_end) (faultless_of (Some run) segment sound.faultless))
-      (λ touch is.
-      subst (λ (t : Touch). IsRightTouch end.start (joined_traces (joined_traces end.trace run.trace) segment) t) (same_touch touch)
-      (subst (λ (r : Recording). IsRightTouch end.start r (touch_behind (length end.trace.events) (touch_behind (length run.trace.events) touch)))
-      (sym (joined_associate end.trace run.trace segment))
-      (right_rest end.start end.trace (joined_traces run.trace segment) same_layout (own_calls end.trace orderly) orderly.earlier orderly.own
-      (touch_behind (length run.trace.events) touch)
-      (subst (λ (s : Space). IsRightTouch s (joined_traces run.trace segment) (touch_behind (length run.trace.events) touch)) leads (sound.touches touch is)))))
+      (λ touch is. right_later segment touch (sound.touches touch is))
+      (released_later segment settled (releases_of (Some run) segment sound))
+
+-- ---- what a chain that goes on well spells, and what it gives away
+
+-- the layout before the next segment
+layout_next : (before : Option Run) (segment : Recording) → Follows (forms.Segment (layout_before before)) segment.layout
+    → segment.layout ≡ (run_after before segment).trace.layout
+layout_next None segment follows = refl
+layout_next (Some run) segment follows = sym follows
+
+spelled_all : (before : Option Run) (bytes : List ℕ) (orders : List (List ℕ)) → GoesOnSo before bytes orders None
+    → (segments : List Recording) × SpellAll (layout_before before) bytes segments
+spelled_all None bytes [] ends = absurd ends
+spelled_all (Some run) bytes [] ends = ([], ended (Some run) bytes ends)
+spelled_all before bytes (order ∷ more) (segment, rest, begins, sound, same, next) =
+    let (segments, spelled) = spelled_all (Some (run_after before segment)) rest more next in (
+      segment ∷ segments,
+      (rest, begins, subst (λ (l : Layout). SpellAll (Some l) rest segments) (sym (layout_next before segment begins.spelled.follows)) spelled),
+    )
+
+-- where the bytes give memory away, the run before them is settled
+abbrev AreSettled : Run → Option Layout → List ℕ → Type 0
+AreSettled end before bytes = (segments : List Recording) → SpellAll before bytes segments → HaveReleases segments → IsSettled end
+
+module _ (end : Run) (before : Option Run) (bytes : List ℕ) (segment : Recording) (rest : List ℕ)
+    (begins : BeginsWith (layout_before before) bytes segment rest) (settled : AreSettled end (layout_before before) bytes) where
+  abbrev next_layout : Layout
+  next_layout = (run_after before segment).trace.layout
+
+  settled_rest : AreSettled end (Some next_layout) rest
+  settled_rest segments spelled gives =
+      settled (segment ∷ segments) (
+        rest,
+        begins,
+        subst (λ (l : Layout). SpellAll (Some l) rest segments) (sym (layout_next before segment begins.spelled.follows)) spelled,
+      ) (inr gives)
+
+  settled_first : (orders : List (List ℕ)) → GoesOnSo (Some (run_after before segment)) rest orders None → HasSettledReleases end segment
+  settled_first orders next release has =
+      let (segments, spelled) = spelled_all (Some (run_after before segment)) rest orders next in
+      settled (segment ∷ segments) (
+        rest,
+        begins,
+        subst (λ (l : Layout). SpellAll (Some l) rest segments) (sym (layout_next before segment begins.spelled.follows)) spelled,
+      ) (inl (release, has))
 
 module _ (end : Run) (orderly : IsOrderly end.trace) where
   goes_on_later : (run : Run) (bytes : List ℕ) (orders : List (List ℕ)) → IsOrderly run.trace → run.start ≡ end_of end
-      → run.trace.layout ≡ end.trace.layout
+      → run.trace.layout ≡ end.trace.layout → AreSettled end (Some run.trace.layout) bytes
       → GoesOnSo (Some run) bytes orders None → GoesOnSo (Some (run_behind end run)) bytes orders None
-  goes_on_later run bytes [] own leads same ends = ends_alike run (run_behind end run) bytes ends
-  goes_on_later run bytes (order ∷ more) own leads same (segment, rest, begins, sound, is, next) =
+  goes_on_later run bytes [] own leads same settled ends = ends_alike run (run_behind end run) bytes ends
+  goes_on_later run bytes (order ∷ more) own leads same settled (segment, rest, begins, sound, is, next) =
       let clean = clean_is_orderly segment (clean_of (Some run) segment sound) in (
         segment,
         rest,
         subst (λ (l : Layout). BeginsWith (Some l) bytes segment rest) same begins,
-        sound_later end orderly run own leads same segment sound,
+        sound_later end orderly run own leads same segment (settled_first end (Some run) bytes segment rest begins settled more next) sound,
         is,
         subst (λ (r : Run). GoesOnSo (Some r) rest more None) (later_after end run segment)
-            (goes_on_later (run_after (Some run) segment) rest more (orderly_both run.trace segment own clean) leads same next),
+            (goes_on_later (run_after (Some run) segment) rest more (orderly_both run.trace segment own clean) leads same
+            (settled_rest end (Some run) bytes segment rest begins settled) next),
       )
 
 module _ (end : Run) (orderly : IsOrderly end.trace) (back : List ℕ) (follow : MayFollow end back) where
@@ -129,12 +234,14 @@ module _ (end : Run) (orderly : IsOrderly end.trace) (back : List ℕ) (follow :
       let (own_rest, is) = one_front None back follow.first segment follow.rest rest follow.begins begins in
       let own_sound : IsSoundAfter None follow.first = subst (IsSoundAfter None) (sym is) sound in
       let behind : IsSoundAfter (Some end) follow.first =
-      behind_any follow.first follow.begins.spelled.in_range own_sound end orderly follow.layout follow.pages in
+      behind_any follow.first follow.begins.spelled.in_range own_sound end orderly follow.layout follow.pages
+      (subst (HasSettledReleases end) (sym is) (settled_first end None back segment rest begins follow.settled more next)) in
       let clean = clean_is_orderly follow.first (clean_of None follow.first own_sound) in
       let there : GoesOnSo (Some (run_after None follow.first)) rest more None =
       subst (λ (s : Recording). GoesOnSo (Some (run_after None s)) rest more None) (sym is) next in
       let later : GoesOnSo (Some (run_after (Some end) follow.first)) rest more None =
-      goes_on_later end orderly (run_after None follow.first) rest more clean follow.pages follow.layout there in (
+      goes_on_later end orderly (run_after None follow.first) rest more clean follow.pages follow.layout
+      (subst (λ (s : Recording). AreSettled end (Some s.layout) rest) (sym is) (settled_rest end None back segment rest begins follow.settled)) there in (
         segment,
         rest,
         begins_behind end.trace.layout back segment rest (ap (λ (r : Recording). r.layout) (sym is) ∙ follow.layout) begins,

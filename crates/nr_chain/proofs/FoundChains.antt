@@ -1,6 +1,6 @@
 -- What is found of a chain without a fault: segments without a fault, and so a right run.
 use Rattle.std.proofs.Common.{◌≡◌, ℕ, List, [], ◌∷◌, map, Option, Some, None, refl, ap, sym, subst}
-use Rattle.std.specs.Prelude.{All, ⊤}
+use Rattle.std.specs.Prelude.{All}
 use Rattle.std.proofs.lemmas.List.Elements.{All-nil, All-cons}
 use Rattle.vs_types.specs.Config.{Layout}
 use Rattle.vs_types.specs.Space.{Space, IsSpace}
@@ -9,28 +9,22 @@ use Rattle.nr_trace.specs.Calls.{IsWellFormedHistory}
 use Rattle.nr_trace.proofs.LawsOfHistories.{history_if_faultless}
 use Rattle.nr_joined.specs.Run.{Run, end_of, IsOrderly}
 use Rattle.nr_joined.proofs.Orderly.{clean_is_orderly, orderly_both, space_of_both}
+use Rattle.nr_touch.proofs.StaysSpace.{stays_space}
 use Rattle.nr_audit.specs.Segments.{run_after}
 use Rattle.nr_audit.specs.Start.{begins_in, first_space}
 use Rattle.nr_audit.specs.Faults.{IsSoundAfter}
-use Rattle.nr_audit.specs.Touches.{HasRightTouches}
-use Rattle.nr_audit.proofs.Judgements.{clean_of, faultless_of}
+use Rattle.nr_audit.proofs.Judgements.{clean_of, faultless_of, releases_of}
 use Rattle.nr_chain.specs.Bytes.{SpellAll, EndsWith, GoesOnSo}
 use Rattle.nr_chain.specs.Headline.{traces, GoesOnIn, IsRightChain}
-use Rattle.nr_chain.specs.Joined.{Segment, both, joined}
-use Rattle.nr_chain.specs.Run.{AreFaultlessFrom, AreRightFrom, IsRightFrom, space_behind}
-use Rattle.nr_chain.proofs.Both.{of_log, right_both, space_behind_both}
+use Rattle.nr_chain.specs.Joined.{Segment}
+use Rattle.nr_chain.specs.Run.{AreFaultlessFrom, AreRightFrom, space_behind}
 use Rattle.nr_chain.proofs.Chains.{right_run}
 use Rattle.nr_chain.proofs.Faultless.{right_all}
-use Rattle.nr_chain.proofs.History.{earlier_calls}
 use Rattle.nr_chain.proofs.OneChain.{one_chain}
 use Rattle.nr_chain.proofs.Restarts.{begins_in as begins_in_start}
-use Rattle.nr_chain.proofs.Started.{goes_on_in, stays_space, started_joined, AreStarted}
-use Rattle.nr_chain.proofs.Touched.{touches_both}
-
--- the touches of each segment are right behind those before it
-abbrev AreTouchedRight : Run → List Segment → Type 0
-AreTouchedRight run [] = ⊤
-AreTouchedRight run (segment ∷ more) = HasRightTouches (Some run) (end_of run) segment.trace × AreTouchedRight (run_after (Some run) segment.trace) more
+use Rattle.nr_chain.proofs.Started.{goes_on_in, started_joined, AreStarted}
+use Rattle.nr_chain.proofs.TouchedChains.{touches_of, AreTouchedRight}
+use Rattle.nr_chain.proofs.TouchedChains.{releases_of as right_releases}
 
 record IsFound (run : Run) (bytes : List ℕ) (orders : List (List ℕ)) (segments : List Segment) : Type 0 where
   spelled : SpellAll (Some run.trace.layout) bytes (traces segments)
@@ -86,7 +80,7 @@ found_behind run bytes (order ∷ more) orderly is (segment, rest, begins, sound
           same,
           subst (λ (s : Space). AreFaultlessFrom s run.trace.layout segments) space are.faultless,
         );
-        touched = (sound.touches, are.touched);
+        touched = (sound.touches, releases_of (Some run) segment sound, are.touched);
         started = (
           subst (λ (l : Layout). GoesOnIn l.depth segment.start (end_of run)) layout
               (goes_on_in segment run begins.spelled.in_range own_is sound),
@@ -96,18 +90,6 @@ found_behind run bytes (order ∷ more) orderly is (segment, rest, begins, sound
         layouts = All-cons (λ (s : Segment). s.trace.layout ≡ run.trace.layout) own segments layout are.layouts;
       },
     )
-
-touches_joined : (start : Space) (first : Segment) (more : List Segment) → IsRightFrom start first
-    → AreRightFrom (space_behind start first) first.trace.layout more → HasRightTouches None start first.trace
-    → AreTouchedRight (record { start = start; trace = first.trace }) more → HasRightTouches None start (joined first more).trace
-touches_joined start first [] right rest touched behind = touched
-touches_joined start first (next ∷ more) right (same_layout, next_right, rest) touched (next_touched, behind) =
-    let space = sym (space_behind_both start first next same_layout right) in
-    touches_joined start (both first next) more (right_both start first next same_layout right next_right)
-    (subst (λ space. AreRightFrom space first.trace.layout more) space rest)
-    (touches_both start first.trace next.trace same_layout (of_log start first next same_layout right) (earlier_calls first.trace right.events) touched
-    next_touched)
-    behind
 
 pub right_chain : (bytes : List ℕ) (orders : List (List ℕ)) → GoesOnSo None bytes orders None → IsRightChain bytes orders
 right_chain bytes [] end = absurd end
@@ -132,5 +114,6 @@ right_chain bytes (order ∷ more) (segment, rest, begins, sound, same, next) =
       begins = (begins_in_start segment begins.spelled.in_range sound).1;
       goes_on = started_joined start first segments right.1 right.2 are.started;
       run = right_run start first segments right;
-      touches = touches_joined start first segments right.1 right.2 sound.touches are.touched;
+      touches = touches_of start first segments right.1 right.2 are.touched sound.touches;
+      releases = right_releases start first segments right.1 right.2 are.touched (releases_of None segment sound);
     }

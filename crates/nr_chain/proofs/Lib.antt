@@ -7,6 +7,7 @@ pub mod Recorded
 pub mod Meeting
 mod GoesOn
 pub mod Touched
+pub mod TouchedChains
 pub mod OneChain
 pub mod Started
 pub mod FoundChains

@@ -12,7 +12,9 @@ use Rattle.nr_joined.proofs.Orderly.{own_calls}
 use Rattle.nr_touch.specs.Touches.{IsRightTouch}
 use Rattle.nr_touch.proofs.Behind.{right_rest}
 use Rattle.nr_audit.specs.Faults.{IsSoundAfter}
-use Rattle.nr_audit.proofs.Judgements.{begins_of, faultless_of, sound_by}
+use Rattle.nr_audit.specs.Releases.{HasRightReleases, HasSettledReleases}
+use Rattle.nr_audit.proofs.Judgements.{begins_of, faultless_of, releases_of, sound_by}
+use Rattle.nr_audit.proofs.ReleasesBehind.{released_behind}
 use Rattle.nr_audit.proofs.StartSpaces.{sound_behind, space_of_start, start_is_whole}
 use Rattle.nr_chain.specs.Headline.{BeginsIn}
 
@@ -34,16 +36,19 @@ module _ (segment : Recording) (has : segment.start ≡ None) (sound : IsSoundAf
   begins : BeginsRight (Some (end_of run)) segment
   begins fault (start, start_is, holds) = absurd (let wrong : None ≡ Some start = sym has ∙ start_is in cc)
 
-  without_start : IsSoundAfter (Some run) segment
-  without_start = sound_by (Some run) segment begins
+  without_start : HasSettledReleases run segment → IsSoundAfter (Some run) segment
+  without_start settled = sound_by (Some run) segment begins
       (subst (λ (s : Space). IsFaultlessFrom s segment) none (faultless_of None segment sound.faultless))
       (λ touch is. right_rest run.start run.trace segment same_layout (own_calls run.trace orderly) orderly.earlier orderly.own touch
       (subst (λ (s : Space). IsRightTouch s segment touch) none (sound.touches touch is)))
+      (released_behind run segment orderly same_layout settled
+      (subst (λ (s : Space). HasRightReleases None s segment) none (releases_of None segment sound)))
 
 -- a segment that is right at the head of a chain is right behind a run that leaves the space with which it begins
 pub behind_any : (segment : Recording) → IsRecording segment → IsSoundAfter None segment → (run : Run) → IsOrderly run.trace
-    → segment.layout ≡ run.trace.layout → start_space segment.layout.depth segment.start ≡ end_of run → IsSoundAfter (Some run) segment
-behind_any segment in_range sound run orderly same pages = by_start segment.start refl where
+    → segment.layout ≡ run.trace.layout → start_space segment.layout.depth segment.start ≡ end_of run → HasSettledReleases run segment
+    → IsSoundAfter (Some run) segment
+behind_any segment in_range sound run orderly same pages settled = by_start segment.start refl where
   by_start : (start : Option Image) → segment.start ≡ start → IsSoundAfter (Some run) segment
-  by_start None has = without_start segment has sound run orderly same pages
-  by_start (Some start) has = sound_behind segment start run orderly same has (start_is_whole segment start in_range has) pages sound
+  by_start None has = without_start segment has sound run orderly same pages settled
+  by_start (Some start) has = sound_behind segment start run orderly same has (start_is_whole segment start in_range has) pages settled sound

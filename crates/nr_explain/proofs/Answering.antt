@@ -47,7 +47,7 @@ not_before_event segment place call event reply is first h = elim (cases_lt repl
 ]
 
 -- a call is answered once
-one_answer : (segment : Recording) (first second call : ℕ) → HasCleanLog segment → Answers segment first call → Answers segment second call
+pub one_answer : (segment : Recording) (first second call : ℕ) → HasCleanLog segment → Answers segment first call → Answers segment second call
     → first ≡ second
 one_answer segment first second call clean a b = elim (cases_order first second) [
   | inl same ↦ same
@@ -89,7 +89,7 @@ pub touch_asks : (segment : Recording) (call : RecordedCall) (touch : Touch) →
 touch_asks segment call touch is has made =
     let asks : touch_of segment call.event ≡ Some (Access touch.address touch.mode touch.access) = ap (touch_of segment) (sym made) ∙ has.asks in
     asks_of call.touch call.request touch.address touch.mode touch.access
-    (sym (ap (option_and_then (λ (m : Invocation). if m.touch then Some m.request else None)) is) ∙ asks)
+    (sym (ap (option_and_then (λ (m : Invocation). if m.touch then Some m.request else None)) is.0) ∙ asks)
 
 pub none_open : (segment : Recording) (call : ℕ) (touch : Touch) → HasTouch segment touch → touch.made ≡ call
     → ((index : ℕ) → Answers segment index call → ⊥) → ⊥

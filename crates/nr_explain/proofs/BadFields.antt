@@ -16,7 +16,7 @@ use Rattle.nr_trace.proofs.UnitsOfBytes.{bytes_from}
 use Rattle.nr_trace.specs.Recording.{IsEvent}
 use Rattle.nr_trace.specs.Spelling.{event}
 use Rattle.nr_trace.specs.declared.event.Event.{Event}
-use Rattle.nr_trace.specs.declared.event.Event.TheVariants.{Call, Reply, Touch}
+use Rattle.nr_trace.specs.declared.event.Event.TheVariants.{Call, Release, Reply, Touch}
 use Rattle.nr_trace.specs.declared.fields.Counts.{Counts}
 use Rattle.nr_trace.specs.declared.version.Version.{Version}
 use Rattle.nr_trace.specs.declared.version.Version.TheVariants.{Segment}
@@ -24,7 +24,7 @@ use Rattle.nr_explain.specs.Fields.{address_fault, answers_of, call_fault, event
 use Rattle.nr_explain.specs.Fields.{number_16, number_32, number_64, physical_fault, reply_fault, rights_fault, rights_of, size_fault, size_of}
 use Rattle.nr_explain.specs.Fields.{sizes_of}
 use Rattle.nr_explain.specs.declared.fields.EventField.TheVariants as fields
-use Rattle.nr_explain.proofs.RightFields.{both, below, kinds, answers_known, Says, says, header_bytes, request_there, touch_there, knows_touch, answer_there}
+use Rattle.nr_explain.proofs.RightFields.{both, below, kinds, answers_known, Says, says, header_bytes, release_there, request_there, touch_there, knows_release, knows_touch, answer_there}
 
 -- ---- bytes
 
@@ -98,9 +98,9 @@ call_spelled unit long fits tag unused =
     λ i. sym tag i ∷ small 1 i ∷ (thread i ++ (small 4 i ∷ small 5 i ∷ small 6 i ∷ sym unused i ∷ (address i ++ physical i))) in
     all_items 24 unit long ∙ sym same
 
-below_six : (version : Version) (kind : ℕ) → kind < kinds version → kind ≢ 5 → kind < 5
-below_six Segment kind few not = grind arith
-below_six _ kind few not = omega arith
+below_five : (version : Version) (kind : ℕ) → kind < kinds version → kind ≢ 5 → kind ≢ 6 → kind < 5
+below_five Segment kind few not other = grind arith
+below_five _ kind few not other = omega arith
 
 SomeEvent : Version → Layout → List ℕ → Type 0
 SomeEvent version layout unit = (one : Event) × IsEvent version layout one × (unit ≡ event one)
@@ -132,14 +132,26 @@ call_there version layout header unit said long fits tag h =
             (there, here, found.3, knows_touch version (number_8 unit 4) few is.1),
             call_spelled unit long fits tag none ∙ ap (call_bytes (number_8 unit 1) (number_16 unit 2)) found.4,
           ))
-      | inr not ↦ (
-          let most : number_8 unit 4 < 5 = below_six version (number_8 unit 4) few not.1 in
-          let found = request_there version layout.depth (number_8 unit 4) (number_8 unit 5) (number_8 unit 6) (number_64 unit 8) (number_64 unit 16) few most
-          size rights at physical in (
-            Call (number_8 unit 1) (number_16 unit 2) found.0,
-            (there, here, found.1, found.2),
-            call_spelled unit long fits tag none ∙ ap (call_bytes (number_8 unit 1) (number_16 unit 2)) found.3,
-          ))
+      | inr not ↦ elim (eqb_tells (number_8 unit 4) 6) [
+        | inl is ↦ (
+            let found = release_there layout.depth (number_8 unit 4) (number_8 unit 5) (number_8 unit 6) (number_64 unit 8) (number_64 unit 16) is.1
+            (subst (λ (kind : ℕ). size_fault kind (number_8 unit 5) ≡ None) is.1 size)
+            (subst (λ (kind : ℕ). rights_fault kind (number_8 unit 6) ≡ None) is.1 rights)
+            (subst (λ (kind : ℕ). address_fault layout.depth kind (size_of (number_8 unit 5)) (number_64 unit 8) ≡ None) is.1 at)
+            (subst (λ (kind : ℕ). physical_fault kind (size_of (number_8 unit 5)) (number_64 unit 16) ≡ None) is.1 physical) in (
+              Release (number_8 unit 1) (number_16 unit 2) found.0 found.1,
+              (there, here, found.2, knows_release version (number_8 unit 4) few is.1),
+              call_spelled unit long fits tag none ∙ ap (call_bytes (number_8 unit 1) (number_16 unit 2)) found.3,
+            ))
+        | inr other ↦ (
+            let most : number_8 unit 4 < 5 = below_five version (number_8 unit 4) few not.1 other.1 in
+            let found = request_there version layout.depth (number_8 unit 4) (number_8 unit 5) (number_8 unit 6) (number_64 unit 8) (number_64 unit 16) few
+            most size rights at physical in (
+              Call (number_8 unit 1) (number_16 unit 2) found.0,
+              (there, here, found.1, found.2),
+              call_spelled unit long fits tag none ∙ ap (call_bytes (number_8 unit 1) (number_16 unit 2)) found.3,
+            ))
+      ]
     ]
 
 -- ---- replies

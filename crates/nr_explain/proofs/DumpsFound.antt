@@ -12,7 +12,7 @@ use Rattle.nr_trace.specs.Orders.{known_by, space_after}
 use Rattle.nr_trace.specs.declared.event.Event.{Event}
 use Rattle.nr_trace.specs.declared.event.Event.TheVariants.{Reply}
 use Rattle.nr_trace.specs.declared.fault.Fault.{Fault}
-use Rattle.nr_trace.specs.declared.fault.Fault.TheVariants.{PrefixPastLog, PrefixShort, Stale}
+use Rattle.nr_trace.specs.declared.fault.Fault.TheVariants.{PrefixPastLog, PrefixShort, Reachable, Stale}
 use Rattle.nr_trace.specs.Faults.{HasFault}
 use Rattle.nr_trace.proofs.LawsOfCalls.{reply_in_event}
 use Rattle.nr_dump.specs.Faults.{HasNoFault, IsFirstOfDump}
@@ -41,11 +41,13 @@ own_among replica _ same = search rules
 -- a trace has a fault of a dump exactly where a search finds it
 searched : (trace : Recording) (fault : Fault) → HasFault trace fault → HasFaultOn no_pages trace fault
 searched trace (Stale call) holds = absurd holds
+searched trace (Reachable call) holds = absurd holds
 searched trace _ holds = holds
 
 has_searched : (trace : Recording) (replica : ℕ) (fault : Fault) → replica_of fault ≡ Some replica → HasFaultOn no_pages trace fault
     → HasFault trace fault
 has_searched trace replica (Stale call) of holds = absurd (let none : None ≡ Some replica = of in cc)
+has_searched trace replica (Reachable call) of holds = absurd (let none : None ≡ Some replica = of in cc)
 has_searched trace replica _ of holds = holds
 
 found_none : (trace : Recording) (replica : ℕ) → HasNoneFrom no_pages (IsDumpFaultAt replica) trace → IsFoundOfDump trace replica None
@@ -121,7 +123,7 @@ module _ (trace : Recording) (replica : ℕ) (dump : Image) (is : slice_get trac
           below = slice_get_within trace.events found.reply.event event.0 event.1;
           is_reply = rests.reply;
           made = record { replica = found.call.replica; thread = found.call.thread; request = found.call.request; touch = found.call.touch };
-          is_made = ap (call_of trace) rests.names ∙ rests.call;
+          is_made = ap (call_of trace) rests.names ∙ rests.call.0;
           here = rests.here ∙ rests.replica_is;
         }) in
         let more = rests.more in

@@ -43,7 +43,7 @@ last_is_open trace index thread last first own is = by_order (cases_order first.
   by_order (inr (inl low)) = absurd (first.none_earlier (ThreadOpen last.event)
       (record {
         made = record { replica = last.replica; thread = last.thread; request = last.request; touch = last.touch };
-        is_made = is.0;
+        is_made = is.0.0;
         earlier = opens.earlier;
         earlier_made = opens.earlier_made;
         is_earlier = low;

@@ -1,5 +1,5 @@
 -- Which fault of a segment is the first, as the evidence of a trace wants it.
-use Rattle.std.proofs.Common.{◌≡◌, ℕ, ◌<◌, ◌≤◌, inl, inr, Option, Some, None, is_some, true, false, refl, arith, lit<, lit≤}
+use Rattle.std.proofs.Common.{◌≡◌, ℕ, ◌<◌, ◌≤◌, inl, inr, Option, Some, None, is_some, true, false, refl, sym, subst, arith, lit<, lit≤}
 use Rattle.std.specs.Prelude.{IsSome}
 use Rattle.std.proofs.lemmas.Option.{same_Some}
 use Rattle.vs_types.specs.Space.{Space, no_pages}
@@ -14,13 +14,17 @@ use Rattle.nr_trace.specs.declared.fault.Fault.TheVariants.{Differs}
 use Rattle.nr_trace.proofs.LawsOfFaults.{IsBelow, below_from_less, earlier_parts, earlier_pass, number_of, pass}
 use Rattle.nr_audit.specs.Start.{first_space, space_before, HasStartFault, BeginsRight}
 use Rattle.nr_joined.specs.Run.{Run}
+use Rattle.nr_touch.specs.Tails.{GoesOn}
 use Rattle.nr_audit.specs.Faults.{HasFaultAfter, IsFirstAfter}
-use Rattle.nr_trace.specs.declared.fault.Fault.TheVariants.{StartMissing, StartShared, StartReserved, StartStray, StartBeyond, StartDiffers, Stale}
+use Rattle.nr_trace.specs.declared.fault.Fault.TheVariants.{StartMissing, StartShared, StartReserved, StartStray, StartBeyond, StartDiffers, Stale, Reachable}
 use Rattle.nr_audit.proofs.Judgements.{of_start}
 use Rattle.nr_audit.proofs.Starts.{start_pass}
 use Rattle.nr_explain.specs.Dumps.{IsFirstOfItsDump, replica_of}
 use Rattle.nr_explain.specs.ChainEvidence.{IsOfItself}
-use Rattle.nr_explain.specs.inside.Firsts.{HasFaultOver, IsFirstOver, IsToShow}
+use Rattle.nr_explain.specs.Progress.{ChainState, Seen, run_in, space_in, IsSeenOf}
+use Rattle.nr_explain.specs.inside.Firsts.{HasFaultOver, IsFirstOver, IsReleaseToShow, IsToShow, IsTouchToShow}
+use Rattle.nr_explain.specs.inside.Reading.{space_seen}
+use Rattle.nr_explain.proofs.Known.{space_alike}
 use Rattle.nr_explain.specs.inside.Starts.{is_within}
 
 -- ---- by the space before the segment alone
@@ -35,17 +39,23 @@ start_over before segment (StartBeyond base) h = h
 start_over before segment (StartDiffers address) h = h
 start_over before segment _ h = absurd h.2
 
--- a fault behind a run, but that of a touch, is one by the space after the run
-over_run : (run : Option Run) (segment : Recording) (fault : Fault) → ((call : ℕ) → fault ≡ Stale call → ⊥) → HasFaultAfter run segment fault
+-- the fault is neither a stale touch nor a wrong release
+abbrev pub IsOfNeither : Fault → Type 0
+IsOfNeither fault = ((call : ℕ) → fault ≡ Stale call → ⊥) × ((call : ℕ) → fault ≡ Reachable call → ⊥)
+
+-- a fault behind a run, but one of a touch or a release, is one by the space after the run
+over_run : (run : Option Run) (segment : Recording) (fault : Fault) → IsOfNeither fault → HasFaultAfter run segment fault
     → HasFaultOver (space_before run) segment fault
-over_run run segment (Stale call) none h = absurd (none call refl)
+over_run run segment (Stale call) none h = absurd (none.0 call refl)
+over_run run segment (Reachable call) none h = absurd (none.1 call refl)
 over_run run segment _ none h = h
 
 behind_run : (run : Option Run) (segment : Recording) (fault : Fault) → HasFaultOver (space_before run) segment fault → HasFaultAfter run segment fault
 behind_run run segment (Stale call) h = absurd h
+behind_run run segment (Reachable call) h = absurd h
 behind_run run segment _ h = h
 
-first_over : (run : Option Run) (segment : Recording) (fault : Fault) → ((call : ℕ) → fault ≡ Stale call → ⊥) → IsFirstAfter run segment fault
+first_over : (run : Option Run) (segment : Recording) (fault : Fault) → IsOfNeither fault → IsFirstAfter run segment fault
     → IsFirstOver (space_before run) segment fault
 first_over run segment fault none first = record {
   holds = over_run run segment fault none first.holds;
@@ -92,6 +102,7 @@ low_number segment (StartStray number) own = let wrong : false ≡ true = own in
 low_number segment (StartBeyond base) own = let wrong : false ≡ true = own in cc
 low_number segment (StartDiffers address) own = let wrong : false ≡ true = own in cc
 low_number segment (Stale call) own = let wrong : false ≡ true = own in cc
+low_number segment (Reachable call) own = let wrong : false ≡ true = own in cc
 low_number segment _ own = lit< tt
 
 late_pass : (before : Option Space) (segment : Recording) (fault : Fault) → number_of segment fault < 18 → HasFaultOver before segment fault → 1 < pass fault
@@ -115,14 +126,14 @@ pub well_within : (before : Option Space) (segment : Recording) (fault : Fault) 
 well_within before segment fault own first =
     well_late before segment fault (late_pass before segment fault (low_number segment fault own) first.holds) first
 
-well_stale : (before : Option Run) (segment : Recording) (call : ℕ) → IsFirstAfter before segment (Stale call) → BeginsRight (space_before before) segment
-well_stale before segment call first other h =
+well_first : (before : Option Run) (segment : Recording) (fault : Fault) → 1 < pass fault → IsFirstAfter before segment fault
+    → BeginsRight (space_before before) segment
+well_first before segment fault late first other h =
     let one = start_pass (space_before before) segment other h in
-    let late : 1 < pass (Stale call) = lit< tt in
-    first.none_earlier other (of_start before segment other h) (earlier_pass segment other (Stale call) (omega (arith, one, late)))
+    first.none_earlier other (of_start before segment other h) (earlier_pass segment other fault (omega (arith, one, late)))
 
--- a fault that a trace has not, and that is no stale touch, is one of the start
-pub of_its_start : (before : Option Space) (segment : Recording) (fault : Fault) → is_within fault ≡ false → ((call : ℕ) → fault ≡ Stale call → ⊥)
+-- a fault that a trace has not, and that is neither a stale touch nor a wrong release, is one of the start
+pub of_its_start : (before : Option Space) (segment : Recording) (fault : Fault) → is_within fault ≡ false → IsOfNeither fault
     → HasFaultOver before segment fault → HasStartFault before segment fault
 of_its_start before segment (StartMissing number) other none h = h
 of_its_start before segment (StartShared number) other none h = h
@@ -131,41 +142,70 @@ of_its_start before segment (StartStray number) other none h = h
 of_its_start before segment (StartBeyond base) other none h = h
 of_its_start before segment (StartDiffers address) other none h = h
 of_its_start before segment (Stale call) other none h = absurd h
+of_its_start before segment (Reachable call) other none h = absurd h
 of_its_start before segment _ other none h = absurd (let wrong : true ≡ false = other in cc)
 
--- where the first fault is a stale touch, none is of the events, the log or the replies
-clean_stale : (before : Option Run) (segment : Recording) (call : ℕ) → IsFirstAfter before segment (Stale call) → HasCleanLog segment
-clean_stale before segment call first = record {
-  no_thread_open = λ index h. first.none_earlier (ThreadOpen index) h refl;
-  no_such_call = λ index h. first.none_earlier (NoSuchCall index) h refl;
-  none_twice = λ index h. first.none_earlier (AnsweredTwice index) h refl;
-  updates_alone = λ place h. first.none_earlier (NotAnUpdate place) h refl;
-  placed_once = λ place h. first.none_earlier (PlacedTwice place) h refl;
-  all_placed = λ index h. first.none_earlier (NotPlaced index) h refl;
-  none_past_log = λ index h. first.none_earlier (PastLog index) h refl;
+-- where the first fault is a stale touch or a wrong release, none is of the events, the log or the replies
+clean_late : (before : Option Run) (segment : Recording) (fault : Fault) → 6 < pass fault → IsFirstAfter before segment fault → HasCleanLog segment
+clean_late before segment fault late first = record {
+  no_thread_open = λ index h. first.none_earlier (ThreadOpen index) h (earlier_pass segment (ThreadOpen index) fault (omega (arith, late)));
+  no_such_call = λ index h. first.none_earlier (NoSuchCall index) h (earlier_pass segment (NoSuchCall index) fault (omega (arith, late)));
+  none_twice = λ index h. first.none_earlier (AnsweredTwice index) h (earlier_pass segment (AnsweredTwice index) fault (omega (arith, late)));
+  updates_alone = λ place h. first.none_earlier (NotAnUpdate place) h (earlier_pass segment (NotAnUpdate place) fault (omega (arith, late)));
+  placed_once = λ place h. first.none_earlier (PlacedTwice place) h (earlier_pass segment (PlacedTwice place) fault (omega (arith, late)));
+  all_placed = λ index h. first.none_earlier (NotPlaced index) h (earlier_pass segment (NotPlaced index) fault (omega (arith, late)));
+  none_past_log = λ index h. first.none_earlier (PastLog index) h (earlier_pass segment (PastLog index) fault (omega (arith, late)));
 }
 
 -- what is to be known of the first fault, so that it can be shown
-pub to_show : (run : Option Run) (segment : Recording) (fault : Fault) → IsFirstAfter run segment fault → IsToShow (space_before run) segment fault
-to_show run segment (Stale call) first = record {
-  well = well_stale run segment call first;
-  clean = clean_stale run segment call first;
-  touch = first.holds.0;
-  has = first.holds.1;
-  made = first.holds.2;
-}
-to_show run segment fault first = first_over run segment fault (λ call e. cc) first
+module _ (came : Option ChainState) (seen : Option Seen) (segment : Recording) (kept : IsSeenOf came seen)
+    (goes_on : GoesOn (run_in came) segment (first_space (space_in came) segment)) where
+  same : space_in came ≡ space_seen seen
+  same = sym (space_alike came seen kept)
 
--- a fault that is no touch's
-pub within_to_show : (before : Option Space) (segment : Recording) (fault : Fault) → is_within fault ≡ true → IsToShow before segment fault
-    → IsFirstOver before segment fault
-within_to_show before segment (Stale call) own h = absurd (let wrong : false ≡ true = own in cc)
-within_to_show before segment _ own h = h
+  touch_to_show : (call : ℕ) → IsFirstAfter (run_in came) segment (Stale call) → IsTouchToShow (space_in came) segment call
+  touch_to_show call first = record {
+    well = well_first (run_in came) segment (Stale call) (lit< tt) first;
+    clean = clean_late (run_in came) segment (Stale call) (lit< tt) first;
+    touch = first.holds.0;
+    has = first.holds.1;
+    made = first.holds.2;
+  }
 
-pub start_to_show : (before : Option Space) (segment : Recording) (fault : Fault) → ((call : ℕ) → fault ≡ Stale call → ⊥) → IsToShow before segment fault
-    → IsFirstOver before segment fault
-start_to_show before segment (Stale call) none h = absurd (none call refl)
-start_to_show before segment _ none h = h
+  release_to_show : (call : ℕ) → IsFirstAfter (run_in came) segment (Reachable call)
+      → IsReleaseToShow seen (first_space (space_in came) segment) segment call
+  release_to_show call first = record {
+    clean = clean_late (run_in came) segment (Reachable call) (lit< tt) first;
+    came = came;
+    kept = kept;
+    goes_on = goes_on;
+    release = first.holds.0;
+    has = first.holds.1;
+    made = first.holds.2;
+    wrong = first.holds.3;
+  }
+
+  pub to_show : (fault : Fault) → IsFirstAfter (run_in came) segment fault → IsToShow seen segment fault
+  to_show (Stale call) first = subst (λ (s : Option Space). IsTouchToShow s segment call) same (touch_to_show call first)
+  to_show (Reachable call) first = (
+    subst (λ (s : Option Space). BeginsRight s segment) same (well_first (run_in came) segment (Reachable call) (lit< tt) first),
+    subst (λ (s : Option Space). IsReleaseToShow seen (first_space s segment) segment call) same (release_to_show call first),
+  )
+  to_show fault first =
+      subst (λ (s : Option Space). IsFirstOver s segment fault) same (first_over (run_in came) segment fault ((λ call e. cc), (λ call e. cc)) first)
+
+-- a fault that is no touch's and no release's
+pub within_to_show : (seen : Option Seen) (segment : Recording) (fault : Fault) → is_within fault ≡ true → IsToShow seen segment fault
+    → IsFirstOver (space_seen seen) segment fault
+within_to_show seen segment (Stale call) own h = absurd (let wrong : false ≡ true = own in cc)
+within_to_show seen segment (Reachable call) own h = absurd (let wrong : false ≡ true = own in cc)
+within_to_show seen segment _ own h = h
+
+pub start_to_show : (seen : Option Seen) (segment : Recording) (fault : Fault) → IsOfNeither fault → IsToShow seen segment fault
+    → IsFirstOver (space_seen seen) segment fault
+start_to_show seen segment (Stale call) none h = absurd (none.0 call refl)
+start_to_show seen segment (Reachable call) none h = absurd (none.1 call refl)
+start_to_show seen segment _ none h = h
 
 -- ---- faults that don't depend on the start
 
@@ -187,6 +227,7 @@ comes_early start trace (StrayFrame replica number) h own none = cc
 comes_early start trace (WrongAnswer other) h own none = absurd own
 comes_early start trace (Differs replica other) h own none = absurd own
 comes_early start trace (Stale call) h own none = absurd h
+comes_early start trace (Reachable call) h own none = absurd h
 comes_early start trace _ h own none = omega arith
 
 not_before : (start : Space) (trace : Recording) (late fault : Fault) → 6 ≤ pass late → HasFaultFrom start trace fault → IsOfItself fault
@@ -211,7 +252,7 @@ first_of_calls start trace fault own none first = record {
   back _ h less = h
 
 -- a dump that differs comes after the other faults of a dump
-no_later : (at replica n : ℕ) → n < 17 → at ≡ replica → IsBelow 8 at 17 8 replica n → ⊥
+no_later : (at replica n : ℕ) → n < 17 → at ≡ replica → IsBelow 9 at 17 9 replica n → ⊥
 no_later at replica n low same below = elim below [
   | inl less ↦ omega arith
   | inr more ↦ elim more [
@@ -223,17 +264,17 @@ no_later at replica n low same below = elim below [
 differs_last : (trace : Recording) (at address : ℕ) (fault : Fault) → IsOfItself fault → Some at ≡ replica_of fault
     → Earlier trace (Differs at address) fault → ⊥
 differs_last trace at address (PrefixPastLog replica) own same less =
-    no_later at replica 11 (lit< tt) (same_Some at replica same) (below_from_less 8 at 17 8 replica 11 less)
+    no_later at replica 11 (lit< tt) (same_Some at replica same) (below_from_less 9 at 17 9 replica 11 less)
 differs_last trace at address (PrefixShort replica) own same less =
-    no_later at replica 12 (lit< tt) (same_Some at replica same) (below_from_less 8 at 17 8 replica 12 less)
+    no_later at replica 12 (lit< tt) (same_Some at replica same) (below_from_less 9 at 17 9 replica 12 less)
 differs_last trace at address (MissingFrame replica number) own same less =
-    no_later at replica 13 (lit< tt) (same_Some at replica same) (below_from_less 8 at 17 8 replica 13 less)
+    no_later at replica 13 (lit< tt) (same_Some at replica same) (below_from_less 9 at 17 9 replica 13 less)
 differs_last trace at address (SharedFrame replica number) own same less =
-    no_later at replica 14 (lit< tt) (same_Some at replica same) (below_from_less 8 at 17 8 replica 14 less)
+    no_later at replica 14 (lit< tt) (same_Some at replica same) (below_from_less 9 at 17 9 replica 14 less)
 differs_last trace at address (ReservedBit replica number index) own same less =
-    no_later at replica 15 (lit< tt) (same_Some at replica same) (below_from_less 8 at 17 8 replica 15 less)
+    no_later at replica 15 (lit< tt) (same_Some at replica same) (below_from_less 9 at 17 9 replica 15 less)
 differs_last trace at address (StrayFrame replica number) own same less =
-    no_later at replica 16 (lit< tt) (same_Some at replica same) (below_from_less 8 at 17 8 replica 16 less)
+    no_later at replica 16 (lit< tt) (same_Some at replica same) (below_from_less 9 at 17 9 replica 16 less)
 differs_last trace at address (Format fault) own same less = own
 differs_last trace at address (WrongAnswer other) own same less = own
 differs_last trace at address (Differs replica other) own same less = own

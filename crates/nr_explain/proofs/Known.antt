@@ -8,10 +8,14 @@ use Rattle.nr_touch.specs.Looks.{IsLookLeft}
 use Rattle.nr_audit.specs.Start.{first_space}
 use Rattle.nr_explain.specs.Facts.{asked_address}
 use Rattle.nr_explain.specs.Progress.{ChainState, Seen, began_with, counts_of, layout_in, run_in, space_in, sums_in, IsSeen, IsSeenOf}
-use Rattle.nr_explain.specs.ChainEvidence.{AreEarlier, IsShown, LingersBehind, ShowsEarlier}
+use Rattle.nr_explain.specs.ChainEvidence.{AreEarlier, IsShown, LingersAs, LingersBehind, ReachLingers, ShowsEarlier}
 use Rattle.nr_explain.specs.ChainExplanation.{IsShownBehind}
-use Rattle.nr_explain.specs.inside.Firsts.{AreEarlierLeft, ShowsLeft}
+use Rattle.nr_explain.specs.inside.Firsts.{AreEarlierLeft, IsLeftAs, ShowsLeft, ShowsReachLeft}
 use Rattle.nr_explain.specs.inside.Reading.{began_seen, counts_seen, layout_seen, left_seen, space_seen, sums_seen, IsShownSeen}
+use Rattle.nr_explain.specs.declared.chain.evidence.Leading.{Leading}
+use Rattle.nr_explain.specs.declared.chain.evidence.Leading.TheVariants.{Within, Earlier}
+use Rattle.nr_explain.specs.declared.chain.evidence.WhyWrong.{WhyWrong}
+use Rattle.nr_explain.specs.declared.chain.evidence.WhyWrong.TheVariants.{Otherwise, Reached}
 use Rattle.nr_explain.specs.declared.chain.evidence.SegmentEvidence.{SegmentEvidence}
 use Rattle.nr_explain.specs.declared.chain.evidence.SegmentEvidence.TheVariants as evidence
 
@@ -50,9 +54,12 @@ counts_alike came seen is = λ i. record {
   updates = (is.sums i).updates;
   reads = (is.sums i).reads;
   touches = (is.sums i).touches;
+  releases = (is.sums i).releases;
   dumps = (is.sums i).dumps;
   replicas = (is.layout i).replicas;
   pages = length (pages (is.space i));
+  overlapping = (is.sums i).overlapping;
+  beside = (is.sums i).beside;
 }
 
 -- ---- the looks that linger
@@ -61,11 +68,11 @@ looks_alike : (came : Option ChainState) (seen : Option Seen) (address : ℕ) (l
     → IsLookLeft (left_seen seen) address look ↔ LingersBehind (run_in came) address look
 looks_alike None None address look is = (λ it. it.1, λ it. absurd it)
 looks_alike (Some came) (Some seen) address look is = (there, back) where
-  there : IsLookLeft seen.left address look → LingersBehind (Some came.run) address look
-  there (page, left, same) = (page, (is.left.looks address page).0 left, same)
+  there : IsLookLeft seen.tail.changes.items address look → LingersBehind (Some came.run) address look
+  there (page, left, same) = (page, (is.tail.left address page).0 left, same)
 
-  back : LingersBehind (Some came.run) address look → IsLookLeft seen.left address look
-  back (page, lingers, same) = (page, (is.left.looks address page).1 lingers, same)
+  back : LingersBehind (Some came.run) address look → IsLookLeft seen.tail.changes.items address look
+  back (page, lingers, same) = (page, (is.tail.left address page).1 lingers, same)
 looks_alike None (Some seen) address look is = absurd is
 looks_alike (Some came) None address look is = absurd is
 
@@ -78,10 +85,21 @@ earlier_of came seen address first looks is are look = (there, back) where
   back : (first ≡ 0) × LingersBehind (run_in came) address look → Contains looks look
   back (none, lingers) = (are look).1 (none, (looks_alike came seen address look is).1 lingers)
 
+leading_alike : (came : Option ChainState) (seen : Option Seen) (address : ℕ) (look : Answer) (leading : Leading) → IsSeenOf came seen
+    → IsLeftAs (left_seen seen) address look leading → LingersAs (run_in came) address look leading
+leading_alike came seen address look (Within entries taken) is left = tt
+leading_alike came seen address look Earlier is left = (looks_alike came seen address look is).0 left
+
+reach_alike : (came : Option ChainState) (seen : Option Seen) (why : WhyWrong) → IsSeenOf came seen → ShowsReachLeft (left_seen seen) why
+    → ReachLingers (run_in came) why
+reach_alike came seen (Otherwise reply) is left = tt
+reach_alike came seen (Reached reply reach) is left = leading_alike came seen reach.address reach.look reach.leading is left
+
 earlier_alike : (came : Option ChainState) (seen : Option Seen) (shown : SegmentEvidence) → IsSeenOf came seen → ShowsLeft (left_seen seen) shown
     → ShowsEarlier (run_in came) shown
 earlier_alike came seen (evidence.Stale stale) is left =
     earlier_of came seen (asked_address stale.call.request) stale.first stale.earlier.items is left
+earlier_alike came seen (evidence.Reachable wrong) is left = reach_alike came seen wrong.why is left
 earlier_alike came seen shown is left = tt
 
 -- ---- what shows a fault

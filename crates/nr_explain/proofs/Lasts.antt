@@ -16,7 +16,7 @@ made_in call = record { replica = call.replica; thread = call.thread; request = 
 pub thread_told : (trace : Recording) (index : ℕ) (call : RecordedCall) → IsCallOf trace call → call.event ≡ index
     → (made : Invocation) → call_of trace index ≡ Some made → made.thread ≡ call.thread
 thread_told trace index call is at made e =
-    let same = same_Some made (made_in call) (sym e ∙ ap (call_of trace) (sym at) ∙ is) in
+    let same = same_Some made (made_in call) (sym e ∙ ap (call_of trace) (sym at) ∙ is.0) in
     ap (λ (m : Invocation). m.thread) same
 
 idle_more : (trace : Recording) (thread first end : ℕ) → IsIdle trace thread first end → (IsMadeBy trace thread end → ⊥)

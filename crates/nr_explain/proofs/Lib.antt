@@ -1,6 +1,14 @@
+pub mod Reaching
+pub mod LeadingMoments
+pub mod Lags
+pub mod KeptRights
+pub mod KnownAt
 pub mod Ways
 pub mod FirstFaults
 pub mod Changes
+pub mod Nearest
+pub mod Asking
+pub mod Memories
 pub mod Searches
 pub mod Known
 pub mod Lasts
@@ -14,6 +22,7 @@ pub mod EarlierLooks
 pub mod Explanations
 pub mod TwoWays
 pub mod Counting
+pub mod Meetings
 pub mod Bounds
 pub mod BadUnits
 pub mod TwoEnds
@@ -27,9 +36,11 @@ pub mod Cuts
 pub mod Firsts
 pub mod Feeding
 pub mod Differing
+pub mod GoneOn
 pub mod Wholes
 pub mod StartsShown
 pub mod Windows
+pub mod Missed
 pub mod Looking
 pub mod Answering
 pub mod OriginsShown

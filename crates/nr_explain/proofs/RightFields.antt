@@ -32,8 +32,8 @@ use Rattle.vs_types.specs.declared.request.Query.{Query}
 use Rattle.vs_types.specs.declared.request.Query.TheVariants.{Update, Resolve, Access as AccessQuery}
 use Rattle.nr_trace.specs.FirstFault.{IsCounts}
 use Rattle.nr_trace.specs.Versions.{KnowsQuery, KnowsAnswer, KnowsTouch}
-use Rattle.nr_trace.specs.Recording.{IsAnswer}
-use Rattle.nr_trace.specs.Spelling.{answer_fields, magic, touch_fields, version_word, counts}
+use Rattle.nr_trace.specs.Recording.{IsAnswer, IsMemory}
+use Rattle.nr_trace.specs.Spelling.{answer_fields, magic, release_fields, touch_fields, version_word, counts}
 use Rattle.nr_trace.specs.declared.fields.Counts.{Counts}
 use Rattle.nr_trace.specs.declared.version.Version.{Version}
 use Rattle.nr_trace.specs.declared.version.Version.TheVariants.{V1, V2, Segment}
@@ -94,7 +94,7 @@ rights_back _ few = refl
 abbrev pub kinds : Version → ℕ
 kinds V1 = 4
 kinds V2 = 5
-kinds Segment = 6
+kinds Segment = 7
 
 abbrev pub answers_known : Version → ℕ
 answers_known V1 = 8
@@ -241,6 +241,29 @@ touch_there depth kind size rights address physical is s r a p =
 pub knows_touch : (version : Version) (kind : ℕ) → kind < kinds version → kind ≡ 5 → KnowsTouch version
 knows_touch Segment kind few is = tt
 knows_touch _ kind few is = absurd (omega arith)
+
+abbrev SomeRelease : RequestFields → Type 0
+SomeRelease of = (size : PageSize) × (phys : ℕ) × IsMemory size phys × (of ≡ release_fields size phys)
+
+pub release_there : (depth : Depth) (kind size rights address physical : ℕ) → kind ≡ 6 → size_fault 6 size ≡ None → rights_fault 6 rights ≡ None
+    → address_fault depth 6 (size_of size) address ≡ None → physical_fault 6 (size_of size) physical ≡ None
+    → SomeRelease (record { kind = kind; size = size; rights = rights; address = address; physical = physical })
+unfolding size_fault rights_fault address_fault physical_fault
+release_there depth kind size rights address physical is s r a p =
+    let sizes = size_back size (below fields.Size size 3 s) in
+    let no_rights = unused fields.Rights rights r in
+    let nowhere = unused fields.Address address a in
+    let from = both (multiple fields.Physical physical (size_of size)) (within physical (size_of size)) p in (
+      size_of size,
+      physical,
+      (is_multiple fields.Physical physical (size_of size) from.0, is_within physical (size_of size) from.1),
+      λ i. record { kind = is i; size = sizes i; rights = no_rights i; address = nowhere i; physical = physical },
+    )
+
+pub knows_release : (version : Version) (kind : ℕ) → kind < kinds version → kind ≡ 6 → KnowsTouch version
+knows_release Segment kind few is = tt
+knows_release V1 kind few is = absurd (omega arith)
+knows_release V2 kind few is = absurd (omega arith)
 
 -- ---- answers
 

@@ -12,6 +12,7 @@ use Rattle.nr_audit.specs.Start.{HasStartFault, HoldsOfStart}
 use Rattle.nr_trace.specs.declared.fault.Fault.TheVariants.{StartMissing, StartShared, StartReserved, StartStray, StartBeyond}
 use Rattle.nr_trace.specs.declared.fault.Fault.TheVariants as faults
 use Rattle.nr_audit.proofs.Starts.{none_walked}
+use Rattle.nr_explain.proofs.Firsts.{IsOfNeither}
 use Rattle.nr_explain.specs.ChainEvidence.{IsOfItself, IsStartDiffers}
 use Rattle.nr_explain.specs.inside.Itself.{IsShownByItself}
 use Rattle.nr_explain.specs.inside.Reading.{all_states, state_of, IsShownSeen}
@@ -84,16 +85,20 @@ itself_shown last segment fault (Ok shown) own h = absurd h
 
 -- ---- what lingers
 
--- what shows another fault than a stale touch shows no looks that linger
+-- what shows another fault than a stale touch or a wrong release shows no looks that linger
 pub none_left : (last : Option Progress) (segment : Recording) (fault : Fault) (changes : List Left) (shown : SegmentEvidence)
-    → ((call : ℕ) → fault ≡ faults.Stale call → ⊥) → IsShownSeen (all_states last) segment fault shown → ShowsLeft changes shown
-none_left last segment fault changes (evidence.Stale stale) none shows = absurd (none stale.call.event shows.0)
+    → IsOfNeither fault → IsShownSeen (all_states last) segment fault shown → ShowsLeft changes shown
+none_left last segment fault changes (evidence.Stale stale) none shows = absurd (none.0 stale.call.event shows.0)
+none_left last segment fault changes (evidence.Reachable wrong) none shows = absurd (none.1 wrong.call.event shows.0)
 none_left last segment fault changes shown none shows = tt
 
 pub none_left_in : {E : Type 0} (last : Option Progress) (segment : Recording) (fault : Fault) (changes : List Left) (result : Result SegmentEvidence E)
-    → ((call : ℕ) → fault ≡ faults.Stale call → ⊥) → IfOk result (IsShownSeen (all_states last) segment fault) → IfOk result (ShowsLeft changes)
+    → IsOfNeither fault → IfOk result (IsShownSeen (all_states last) segment fault) → IfOk result (ShowsLeft changes)
 none_left_in last segment fault changes (Err e) none h = tt
 none_left_in last segment fault changes (Ok shown) none h = none_left last segment fault changes shown none h
 
-pub not_within : (fault : Fault) → is_within fault ≡ true → (call : ℕ) → fault ≡ faults.Stale call → ⊥
-not_within fault own call is = let wrong : true ≡ false = sym own ∙ ap is_within is in cc
+pub not_within : (fault : Fault) → is_within fault ≡ true → IsOfNeither fault
+not_within fault own = (
+  (λ call is. let wrong : true ≡ false = sym own ∙ ap is_within is in cc),
+  λ call is. let wrong : true ≡ false = sym own ∙ ap is_within is in cc,
+)

@@ -1,11 +1,11 @@
 -- The judgement of a whole segment by a reader that explains a chain.
-use Rattle.std.proofs.Common.{◌≡◌, ◌↔◌, ℕ, List, [], length, Option, Some, None, Result, Ok, refl, sym, ap, ◌∙◌, subst}
+use Rattle.std.proofs.Common.{◌≡◌, ℕ, List, [], length, Option, Some, None, Result, Ok, refl, sym, ap, ◌∙◌, subst}
 use Rattle.std.specs.Prelude.{IfOk, IfSome}
 use Rattle.vs_types.specs.Config.{Layout}
 use Rattle.vs_types.specs.Space.{Space}
-use Rattle.vs_types.specs.declared.page.Page.{Page}
 use Rattle.vs_plain.specs.Plain.{BoundedSpace}
 use Rattle.nr_trace.specs.Recording.{Recording}
+use Rattle.nr_trace.specs.Laws.{HasCleanLog}
 use Rattle.nr_trace.specs.Orders.{space_from}
 use Rattle.nr_trace.specs.Spelling.{SpellsSegment}
 use Rattle.nr_trace.specs.Feed.{EndsSegment, FedSegment, IsWhole}
@@ -15,17 +15,18 @@ use Rattle.nr_trace.specs.declared.version.Form.TheVariants as forms
 use Rattle.nr_trace.specs.declared.fault.Fault.{Fault}
 use Rattle.nr_joined.specs.Run.{end_of, IsOrderly}
 use Rattle.nr_joined.proofs.Orderly.{space_of_both}
-use Rattle.nr_touch.specs.Tails.{AreSound, IsLeft, Lingers}
-use Rattle.nr_touch.specs.declared.tail.Left.{Left}
+use Rattle.nr_touch.specs.Beside.{beside}
+use Rattle.nr_touch.specs.Tails.{AreSound, GoesOn, IsTailOfRun}
+use Rattle.nr_touch.specs.declared.tail.Tail.{Tail}
 use Rattle.nr_audit.specs.Verdict.{space_of}
 use Rattle.nr_audit.specs.Faults.{IsFirstAfter, IsSoundAfter}
 use Rattle.nr_audit.specs.Start.{first_space, BeginsRight}
 use Rattle.nr_audit.specs.Segments.{run_after, FitsLayout, FitsPast, IsBehind, IsKept}
 use Rattle.nr_audit.specs.declared.past.Past.{Past}
-use Rattle.nr_audit.proofs.Judgements.{begins_of}
+use Rattle.nr_audit.proofs.Judgements.{begins_of, clean_of}
 use Rattle.nr_chain.specs.inside.Between.{bytes_in}
 use Rattle.nr_chain.proofs.Pieces.{ended}
-use Rattle.nr_explain.specs.Progress.{ChainState, layout_in, run_in, space_in, state_after, sums_after, IsSeen, IsSeenOf}
+use Rattle.nr_explain.specs.Progress.{ChainState, layout_in, run_in, space_in, state_after, sums_after, sums_in, IsSeen, IsSeenOf}
 use Rattle.nr_explain.specs.inside.Firsts.{IsToShow}
 use Rattle.nr_explain.specs.inside.Reading.{all_states, began_seen, layout_seen, space_seen, state_of, sums_seen, AreTwice, BeginsWell, FitsProgress}
 use Rattle.nr_explain.specs.inside.Reading.{FitsSegment, IsKnown, IsTwice}
@@ -88,11 +89,7 @@ is_behind None None segment None twice follows seen = tt
 is_behind (Some came) (Some last) segment (Some past) twice follows seen = (
   record {
     space = ap (λ (s : BoundedSpace). s.space) twice.space ∙ seen.space;
-    tail = record {
-      orderly = seen.left.orderly;
-      left = subst (λ (cs : List Left). (address : ℕ) (page : Option Page) → IsLeft cs address page ↔ Lingers came.run.start came.run.trace address page)
-          (sym twice.left) seen.left.looks;
-    };
+    tail = twice.tail came.run seen.tail;
   },
   sym follows ∙ seen.layout,
 )
@@ -100,6 +97,15 @@ is_behind None None segment (Some past) twice follows seen = absurd twice
 is_behind (Some came) (Some last) segment None twice follows seen = absurd twice
 is_behind None (Some last) segment before twice follows seen = absurd seen
 is_behind (Some came) None segment before twice follows seen = absurd seen
+
+-- it goes on where that ends
+goes_behind : (came : Option ChainState) (last : Option Progress) (segment : Recording)
+    → Follows (forms.Segment (layout_seen (all_states last))) segment.layout → IsSeenOf came (all_states last)
+    → GoesOn (run_in came) segment (first_space (space_in came) segment)
+goes_behind None None segment follows seen = tt
+goes_behind (Some came) (Some last) segment follows seen = (refl, sym follows ∙ seen.layout)
+goes_behind None (Some last) segment follows seen = absurd seen
+goes_behind (Some came) None segment follows seen = absurd seen
 
 -- ---- what is found of it
 
@@ -124,13 +130,17 @@ module _ (last : Option Progress) (segment : Recording) (before : Option Past) (
 
           orderly_of : (l : Option Progress) → IsSeenOf (Some c) (all_states l) → IsOrderly c.run.trace
           orderly_of None seen = absurd seen
-          orderly_of (Some l) seen = seen.left.orderly
+          orderly_of (Some l) seen = seen.tail.orderly
 
   pub well_behind : IsKnown last → ((came : Option ChainState) → IsBehind (run_in came) before segment → IsSoundAfter (run_in came) segment)
       → BeginsWell last segment
   well_behind known sound =
       subst (λ (s : Option Space). BeginsRight s segment) (sym (space_alike known.0 (all_states last) known.1))
       (begins_of (run_in known.0) segment (sound known.0 (behind known.0 known.1)).faultless)
+
+  pub clean_behind : IsKnown last → ((came : Option ChainState) → IsBehind (run_in came) before segment → IsSoundAfter (run_in came) segment)
+      → HasCleanLog segment
+  clean_behind known sound = clean_of (run_in known.0) segment (sound known.0 (behind known.0 known.1))
 
   pub whole_behind : (past : Past) → IsKnown last → FitsPast segment.layout past
       → ((came : Option ChainState) → IsBehind (run_in came) before segment → IsKept (run_after (run_in came) segment) past)
@@ -142,19 +152,19 @@ module _ (last : Option Progress) (segment : Recording) (before : Option Past) (
   -- what is kept with the segment
   pub seen_next : (came : Option ChainState) (next : Progress) (past : Past) (size : ℕ) → IsSeenOf came (all_states last)
       → IsKept (run_after (run_in came) segment) past → next.layout ≡ segment.layout → next.space ≡ past.space
-      → next.tail.changes.items ≡ past.tail.changes.items → (state_of next).began ≡ began_seen (all_states last) segment
-      → next.sums ≡ sums_after (sums_seen (all_states last)) segment size → IsSeen (state_after came segment size) (state_of next)
-  seen_next came next past size seen kept layout space left began sums = record {
+      → next.tail ≡ past.tail → (state_of next).began ≡ began_seen (all_states last) segment
+      → next.sums ≡ sums_after (sums_seen (all_states last)) segment (beside (first_space (space_seen (all_states last)) segment) segment) size
+      → IsSeen (state_after came segment size) (state_of next)
+  seen_next came next past size seen kept layout space tail began sums = record {
     layout = layout ∙ layout_after came last follows seen;
     space = ap (λ (s : BoundedSpace). s.space) space ∙ kept.space;
-    left = record {
-      orderly = kept.tail.orderly;
-      looks = subst (λ (cs : List Left). (address : ℕ) (page : Option Page)
-          → IsLeft cs address page ↔ Lingers (run_after (run_in came) segment).start (run_after (run_in came) segment).trace address page)
-          (sym left) kept.tail.left;
-    };
+    tail = subst (λ (t : Tail). IsTailOfRun (run_after (run_in came) segment) t) (sym tail) kept.tail;
     began = began ∙ began_alike came (all_states last) segment seen;
-    sums = sums ∙ ap (λ (s : Sums). sums_after s segment size) (sums_alike came (all_states last) seen);
+    sums = sums
+        ∙ ap (λ (s : Sums). sums_after s segment (beside (first_space (space_seen (all_states last)) segment) segment) size)
+        (sums_alike came (all_states last) seen)
+        ∙ ap (λ (o : Option Space). sums_after (sums_in came) segment (beside (first_space o segment) segment) size)
+        (space_alike came (all_states last) seen);
   } where
     layout_after : (c : Option ChainState) (l : Option Progress) → Follows (forms.Segment (layout_seen (all_states l))) segment.layout
         → IsSeenOf c (all_states l) → segment.layout ≡ (run_after (run_in c) segment).trace.layout
@@ -166,27 +176,23 @@ module _ (last : Option Progress) (segment : Recording) (before : Option Past) (
   pub known_next : (next : Progress) (past : Past) (size : ℕ) → IsKnown last
       → ((came : Option ChainState) → IsBehind (run_in came) before segment → IsKept (run_after (run_in came) segment) past)
       → next.layout ≡ segment.layout → next.space ≡ past.space
-      → next.tail.changes.items ≡ past.tail.changes.items → (state_of next).began ≡ began_seen (all_states last) segment
-      → next.sums ≡ sums_after (sums_seen (all_states last)) segment size → IsKnown (Some next)
-  known_next next past size known kept layout space left began sums = (
+      → next.tail ≡ past.tail → (state_of next).began ≡ began_seen (all_states last) segment
+      → next.sums ≡ sums_after (sums_seen (all_states last)) segment (beside (first_space (space_seen (all_states last)) segment) segment) size → IsKnown (Some next)
+  known_next next past size known kept layout space tail began sums = (
     Some (state_after known.0 segment size),
-    seen_next known.0 next past size known.1 (kept known.0 (behind known.0 known.1)) layout space left began sums,
+    seen_next known.0 next past size known.1 (kept known.0 (behind known.0 known.1)) layout space tail began sums,
   )
 
   pub show_behind : (fault : Fault) → IsKnown last → ((came : Option ChainState) → IsBehind (run_in came) before segment → IsFirstAfter (run_in came) segment fault)
-      → IsToShow (space_seen (all_states last)) segment fault
+      → IsToShow (all_states last) segment fault
   show_behind fault known first =
-      subst (λ (s : Option Space). IsToShow s segment fault) (sym (space_alike known.0 (all_states last) known.1))
-      (to_show (run_in known.0) segment fault (first known.0 (behind known.0 known.1)))
+      to_show known.0 (all_states last) segment known.1 (goes_behind known.0 last segment follows known.1) fault (first known.0 (behind known.0 known.1))
 
 -- what is kept fits the layout of the last segment
 pub fits_after : (next : Progress) (past : Past) (segment : Recording) → FitsPast segment.layout past → next.layout ≡ segment.layout
-    → next.space ≡ past.space → next.tail.changes.items ≡ past.tail.changes.items → FitsProgress next
-fits_after next past segment fits layout space left = record {
+    → next.space ≡ past.space → next.tail ≡ past.tail → FitsProgress next
+fits_after next past segment fits layout space tail = record {
   space = subst (λ (l : Layout). FitsLayout l next.space) (sym layout)
       (subst (λ (s : BoundedSpace). FitsLayout segment.layout s) (sym space) fits.space);
-  tail = subst AreSound (sym left) fits.tail;
+  tail = subst (λ (t : Tail). AreSound t.changes.items) (sym tail) fits.tail;
 }
-
-pub twice_after : (next : Progress) (past : Past) → next.space ≡ past.space → next.tail.changes.items ≡ past.tail.changes.items → IsTwice next past
-twice_after next past space left = record { space = sym space; left = sym left }

@@ -131,7 +131,7 @@ module _ (start : Space) (segment : Recording) (address made answered : ℕ) whe
 -- ---- looks and pages
 
 -- pages that cover an address and look the same there are one
-one_look : (depth : Depth) (p q : Page) (a : ℕ) → IsPage depth p → IsPage depth q → IsTrue (covers p a) → IsTrue (covers q a)
+pub one_look : (depth : Depth) (p q : Page) (a : ℕ) → IsPage depth p → IsPage depth q → IsTrue (covers p a) → IsTrue (covers q a)
     → look_in_page a (Some p) ≡ look_in_page a (Some q) → p ≡ q
 one_look depth p q a fits also over under same =
     let sum : p.phys + (a - p.base) ≡ q.phys + (a - q.base) = cc in

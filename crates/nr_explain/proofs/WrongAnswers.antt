@@ -13,6 +13,9 @@ use Rattle.nr_trace.proofs.LawsOfFaults.{clean_before_answers}
 use Rattle.nr_trace.proofs.LawsOfOrder.{space_before}
 use Rattle.nr_explain.specs.Evidence.{IsOtherAnswerFrom}
 use Rattle.nr_explain.specs.Facts.{IsCallOf, IsLastChangeFrom, IsReplyOf, address_about, response}
+use Rattle.nr_explain.specs.Nearest.{IsMemoryOf, IsNearest}
+use Rattle.nr_explain.specs.declared.trace.nearby.NamedMemory.{NamedMemory}
+use Rattle.nr_explain.specs.declared.trace.nearby.RightAfter.{RightAfter}
 use Rattle.nr_explain.specs.declared.trace.evidence.PlacedUpdate.{PlacedUpdate}
 use Rattle.nr_explain.specs.declared.trace.evidence.RecordedCall.{RecordedCall}
 use Rattle.nr_explain.specs.declared.trace.evidence.RecordedReply.{RecordedReply}
@@ -30,12 +33,21 @@ few_seen start trace index reply first is names =
     (answered_stands trace index (response reply) clean ordered (first_to trace index reply clean is names)).1
 
 pub wrong_facts : (start : Space) (trace : Recording) (call : RecordedCall) (reply : RecordedReply) (wanted : Answer) (address : ℕ)
-    (changed : Option PlacedUpdate)
+    (changed : Option PlacedUpdate) (right : RightAfter) (memory : Option NamedMemory)
     → IsFirstFrom start trace (WrongAnswer call.event) → IsCallOf trace call → IsReplyOf trace reply → reply.call ≡ call.event
     → wanted ≡ answer_in trace.layout (space_from start trace (take reply.at trace.log)) call.request → address ≡ address_about call.request wanted
-    → IsLastChangeFrom start trace address reply.at changed
-    → IsOtherAnswerFrom start trace (record { call = call; reply = reply; wanted = wanted; address = address; changed = changed })
-wrong_facts start trace call reply wanted address changed first is_call is_reply names told about change =
+    → IsLastChangeFrom start trace address reply.at changed → IsNearest start trace call.request reply.answer reply.at reply.at right
+    → IsMemoryOf (space_from start trace (take reply.at trace.log)) reply.answer memory
+    → IsOtherAnswerFrom start trace (record {
+      call = call;
+      reply = reply;
+      wanted = wanted;
+      address = address;
+      changed = changed;
+      right = right;
+      memory = memory;
+    })
+wrong_facts start trace call reply wanted address changed right memory first is_call is_reply names told about change near named =
     let clean = clean_before_answers start trace call.event first in
     let to = first_to trace call.event reply clean is_reply names in
     let wrong = first.holds in
@@ -44,7 +56,7 @@ wrong_facts start trace call reply wanted address changed first is_call is_reply
     let space = space_before start trace reply.at call.event clean stands.1 stands.0 in
     let is = told ∙ ap (λ (s : Space). answer_in trace.layout s call.request) (sym space) in
     let one_reply = same_Some wrong.reply (response reply) (sym wrong.is_reply ∙ to) in
-    let one_call = same_Some (made_in call) wrong.made (sym is_call ∙ wrong.is_made) in
+    let one_call = same_Some (made_in call) wrong.made (sym is_call.0 ∙ wrong.is_made) in
     record {
       call = is_call;
       reply = is_reply;
@@ -55,4 +67,6 @@ wrong_facts start trace call reply wanted address changed first is_call is_reply
       address = about;
       stands = stands.0;
       changed = change;
+      right = near;
+      memory = named;
     }

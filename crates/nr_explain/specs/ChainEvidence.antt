@@ -1,10 +1,11 @@
 -- What each kind of evidence says of a segment: which fault it shows, and its facts, each one of the segment, or of the space before it.
-use Rattle.std.specs.Prelude.{◌≡◌, ◌≢◌, ◌↔◌, ℕ, ◌+◌, ◌<◌, ◌≤◌, ◌⊎◌, List, All, AllPairs, Contains, Option, None, Some, ⊤}
+use Rattle.std.specs.Prelude.{◌≡◌, ◌≢◌, ◌↔◌, ℕ, ◌+◌, ◌<◌, ◌≤◌, ◌⊎◌, min, List, All, AllPairs, Contains, Option, None, Some, IfSome, ⊤, slice_get}
 use Rattle.vs_types.specs.Depth.{levels, IsCanonical}
 use Rattle.vs_types.specs.Page.{bytes_of}
 use Rattle.vs_types.specs.Space.{Space}
 use Rattle.vs_types.specs.Step.{look, look_in_page}
 use Rattle.vs_types.specs.declared.answer.Answer.{Answer}
+use Rattle.vs_types.specs.declared.answer.Answer.TheVariants.{Done}
 use Rattle.vs_types.specs.declared.depth.Depth.{Depth}
 use Rattle.vs_types.specs.declared.page.Page.{Page}
 use Rattle.vs_types.specs.declared.page.TheConstants.Page.{PHYS_END}
@@ -19,14 +20,25 @@ use Rattle.nr_trace.specs.declared.fault.Fault.{Fault}
 use Rattle.nr_trace.specs.declared.fault.Fault.TheVariants as faults
 use Rattle.nr_joined.specs.Run.{Run}
 use Rattle.nr_touch.specs.Tails.{Lingers}
-use Rattle.nr_touch.specs.Touches.{IsAllowedPrefix}
+use Rattle.nr_touch.specs.Touches.{page_after, ChangesLook, IsAllowedPrefix, IsLagging}
 use Rattle.nr_touch.specs.declared.touch.Touch.{Touch}
 use Rattle.nr_audit.specs.Touches.{HasTouch}
 use Rattle.nr_explain.specs.Evidence.{IsDifferenceFrom, IsEvidence, IsMissingTable, IsOtherAnswerFrom, IsReservedEntry, IsSharedTable}
-use Rattle.nr_explain.specs.Facts.{IsCallOf, IsReplyOf, asked_address, entries_read, looks_from}
-use Rattle.nr_explain.specs.ChainFacts.{IsChangedAt, IsOrigin}
+use Rattle.nr_explain.specs.Facts.{IsCallOf, IsFirstReplyTo, IsReplyOf, asked_address, entries_read, looks_from}
+use Rattle.nr_explain.specs.ChainFacts.{IsChangedAt, IsKeptOf, IsLagOf, IsOrigin, IsTakenFrom, LeadsInto}
 use Rattle.nr_explain.specs.declared.trace.evidence.Owner.TheVariants as owners
+use Rattle.nr_explain.specs.declared.chain.evidence.Lag.{Lag}
+use Rattle.nr_explain.specs.declared.chain.evidence.Leading.{Leading}
+use Rattle.nr_explain.specs.declared.chain.evidence.Leading.TheVariants.{Within, Earlier}
+use Rattle.nr_explain.specs.Nearest.{IsNearest}
+use Rattle.nr_explain.specs.declared.chain.evidence.MissedUpdate.{MissedUpdate}
 use Rattle.nr_explain.specs.declared.chain.evidence.Moment.{Moment}
+use Rattle.nr_explain.specs.declared.chain.evidence.Reach.{Reach}
+use Rattle.nr_explain.specs.declared.chain.evidence.WhyWrong.{WhyWrong}
+use Rattle.nr_explain.specs.declared.chain.evidence.WhyWrong.TheVariants.{Otherwise, Reached}
+use Rattle.nr_explain.specs.declared.chain.evidence.WrongRelease.{WrongRelease}
+use Rattle.nr_explain.specs.declared.trace.evidence.Given.{Given}
+use Rattle.nr_explain.specs.declared.trace.evidence.RecordedCall.{RecordedCall}
 use Rattle.nr_explain.specs.declared.chain.evidence.StaleTouch.{StaleTouch}
 use Rattle.nr_explain.specs.declared.chain.evidence.StartBeyond.{StartBeyond}
 use Rattle.nr_explain.specs.declared.chain.evidence.StartDiffers.{StartDiffers}
@@ -65,14 +77,38 @@ pub record AreLooks (start : Space) (segment : Recording) (address first last : 
   pub all : (n : ℕ) → first ≤ n → n ≤ last → (n ≡ first) ⊎ IsChangedAt start segment address n
       → (moment : Moment) × Contains looks moment × (moment.entries ≡ n)
 
--- the touch is answered so, and may be answered from just these moments of its segment, in which its address looked so
+-- the fewest entries of its segment after which a touch may be answered, also by a table that lags
+abbrev pub fewest : ℕ → Option Lag → ℕ
+fewest first None = first
+fewest first (Some lag) = min first lag.known
+
+-- by a table that lags the touch may be answered just from these moments, of those after which no page has its address
+abbrev pub IsLagWindow : Space → Recording → StaleTouch → Lag → Type 0
+IsLagWindow start segment stale lag = (touch : Touch) → HasTouch segment touch → touch.made ≡ stale.call.event → (n : ℕ)
+    → IsLagging start segment touch n ↔ ((lag.known ≤ n) × (n ≤ stale.last) × (page_after start segment touch.address n ≡ None))
+
+-- the update is the last entry of the first ones, this many: it changes how the address looks, and is answered before an event; or there are none
+abbrev pub IsMissed : Space → Recording → ℕ → ℕ → ℕ → Option MissedUpdate → Type 0
+IsMissed start segment address made first None = first ≡ 0
+IsMissed start segment address made first (Some missed) =
+    (missed.update.place + 1 ≡ first) × (slice_get segment.log missed.update.place ≡ Some missed.update.call.event) × IsCallOf segment missed.update.call
+    × IsFirstReplyTo segment missed.update.call.event (Some missed.reply) × (missed.reply.event < made) × ChangesLook start segment address missed.update.place
+
+-- the touch is answered so, and may be answered from just these moments of its segment, in which its address looked so; where it finds no page, by a
+-- table that lags too; which update it should have seen, and after which numbers of entries it would be right; and of a fault of a page, which update
+-- took away what may be kept
 pub record IsStaleTouch (start : Space) (segment : Recording) (stale : StaleTouch) : Type 0 where
   pub call : IsCallOf segment stale.call
   pub reply : IsReplyOf segment stale.reply
   pub names : stale.reply.call ≡ stale.call.event
   pub window : (touch : Touch) → HasTouch segment touch → touch.made ≡ stale.call.event → (n : ℕ)
       → IsAllowedPrefix start segment touch n ↔ ((stale.first ≤ n) × (n ≤ stale.last))
-  pub looks : AreLooks start segment (asked_address stale.call.request) stale.first stale.last stale.looks.items
+  pub lag : IsLagOf segment stale.call stale.reply.answer stale.lag
+  pub lagging : IfSome stale.lag (IsLagWindow start segment stale)
+  pub looks : AreLooks start segment (asked_address stale.call.request) (fewest stale.first stale.lag) stale.last stale.looks.items
+  pub missed : IsMissed start segment (asked_address stale.call.request) stale.call.event stale.first stale.missed
+  pub right : IsNearest start segment stale.call.request stale.reply.answer stale.first stale.last stale.right
+  pub kept : IsKeptOf start segment stale.call stale.reply.answer stale.first stale.right.before stale.kept
 
 -- an address lingers to look so behind a run
 abbrev pub LingersBehind : Option Run → ℕ → Answer → Type 0
@@ -84,9 +120,54 @@ LingersBehind (Some run) address seen = (page : Option Page) × Lingers run.star
 abbrev pub AreEarlier : Option Run → ℕ → ℕ → List Answer → Type 0
 AreEarlier before address first looks = (seen : Answer) → Contains looks seen ↔ ((first ≡ 0) × LingersBehind before address seen)
 
--- what shows a stale touch has the earlier looks too
+-- ---- releases
+
+-- after so many entries, which are allowed, the address looks so, and it leads into the memory after no more that are allowed; then that is taken away
+-- so. Or it leads there after none that are allowed, and may look as behind the segments before
+abbrev pub IsLeading : Space → Recording → Given → Reach → Leading → Type 0
+IsLeading start segment given reach (Within entries taken) =
+    (reach.first ≤ entries) × (entries ≤ reach.last) × (reach.look ≡ looks_from start segment reach.address entries)
+    × ((n : ℕ) → entries < n → n ≤ reach.last → LeadsInto given (looks_from start segment reach.address n) → ⊥)
+    × IsTakenFrom start segment reach.address given entries taken
+IsLeading start segment given reach Earlier =
+    (reach.first ≡ 0) × ((n : ℕ) → n ≤ reach.last → LeadsInto given (looks_from start segment reach.address n) → ⊥)
+
+-- an access of the address that is made and answered at the event may be answered from just these moments, and so looks the address at one of them:
+-- it leads into the memory
+pub record IsReach (start : Space) (segment : Recording) (event : ℕ) (given : Given) (reach : Reach) : Type 0 where
+  pub window : (touch : Touch) → touch.address ≡ reach.address → touch.made ≡ event → touch.answered ≡ event → (n : ℕ)
+      → IsAllowedPrefix start segment touch n ↔ ((reach.first ≤ n) × (n ≤ reach.last))
+  pub leads : LeadsInto given reach.look
+  pub leading : IsLeading start segment given reach reach.leading
+
+-- a release is wrong as its first reply says otherwise than Done; or no reply does so, and the memory that it gives away may be reached so
+abbrev pub IsWrongSo : Space → Recording → RecordedCall → WhyWrong → Type 0
+IsWrongSo start segment call (Otherwise reply) = IsFirstReplyTo segment call.event (Some reply) × (reply.answer ≢ Done)
+IsWrongSo start segment call (Reached reply reach) =
+    IsFirstReplyTo segment call.event reply × IfSome reply (λ it. it.answer ≡ Done)
+    × (given : Given) × (call.gives ≡ Some given) × IsReach start segment call.event given reach
+
+-- the release, and why it is wrong
+pub record IsShownRelease (start : Space) (segment : Recording) (wrong : WrongRelease) : Type 0 where
+  pub call : IsCallOf segment wrong.call
+  pub why : IsWrongSo start segment wrong.call wrong.why
+
+-- an address that leads somewhere behind the segments before lingers to look so there
+abbrev pub LingersAs : Option Run → ℕ → Answer → Leading → Type 0
+LingersAs before address seen (Within entries taken) = ⊤
+LingersAs before address seen Earlier = LingersBehind before address seen
+
+-- so does that of a release whose memory may be reached from there
+abbrev pub ReachLingers : Option Run → WhyWrong → Type 0
+ReachLingers before (Otherwise reply) = ⊤
+ReachLingers before (Reached reply reach) = LingersAs before reach.address reach.look reach.leading
+
+-- ---- what lingers
+
+-- what shows a stale touch has the earlier looks too, and what shows a release such a look
 abbrev pub ShowsEarlier : Option Run → SegmentEvidence → Type 0
 ShowsEarlier before (evidence.Stale stale) = AreEarlier before (asked_address stale.call.request) stale.first stale.earlier.items
+ShowsEarlier before (evidence.Reachable wrong) = ReachLingers before wrong.why
 ShowsEarlier before shown = ⊤
 
 -- ---- all
@@ -128,3 +209,5 @@ IsShown began before first segment fault (evidence.StartDiffers wrong) =
     × HasStart segment (λ start. (space : Space) × (before ≡ Some space) × IsStartDiffers began segment.layout.depth start space wrong)
 IsShown began before first segment fault (evidence.Stale stale) =
     (fault ≡ faults.Stale stale.call.event) × IsStaleTouch first segment stale
+IsShown began before first segment fault (evidence.Reachable wrong) =
+    (fault ≡ faults.Reachable wrong.call.event) × IsShownRelease first segment wrong

@@ -1,5 +1,5 @@
 -- What each kind of evidence says: which fault it shows, and its facts, each one of the trace.
-use Rattle.std.specs.Prelude.{◌≡◌, ◌≢◌, ℕ, ◌<◌, ◌≤◌, List, length, slice_get, Option, Some, None}
+use Rattle.std.specs.Prelude.{◌≡◌, ◌≢◌, ℕ, ◌<◌, ◌≤◌, List, length, take, slice_get, Option, Some, None}
 use Rattle.std.specs.FinMap as finite
 use Rattle.vs_types.specs.Depth.{levels, IsCanonical}
 use Rattle.vs_types.specs.Space.{Space, no_pages}
@@ -15,6 +15,7 @@ use Rattle.nr_trace.specs.declared.fault.Fault.{Fault}
 use Rattle.nr_trace.specs.declared.fault.Fault.TheVariants as faults
 use Rattle.nr_explain.specs.Facts.{IsCallOf, IsReplyOf, IsFirstReplyTo, response, entries_read, looks_from, IsLastChangeFrom, address_about, IsPath}
 use Rattle.nr_explain.specs.Facts.{HasReservedWord, IsLowestReservedBit}
+use Rattle.nr_explain.specs.Nearest.{IsMemoryOf, IsNearest}
 use Rattle.nr_explain.specs.declared.trace.evidence.TableEntry.{TableEntry}
 use Rattle.nr_explain.specs.declared.trace.evidence.OpenCalls.{OpenCalls}
 use Rattle.nr_explain.specs.declared.trace.evidence.StrayReply.{StrayReply}
@@ -113,7 +114,8 @@ pub record IsEarly (trace : Recording) (early : EarlyCall) : Type 0 where
   pub names : early.reply.call ≡ early.answered.event
   pub own : IsFirstReplyTo trace early.call.event early.own
 
--- the call is answered otherwise than the space answers it after the updates that come before it, from this space on
+-- the call is answered otherwise than the space answers it after the updates that come before it, from this space on; after which numbers of
+-- entries it would be right, and where the space before it has the memory that the answer names
 pub record IsOtherAnswerFrom (start : Space) (trace : Recording) (wrong : OtherAnswer) : Type 0 where
   pub call : IsCallOf trace wrong.call
   pub reply : IsReplyOf trace wrong.reply
@@ -123,6 +125,8 @@ pub record IsOtherAnswerFrom (start : Space) (trace : Recording) (wrong : OtherA
   pub address : wrong.address ≡ address_about wrong.call.request wrong.wanted
   pub stands : StandsAfter trace wrong.call.event wrong.reply.at
   pub changed : IsLastChangeFrom start trace wrong.address wrong.reply.at wrong.changed
+  pub right : IsNearest start trace wrong.call.request wrong.reply.answer wrong.reply.at wrong.reply.at wrong.right
+  pub memory : IsMemoryOf (space_from start trace (take wrong.reply.at trace.log)) wrong.reply.answer wrong.memory
 
 -- the call is answered otherwise than the space answers it after the updates that come before it, from no pages on
 abbrev pub IsOtherAnswer : Recording → OtherAnswer → Type 0

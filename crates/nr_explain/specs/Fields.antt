@@ -48,7 +48,7 @@ depth_of header = if number_8 header 6 == 4 then Four else Five
 
 -- the first kind of a request that the version of a header doesn't know
 unfoldable pub kinds_of : List ℕ → ℕ
-kinds_of header = if is_segment header then 6 else (if number_16 header 4 == 1 then 4 else 5)
+kinds_of header = if is_segment header then 7 else (if number_16 header 4 == 1 then 4 else 5)
 
 -- the first answer that the version of a header doesn't know
 unfoldable pub answers_of : List ℕ → ℕ
@@ -87,10 +87,10 @@ first otherwise second = option_or first second
 unfoldable pub size_of : ℕ → PageSize
 size_of code = if code == 0 then K4 else (if code == 1 then M2 else G1)
 
--- a map has a size and rights, a protect rights, and an access or a touch what it does and the mode
+-- a map has a size and rights, a release a size, a protect rights, and an access or a touch what it does and the mode
 unfoldable pub size_fault : ℕ → ℕ → Option BadField
 size_fault kind size =
-    if kind == 0 then limited Size size 3 else (if kind == 4 || kind == 5 then limited Access size 3 else limited Size size 1)
+    if kind == 0 || kind == 6 then limited Size size 3 else (if kind == 4 || kind == 5 then limited Access size 3 else limited Size size 1)
 
 -- what is wrong with the rights of a call: an access and a touch have the mode there
 unfoldable pub rights_fault : ℕ → ℕ → Option BadField
@@ -98,16 +98,17 @@ rights_fault kind rights =
     if kind == 0 || kind == 2 then limited Rights rights 8
     else (if kind == 4 || kind == 5 then limited Mode rights 2 else limited Rights rights 1)
 
--- a map begins at a multiple of its size, an unmap and a protect at one of 4,096
+-- a release has no address; a map begins at a multiple of its size, an unmap and a protect at one of 4,096
 unfoldable pub address_fault : Depth → ℕ → PageSize → ℕ → Option BadField
 address_fault depth kind size address =
-    canonical depth address otherwise
-    (if kind == 0 then multiple Address address size else (if nat_lt kind 3 then multiple Address address K4 else None))
+    if kind == 6 then limited Address address 1
+    else (canonical depth address otherwise
+    (if kind == 0 then multiple Address address size else (if nat_lt kind 3 then multiple Address address K4 else None)))
 
--- only a map has a physical address
+-- only a map and a release have a physical address
 unfoldable pub physical_fault : ℕ → PageSize → ℕ → Option BadField
 physical_fault kind size physical =
-    if kind == 0 then multiple Physical physical size otherwise within physical size else limited Physical physical 1
+    if kind == 0 || kind == 6 then multiple Physical physical size otherwise within physical size else limited Physical physical 1
 
 -- the first field of a call that isn't what it may be
 unfoldable pub call_fault : List ℕ → List ℕ → Option BadField

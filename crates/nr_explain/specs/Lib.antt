@@ -1,8 +1,10 @@
 pub mod Fields
 pub mod Units
 pub mod Facts
+pub mod Nearest
 pub mod Evidence
 pub mod Dumps
+pub mod Meetings
 pub mod Counts
 pub mod Explanation
 pub mod Progress

@@ -1,20 +1,21 @@
 -- What the segments of a chain so far have come to, as a reader sees it that explains the chain.
-use Rattle.std.specs.Prelude.{◌≡◌, ℕ, ◌+◌, ◌-◌, ◌^◌, ◌↔◌, ⊤, Bool, true, false, List, length, min, count_by, nat_lt, Option, Some, None, option_map}
+use Rattle.std.specs.Prelude.{◌≡◌, ℕ, ◌+◌, ◌-◌, ◌^◌, ⊤, Bool, true, false, List, length, min, count_by, nat_lt, Option, Some, None, option_map}
 use Rattle.std.specs.FinMap as finite
 use Rattle.vs_types.specs.Space.{Space, pages}
 use Rattle.vs_types.specs.Config.{Layout}
-use Rattle.vs_types.specs.declared.page.Page.{Page}
 use Rattle.vs_walk.specs.Dump.{Image}
 use Rattle.nr_trace.specs.Recording.{Recording}
 use Rattle.nr_trace.specs.Orders.{recorded_order}
 use Rattle.nr_trace.specs.declared.event.Event.{Event}
-use Rattle.nr_trace.specs.declared.event.Event.TheVariants.{Call, Reply, Touch}
-use Rattle.nr_joined.specs.Run.{Run, end_of, IsOrderly}
-use Rattle.nr_touch.specs.Tails.{IsLeft, Lingers}
-use Rattle.nr_touch.specs.declared.tail.Left.{Left}
+use Rattle.nr_trace.specs.declared.event.Event.TheVariants.{Call, Release, Reply, Touch}
+use Rattle.nr_joined.specs.Run.{Run, end_of}
+use Rattle.nr_touch.specs.Beside.{beside}
+use Rattle.nr_touch.specs.Tails.{IsTailOfRun}
+use Rattle.nr_touch.specs.declared.tail.Tail.{Tail}
 use Rattle.nr_audit.specs.Segments.{run_after}
-use Rattle.nr_audit.specs.Start.{space_before, start_space}
+use Rattle.nr_audit.specs.Start.{first_space, space_before, start_space}
 use Rattle.nr_chain.specs.Bytes.{layout_before}
+use Rattle.nr_explain.specs.Meetings.{overlapping}
 use Rattle.nr_explain.specs.declared.chain.progress.Sums.{Sums}
 use Rattle.nr_explain.specs.declared.chain.explanation.ChainCounts.{ChainCounts}
 
@@ -38,12 +39,12 @@ space_in came = space_before (run_in came)
 
 -- ---- what a reader keeps of that
 
--- what is kept of the segments so far: how they are laid out; the space after the last one; the changes by which addresses may still be found to look
--- otherwise; the space with which the chain begins; and how much they have
+-- what is kept of the segments so far: how they are laid out; the space after the last one; what they leave for the touches of later ones; the
+-- space with which the chain begins; and how much they have
 pub record Seen : Type 0 where
   pub layout : Layout
   pub space : Space
-  pub left : List Left
+  pub tail : Tail
   pub began : Option Space
   pub sums : Sums
 
@@ -52,16 +53,11 @@ pub record ReaderState : Type 0 where
   pub state : Option Seen
   pub bytes : List ℕ
 
--- the changes are those that a run leaves: by them an address looks just as it lingers to look
-pub record AreLeftBehind (run : Run) (changes : List Left) : Type 0 where
-  pub orderly : IsOrderly run.trace
-  pub looks : (address : ℕ) (page : Option Page) → IsLeft changes address page ↔ Lingers run.start run.trace address page
-
 -- this is kept of it
 pub record IsSeen (came : ChainState) (seen : Seen) : Type 0 where
   pub layout : seen.layout ≡ came.run.trace.layout
   pub space : seen.space ≡ end_of came.run
-  pub left : AreLeftBehind came.run seen.left
+  pub tail : IsTailOfRun came.run seen.tail
   pub began : seen.began ≡ came.began
   pub sums : seen.sums ≡ came.sums
 
@@ -81,7 +77,15 @@ sum_up m n = min (m + n) (2 ^ 64 - 1)
 abbrev pub is_touch : Event → Bool
 is_touch (Call replica thread request) = false
 is_touch (Reply call at answer) = false
+is_touch (Release replica thread size phys) = false
 is_touch (Touch replica thread address mode access) = true
+
+-- whether an event is a release
+abbrev pub is_release : Event → Bool
+is_release (Call replica thread request) = false
+is_release (Reply call at answer) = false
+is_release (Touch replica thread address mode access) = false
+is_release (Release replica thread size phys) = true
 
 -- whether a dump has a frame
 abbrev pub is_there : Image → Bool
@@ -89,22 +93,26 @@ is_there dump = nat_lt 0 (finite.len dump.frames)
 
 -- how much there is before the first segment
 abbrev pub nothing_yet : Sums
-nothing_yet = record { segments = 0; calls = 0; updates = 0; reads = 0; touches = 0; dumps = 0; bytes = 0 }
+nothing_yet = record { segments = 0; calls = 0; updates = 0; reads = 0; touches = 0; releases = 0; dumps = 0; overlapping = 0; beside = 0; bytes = 0 }
 
 -- how much there is so far
 abbrev pub sums_in : Option ChainState → Sums
 sums_in None = nothing_yet
 sums_in (Some last) = last.sums
 
--- with a segment more, which so many bytes spell: the calls of its order, the updates among them, which are its log, and the others
-abbrev pub sums_after : Sums → Recording → ℕ → Sums
-sums_after sums segment bytes = record {
+-- with a segment more, of which so many touches were open beside an update, and which so many bytes spell: the calls of its order, the updates
+-- among them, which are its log, and the others; and its answered updates and reads that overlap another one of it
+abbrev pub sums_after : Sums → Recording → ℕ → ℕ → Sums
+sums_after sums segment near bytes = record {
   segments = sum_up sums.segments 1;
   calls = sum_up sums.calls (length (recorded_order segment));
   updates = sum_up sums.updates (length segment.log);
   reads = sum_up sums.reads (length (recorded_order segment) - length segment.log);
   touches = sum_up sums.touches (count_by is_touch segment.events);
+  releases = sum_up sums.releases (count_by is_release segment.events);
   dumps = sum_up sums.dumps (count_by is_there segment.dumps);
+  overlapping = sum_up sums.overlapping (overlapping segment);
+  beside = sum_up sums.beside near;
   bytes = sum_up sums.bytes bytes;
 }
 
@@ -115,12 +123,16 @@ abbrev pub began_with : Option ChainState → Recording → Option Space
 began_with None segment = option_map (λ start. start_space segment.layout.depth (Some start)) segment.start
 began_with (Some last) segment = last.began
 
+-- the touches of a segment that comes next that were open beside an update of it
+abbrev pub beside_in : Option ChainState → Recording → ℕ
+beside_in came segment = beside (first_space (space_in came) segment) segment
+
 -- what is come to with a segment more, which so many bytes spell
 abbrev pub state_after : Option ChainState → Recording → ℕ → ChainState
 state_after came segment bytes = record {
   run = run_after (run_in came) segment;
   began = began_with came segment;
-  sums = sums_after (sums_in came) segment bytes;
+  sums = sums_after (sums_in came) segment (beside_in came segment) bytes;
 }
 
 -- how much a chain has whose segments have come to this
@@ -131,7 +143,10 @@ counts_of last = record {
   updates = last.sums.updates;
   reads = last.sums.reads;
   touches = last.sums.touches;
+  releases = last.sums.releases;
   dumps = last.sums.dumps;
   replicas = last.run.trace.layout.replicas;
   pages = length (pages (end_of last.run));
+  overlapping = last.sums.overlapping;
+  beside = last.sums.beside;
 }

@@ -17,7 +17,7 @@ pub enum EventField {
     Thread,
     /// What is asked.
     Kind,
-    /// The size of a page.
+    /// The size of a page, or of memory that is given away.
     Size,
     /// What an access or a touch does, in the place of the size.
     Access,
@@ -127,7 +127,7 @@ fn kinds_of(header: &[u8]) -> u64
     ensures { result ≡ kinds_of header.now }
 {
     if is_segment(header) {
-        6
+        7
     } else if number_16(header, 4) == 1 {
         4
     } else {
@@ -232,7 +232,7 @@ fn size_fault(kind: u8, size: u8) -> Option<BadField>
     ensures { result ≡ size_fault kind size }
 {
     let size = u64::from(size);
-    if kind == 0 {
+    if kind == 0 || kind == 6 {
         limited(EventField::Size, size, 3)
     } else if kind == 4 || kind == 5 {
         limited(EventField::Access, size, 3)
@@ -259,6 +259,9 @@ fn rights_fault(kind: u8, rights: u8) -> Option<BadField>
 fn address_fault(depth: Depth, kind: u8, size: Size, address: u64) -> Option<BadField>
     ensures { result ≡ address_fault depth kind size address }
 {
+    if kind == 6 {
+        return limited(EventField::Address, address, 1);
+    }
     let begins = if kind == 0 {
         multiple(EventField::Address, address, size)
     } else if kind < 3 {
@@ -273,7 +276,7 @@ fn address_fault(depth: Depth, kind: u8, size: Size, address: u64) -> Option<Bad
 fn physical_fault(kind: u8, size: Size, physical: u64) -> Option<BadField>
     ensures { result ≡ physical_fault kind size physical }
 {
-    if kind == 0 {
+    if kind == 0 || kind == 6 {
         multiple(EventField::Physical, physical, size).or(within(physical, size))
     } else {
         limited(EventField::Physical, physical, 1)

@@ -14,10 +14,12 @@ mod units;
 
 pub use calls::answers::{address_about, asked_address};
 pub use chain::evidence::{
-    BadSegment, Moment, Origin, SegmentEvidence, StaleTouch, StartBeyond, StartDiffers,
+    BadSegment, Kept, Lag, Leading, MissedUpdate, Moment, Origin, Reach, SegmentEvidence,
+    StaleTouch, StartBeyond, StartDiffers, TakenAway, WhyWrong, WrongRelease,
 };
 pub use chain::explanation::{ChainCounts, ChainExplanation};
 pub use chain::reader::{ChainReader, ReaderStep};
+pub use chain::touches::fewest;
 pub use fields::{BadField, EventField, FieldFault, field_fault};
 pub use search::events::call_at;
 pub use search::replies::reply_to;
@@ -30,10 +32,12 @@ pub use tables::paths::{
 pub use trace::all_dumps::{DumpExplanation, FullExplanation, explain_all_read};
 pub use trace::counts::Counts;
 pub use trace::evidence::{
-    Difference, EarlyCall, Evidence, LongPrefix, Misplaced, MissingTable, NoUpdate, OpenCalls,
-    OtherAnswer, Owner, PastEnd, PlacedUpdate, RecordedCall, RecordedReply, ReservedEntry,
-    SharedTable, ShortPrefix, StrayReply, StrayTable, TableEntry, TwoPlaces, TwoReplies,
+    Difference, EarlyCall, Evidence, Given, LongPrefix, Misplaced, MissingTable, NoUpdate,
+    OpenCalls, OtherAnswer, Owner, PastEnd, PlacedUpdate, RecordedCall, RecordedReply,
+    ReservedEntry, SharedTable, ShortPrefix, StrayReply, StrayTable, TableEntry, TwoPlaces,
+    TwoReplies,
 };
 pub use trace::explaining::{Explanation, explain, explain_read};
+pub use trace::nearby::{NamedMemory, RightAfter, Stretch};
 pub use unit_feed::UnitFeed;
 pub use units::{BadUnit, HEADER_BYTES, Unread};

@@ -4,3 +4,5 @@ pub(crate) mod all_dumps;
 pub(crate) mod counts;
 pub(crate) mod evidence;
 pub(crate) mod explaining;
+pub(crate) mod meetings;
+pub(crate) mod nearby;

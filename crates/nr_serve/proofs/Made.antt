@@ -20,7 +20,7 @@ use Rattle.nr_trace.proofs.LawsOfLists.{slice_get-unmap}
 use Rattle.nr_trace.specs.Calls.{Invocation, Response, read_address, call_of, made_by, operation_in, reply_to}
 use Rattle.nr_trace.specs.Recording.{Recording}
 use Rattle.nr_trace.specs.declared.event.Event.{Event}
-use Rattle.nr_trace.specs.declared.event.Event.TheVariants.{Call, Touch}
+use Rattle.nr_trace.specs.declared.event.Event.TheVariants.{Call, Touch, Release}
 use Rattle.nr_record.specs.Events.{AreEventsOf, HasNotes, caller, events_of}
 use Rattle.nr_record.specs.Pen.{ClockId, PenState, call_by, stamps_of}
 use Rattle.nr_record.specs.Stamps.{Rise}
@@ -76,6 +76,10 @@ called_by events thread i holds (Some (Touch replica who address mode access)) a
     let test : eqb who thread ≡ true = sym (ap (tested thread) at) ∙ holds in
     let same : who ≡ thread = (Decides-eqb who thread).0 test in
     record { event = Touch replica who address mode access; at = at; made = ap (λ (t : ℕ). Some t) same }
+called_by events thread i holds (Some (Release replica who size phys)) at =
+    let test : eqb who thread ≡ true = sym (ap (tested thread) at) ∙ holds in
+    let same : who ≡ thread = (Decides-eqb who thread).0 test in
+    record { event = Release replica who size phys; at = at; made = ap (λ (t : ℕ). Some t) same }
 called_by events thread i holds _ at = absurd (false≢true (sym (ap (tested thread) at) ∙ holds))
 
 called : (events : List Event) (thread i : ℕ) → makes thread events i ≡ true → IsCallAt events thread i

@@ -1,7 +1,7 @@
 -- The end of a segment: what its threads have handed back, written down and judged; and segments one after another.
-use Rattle.std.proofs.Common.{◌≡◌, ℕ, ◌+◌, ◌≤◌, List, [], ◌∷◌, ◌++◌, All, length, get_or, map, inl, inr, refl, ap, sym, subst, ◌∙◌, arith, Option, None, Some}
+use Rattle.std.proofs.Common.{◌≡◌, ℕ, ◌+◌, List, [], ◌∷◌, ◌++◌, All, length, get_or, map, inl, inr, refl, ap, sym, subst, ◌∙◌, arith, Option, None, Some, Result, Ok, Err}
 use Rattle.std.specs.FinMap as finite
-use Rattle.std.specs.Prelude.{IfSome, drop, replicate}
+use Rattle.std.specs.Prelude.{IfOk, IfSome, drop, replicate}
 use Rattle.std.specs.List.{AllZip}
 use Rattle.std.proofs.lemmas.List.{get_or-map, length-map}
 use Rattle.std.proofs.lemmas.List.Elements.{All-tail}
@@ -35,13 +35,14 @@ use Rattle.nr_record.specs.Events.{AreEventsOf}
 use Rattle.nr_record.specs.Pen.{ClockId, PenState}
 use Rattle.nr_serve.specs.Run.{AreAllCallsOf, HasAllOrStopped}
 use Rattle.nr_serve.specs.RunState.{RunState, new_run}
-use Rattle.nr_serve.specs.ChainOfRun.{HasEnded, HasFailed, HasGone, ran_of}
+use Rattle.nr_serve.specs.ChainOfRun.{HasEnded, HasFailed, HasGone, IsOutcomeOf, ran_of}
 use Rattle.nr_serve.specs.SegmentRun.{layout_so_far, AreAllAnswered, HasSeenMore, HaveSeenAnswersFrom, IsAnswer, IsRightSegment, IsSegmentOf}
 use Rattle.nr_serve.specs.declared.said.Said.{Said}
 use Rattle.nr_serve.specs.declared.said.Said.TheVariants.{Stopped}
+use Rattle.nr_serve.specs.declared.segment_outcome.SegmentOutcome.{SegmentOutcome}
 use Rattle.nr_serve.specs.inside.Calls.{Since, WorkerState, since}
-use Rattle.nr_serve.specs.inside.Ending.{passes_of}
 use Rattle.nr_serve.specs.inside.Segment.{HaveServed, state_of, state_with}
+use Rattle.nr_serve.specs.inside.SegmentEnd.{IsEndOf, MayEnd}
 use Rattle.nr_serve.proofs.Made.{all_at, are_calls, have_seen_from}
 
 -- the calls of a log from its first place on are all
@@ -128,27 +129,36 @@ pub record IsMade (clock : ClockId) (of : Since) (layout : Layout) (past : Optio
   pub calls_are : trace.log ≡ map (λ entry. entry.call) (drop of.from (log_after layout.replicas history).entries)
 
 -- a segment is made of what the threads handed back, and of the log from the last cut on
-pub made_segment : (clock : ClockId) (of : Since) (layout : Layout) (past : Option Past) (before : List Known) (scripts : List (List Query))
-    (pens : List PenState) (passes : List Known) (answers : List (List Said)) (trace : Recording) (bytes : List ℕ) (history : List LogEvent)
-    (depth : Depth) (replicas : ℕ) (calls : List ℕ) → layout ≡ clock.layout → layout.depth ≡ depth → layout.replicas ≡ replicas
+pub made_segment : (depth : Depth) (replicas : ℕ) (clock : ClockId) (of : Since) (replicated layout : Layout) (past : Option Past) (before : List Known)
+    (scripts : List (List Query)) (pens : List PenState) (passes : List Known) (answers : List (List Said)) (trace : Recording) (bytes : List ℕ)
+    (history : List LogEvent) (calls : List ℕ) → MayEnd depth replicas clock of replicated layout past pens passes
     → HaveServed clock of before scripts pens passes answers → trace.layout ≡ layout → AreEventsOf trace.events pens → trace.log ≡ calls
-    → SpellsSegment (layout_so_far (state_with of before layout past).kept) bytes trace → All (λ pass. pass.log ≡ of.log) passes
-    → IsLogHistory depth replicas history → All (λ pass. StartsWith history pass.view.seen) passes
-    → calls ≡ map (λ entry. entry.call) (drop of.from (log_after replicas history).entries)
+    → SpellsSegment (layout_so_far (state_with of before layout past).kept) bytes trace → IsLogHistory depth replicas history
+    → All (λ pass. StartsWith history pass.view.seen) passes → calls ≡ map (λ entry. entry.call) (drop of.from (log_after replicas history).entries)
     → IsMade clock of layout past before scripts pens passes answers trace bytes history
-made_segment clock of layout past before scripts pens passes answers trace bytes history depth replicas calls of_clock depth_is replicas_are served laid
-    recorded log spelled of_log is begun calls_are = record {
-      of_clock = of_clock;
+made_segment depth replicas clock of replicated layout past before scripts pens passes answers trace bytes history calls may served laid recorded log
+    spelled is begun calls_are =
+    let same = sym may.run.replicas_are in
+    record {
+      of_clock = may.of_clock;
       served = served;
       laid = laid;
       recorded = recorded;
       spelled = spelled;
-      of_log = of_log;
-      is_history = subst (λ (d : Depth). IsLogHistory d layout.replicas history) (sym depth_is)
-          (subst (λ (r : ℕ). IsLogHistory depth r history) (sym replicas_are) is);
+      of_log = may.run.of_log;
+      is_history = subst (λ (d : Depth). IsLogHistory d layout.replicas history) (sym may.run.depth_is)
+          (subst (λ (r : ℕ). IsLogHistory depth r history) same is);
       begins = begun;
-      calls_are = log ∙ calls_are ∙ ap (λ (r : ℕ). map (λ (entry : LogEntry). entry.call) (drop of.from (log_after r history).entries)) (sym replicas_are);
+      calls_are = log ∙ calls_are ∙ ap (λ (r : ℕ). map (λ (entry : LogEntry). entry.call) (drop of.from (log_after r history).entries)) same;
     }
+
+-- what comes of a segment whose threads had seen this before, and were given these scripts
+pub comes_of : {J E : Type 0} (result : Result (SegmentOutcome J) E) (clock : ClockId) (of : Since) (layout : Layout) (past : Option Past)
+    (pens : List PenState) (passes : List Known) (answers : List (List Said)) (before : List Known) (scripts : List (List Query))
+    → IfOk result (IsEndOf clock of layout past pens passes answers) → HaveServed clock of before scripts pens passes answers
+    → IfOk result (IsOutcomeOf (state_with of before layout past) scripts)
+comes_of (Ok outcome) clock of layout past pens passes answers before scripts ends served = ends before scripts served
+comes_of (Err fault) clock of layout past pens passes answers before scripts ends served = tt
 
 -- what is shown of a segment is what it has
 pub gone_as : (state : RunState) (scripts : List (List Query)) (answers shown : List (List Said)) (bytes written order : List ℕ) (next run : RunState)

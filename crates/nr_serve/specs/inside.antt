@@ -3,3 +3,4 @@ pub mod Calls
 pub mod Working
 pub mod Ending
 pub mod Segment
+pub mod SegmentEnd

@@ -1,19 +1,15 @@
 //! The end of a segment: its threads have ended, and what they hand back is cut off or settled, written down and judged.
-ghost use Rattle.std.specs.Prelude.{◌≡◌, ◌+◌, List, All, IfOk, IfSome, IsTrue, Option, length, map};
+ghost use Rattle.std.specs.Prelude.{◌≡◌, ◌+◌, All, IfOk, IfSome, IsTrue, Option, length, map};
 ghost use Rattle.vs_types.specs.Config.{Layout};
-ghost use Rattle.vs_types.specs.declared.request.Query.{Query};
 ghost use Rattle.nr_trace.specs.Parts.{HasFrames};
 ghost use Rattle.nr_trace.specs.Spelling.{SpellsSegment};
 ghost use Rattle.nr_trace.specs.declared.version.Version.TheVariants.{Segment};
-ghost use Rattle.nr_audit.specs.Segments.{FitsPast};
-ghost use Rattle.nr_ring.specs.Pass.{Known};
 ghost use Rattle.nr_replicas.specs.Settled.{IsCut, IsSettled};
 ghost use Rattle.nr_record.specs.Events.{AreEventsOf};
 ghost use Rattle.nr_record.specs.Pen.{AreAllPens};
-ghost use Rattle.nr_serve.specs.ChainOfRun.{IsOutcomeOf};
 ghost use Rattle.nr_serve.specs.SegmentRun.{IsAnswer};
 ghost use Rattle.nr_serve.specs.inside.Calls.{since};
-ghost use Rattle.nr_serve.specs.inside.Segment.{HaveServed, state_with};
+ghost use Rattle.nr_serve.specs.inside.SegmentEnd.{IsEndOf, MayEnd};
 
 use crate::chain_run::{Between, ChainRun};
 use crate::ending::Parts;
@@ -138,18 +134,12 @@ fn going_on<J: LogName, K: ReplicasName>(
     past: Option<Past>,
     parts: Parts<J>,
 ) -> Result<SegmentOutcome<J>, Fail<NoSegment>>
-    requires config { (config ≡ clock.layout) × (replicas ≡ config) }
-    requires names { (config.depth ≡ J.depth) × (config.replicas ≡ J.replicas) }
-    requires pens { AreAllPens clock parts.pens.items }
-    requires passes { (length parts.passes.items ≡ config.threads)
-        × All (λ pass. pass.log ≡ K.log) parts.passes.items }
-    requires past { IfSome past (FitsPast config) }
+    requires ended { MayEnd J.depth J.replicas clock (since K.log K.base) replicas config past
+        parts.pens.items parts.passes.items }
     requires answered { All (λ items. All IsAnswer items.items) parts.answers.items }
-    ensures { (before : List Known) (scripts : List (List Query))
-        → HaveServed clock (since K.log K.base) before scripts parts.pens.items parts.passes.items
-        (map (λ said. said.items) parts.answers.items)
-        → IfOk result
-        (IsOutcomeOf (state_with (since K.log K.base) before config past) scripts) }
+    ensures { IfOk result
+        (IsEndOf clock (since K.log K.base) config past parts.pens.items parts.passes.items
+        (map (λ said. said.items) parts.answers.items)) }
 {
     let Parts {
         pens,
@@ -196,18 +186,12 @@ fn last<J: LogName, K: ReplicasName>(
     past: Option<Past>,
     parts: Parts<J>,
 ) -> Result<SegmentOutcome<J>, Fail<NoSegment>>
-    requires config { (config ≡ clock.layout) × (replicas ≡ config) }
-    requires names { (config.depth ≡ J.depth) × (config.replicas ≡ J.replicas) }
-    requires pens { AreAllPens clock parts.pens.items }
-    requires passes { (length parts.passes.items ≡ config.threads)
-        × All (λ pass. pass.log ≡ K.log) parts.passes.items }
-    requires past { IfSome past (FitsPast config) }
+    requires ended { MayEnd J.depth J.replicas clock (since K.log K.base) replicas config past
+        parts.pens.items parts.passes.items }
     requires stopped { All (λ items. All IsAnswer items.items) parts.answers.items → ⊥ }
-    ensures { (before : List Known) (scripts : List (List Query))
-        → HaveServed clock (since K.log K.base) before scripts parts.pens.items parts.passes.items
-        (map (λ said. said.items) parts.answers.items)
-        → IfOk result
-        (IsOutcomeOf (state_with (since K.log K.base) before config past) scripts) }
+    ensures { IfOk result
+        (IsEndOf clock (since K.log K.base) config past parts.pens.items parts.passes.items
+        (map (λ said. said.items) parts.answers.items)) }
 {
     let Parts {
         pens,
@@ -248,17 +232,11 @@ pub(crate) fn segment_ending<J: LogName, K: ReplicasName>(
     past: Option<Past>,
     parts: Parts<J>,
 ) -> Result<SegmentOutcome<J>, Fail<NoSegment>>
-    requires config { (config ≡ clock.layout) × (replicas ≡ config) }
-    requires names { (config.depth ≡ J.depth) × (config.replicas ≡ J.replicas) }
-    requires pens { AreAllPens clock parts.pens.items }
-    requires passes { (length parts.passes.items ≡ config.threads)
-        × All (λ pass. pass.log ≡ K.log) parts.passes.items }
-    requires past { IfSome past (FitsPast config) }
-    ensures { (before : List Known) (scripts : List (List Query))
-        → HaveServed clock (since K.log K.base) before scripts parts.pens.items parts.passes.items
-        (map (λ said. said.items) parts.answers.items)
-        → IfOk result
-        (IsOutcomeOf (state_with (since K.log K.base) before config past) scripts) }
+    requires { MayEnd J.depth J.replicas clock (since K.log K.base) replicas config past
+        parts.pens.items parts.passes.items }
+    ensures { IfOk result
+        (IsEndOf clock (since K.log K.base) config past parts.pens.items parts.passes.items
+        (map (λ said. said.items) parts.answers.items)) }
 {
     if all_answered(&parts.answers) {
         going_on(alloc, clock, replicas, config, past, parts)

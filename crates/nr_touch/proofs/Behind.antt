@@ -19,7 +19,9 @@ use Rattle.nr_joined.proofs.Orders.{AreOf, space_left, space_both}
 use Rattle.nr_joined.proofs.Parts.{HasEarlierCalls, answered_left, answered_right, answers_to_left, answers_to_right}
 use Rattle.nr_joined.proofs.Places.{HasOwnPlaces, placed_in, placed_in_right, placed_left, placed_right, PlacedRight}
 use Rattle.nr_touch.specs.Tails.{AreOpenFrom, IsNeverAnswered, Lingers}
-use Rattle.nr_touch.specs.Touches.{page_after, ChangesLook, IsAllowedPrefix, IsAnsweredBefore, IsMadeAfter, IsRightTouch, touch_behind}
+use Rattle.nr_touch.specs.Touches.{page_after, ChangesLook, IsAllowedPrefix, IsAnsweredBefore, IsAnsweredInTime, IsFaultOfKept, IsFaultOfLagging, IsMadeAfter}
+use Rattle.nr_touch.specs.Touches.{touch_behind, IsRightTouch, IsWidened, OnlyWidens}
+use Rattle.nr_touch.specs.inside.Tables.{IsRightByTables}
 use Rattle.nr_touch.specs.declared.touch.Touch.{Touch}
 use Rattle.nr_touch.proofs.QuietPages.{look_or_not}
 
@@ -174,12 +176,32 @@ module _ (start : Space) (first second : Recording) (same_layout : second.layout
         looks = sym (look_rest address k) ∙ ap (page_after start whole address) (sym e) ∙ it.looks;
       })
 
-    open_both : (address from : ℕ) → AreOpenFrom start first address from → NoneOver address → AreOpenFrom start whole address from
+    pub open_both : (address from : ℕ) → AreOpenFrom start first address from → NoneOver address → AreOpenFrom start whole address from
     open_both address from since none place low changes = by_side (split_at (length first.log) place) where
       by_side : (place < length first.log) ⊎ ((k : ℕ) × (place ≡ length first.log + k)) → IsNeverAnswered whole place
       by_side (inl l) = never_front place l (since place low (changes_front address place l changes))
       by_side (inr (k, e)) =
           subst (IsNeverAnswered whole) (sym e) (never_rest k (none k (changes_rest address k (subst (ChangesLook start whole address) e changes))))
+
+    pub open_rest : (address from : ℕ) → AreOpenFrom between second address from → AreOpenFrom start whole address (length first.log + from)
+    open_rest address from since place low changes = by_side (split_at (length first.log) place) where
+      by_side : (place < length first.log) ⊎ ((k : ℕ) × (place ≡ length first.log + k)) → IsNeverAnswered whole place
+      by_side (inl l) = absurd (omega (arith, l, low))
+      by_side (inr (k, e)) =
+          subst (IsNeverAnswered whole) (sym e)
+          (never_rest k (since k (omega (arith, low, e)) (changes_rest address k (subst (ChangesLook start whole address) e changes))))
+
+    pub rest_open : (address from : ℕ) → AreOpenFrom start whole address (length first.log + from) → AreOpenFrom between second address from
+    rest_open address from since place low changes =
+        never_to_rest place (since (length first.log + place) (omega (arith, low)) (changes_to_rest address place changes))
+
+    pub front_open : (address from : ℕ) → AreOpenFrom start whole address from → AreOpenFrom start first address from
+    front_open address from since place low changes =
+        never_to_front place (since place low (changes_to_front address place (change_within start first address place changes) changes))
+
+    pub front_none : (address from : ℕ) → from ≤ length first.log → AreOpenFrom start whole address from → NoneOver address
+    front_none address from low since place changes =
+        never_to_rest place (since (length first.log + place) (omega (arith, low)) (changes_to_rest address place changes))
 
     pub lingers_to_both : (address : ℕ) (page : Option Page) → LingersSo address page → Lingers start whole address page
     lingers_to_both address page (inl it) = record {
@@ -205,12 +227,20 @@ module _ (start : Space) (first second : Recording) (same_layout : second.layout
 
     -- ---- a right touch of the second run
 
-    pub right_rest : (touch : Touch) → IsRightTouch between second touch → IsRightTouch start whole (touch_behind (length first.events) touch)
-    right_rest touch (n, allowed, answered) = (
-      length first.log + n,
-      record { within = omega (arith, allowed.within, whole_log); flushed = flushed; not_foreseen = not_foreseen },
-      answered ∙ ap (λ (space : Space). allow space touch.address touch.mode touch.access) (sym (space_rest n)),
-    ) where
+    -- an update of the second that was answered before an event was so there
+    pub answered_rest : (event k : ℕ) → IsAnsweredBefore whole (length first.log + k) (length first.events + event) → IsAnsweredBefore second k event
+    answered_rest event k (call, placed, (reply, lt, answers)) =
+        let (mine, mine_is, same) = placed_in_right first second k call placed in
+        let (own_reply, is, own_answers) = answered_right first second reply mine earlier (subst (λ (c : ℕ). Answers whole reply c) (sym same) answers) in
+        (mine, mine_is, (own_reply, omega arith, own_answers))
+
+    pub allowed_rest : (touch : Touch) (n : ℕ) → IsAllowedPrefix between second touch n
+        → IsAllowedPrefix start whole (touch_behind (length first.events) (length first.log) touch) (length first.log + n)
+    allowed_rest touch n allowed = record {
+      within = omega (arith, allowed.within, whole_log);
+      flushed = flushed;
+      not_foreseen = not_foreseen;
+    } where
       flushed : (place : ℕ) → ChangesLook start whole touch.address place → IsAnsweredBefore whole place (length first.events + touch.made)
           → place < length first.log + n
       flushed place changes (call, placed, (reply, lt, answers)) = by_side (split_at (length first.log) place) where
@@ -233,6 +263,14 @@ module _ (start : Space) (first second : Recording) (same_layout : second.layout
             (mine, mine_is, omega arith) in
             omega arith
 
+    pub in_time_rest : (touch : Touch) → IsAnsweredInTime between second touch
+        → IsAnsweredInTime start whole (touch_behind (length first.events) (length first.log) touch)
+    in_time_rest touch (n, allowed, answered) = (
+      length first.log + n,
+      allowed_rest touch n allowed,
+      answered ∙ ap (λ (space : Space). allow space touch.address touch.mode touch.access) (sym (space_rest n)),
+    )
+
     -- no update that changes how its address looks was answered before the touch was made
     abbrev pub NoneFlushed : Touch → Type 0
     NoneFlushed touch = (place : ℕ) → ChangesLook between second touch.address place → IsAnsweredBefore second place touch.made → ⊥
@@ -243,7 +281,7 @@ module _ (start : Space) (first second : Recording) (same_layout : second.layout
         NoneFlushed touch
         × (page : Option Page) × Lingers start first touch.address page × (touch.answer ≡ allow_in_page touch.address touch.mode touch.access page)
 
-    flushed_rest : (touch : Touch) (n place : ℕ) → IsAllowedPrefix start whole (touch_behind (length first.events) touch) n
+    pub flushed_rest : (touch : Touch) (n place : ℕ) → IsAllowedPrefix start whole (touch_behind (length first.events) (length first.log) touch) n
         → ChangesLook between second touch.address place → IsAnsweredBefore second place touch.made → length first.log + place < n
     flushed_rest touch n place is changes (call, placed, (reply, before, answers)) =
         is.flushed (length first.log + place) (changes_to_rest touch.address place changes) (
@@ -252,14 +290,14 @@ module _ (start : Space) (first second : Recording) (same_layout : second.layout
           (length first.events + reply, omega (arith, before), answers_to_right first second reply call answers),
         )
 
-    foreseen_rest : (touch : Touch) (n place : ℕ) → IsAllowedPrefix start whole (touch_behind (length first.events) touch) n
+    pub foreseen_rest : (touch : Touch) (n place : ℕ) → IsAllowedPrefix start whole (touch_behind (length first.events) (length first.log) touch) n
         → ChangesLook between second touch.address place → IsMadeAfter second place touch.answered → n ≤ length first.log + place
     foreseen_rest touch n place is changes (call, placed, late) =
         is.not_foreseen (length first.log + place) (changes_to_rest touch.address place changes)
         (length first.events + call, placed_right first second place call placed, omega (arith, late))
 
     -- from so many entries of the first run on no update that changes how the address looks is answered
-    open_from : (touch : Touch) (n : ℕ) → IsAllowedPrefix start whole (touch_behind (length first.events) touch) n → AreOpenFrom start first touch.address n
+    pub open_from : (touch : Touch) (n : ℕ) → IsAllowedPrefix start whole (touch_behind (length first.events) (length first.log) touch) n → AreOpenFrom start first touch.address n
     open_from touch n is place low changes call reply placed answers =
         let within = change_within start first touch.address place changes in
         let early = answers_within first reply call answers in
@@ -267,14 +305,14 @@ module _ (start : Space) (first second : Recording) (same_layout : second.layout
         (call, placed_left first second place call placed, (reply, omega (arith, early), answers_to_left first second reply call answers)) in
         omega (arith, low, less)
 
-    open_later : (touch : Touch) (n place : ℕ) → n ≤ place → AreOpenFrom start first touch.address n → AreOpenFrom start first touch.address place
+    pub open_later : (touch : Touch) (n place : ℕ) → n ≤ place → AreOpenFrom start first touch.address n → AreOpenFrom start first touch.address place
     open_later touch n place low since other l changes = since other (omega (arith, low, l)) changes
 
-    pub right_parts : (touch : Touch) → IsRightTouch start whole (touch_behind (length first.events) touch)
-        → IsRightTouch between second touch ⊎ IsOfEarlier touch
-    right_parts touch (n, is, answered) = by_side (cases_lt n (length first.log)) where
+    pub in_time_parts : (touch : Touch) → IsAnsweredInTime start whole (touch_behind (length first.events) (length first.log) touch)
+        → IsAnsweredInTime between second touch ⊎ IsOfEarlier touch
+    in_time_parts touch (n, is, answered) = by_side (cases_lt n (length first.log)) where
       at_none : (n < length first.log) → page_after start first touch.address n ≡ page_after start first touch.address (length first.log)
-          → IsRightTouch between second touch
+          → IsAnsweredInTime between second touch
       at_none l same = (
         0,
         record {
@@ -297,7 +335,7 @@ module _ (start : Space) (first second : Recording) (same_layout : second.layout
 
       by_next : (n < length first.log) → NextChange start first touch.address n (n + (length first.log - n))
           ⊎ (page_after start first touch.address n ≡ page_after start first touch.address (n + (length first.log - n)))
-          → IsRightTouch between second touch ⊎ IsOfEarlier touch
+          → IsAnsweredInTime between second touch ⊎ IsOfEarlier touch
       by_next l (inl next) =
           let it : n + (length first.log - n) ≡ length first.log = omega (arith, l) in
           inr (of_next l (subst (NextChange start first touch.address n) it next))
@@ -305,7 +343,7 @@ module _ (start : Space) (first second : Recording) (same_layout : second.layout
           let it : n + (length first.log - n) ≡ length first.log = omega (arith, l) in
           inl (at_none l (same ∙ ap (page_after start first touch.address) it))
 
-      by_side : (n < length first.log) ⊎ (length first.log ≤ n) → IsRightTouch between second touch ⊎ IsOfEarlier touch
+      by_side : (n < length first.log) ⊎ (length first.log ≤ n) → IsAnsweredInTime between second touch ⊎ IsOfEarlier touch
       by_side (inl l) = by_next l (next_change start first touch.address n (length first.log - n))
       by_side (inr past) =
           let e : n ≡ length first.log + (n - length first.log) = omega (arith, past) in
@@ -320,39 +358,132 @@ module _ (start : Space) (first second : Recording) (same_layout : second.layout
             answered ∙ ap (allow_in_page touch.address touch.mode touch.access) (ap (page_after start whole touch.address) e ∙ look_rest touch.address (n - length first.log)),
           )
 
-    right_of_earlier : (touch : Touch) → IsOfEarlier touch → IsRightTouch start whole (touch_behind (length first.events) touch)
-    right_of_earlier touch (none, page, it, answered) = (
-      it.place,
-      record { within = omega (arith, here, whole_log); flushed = flushed; not_foreseen = not_foreseen },
-      answered ∙ ap (allow_in_page touch.address touch.mode touch.access) (sym (look_front touch.address it.place (omega (arith, here)) ∙ it.looks)),
-    ) where
-      here : it.place < length first.log
-      here = change_within start first touch.address it.place it.changes
+    -- where none was answered since, an open update's place is allowed
+    pub allowed_front : (touch : Touch) → NoneFlushed touch → (at : ℕ) → ChangesLook start first touch.address at → AreOpenFrom start first touch.address at
+        → IsAllowedPrefix start whole (touch_behind (length first.events) (length first.log) touch) at
+    allowed_front touch none at its since = record {
+      within = omega (arith, here, whole_log);
+      flushed = flushed;
+      not_foreseen = not_foreseen;
+    } where
+      here : at < length first.log
+      here = change_within start first touch.address at its
 
-      flushed : (place : ℕ) → ChangesLook start whole touch.address place → IsAnsweredBefore whole place (length first.events + touch.made) → place < it.place
+      flushed : (place : ℕ) → ChangesLook start whole touch.address place → IsAnsweredBefore whole place (length first.events + touch.made) → place < at
       flushed place changes (call, placed, (reply, before, answers)) = by_side (placed_in first second place call placed) where
-        by_open : slice_get first.log place ≡ Some call → (place < it.place) ⊎ (it.place ≤ place) → place < it.place
+        by_open : slice_get first.log place ≡ Some call → (place < at) ⊎ (at ≤ place) → place < at
         by_open own (inl l) = l
         by_open own (inr low) =
             let within = slice_get_within first.log place call own in
             let mine = answered_left first second reply call (places place call own) answers in
-            absurd (it.still_open place low (changes_front touch.address place within changes) call reply own mine.1)
+            absurd (since place low (changes_front touch.address place within changes) call reply own mine.1)
 
-        by_side : (slice_get first.log place ≡ Some call) ⊎ PlacedRight first second place call → place < it.place
-        by_side (inl own) = by_open own (cases_lt place it.place)
-        by_side (inr (at, e, mine, mine_is, same)) =
+        by_side : (slice_get first.log place ≡ Some call) ⊎ PlacedRight first second place call → place < at
+        by_side (inl own) = by_open own (cases_lt place at)
+        by_side (inr (k, e, mine, mine_is, same)) =
             let (event, is, own) = answered_right first second reply mine earlier (subst (λ (c : ℕ). Answers whole reply c) same answers) in
-            absurd (none at (changes_rest touch.address at (subst (ChangesLook start whole touch.address) e changes))
+            absurd (none k (changes_rest touch.address k (subst (ChangesLook start whole touch.address) e changes))
             (mine, mine_is, (event, omega (arith, is, before), own)))
 
-      not_foreseen : (place : ℕ) → ChangesLook start whole touch.address place → IsMadeAfter whole place (length first.events + touch.answered)
-          → it.place ≤ place
+      not_foreseen : (place : ℕ) → ChangesLook start whole touch.address place → IsMadeAfter whole place (length first.events + touch.answered) → at ≤ place
       not_foreseen place changes (call, placed, late) = by_side (placed_in first second place call placed) where
-        by_side : (slice_get first.log place ≡ Some call) ⊎ PlacedRight first second place call → it.place ≤ place
+        by_side : (slice_get first.log place ≡ Some call) ⊎ PlacedRight first second place call → at ≤ place
         by_side (inl own) = let l = places place call own in absurd (omega (arith, l, late))
-        by_side (inr (at, e, mine, mine_is, same)) = omega (arith, here, e)
+        by_side (inr (k, e, mine, mine_is, same)) = omega (arith, here, e)
 
-    pub right_both : (touch : Touch) → IsRightTouch between second touch ⊎ IsOfEarlier touch
-        → IsRightTouch start whole (touch_behind (length first.events) touch)
-    right_both touch (inl own) = right_rest touch own
-    right_both touch (inr earlier_look) = right_of_earlier touch earlier_look
+    pub right_of_earlier : (touch : Touch) → IsOfEarlier touch → IsAnsweredInTime start whole (touch_behind (length first.events) (length first.log) touch)
+    right_of_earlier touch (none, page, it, answered) =
+        let here = change_within start first touch.address it.place it.changes in (
+          it.place,
+          allowed_front touch none it.place it.changes it.still_open,
+          answered ∙ ap (allow_in_page touch.address touch.mode touch.access) (sym (look_front touch.address it.place (omega (arith, here)) ∙ it.looks)),
+        )
+
+    -- ---- faults by a table that lags
+
+    foreseen_later : (touch : Touch) (m : ℕ) → ((place : ℕ) → ChangesLook between second touch.address place → IsMadeAfter second place touch.answered → m ≤ place)
+        → (place : ℕ) → ChangesLook start whole touch.address place → IsMadeAfter whole place (length first.events + touch.answered)
+        → length first.log + m ≤ place
+    foreseen_later touch m least place changes (call, placed, late) = by_side (placed_in first second place call placed) where
+      by_side : (slice_get first.log place ≡ Some call) ⊎ PlacedRight first second place call → length first.log + m ≤ place
+      by_side (inl here) = let l = own call (got_in first.log place call here) in absurd (omega (arith, l, late))
+      by_side (inr (at, e, mine, mine_is, same)) =
+          let low : m ≤ at = least at (changes_rest touch.address at (subst (ChangesLook start whole touch.address) e changes))
+          (mine, mine_is, omega (arith, late, same)) in
+          omega (arith, low, e)
+
+    pub lagging_rest : (touch : Touch) → IsFaultOfLagging between second touch
+        → IsFaultOfLagging start whole (touch_behind (length first.events) (length first.log) touch)
+    lagging_rest touch (fault, m, it) = (
+      fault,
+      length first.log + m,
+      record {
+        within = let w = it.within in omega (arith, w, whole_log);
+        known = let k = it.known in omega (arith, k);
+        not_foreseen = foreseen_later touch m it.not_foreseen;
+        absent = look_rest touch.address m ∙ it.absent;
+      },
+    )
+
+    pub lagging_parts : (touch : Touch) → IsFaultOfLagging start whole (touch_behind (length first.events) (length first.log) touch)
+        → IsFaultOfLagging between second touch
+    lagging_parts touch (fault, m, it) =
+        let known = it.known in
+        let e : m ≡ length first.log + (m - length first.log) = omega (arith, known) in (
+          fault,
+          m - length first.log,
+          record {
+            within = let w = it.within in omega (arith, w, whole_log);
+            known = omega (arith, known);
+            not_foreseen = λ place changes (call, placed, late).
+                let least = it.not_foreseen (length first.log + place) (changes_to_rest touch.address place changes)
+                (length first.events + call, placed_right first second place call placed, omega (arith, late)) in
+                omega (arith, least);
+            absent = sym (look_rest touch.address (m - length first.log)) ∙ ap (page_after start whole touch.address) (sym e) ∙ it.absent;
+          },
+        )
+
+    -- ---- right touches
+
+    pub right_parts : (touch : Touch) → IsRightByTables start whole (touch_behind (length first.events) (length first.log) touch)
+        → IsRightByTables between second touch ⊎ IsOfEarlier touch
+    right_parts touch (inl in_time) = onto (in_time_parts touch in_time) where
+      onto : IsAnsweredInTime between second touch ⊎ IsOfEarlier touch → IsRightByTables between second touch ⊎ IsOfEarlier touch
+      onto (inl mine) = inl (inl mine)
+      onto (inr before) = inr before
+    right_parts touch (inr lagging) = inl (inr (lagging_parts touch lagging))
+
+    pub right_both : (touch : Touch) → IsRightByTables between second touch ⊎ IsOfEarlier touch
+        → IsRightByTables start whole (touch_behind (length first.events) (length first.log) touch)
+    right_both touch (inl (inl in_time)) = inl (in_time_rest touch in_time)
+    right_both touch (inl (inr lagging)) = inr (lagging_rest touch lagging)
+    right_both touch (inr earlier_look) = inl (right_of_earlier touch earlier_look)
+
+    -- ---- right touches of the second alone are right in both
+
+    kept_rest : (touch : Touch) → IsFaultOfKept between second touch → IsFaultOfKept start whole (touch_behind (length first.events) (length first.log) touch)
+    kept_rest touch (fault, m, n, it) = (
+      fault,
+      length first.log + m,
+      length first.log + n,
+      record {
+        allowed = allowed_rest touch n it.allowed;
+        before = let before = it.before in omega (arith, before);
+        widens = widens;
+        answered = it.answered ∙ ap (λ (space : Space). allow space touch.address touch.mode touch.access) (sym (space_rest m));
+      },
+    ) where
+      widens : OnlyWidens start whole touch.address (length first.log + m) (length first.log + n)
+      widens place low high changes =
+          let k = place - length first.log in
+          let e : place ≡ length first.log + k = omega (arith, low) in
+          let own_changes = changes_rest touch.address k (subst (ChangesLook start whole touch.address) e changes) in
+          let mine = it.widens k (omega (arith, low, e)) (omega (arith, high, e)) own_changes in
+          subst (λ (p : ℕ). IsWidened (page_after start whole touch.address p) (page_after start whole touch.address (p + 1))) (sym e)
+          (subst (λ (page : Option Page). IsWidened (page_after start whole touch.address (length first.log + k)) page) (sym (look_next touch.address k))
+          (subst (λ (page : Option Page). IsWidened page (page_after between second touch.address (k + 1))) (sym (look_rest touch.address k)) mine))
+
+    pub right_rest : (touch : Touch) → IsRightTouch between second touch → IsRightTouch start whole (touch_behind (length first.events) (length first.log) touch)
+    right_rest touch (inl in_time) = inl (in_time_rest touch in_time)
+    right_rest touch (inr (inl kept)) = inr (inl (kept_rest touch kept))
+    right_rest touch (inr (inr lagging)) = inr (inr (lagging_rest touch lagging))

@@ -1,5 +1,5 @@
 -- What is left behind a run and a segment, and which touches it answers.
-use Rattle.std.proofs.Common.{◌≡◌, ℕ, ◌+◌, ◌-◌, ◌<◌, ◌≤◌, ◌^◌, ◌⊎◌, inl, inr, Bool, true, false, cond, nat_lt, List, [], ◌++◌, length, map, get_or}
+use Rattle.std.proofs.Common.{◌≡◌, ℕ, ◌+◌, ◌-◌, ◌<◌, ◌≤◌, ◌^◌, ◌⊎◌, inl, inr, Bool, true, false, cond, nat_lt, List, length, map, get_or}
 use Rattle.std.proofs.Common.{slice_get, drop, Option, Some, None, option_map, Contains, IsTrue, refl, sym, ap, ◌∙◌, subst, arith}
 use Rattle.std.specs.List.Sorted.{IsNonDecreasingBy, IsPermutation}
 use Rattle.std.proofs.lemmas.Bool.{cases_lt, cases_Bool, false≢true}
@@ -14,21 +14,23 @@ use Rattle.vs_types.specs.declared.page.Page.{Page}
 use Rattle.nr_trace.specs.Recording.{Recording}
 use Rattle.nr_trace.specs.Calls.{Answers}
 use Rattle.nr_trace.proofs.LawsOfCalls.{answers_within}
-use Rattle.nr_joined.specs.Run.{Run, IsOrderly, end_of, run_with}
-use Rattle.nr_joined.proofs.Orderly.{orderly_both, own_calls}
-use Rattle.nr_touch.specs.Tails.{AreOpenFrom, GoesOn, HasNoOver, IsLeft, IsNeverAnswered, IsTailOf, IsTailOfRun, Lingers}
-use Rattle.nr_touch.specs.Touches.{page_after, ChangesLook, IsAnsweredBefore, IsRightBehind, IsRightTouch}
+use Rattle.nr_joined.specs.Run.{Run, end_of}
+use Rattle.nr_joined.proofs.Orderly.{own_calls}
+use Rattle.nr_touch.specs.Tails.{AreOpenFrom, GoesOn, HasNoOver, IsLeft, IsLeftBy, IsNeverAnswered, IsTailOf, Lingers}
+use Rattle.nr_touch.specs.Touches.{page_after, ChangesLook, IsAnsweredBefore}
+use Rattle.nr_touch.specs.inside.Tables.{IsRightByTables, IsRightByTablesBehind}
 use Rattle.nr_touch.specs.inside.Changes.{page_before, AreChanges}
 use Rattle.nr_touch.specs.inside.Columns.{Covers, IsNumbered, IsPast}
 use Rattle.nr_touch.specs.inside.Earlier.{AreOfRun, IsAnsweredSo}
-use Rattle.nr_touch.specs.inside.Lefts.{left_of, placed_at, ArePlacedAs, IsHiddenBy, KeepLooks}
+use Rattle.nr_touch.specs.inside.Lefts.{left_of, placed_at, ArePlacedAs, IsHiddenBy}
 use Rattle.nr_touch.specs.inside.Sights.{IsAnsweredBetween}
+use Rattle.nr_touch.specs.declared.change.Change.{Change}
 use Rattle.nr_touch.specs.declared.change.PlacedChange.{PlacedChange}
 use Rattle.nr_touch.specs.declared.tail.Left.{Left}
 use Rattle.nr_touch.specs.declared.tail.Tail.{Tail}
 use Rattle.nr_touch.specs.declared.touch.Touch.{Touch}
-use Rattle.nr_touch.proofs.Behind.{change_within, lingers_both, lingers_to_both, right_both, right_parts}
-use Rattle.nr_touch.proofs.Lefts.{at_left, got_in, in_got, left_at, left_both, left_parts, IsHiddenIn, LeftSo}
+use Rattle.nr_touch.proofs.Behind.{change_within, right_both, right_parts}
+use Rattle.nr_touch.proofs.Lefts.{at_left, got_in, in_got, left_at, IsHiddenIn}
 
 -- ---- a placed list, beside the changes that are left
 
@@ -85,47 +87,74 @@ module _ (changes : List Left) (placed sorted : List PlacedChange) (are : ArePla
   IsAnsweredByLeft touch =
       (page : Option Page) × IsLeft changes touch.address page × (touch.answer ≡ allow_in_page touch.address touch.mode touch.access page)
 
-  pub answered_so : (touch : Touch) → IsAnsweredSo sorted touch → IsAnsweredByLeft touch
-  answered_so touch it =
-      let c = it.change in
-      let (left, is, at) = placed_from changes placed are c (Contains-permutation sorted placed c (IsPermutation-sym placed sorted same) it.has) in
-      let covered = subst (λ (d : PlacedChange). IsTrue (covers d.change.page touch.address)) (sym at) it.covers_it in (
-        page_before left.change,
-        at_left changes c.place left touch.address is covered (none c left at it.still_open),
-        it.answered ∙ ap (λ (d : PlacedChange). allow_in_page touch.address touch.mode touch.access (page_before d.change)) (sym at),
-      ) where
-        none : (c : PlacedChange) (left : Left) → placed_at c.place left ≡ c
-            → ((other : PlacedChange) → Contains sorted other → Covers touch.address other → other.answered < 4294967295 → other.place < c.place)
-            → (later : ℕ) (other : Left) → c.place ≤ later → slice_get changes later ≡ Some other → IsTrue (covers other.change.page touch.address)
+  -- no two of them have one place
+  pub one_of_place : (c d : PlacedChange) → Contains sorted c → Contains sorted d → c.place ≡ d.place → c ≡ d
+  one_of_place c d has_c has_d e =
+      let (first, is, at) = placed_from changes placed are c (Contains-permutation sorted placed c (IsPermutation-sym placed sorted same) has_c) in
+      let (then, also, so) = placed_from changes placed are d (Contains-permutation sorted placed d (IsPermutation-sym placed sorted same) has_d) in
+      let one : first ≡ then = same_Some first then (sym is ∙ ap (slice_get changes) e ∙ also) in
+      sym at ∙ ap (λ n. placed_at n first) e ∙ ap (placed_at d.place) one ∙ so
+
+  -- the look of a change which isn't over, nor is a later one, is left
+  pub so_left : (look : Change → Option Page) (address : ℕ) (c : PlacedChange) → Contains sorted c → Covers address c
+      → ((other : PlacedChange) → Contains sorted other → Covers address other → other.answered < 4294967295 → other.place < c.place)
+      → IsLeftBy look changes address (look c.change)
+  so_left look address c has covers_it still_open =
+      let (left, is, at) = placed_from changes placed are c (Contains-permutation sorted placed c (IsPermutation-sym placed sorted same) has) in
+      let covered = subst (λ (d : PlacedChange). IsTrue (covers d.change.page address)) (sym at) covers_it in
+      subst (IsLeftBy look changes address) (ap (λ (d : PlacedChange). look d.change) at)
+      (at_left look changes c.place left address is covered none) where
+        none : (later : ℕ) (other : Left) → c.place ≤ later → slice_get changes later ≡ Some other → IsTrue (covers other.change.page address)
             → other.over ≡ false
-        none c left at still later other low there covered = elim (cases_Bool other.over) [
+        none later other low there covered = elim (cases_Bool other.over) [
           | inl over ↦
               let has = Contains-permutation placed sorted (placed_at later other) same (got_in placed later (placed_at later other) (are.each later other there)) in
               let early : (placed_at later other).answered ≡ 0 = ap (λ (b : Bool). cond b 0 4294967295) over in
-              let less = still (placed_at later other) has covered (omega (arith, early)) in
+              let less = still_open (placed_at later other) has covered (omega (arith, early)) in
               absurd (omega (arith, less, low))
           | inr open_so ↦ open_so
         ]
 
-  pub answered_left : (touch : Touch) (page : Option Page) → IsLeft changes touch.address page
-      → touch.answer ≡ allow_in_page touch.address touch.mode touch.access page → IsAnsweredSo sorted touch
-  answered_left touch page it answered =
-      let at = left_at changes touch.address page it in
-      record {
-        change = placed_at at.index at.left;
-        has = Contains-permutation placed sorted (placed_at at.index at.left) same
-            (got_in placed at.index (placed_at at.index at.left) (are.each at.index at.left at.is));
-        covers_it = at.covered;
-        still_open = λ other has covered early. elim (cases_lt other.place at.index) [
+  -- and a look that is left is that of such a change
+  pub left_so : (look : Change → Option Page) (address : ℕ) (page : Option Page) → IsLeftBy look changes address page
+      → (c : PlacedChange) × Contains sorted c × Covers address c
+      × ((other : PlacedChange) → Contains sorted other → Covers address other → other.answered < 4294967295 → other.place < c.place)
+      × (look c.change ≡ page)
+  left_so look address page it =
+      let at = left_at look changes address page it in (
+        placed_at at.index at.left,
+        Contains-permutation placed sorted (placed_at at.index at.left) same
+            (got_in placed at.index (placed_at at.index at.left) (are.each at.index at.left at.is)),
+        at.covered,
+        λ other has covered early. elim (cases_lt other.place at.index) [
           | inl less ↦ less
           | inr past ↦
               let (left, is, so) = placed_from changes placed are other (Contains-permutation sorted placed other (IsPermutation-sym placed sorted same) has) in
-              let own_covered = subst (λ (d : PlacedChange). IsTrue (covers d.change.page touch.address)) (sym so) covered in
+              let own_covered = subst (λ (d : PlacedChange). IsTrue (covers d.change.page address)) (sym so) covered in
               let open_so = at.none other.place left past is own_covered in
               let most = not_over_by left other.place other so open_so in
               absurd (omega (arith, most, early))
-        ];
-        answered = answered ∙ ap (allow_in_page touch.address touch.mode touch.access) (sym at.looks);
+        ],
+        at.looks,
+      )
+
+  pub answered_so : (touch : Touch) → IsAnsweredSo sorted touch → IsAnsweredByLeft touch
+  answered_so touch it = (
+    page_before it.change.change,
+    so_left page_before touch.address it.change it.has it.covers_it it.still_open,
+    it.answered,
+  )
+
+  pub answered_left : (touch : Touch) (page : Option Page) → IsLeft changes touch.address page
+      → touch.answer ≡ allow_in_page touch.address touch.mode touch.access page → IsAnsweredSo sorted touch
+  answered_left touch page it answered =
+      let (c, has, covered, still_open, looks) = left_so page_before touch.address page it in
+      record {
+        change = c;
+        has = has;
+        covers_it = covered;
+        still_open = still_open;
+        answered = answered ∙ ap (allow_in_page touch.address touch.mode touch.access) (sym looks);
       }
 
 not_less : (x y : ℕ) → y ≤ x → nat_lt x y ≡ false
@@ -138,7 +167,7 @@ is_less x y l = grind (arith, nat_tests)
 
 module _ (start : Space) (segment : Recording) (own : List PlacedChange) (are : AreChanges start segment own)
     (by_place : IsNonDecreasingBy (λ (c : PlacedChange). c.place) own) (few : length segment.events < 4294967295) where
-  abbrev lefts : List Left
+  abbrev pub lefts : List Left
   lefts = map left_of own
 
   own_at : (k : ℕ) (left : Left) → slice_get lefts k ≡ Some left → (c : PlacedChange) × (slice_get own k ≡ Some c) × (left_of c ≡ left)
@@ -183,21 +212,22 @@ module _ (start : Space) (segment : Recording) (own : List PlacedChange) (are : 
   over_alike : (c d : PlacedChange) → Contains own c → Contains own d → c.place ≡ d.place → (left_of c).over ≡ false → (left_of d).over ≡ false
   over_alike c d has_c has_d same open_so = never_over d has_d (subst (IsNeverAnswered segment) same (never_answered c has_c open_so))
 
-  pub left_lingers : (address : ℕ) (page : Option Page) → IsLeft lefts address page → Lingers start segment address page
-  left_lingers address page it =
-      let at = left_at lefts address page it in
+  -- a look that is left is that of a change from which on no update is answered
+  pub left_place : (look : Change → Option Page) (address : ℕ) (page : Option Page) → IsLeftBy look lefts address page
+      → (c : PlacedChange) × Contains own c × Covers address c × AreOpenFrom start segment address c.place × (look c.change ≡ page)
+  left_place look address page it =
+      let at = left_at look lefts address page it in
       let (c, is, so) = own_at at.index at.left at.is in
       let has = got_in own at.index c is in
-      let known = (are.each c has).0 in
       let covered : IsTrue (covers c.change.page address) = subst (λ (o : Left). IsTrue (covers o.change.page address)) (sym so) at.covered in
       let not_over : (left_of c).over ≡ false =
-      ap (λ (o : Left). o.over) so ∙ at.none at.index at.left (omega arith) at.is at.covered in
-      record {
-        place = c.place;
-        changes = known.differs address covered;
-        still_open = later c at.index is not_over (λ k other low there covers_it. at.none k other low there covers_it);
-        looks = known.was address covered ∙ ap (λ (o : Left). page_before o.change) so ∙ at.looks;
-      } where
+      ap (λ (o : Left). o.over) so ∙ at.none at.index at.left (omega arith) at.is at.covered in (
+        c,
+        has,
+        covered,
+        later c at.index is not_over (λ k other low there covers_it. at.none k other low there covers_it),
+        ap (λ (o : Left). look o.change) so ∙ at.looks,
+      ) where
         later : (c : PlacedChange) (index : ℕ) → slice_get own index ≡ Some c → (left_of c).over ≡ false
             → ((k : ℕ) (other : Left) → index ≤ k → slice_get lefts k ≡ Some other → IsTrue (covers other.change.page address) → other.over ≡ false)
             → AreOpenFrom start segment address c.place
@@ -213,23 +243,41 @@ module _ (start : Space) (segment : Recording) (own : List PlacedChange) (are : 
                   over_alike c d (got_in own index c is) has_d same not_over
               by_order d has_d k there covered at_place (inr behind) = none k (left_of d) behind (left_own k d there) covered
 
-  pub lingers_left : (address : ℕ) (page : Option Page) → Lingers start segment address page → IsLeft lefts address page
-  lingers_left address page it =
-      let (c, has, at_place, covered) = are.all it.place address (change_within start segment address it.place it.changes) it.changes in
-      let (k, is) = in_got own c has in
+  pub left_lingers : (address : ℕ) (page : Option Page) → IsLeft lefts address page → Lingers start segment address page
+  left_lingers address page it =
+      let (c, has, covered, still_open, looks) = left_place page_before address page it in
       let known = (are.each c has).0 in
-      let looks : page_before c.change ≡ page =
-      sym (known.was address covered) ∙ ap (page_after start segment address) at_place ∙ it.looks in
-      subst (IsLeft lefts address) looks (at_left lefts k (left_of c) address (left_own k c is) covered (later c k is at_place)) where
-        later : (c : PlacedChange) (index : ℕ) → slice_get own index ≡ Some c → c.place ≡ it.place
+      record {
+        place = c.place;
+        changes = known.differs address covered;
+        still_open = still_open;
+        looks = known.was address covered ∙ looks;
+      }
+
+  -- of a place from which on no update is answered the look of its change is left
+  pub place_left : (look : Change → Option Page) (address at : ℕ) → ChangesLook start segment address at → AreOpenFrom start segment address at
+      → (c : PlacedChange) × Contains own c × Covers address c × (c.place ≡ at) × IsLeftBy look lefts address (look c.change)
+  place_left look address at changes still_open =
+      let (c, has, at_place, covered) = are.all at address (change_within start segment address at changes) changes in
+      let (k, is) = in_got own c has in
+      (c, has, covered, at_place, at_left look lefts k (left_of c) address (left_own k c is) covered (later c k is at_place)) where
+        later : (c : PlacedChange) (index : ℕ) → slice_get own index ≡ Some c → c.place ≡ at
             → (k : ℕ) (other : Left) → index ≤ k → slice_get lefts k ≡ Some other → IsTrue (covers other.change.page address) → other.over ≡ false
         later c index is at_place k other low there covers_it =
             let (d, d_is, so) = own_at k other there in
             let has = got_in own k d d_is in
             let covered : IsTrue (covers d.change.page address) = subst (λ (o : Left). IsTrue (covers o.change.page address)) (sym so) covers_it in
             let up = rises index k c d low is d_is in
-            let never = it.still_open d.place (omega (arith, up, at_place)) ((are.each d has).0.differs address covered) in
+            let never = still_open d.place (omega (arith, up, at_place)) ((are.each d has).0.differs address covered) in
             sym (ap (λ (o : Left). o.over) so) ∙ never_over d has never
+
+  pub lingers_left : (address : ℕ) (page : Option Page) → Lingers start segment address page → IsLeft lefts address page
+  lingers_left address page it =
+      let (c, has, covered, at_place, left) = place_left page_before address it.place it.changes it.still_open in
+      let known = (are.each c has).0 in
+      let looks : page_before c.change ≡ page =
+      sym (known.was address covered) ∙ ap (page_after start segment address) at_place ∙ it.looks in
+      subst (IsLeft lefts address) looks left
 
   -- none of the changes that have an address is over exactly where no update that changes how it looks is answered
   pub none_over : (address : ℕ) → HasNoOver lefts address → (place : ℕ) → ChangesLook start segment address place → IsNeverAnswered segment place
@@ -246,69 +294,11 @@ module _ (start : Space) (segment : Recording) (own : List PlacedChange) (are : 
       let covered : IsTrue (covers c.change.page address) = subst (λ (o : Left). IsTrue (covers o.change.page address)) (sym so) covers_it in
       sym (ap (λ (o : Left). o.over) so) ∙ never_over c has_c (never c.place ((are.each c has_c).0.differs address covered))
 
--- ---- what is left behind a run and a segment
-
-abbrev LingerBoth : Run → Recording → ℕ → Option Page → Type 0
-LingerBoth run segment address page =
-    Lingers (end_of run) segment address page
-    ⊎ (Lingers run.start run.trace address page × ((place : ℕ) → ChangesLook (end_of run) segment address place → IsNeverAnswered segment place))
-
-module _ (start : Space) (segment : Recording) (orderly : IsOrderly segment) (own : List PlacedChange) (are : AreChanges start segment own)
-    (by_place : IsNonDecreasingBy (λ (c : PlacedChange). c.place) own) (few : length segment.events < 4294967295) where
-  tail_first : (tail found : Tail) → tail.changes.items ≡ [] → KeepLooks (tail.changes.items ++ map left_of own) found.changes.items
-      → IsTailOfRun (run_with None start segment) found
-  tail_first tail found none keep = record {
-    orderly = orderly;
-    left = λ address page.
-        let same : KeepLooks (map left_of own) found.changes.items =
-        subst (λ (xs : List Left). KeepLooks (xs ++ map left_of own) found.changes.items) none keep in (
-          λ it. left_lingers start segment own are by_place few address page ((same address page).0 it),
-          λ it. (same address page).1 (lingers_left start segment own are by_place few address page it),
-        );
-  }
-
-  tail_behind : (run : Run) (tail found : Tail) → IsTailOfRun run tail → start ≡ end_of run → segment.layout ≡ run.trace.layout
-      → KeepLooks (tail.changes.items ++ map left_of own) found.changes.items
-      → IsTailOfRun (run_with (Some run) start segment) found
-  tail_behind run tail found of_run ends same_layout keep = record {
-    orderly = orderly_both run.trace segment of_run.orderly orderly;
-    left = λ address page. (
-      λ it. lingers_to_both run.start run.trace segment same_layout (own_calls run.trace of_run.orderly) of_run.orderly.earlier of_run.orderly.own address page
-          (forth address page (left_parts address page tail.changes.items (map left_of own) ((keep address page).0 it))),
-      λ it. (keep address page).1 (left_both address page tail.changes.items (map left_of own)
-          (back address page (lingers_both run.start run.trace segment same_layout (own_calls run.trace of_run.orderly) of_run.orderly.earlier of_run.orderly.own
-          address page it))),
-    );
-  } where
-    forth : (address : ℕ) (page : Option Page) → LeftSo address page tail.changes.items (map left_of own) → LingerBoth run segment address page
-    forth address page (inl it) =
-        inl (subst (λ (s : Space). Lingers s segment address page) ends (left_lingers start segment own are by_place few address page it))
-    forth address page (inr (it, none)) = inr (
-      (of_run.left address page).0 it,
-      subst (λ (s : Space). (place : ℕ) → ChangesLook s segment address place → IsNeverAnswered segment place) ends
-          (none_over start segment own are by_place few address none),
-    )
-
-    back : (address : ℕ) (page : Option Page) → LingerBoth run segment address page → LeftSo address page tail.changes.items (map left_of own)
-    back address page (inl it) =
-        inl (lingers_left start segment own are by_place few address page (subst (λ (s : Space). Lingers s segment address page) (sym ends) it))
-    back address page (inr (it, never)) = inr (
-      (of_run.left address page).1 it,
-      none_over_back start segment own are by_place few address
-          (subst (λ (s : Space). (place : ℕ) → ChangesLook s segment address place → IsNeverAnswered segment place) (sym ends) never),
-    )
-
-  pub tail_with : (before : Option Run) (tail found : Tail) → IsTailOf before tail → GoesOn before segment start
-      → KeepLooks (tail.changes.items ++ map left_of own) found.changes.items
-      → IsTailOf (Some (run_with before start segment)) found
-  tail_with None tail found none goes_on keep = tail_first tail found none keep
-  tail_with (Some run) tail found of_run (ends, same_layout) keep = tail_behind run tail found of_run ends same_layout keep
-
 -- ---- what the columns of a tail say of a run
 
 pub of_run : (before : Option Run) (tail : Tail) (placed sorted : List PlacedChange) → IsTailOf before tail → ArePlacedAs tail.changes.items placed
     → IsPermutation placed sorted → AreOfRun before sorted
-of_run None tail placed sorted none are same = λ c has.
+of_run None tail placed sorted (none, empty) are same = λ c has.
     let (left, is, at) = placed_from tail.changes.items placed are c (Contains-permutation sorted placed c (IsPermutation-sym placed sorted same) has) in
     none-some left (sym (ap (λ (xs : List Left). slice_get xs c.place) none) ∙ is)
 of_run (Some run) tail placed sorted of_it are same = (
@@ -322,13 +312,38 @@ of_run (Some run) tail placed sorted of_it are same = (
 
 -- ---- touches behind a run
 
-abbrev NoneFlushedFrom : Space → Recording → Touch → Type 0
+abbrev pub NoneFlushedFrom : Space → Recording → Touch → Type 0
 NoneFlushedFrom start segment touch = (place : ℕ) → ChangesLook start segment touch.address place → IsAnsweredBefore segment place touch.made → ⊥
+
+module _ (start : Space) (segment : Recording) (earlier : List PlacedChange) (touch : Touch) where
+  -- a right touch behind a run is right in its segment, or is answered by what was left
+  pub parts_behind : (before : Option Run) → GoesOn before segment start → AreOfRun before earlier → IsRightByTablesBehind before start segment touch
+      → IsRightByTables start segment touch ⊎ (NoneFlushedFrom start segment touch × IsAnsweredSo earlier touch)
+  parts_behind None goes_on none right = inl right
+  parts_behind (Some run) (ends, same_layout) (orderly, forth, back) right =
+      by_part (right_parts run.start run.trace segment same_layout (own_calls run.trace orderly) orderly.earlier orderly.own touch right) where
+        by_part : IsRightByTables (end_of run) segment touch
+            ⊎ (NoneFlushedFrom (end_of run) segment touch
+            × (page : Option Page) × Lingers run.start run.trace touch.address page × (touch.answer ≡ allow_in_page touch.address touch.mode touch.access page))
+            → IsRightByTables start segment touch ⊎ (NoneFlushedFrom start segment touch × IsAnsweredSo earlier touch)
+        by_part (inl own_right) = inl (subst (λ (s : Space). IsRightByTables s segment touch) (sym ends) own_right)
+        by_part (inr (none, page, lingers, answered)) = inr (
+          subst (λ (s : Space). NoneFlushedFrom s segment touch) (sym ends) none,
+          back touch page lingers answered,
+        )
+
+  pub left_behind : (before : Option Run) → GoesOn before segment start → AreOfRun before earlier → NoneFlushedFrom start segment touch
+      → IsAnsweredSo earlier touch → IsRightByTablesBehind before start segment touch
+  left_behind None goes_on none unflushed it = absurd (none it.change it.has)
+  left_behind (Some run) (ends, same_layout) (orderly, forth, back) unflushed it =
+      let (page, lingers, answered) = forth touch it in
+      right_both run.start run.trace segment same_layout (own_calls run.trace orderly) orderly.earlier orderly.own touch
+      (inr (subst (λ (s : Space). NoneFlushedFrom s segment touch) ends unflushed, page, lingers, answered))
 
 module _ (start : Space) (segment : Recording) (own earlier : List PlacedChange) (are : AreChanges start segment own) (touch : Touch)
     (fits : touch.made < 2 ^ 32) (first : ℕ)
     (past : IsPast own (λ c. Covers touch.address c × (c.answered < touch.made)) first) where
-  none_flushed : first ≡ 0 → NoneFlushedFrom start segment touch
+  pub none_flushed : first ≡ 0 → NoneFlushedFrom start segment touch
   none_flushed none place changes (call, placed, (reply, before, answers)) =
       let (c, has, at_place, covered) = are.all place touch.address (change_within start segment touch.address place changes) changes in
       let known = (are.each c has).0 in
@@ -346,36 +361,25 @@ module _ (start : Space) (segment : Recording) (own earlier : List PlacedChange)
         absurd (none c.place (known.differs touch.address covered) (c.made, known.made, told))
   ]
 
-  pub right_behind : (before : Option Run) → GoesOn before segment start → AreOfRun before earlier → IsRightBehind before start segment touch
-      → IsRightTouch start segment touch ⊎ ((first ≡ 0) × IsAnsweredSo earlier touch)
-  right_behind None goes_on none right = inl right
-  right_behind (Some run) (ends, same_layout) (orderly, forth, back) right =
-      by_part (right_parts run.start run.trace segment same_layout (own_calls run.trace orderly) orderly.earlier orderly.own touch right) where
-        by_part : IsRightTouch (end_of run) segment touch
-            ⊎ (NoneFlushedFrom (end_of run) segment touch
-            × (page : Option Page) × Lingers run.start run.trace touch.address page × (touch.answer ≡ allow_in_page touch.address touch.mode touch.access page))
-            → IsRightTouch start segment touch ⊎ ((first ≡ 0) × IsAnsweredSo earlier touch)
-        by_part (inl own_right) = inl (subst (λ (s : Space). IsRightTouch s segment touch) (sym ends) own_right)
-        by_part (inr (none, page, lingers, answered)) = inr (
-          some_flushed (subst (λ (s : Space). NoneFlushedFrom s segment touch) (sym ends) none),
-          back touch page lingers answered,
-        )
+  pub right_behind : (before : Option Run) → GoesOn before segment start → AreOfRun before earlier → IsRightByTablesBehind before start segment touch
+      → IsRightByTables start segment touch ⊎ ((first ≡ 0) × IsAnsweredSo earlier touch)
+  right_behind before goes_on of_it right = by_part (parts_behind start segment earlier touch before goes_on of_it right) where
+    by_part : IsRightByTables start segment touch ⊎ (NoneFlushedFrom start segment touch × IsAnsweredSo earlier touch)
+        → IsRightByTables start segment touch ⊎ ((first ≡ 0) × IsAnsweredSo earlier touch)
+    by_part (inl own_right) = inl own_right
+    by_part (inr (none, it)) = inr (some_flushed none, it)
 
   pub behind_right : (before : Option Run) → GoesOn before segment start → AreOfRun before earlier → first ≡ 0 → IsAnsweredSo earlier touch
-      → IsRightBehind before start segment touch
-  behind_right None goes_on none zero_so it = absurd (none it.change it.has)
-  behind_right (Some run) (ends, same_layout) (orderly, forth, back) zero_so it =
-      let (page, lingers, answered) = forth touch it in
-      right_both run.start run.trace segment same_layout (own_calls run.trace orderly) orderly.earlier orderly.own touch
-      (inr (subst (λ (s : Space). NoneFlushedFrom s segment touch) ends (none_flushed zero_so), page, lingers, answered))
+      → IsRightByTablesBehind before start segment touch
+  behind_right before goes_on of_it zero_so it = left_behind start segment earlier touch before goes_on of_it (none_flushed zero_so) it
 
 -- a touch that is right in its segment is right behind a run
 pub own_right : (before : Option Run) (start : Space) (segment : Recording) (earlier : List PlacedChange) (touch : Touch) → GoesOn before segment start
-    → AreOfRun before earlier → IsRightTouch start segment touch → IsRightBehind before start segment touch
+    → AreOfRun before earlier → IsRightByTables start segment touch → IsRightByTablesBehind before start segment touch
 own_right None start segment earlier touch goes_on none right = right
 own_right (Some run) start segment earlier touch (ends, same_layout) (orderly, forth, back) right =
     right_both run.start run.trace segment same_layout (own_calls run.trace orderly) orderly.earlier orderly.own touch
-    (inl (subst (λ (s : Space). IsRightTouch s segment touch) ends right))
+    (inl (subst (λ (s : Space). IsRightByTables s segment touch) ends right))
 
 -- ---- the search in the changes that are left
 

@@ -31,7 +31,7 @@ module _ (front : List Left) (x : Left) (address : ℕ) where
     there : Contains looks look → IsLookLeft whole address look
     there has =
         let (page, left, same) = (are look).0 has in
-        (page, left_both address page front (x ∷ []) (inr (left, none_over (λ c. absurd (not c)))), same)
+        (page, left_both page_before address page front (x ∷ []) (inr (left, none_over (λ c. absurd (not c)))), same)
 
     of_parts : (page : Option Page) → IsLeft (x ∷ []) address page ⊎ (IsLeft front address page × HasNoOver (x ∷ []) address) → IsLeft front address page
     of_parts page (inl (inl (covered, open_so, none, looks))) = absurd (not covered)
@@ -39,7 +39,7 @@ module _ (front : List Left) (x : Left) (address : ℕ) where
     of_parts page (inr (left, none)) = left
 
     back : IsLookLeft whole address look → Contains looks look
-    back (page, left, same) = (are look).1 (page, of_parts page (left_parts address page front (x ∷ []) left), same)
+    back (page, left, same) = (are look).1 (page, of_parts page (left_parts page_before address page front (x ∷ []) left), same)
 
   -- one that is over leaves none
   pub cleared : (looks : List Answer) → IsTrue (covers x.change.page address) → x.over ≡ true → looks ≡ [] → AreLooksLeft whole address looks
@@ -53,7 +53,7 @@ module _ (front : List Left) (x : Left) (address : ℕ) where
     of_parts page (inr (left, none)) = false≢true (sym (none x (here_in x []) covered) ∙ over)
 
     back : IsLookLeft whole address look → Contains looks look
-    back (page, left, same) = absurd (of_parts page (left_parts address page front (x ∷ []) left))
+    back (page, left, same) = absurd (of_parts page (left_parts page_before address page front (x ∷ []) left))
 
   -- one that isn't over leaves the look before it too
   pub added : (looks new : List Answer) (own : Answer) → IsTrue (covers x.change.page address) → x.over ≡ false
@@ -62,12 +62,12 @@ module _ (front : List Left) (x : Left) (address : ℕ) where
     of_list : Contains looks look ⊎ Contains (own ∷ []) look → IsLookLeft whole address look
     of_list (inl has) =
         let (page, left, same) = (are look).0 has in
-        (page, left_both address page front (x ∷ []) (inr (left, none_over (λ c. open_so))), same)
+        (page, left_both page_before address page front (x ∷ []) (inr (left, none_over (λ c. open_so))), same)
     of_list (inr here) = by_part (in_cons own look [] here) where
       by_part : (own ≡ look) ⊎ Contains [] look → IsLookLeft whole address look
       by_part (inl same) = (
         page_before x.change,
-        left_both address (page_before x.change) front (x ∷ []) (inl (inl (covered, open_so, (λ other has c. absurd (in_none other has)), refl))),
+        left_both page_before address (page_before x.change) front (x ∷ []) (inl (inl (covered, open_so, (λ other has c. absurd (in_none other has)), refl))),
         sym same ∙ looks_so,
       )
       by_part (inr none) = absurd (in_none look none)
@@ -85,7 +85,7 @@ module _ (front : List Left) (x : Left) (address : ℕ) where
 
     back : IsLookLeft whole address look → Contains new look
     back (page, left, same) =
-        subst (λ (ls : List Answer). Contains ls look) (sym is) (of_parts page same (left_parts address page front (x ∷ []) left))
+        subst (λ (ls : List Answer). Contains ls look) (sym is) (of_parts page same (left_parts page_before address page front (x ∷ []) left))
 
 -- no changes leave no looks
 pub none_listed : (changes : List Left) (address : ℕ) (looks : List Answer) → looks ≡ [] → AreLooksLeft (take 0 changes) address looks

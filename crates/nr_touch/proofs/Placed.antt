@@ -1,6 +1,7 @@
 -- Changes that are left, placed one after another; and a list of them that is thinned.
 use Rattle.std.proofs.Common.{◌≡◌, ℕ, zero, suc, ◌+◌, ◌-◌, ◌<◌, ◌≤◌, ◌^◌, ◌⊎◌, inl, inr, true, List, [], ◌∷◌, ◌++◌, length, map, get_or, slice_get, drop}
-use Rattle.std.proofs.Common.{Some, Contains, refl, sym, ap, ◌∙◌, subst, arith}
+use Rattle.std.proofs.Common.{false, Some, Contains, BTreeSet, nat_cmp, refl, sym, ap, ◌∙◌, subst, arith}
+use Rattle.std.specs.BTreeSet.{contains}
 use Rattle.std.specs.List.Sorted.{IsNonDecreasingBy}
 use Rattle.std.proofs.lemmas.Bool.{cases_lt}
 use Rattle.std.proofs.lemmas.List.{append-nil, drop_more, length-append}
@@ -8,12 +9,13 @@ use Rattle.std.proofs.lemmas.List.Elements.{Contains-append_cases, Contains-push
 use Rattle.std.proofs.lemmas.List.Sorted.{IsNonDecreasingBy-push}
 use Rattle.std.proofs.lemmas.Option.{same_Some, slice_get_within}
 use Rattle.vs_types.proofs.Lists.{get_left, get_right}
-use Rattle.nr_touch.specs.Tails.{IsLeft, IsSoundLeft}
+use Rattle.nr_touch.specs.Tails.{IsLeftBy, IsSoundLeft}
 use Rattle.nr_touch.specs.inside.Columns.{IsNumbered}
-use Rattle.nr_touch.specs.inside.Lefts.{left_of, placed_at, ArePlacedAs, HasOver, KeepLooks}
+use Rattle.nr_touch.specs.inside.Lefts.{left_of, placed_at, region_of, AreNoted, ArePlacedAs, HasOver, KeepLooks}
 use Rattle.nr_touch.specs.declared.change.PlacedChange.{PlacedChange}
 use Rattle.nr_touch.specs.declared.tail.Left.{Left}
-use Rattle.nr_touch.proofs.Lefts.{in_none, kept_more, left_less, left_more, none_left, over_less, IsHiddenIn}
+use Rattle.nr_touch.proofs.HiddenChanges.{far_from}
+use Rattle.nr_touch.proofs.Lefts.{far_less, far_more, in_none, kept_more, left_less, left_more, none_left, IsHiddenIn}
 use Rattle.nr_touch.proofs.Sighted.{map_contains}
 
 -- ---- the first of them, this many
@@ -46,7 +48,7 @@ one_placed changes placed end left is sound few are = record {
       omega (arith, low));
 } where
   own : IsNumbered (placed_at end left)
-  own = record { number = refl; aligned = sound.aligned; low = sound.low; few = few }
+  own = record { number = refl; aligned = sound.aligned; ends = sound.ends; frame = sound.frame; low = sound.low; few = few }
 
   by_place : (place : ℕ) (other : Left) → slice_get changes place ≡ Some other → (place < end) ⊎ (end ≤ place) → place < end + 1
       → slice_get (placed ++ placed_at end left ∷ []) place ≡ Some (placed_at place other)
@@ -73,66 +75,72 @@ all_placed changes placed end all are = record {
 drop_here : (changes : List Left) (end : ℕ) (d : Left) → end < length changes → drop end changes ≡ get_or changes end d ∷ drop (end + 1) changes
 drop_here changes end d l = drop_more changes end d l
 
-pub record IsThinnedTo (changes kept : List Left) (end : ℕ) : Type 0 where
+pub record IsThinnedTo (changes kept : List Left) (regions : BTreeSet ℕ) (end : ℕ) : Type 0 where
   pub looks : KeepLooks changes (kept ++ drop end changes)
   pub each : (left : Left) → Contains kept left → IsSoundLeft left
   pub few : length kept ≤ end
+  pub noted : AreNoted kept regions
 
-pub none_thinned : (changes kept : List Left) → kept ≡ [] → IsThinnedTo changes kept 0
-none_thinned changes kept is = record {
-  looks = λ address page. (
-    λ it. subst (λ (xs : List Left). IsLeft (xs ++ changes) address page) is it,
-    λ it. subst (λ (xs : List Left). IsLeft (xs ++ changes) address page) (sym is) it,
+pub none_thinned : (changes kept : List Left) (regions : BTreeSet ℕ) → kept ≡ [] → IsThinnedTo changes kept regions 0
+none_thinned changes kept regions is = record {
+  looks = λ look address page. (
+    λ it. subst (λ (xs : List Left). IsLeftBy look (xs ++ changes) address page) is it,
+    λ it. subst (λ (xs : List Left). IsLeftBy look (xs ++ changes) address page) (sym is) it,
   );
   each = λ left has. absurd (in_none left (subst (λ (xs : List Left). Contains xs left) is has));
   few = let none = ap length is in omega (arith, none);
+  noted = λ left has open_so. absurd (in_none left (subst (λ (xs : List Left). Contains xs left) is has));
 }
 
 -- a change more is kept
-pub one_kept : (changes kept : List Left) (end : ℕ) (d : Left) → end < length changes → IsSoundLeft (get_or changes end d) → IsThinnedTo changes kept end
-    → IsThinnedTo changes (kept ++ get_or changes end d ∷ []) (end + 1)
-one_kept changes kept end d l sound is = record {
+pub one_kept : (changes kept : List Left) (old new : BTreeSet ℕ) (end : ℕ) (d : Left) → end < length changes → IsSoundLeft (get_or changes end d)
+    → (AreNoted kept old → AreNoted (kept ++ get_or changes end d ∷ []) new) → IsThinnedTo changes kept old end
+    → IsThinnedTo changes (kept ++ get_or changes end d ∷ []) new (end + 1)
+one_kept changes kept old new end d l sound notes is = record {
   looks = subst (λ (xs : List Left). KeepLooks changes xs) (sym (kept_more kept changes end d l)) is.looks;
   each = λ left has. elim (Contains-push_cases kept (get_or changes end d) left has) [
     | inl old ↦ is.each left old
     | inr new ↦ subst IsSoundLeft new sound
   ];
   few = let many = length-append kept (get_or changes end d ∷ []) in let low = is.few in omega (arith, many, low);
+  noted = notes is.noted;
 }
 
 -- or it is needless
-pub one_dropped : (changes kept : List Left) (end : ℕ) (d : Left) → end < length changes
-    → (((get_or changes end d).over ≡ true) × (kept ≡ [])) ⊎ IsHiddenIn (drop (end + 1) changes) (get_or changes end d)
-    → IsThinnedTo changes kept end → IsThinnedTo changes kept (end + 1)
-one_dropped changes kept end d l (inl (over, none)) is = record {
-  looks = λ address page. (
-    λ it. (is.looks address page).0 (
-        subst (λ (xs : List Left). IsLeft (xs ++ drop end changes) address page) (sym none)
-        (subst (λ (xs : List Left). IsLeft xs address page) (sym (drop_here changes end d l))
-        (inr (subst (λ (xs : List Left). IsLeft (xs ++ drop (end + 1) changes) address page) none it)))),
-    λ it. subst (λ (xs : List Left). IsLeft (xs ++ drop (end + 1) changes) address page) (sym none)
-        (over_less (get_or changes end d) (drop (end + 1) changes) address page over
-        (subst (λ (xs : List Left). IsLeft xs address page) (drop_here changes end d l)
-        (subst (λ (xs : List Left). IsLeft (xs ++ drop end changes) address page) none ((is.looks address page).1 it)))),
+pub one_dropped : (changes kept : List Left) (regions : BTreeSet ℕ) (end : ℕ) (d : Left) → end < length changes → IsSoundLeft (get_or changes end d)
+    → (((get_or changes end d).over ≡ true) × (contains nat_cmp regions (region_of (get_or changes end d)) ≡ false))
+    ⊎ IsHiddenIn (drop (end + 1) changes) (get_or changes end d)
+    → IsThinnedTo changes kept regions end → IsThinnedTo changes kept regions (end + 1)
+one_dropped changes kept regions end d l sound (inl (over, absent)) is = record {
+  looks = λ look address page. (
+    λ it. (is.looks look address page).0 (
+        subst (λ (xs : List Left). IsLeftBy look (kept ++ xs) address page) (sym (drop_here changes end d l))
+        (far_more (get_or changes end d) (drop (end + 1) changes) over look kept address page
+        (far_from kept regions (get_or changes end d) is.each sound is.noted absent) it)),
+    λ it. far_less (get_or changes end d) (drop (end + 1) changes) over look kept address page
+        (subst (λ (xs : List Left). IsLeftBy look (kept ++ xs) address page) (drop_here changes end d l) ((is.looks look address page).1 it)),
   );
   each = is.each;
   few = let low = is.few in omega (arith, low);
+  noted = is.noted;
 }
-one_dropped changes kept end d l (inr hidden) is = record {
-  looks = λ address page. (
-    λ it. (is.looks address page).0 (
-        subst (λ (xs : List Left). IsLeft (kept ++ xs) address page) (sym (drop_here changes end d l))
-        (left_more (get_or changes end d) (drop (end + 1) changes) hidden kept address page it)),
-    λ it. left_less (get_or changes end d) (drop (end + 1) changes) hidden kept address page
-        (subst (λ (xs : List Left). IsLeft (kept ++ xs) address page) (drop_here changes end d l) ((is.looks address page).1 it)),
+one_dropped changes kept regions end d l sound (inr hidden) is = record {
+  looks = λ look address page. (
+    λ it. (is.looks look address page).0 (
+        subst (λ (xs : List Left). IsLeftBy look (kept ++ xs) address page) (sym (drop_here changes end d l))
+        (left_more (get_or changes end d) (drop (end + 1) changes) hidden look kept address page it)),
+    λ it. left_less (get_or changes end d) (drop (end + 1) changes) hidden look kept address page
+        (subst (λ (xs : List Left). IsLeftBy look (kept ++ xs) address page) (drop_here changes end d l) ((is.looks look address page).1 it)),
   );
   each = is.each;
   few = let low = is.few in omega (arith, low);
+  noted = is.noted;
 }
 
 -- all changes are gone through
-pub whole_thinned : (changes kept : List Left) (end : ℕ) → length changes ≤ end → IsThinnedTo changes kept end → KeepLooks changes kept
-whole_thinned changes kept end l is =
+pub whole_thinned : (changes kept : List Left) (regions : BTreeSet ℕ) (end : ℕ) → length changes ≤ end → IsThinnedTo changes kept regions end
+    → KeepLooks changes kept
+whole_thinned changes kept regions end l is =
     subst (KeepLooks changes) (ap (λ (xs : List Left). kept ++ xs) (drop_past changes end l) ∙ append-nil kept) is.looks where
       drop_past : (xs : List Left) (n : ℕ) → length xs ≤ n → drop n xs ≡ []
       drop_past [] zero l = refl
@@ -150,11 +158,11 @@ sound_joined old own sound numbered left has = by_part (Contains-append_cases ol
   by_part (inr behind) =
       let (c, there, same) = map_contains left_of own left behind in
       let is = numbered c there in
-      subst IsSoundLeft same (record { aligned = is.aligned; low = is.low })
+      subst IsSoundLeft same (record { aligned = is.aligned; ends = is.ends; frame = is.frame; low = is.low })
 
 -- where all are over nothing is left
 pub nothing_left : (changes found : List Left) → HasOver changes → found ≡ [] → KeepLooks changes found
-nothing_left changes found over none = λ address page. (
-  λ it. absurd (subst (λ (xs : List Left). IsLeft xs address page) none it),
-  λ it. absurd (none_left changes address page over it),
+nothing_left changes found over none = λ look address page. (
+  λ it. absurd (subst (λ (xs : List Left). IsLeftBy look xs address page) none it),
+  λ it. absurd (none_left look changes address page over it),
 )

@@ -13,8 +13,8 @@ use Rattle.nr_trace.specs.Laws.{HasCleanLog}
 use Rattle.nr_trace.proofs.LawsOfUnits.{size_from, size_back, rights_from, rights_back}
 use Rattle.nr_trace.proofs.LawsOfCalls.{answered_stands, placed_is_update, reply_is_first, reply_that_answers, stands_once}
 use Rattle.nr_trace.proofs.LawsOfPrecedence.{known_below_floor, known_of_update}
-use Rattle.nr_touch.specs.Touches.{page_after, ChangesLook, IsAnsweredBefore, IsMadeAfter, IsAllowedPrefix, IsAnsweredAt, IsRightTouch, IsOfQuietPage}
-use Rattle.nr_touch.specs.Touches.{IsOfThePresent}
+use Rattle.nr_touch.specs.Touches.{page_after, ChangesLook, IsAnsweredBefore, IsMadeAfter, IsAllowedPrefix, IsAnsweredAt, IsAnsweredInTime, IsOfQuietPage}
+use Rattle.nr_touch.specs.Touches.{IsFaultOfKept, IsOfThePresent, IsRightTouch, LagsInNothing, WidensNothing}
 use Rattle.nr_touch.specs.declared.touch.Touch.{Touch}
 
 -- ---- pages are one or not
@@ -121,10 +121,34 @@ present_is_allowed start trace touch n clean present = record {
 
 pub present_is_right : (start : Space) (trace : Recording) (touch : Touch) (n : ℕ) → HasCleanLog trace → IsOfThePresent trace touch n
     → IsAnsweredAt start trace touch n → IsRightTouch start trace touch
-present_is_right start trace touch n clean present answered = (n, present_is_allowed start trace touch n clean present, answered)
+present_is_right start trace touch n clean present answered = inl (n, present_is_allowed start trace touch n clean present, answered)
 
 pub quiet_answers : (start : Space) (trace : Recording) (touch : Touch) (n : ℕ) → HasCleanLog trace → IsOfQuietPage start trace touch
-    → IsRightTouch start trace touch → IsOfThePresent trace touch n → IsAnsweredAt start trace touch n
+    → IsAnsweredInTime start trace touch → IsOfThePresent trace touch n → IsAnsweredAt start trace touch n
 quiet_answers start trace touch n clean quiet right present =
     right.2 ∙ ap (allow_in_page touch.address touch.mode touch.access)
     (quiet_looks start trace touch quiet right.0 n right.1 (present_is_allowed start trace touch n clean present))
+
+-- a right touch whose replica lags in nothing that it needs is answered in time, or by rights that were kept
+pub right_in_time : (start : Space) (trace : Recording) (touch : Touch) → LagsInNothing start trace touch → IsRightTouch start trace touch
+    → IsAnsweredInTime start trace touch ⊎ IsFaultOfKept start trace touch
+right_in_time start trace touch caught (inl in_time) = inl in_time
+right_in_time start trace touch caught (inr (inl kept)) = inr kept
+right_in_time start trace touch caught (inr (inr (fault, m, it))) = inl (
+  m,
+  record {
+    within = it.within;
+    flushed = λ place looks early. let low = caught fault place looks early in let known = it.known in omega (arith, low, known);
+    not_foreseen = it.not_foreseen;
+  },
+  fault ∙ ap (allow_in_page touch.address touch.mode touch.access) (sym it.absent),
+)
+
+-- where no rights were added just before, that is in time too
+pub kept_in_time : (start : Space) (trace : Recording) (touch : Touch) → WidensNothing start trace touch → IsFaultOfKept start trace touch
+    → IsAnsweredInTime start trace touch
+kept_in_time start trace touch none (fault, m, n, it) = (
+  n,
+  it.allowed,
+  it.answered ∙ ap (allow_in_page touch.address touch.mode touch.access) (none m n it.allowed it.before it.widens),
+)

@@ -20,10 +20,10 @@ use Rattle.nr_touch.proofs.QuietPages.{page_or_not}
 use Rattle.nr_touch.proofs.Undone.{insert_elsewhere, remove_elsewhere}
 
 abbrev fresh : Page → Change
-fresh page = record { page = page; was_mapped = false }
+fresh page = record { page = page; was_mapped = false; least = page.rights }
 
 abbrev there : Page → Change
-there page = record { page = page; was_mapped = true }
+there page = record { page = page; was_mapped = true; least = page.rights }
 
 module _ {depth : Depth} (limit : ℕ) {space : Space} (is : IsSpace depth space) where
   unchanged : (after : Space) (result : Option Change) → after ≡ space → result ≡ None → IsChange depth space after result

@@ -28,6 +28,7 @@ use Rattle.nr_touch.specs.inside.Columns.{IsNumbered}
 use Rattle.nr_touch.specs.inside.Undo.{ComesFrom, LeadsTo}
 use Rattle.nr_touch.specs.declared.change.Change.{Change}
 use Rattle.nr_touch.specs.declared.change.PlacedChange.{PlacedChange}
+use Rattle.nr_touch.proofs.Replayed.{page_ends}
 
 -- ---- spaces by what begins at each base
 
@@ -180,6 +181,8 @@ listed_numbered depth before after changes place (Some change) made answered few
         record {
           number = refl;
           aligned = is.well_formed.aligned;
+          ends = page_ends depth change.page is.well_formed;
+          frame = is.well_formed.phys_aligned;
           low = let range = is.well_formed.phys_range in omega (arith, range);
           few = omega (arith, few);
         },

@@ -14,7 +14,7 @@ use Rattle.nr_trace.specs.Recording.{Recording}
 use Rattle.nr_trace.specs.Calls.{Answers}
 use Rattle.nr_trace.specs.Orders.{space_from}
 use Rattle.nr_joined.specs.Run.{Run}
-use Rattle.nr_touch.specs.Touches.{page_after, ChangesLook, IsAllowedPrefix, IsAnsweredAt, IsRightBehind}
+use Rattle.nr_touch.specs.Touches.{page_after, ChangesLook, IsAllowedPrefix, IsAnsweredAt, IsMadeAfter, IsRightBehind}
 use Rattle.nr_touch.specs.inside.Changes.{AreChanges}
 use Rattle.nr_touch.specs.inside.Columns.{Covers, IsPast, IsAhead, IsNext}
 use Rattle.nr_touch.specs.inside.Sights.{IsAnsweredBetween}
@@ -29,20 +29,41 @@ UpToNext n None = Unit {0}
 UpToNext n (Some next) = n ≤ next.place
 
 module _ (start : Space) (trace : Recording) (changes : List PlacedChange) (are : AreChanges start trace changes) where
-  -- ---- which prefixes are allowed
+  -- ---- which prefixes have no update that was made too late
 
-  module _ (touch : Touch) (first last n : ℕ) (fits : touch.made < 2 ^ 32)
-      (past : IsPast changes (λ c. Covers touch.address c × (c.answered < touch.made)) first)
-      (ahead : IsAhead changes (λ c. Covers touch.address c × (touch.answered < c.made)) (length trace.log) last) where
+  module _ (touch : Touch) (last : ℕ) (ahead : IsAhead changes (λ c. Covers touch.address c × (touch.answered < c.made)) (length trace.log) last) where
     pub last_within : last ≤ length trace.log
     last_within = elim ahead.some [
       | inl all ↦ omega (arith, all)
       | inr (c, has, is, at) ↦ let below = (are.each c has).1 in omega (arith, at, below)
     ]
 
+    pub none_foreseen : (n : ℕ) → n ≤ last → (place : ℕ) → ChangesLook start trace touch.address place → IsMadeAfter trace place touch.answered → n ≤ place
+    none_foreseen n high place looks (call, placed, late) =
+        let (c, has, at, covered) = are.all place touch.address (slice_get_within trace.log place call placed) looks in
+        let known = (are.each c has).0 in
+        let one : c.made ≡ call = same_Some c.made call (sym known.made ∙ ap (slice_get trace.log) at ∙ placed) in
+        let least = ahead.all c has (covered, subst (λ k. touch.answered < k) (sym one) late) in
+        omega (arith, least, at, high)
+
+    pub up_to_foreseen : (n : ℕ) → n ≤ length trace.log
+        → ((place : ℕ) → ChangesLook start trace touch.address place → IsMadeAfter trace place touch.answered → n ≤ place) → n ≤ last
+    up_to_foreseen n within least = elim ahead.some [
+      | inl all ↦ omega (arith, all, within)
+      | inr (c, has, (covered, late), at) ↦
+          let known = (are.each c has).0 in
+          let less = least c.place (known.differs touch.address covered) (c.made, known.made, late) in
+          omega (arith, less, at)
+    ]
+
+  -- ---- which prefixes are allowed
+
+  module _ (touch : Touch) (first last n : ℕ) (fits : touch.made < 2 ^ 32)
+      (past : IsPast changes (λ c. Covers touch.address c × (c.answered < touch.made)) first)
+      (ahead : IsAhead changes (λ c. Covers touch.address c × (touch.answered < c.made)) (length trace.log) last) where
     pub allowed : first ≤ n → n ≤ last → IsAllowedPrefix start trace touch n
     allowed low high = record {
-      within = let most = last_within in omega (arith, most, high);
+      within = let most = last_within touch last ahead in omega (arith, most, high);
       flushed = λ place looks (call, placed, (reply, before, answers)).
           let (c, has, at, covered) = are.all place touch.address (slice_get_within trace.log place call placed) looks in
           let known = (are.each c has).0 in
@@ -51,12 +72,7 @@ module _ (start : Space) (trace : Recording) (changes : List PlacedChange) (are 
           (known.answered touch.made fits).1 (reply, before, subst (λ k. Answers trace reply k) (sym one) answers) in
           let less = past.all c has (covered, early) in
           omega (arith, less, at, low);
-      not_foreseen = λ place looks (call, placed, late).
-          let (c, has, at, covered) = are.all place touch.address (slice_get_within trace.log place call placed) looks in
-          let known = (are.each c has).0 in
-          let one : c.made ≡ call = same_Some c.made call (sym known.made ∙ ap (slice_get trace.log) at ∙ placed) in
-          let least = ahead.all c has (covered, subst (λ k. touch.answered < k) (sym one) late) in
-          omega (arith, least, at, high);
+      not_foreseen = none_foreseen touch last ahead n high;
     }
 
     pub allowed_from : IsAllowedPrefix start trace touch n → first ≤ n
@@ -70,13 +86,7 @@ module _ (start : Space) (trace : Recording) (changes : List PlacedChange) (are 
     ]
 
     pub allowed_to : IsAllowedPrefix start trace touch n → n ≤ last
-    allowed_to is = elim ahead.some [
-      | inl all ↦ let w = is.within in omega (arith, all, w)
-      | inr (c, has, (covered, late), at) ↦
-          let known = (are.each c has).0 in
-          let less = is.not_foreseen c.place (known.differs touch.address covered) (c.made, known.made, late) in
-          omega (arith, less, at)
-    ]
+    allowed_to is = up_to_foreseen touch last ahead n is.within is.not_foreseen
 
   -- ---- how an address looks until its next change
 

@@ -1,7 +1,10 @@
 pub mod Touches
+pub mod Kept
 pub mod Stale
 pub mod Tails
 pub mod Looks
+pub mod Releases
+pub mod Beside
 pub mod inside
 pub use Rattle.vs_types.specs.Space
 pub use Rattle.vs_types.specs.Step

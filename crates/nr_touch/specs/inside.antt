@@ -3,7 +3,12 @@ pub mod Bounds
 pub mod Changes
 pub mod Columns
 pub mod Earlier
+pub mod Keeping
 pub mod Lefts
+pub mod Lives
+pub mod Reached
 pub mod Sights
+pub mod Tables
 pub mod Undo
 pub mod Walk
+pub mod Widened

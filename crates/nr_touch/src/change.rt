@@ -19,6 +19,8 @@ use vs_types::{Action, Answer, Memory, Op, Page, Rights};
 pub(crate) struct Change {
     pub(crate) page: Page,
     pub(crate) was_mapped: bool,
+    /// The least rights of the page that a processor may still have kept before it.
+    pub(crate) least: Rights,
 }
 
 /// The change that the update of a place makes.
@@ -61,13 +63,14 @@ impl Change {
 /// What a map changed that was answered so.
 fn mapped(page: Page, answer: Answer) -> Option<Change>
     ensures found { answer ≡ Answer.Done
-        → result ≡ Some (record { page = page; was_mapped = false }) }
+        → result ≡ Some (record { page = page; was_mapped = false; least = page.rights }) }
     ensures none { answer ≢ Answer.Done → result ≡ None }
 {
     match answer {
         Answer::Done => Some(Change {
             page,
             was_mapped: false,
+            least: page.rights,
         }),
         _ => None,
     }
@@ -77,7 +80,7 @@ fn mapped(page: Page, answer: Answer) -> Option<Change>
 fn unmapped(base: u64, answer: Answer) -> Option<Change>
     ensures found { (page : Page) → page.base ≡ base
         → answer ≡ Answer.Removed page.phys page.size page.rights
-        → result ≡ Some (record { page = page; was_mapped = true }) }
+        → result ≡ Some (record { page = page; was_mapped = true; least = page.rights }) }
     ensures none { ((page : Page) → answer ≢ Answer.Removed page.phys page.size page.rights)
         → result ≡ None }
 {
@@ -90,6 +93,7 @@ fn unmapped(base: u64, answer: Answer) -> Option<Change>
                 rights,
             },
             was_mapped: true,
+            least: rights,
         }),
         _ => None,
     }
@@ -107,7 +111,7 @@ fn protected(base: u64, rights: Rights, answer: Answer, space: &PlainSpace) -> O
     ensures found { (page : Page) → page.base ≡ base → page.rights ≢ rights
         → answer ≡ Answer.Changed page.rights
         → look space.now.space base ≡ Answer.Mapped page.phys page.size rights
-        → result ≡ Some (record { page = page; was_mapped = true }) }
+        → result ≡ Some (record { page = page; was_mapped = true; least = page.rights }) }
     ensures same { answer ≡ Answer.Changed rights → result ≡ None }
     ensures none { ((old : Rights) → answer ≢ Answer.Changed old) → result ≡ None }
 {
@@ -128,6 +132,7 @@ fn protected(base: u64, rights: Rights, answer: Answer, space: &PlainSpace) -> O
             rights: old,
         },
         was_mapped: true,
+        least: old,
     })
 }
 

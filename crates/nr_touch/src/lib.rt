@@ -5,20 +5,29 @@
 //! was at some moment that no flush had ended before it began.
 #![tactic(auto)]
 
+mod beside;
 mod between;
 mod bounds;
 mod change;
 mod history;
 pub mod laws;
+mod lives;
 mod looks;
+mod release;
+mod releases;
 mod replay;
 mod search;
+mod seen;
 mod sights;
 mod stale;
 mod tail;
 mod touch;
 mod undo;
+mod widened;
 
+pub use beside::touches_beside;
+pub use release::Release;
+pub use releases::reached;
 pub use stale::{Followed, follow};
 pub use tail::Tail;
 pub use touch::Touch;

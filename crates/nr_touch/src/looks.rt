@@ -1,9 +1,10 @@
 //! How an address may still be found to look behind some segments.
 
-ghost use Rattle.std.specs.Prelude.{◌≡◌, ◌↔◌, ◌++◌, ◌∷◌, [], IfOk, IsTrue, List, OnOk};
+ghost use Rattle.std.specs.Prelude.{◌≡◌, ◌↔◌, ◌++◌, ◌∷◌, [], IfOk, IsTrue, List, OnOk, Option};
 ghost use Rattle.vs_types.specs.Page.{covers};
+ghost use Rattle.nr_joined.specs.Run.{Run};
 ghost use Rattle.nr_touch.specs.Looks.{AreLooksLeft};
-ghost use Rattle.nr_touch.specs.Tails.{AreSound, IsSoundLeft, IsSoundTail};
+ghost use Rattle.nr_touch.specs.Tails.{AreSound, IsSoundLeft, IsSoundTail, IsTailOf};
 ghost use Rattle.nr_touch.specs.declared.tail.Left.{Left as LeftRow};
 
 use crate::change::Change;
@@ -63,10 +64,14 @@ impl Tail {
     ///
     /// `Memory` where a growth of memory was refused.
     pub fn copy(&self, alloc: Global) -> Result<Tail, Memory>
-        ensures { IfOk result (λ copy. copy.changes.items ≡ self.now.changes.items) }
+        ensures changes { IfOk result
+            (λ copy. copy.changes.items ≡ self.now.changes.items) }
+        ensures tail { (before : Option Run) → IsTailOf before self.now
+            → IfOk result (IsTailOf before) }
     {
         let changes = Vec::from_slice(alloc, &self.changes)?;
-        Ok(Tail { changes })
+        let widened = self.widened.copy()?;
+        Ok(Tail { changes, widened })
     }
 
     /// How an address may still be found to look: as before a change of it, which isn't over, nor is a later one of it. Allocates the

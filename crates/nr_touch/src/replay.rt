@@ -1,6 +1,6 @@
 //! The replay of the log, which lists what changes.
 
-ghost use Rattle.std.specs.Prelude.{◌≡◌, ◌+◌, ◌≤◌, ◌^◌, ◌++◌, length, map, replicate, Contains, IfOk, IfSome, OnOk};
+ghost use Rattle.std.specs.Prelude.{◌≡◌, ◌+◌, ◌≤◌, ◌^◌, ◌++◌, length, map, replicate, Contains, IfOk, IfSome, OnOk, Option};
 ghost use Rattle.std.specs.List.Sorted.{IsNonDecreasingBy};
 ghost use Rattle.vs_types.specs.Operation.{IsAction};
 ghost use Rattle.vs_types.specs.Page.{bytes_of};
@@ -9,15 +9,20 @@ ghost use Rattle.vs_types.specs.declared.depth.Depth.{Depth};
 ghost use Rattle.nr_trace.specs.Calls.{operation_in, operation_of};
 ghost use Rattle.nr_trace.specs.Laws.{HasCleanLog};
 ghost use Rattle.nr_trace.specs.Orders.{space_from};
+ghost use Rattle.nr_joined.specs.Run.{Run};
+ghost use Rattle.nr_touch.specs.Tails.{GoesOn};
 ghost use Rattle.nr_touch.specs.declared.change.PlacedChange.{PlacedChange};
 ghost use Rattle.nr_touch.specs.inside.Changes.{AreChanges, AreReplies, listed};
 ghost use Rattle.nr_touch.specs.inside.Columns.{IsNumbered};
 ghost use Rattle.nr_touch.specs.inside.Undo.{LeadsTo};
+ghost use Rattle.nr_touch.specs.inside.Widened.{AreLeastBehind, HasLeast, IsOrderlyRun};
 
 use crate::change::{Change, PlacedChange, apply, number_of};
+use crate::widened::{Widened, pass};
 use nr_trace::{Event, Trace};
 use std::alloc::Global;
 use vs_plain::PlainSpace;
+use vs_plain::laws::pages_are_a_space;
 use vs_types::{Memory, Op, Query, Request};
 
 /// What a request does, where it is an update.
@@ -40,6 +45,7 @@ fn operation_of(trace: &Trace, call: u32) -> Option<Op>
     match trace.events().get(call as usize)?.event() {
         Event::Call { request, .. } => operation_in(request),
         Event::Touch { .. } => None,
+        Event::Release { .. } => None,
         Event::Reply { .. } => None,
     }
 }
@@ -52,7 +58,7 @@ fn no_replies(alloc: Global, rows: usize) -> Result<Vec<u32>, Memory>
 }
 
 /// By the index of each call the first event that answers it, or `u32::MAX` where there is none.
-fn replies(alloc: Global, trace: &Trace) -> Result<Vec<u32>, Memory>
+pub(crate) fn replies(alloc: Global, trace: &Trace) -> Result<Vec<u32>, Memory>
     ensures { IfOk result
         (λ replies. AreReplies trace.now replies.items (length trace.now.events)) }
 {
@@ -62,6 +68,7 @@ fn replies(alloc: Global, trace: &Trace) -> Result<Vec<u32>, Memory>
         match event.event() {
             Event::Call { .. } => {}
             Event::Touch { .. } => {}
+            Event::Release { .. } => {}
             Event::Reply { call, .. } => {
                 let call = call as usize;
                 if call < replies.len() {
@@ -102,11 +109,14 @@ fn list(
 
 /// The changes of how addresses look that the updates of the log make, by place, and the space after the whole log. What the log has
 /// that is no update changes nothing. Allocates a table of four bytes for each event, and for the changes.
+///
+/// The rights from which pages of the start were widened are given, and those of the pages at the end come back.
 pub(crate) fn replay(
     alloc: Global,
     trace: &Trace,
     start: PlainSpace,
-) -> Result<(Vec<PlacedChange>, PlainSpace), Memory>
+    widened: Widened,
+) -> Result<(Vec<PlacedChange>, PlainSpace, Widened), Memory>
     requires depth { start.depth ≡ trace.now.layout.depth }
     requires limit { start.limit ≡ trace.now.layout.tables }
     ensures changes { HasCleanLog trace.now
@@ -120,23 +130,35 @@ pub(crate) fn replay(
         LeadsTo start.depth start.space (map (λ c. c.change) done.0.items) done.1.space) }
     ensures depth { IfOk result (λ done. done.1.depth ≡ start.depth) }
     ensures limit { IfOk result (λ done. done.1.limit ≡ start.limit) }
+    ensures least { (before : Option Run) → IsOrderlyRun before → GoesOn before trace.now start.space
+        → AreLeastBehind before start.space trace.now 0 widened.least → HasCleanLog trace.now
+        → IfOk result (λ done. AreLeastBehind before start.space trace.now (length trace.now.log)
+        done.2.least) }
+    ensures kept { (before : Option Run) → IsOrderlyRun before → GoesOn before trace.now start.space
+        → AreLeastBehind before start.space trace.now 0 widened.least → HasCleanLog trace.now
+        → IfOk result (λ done. (c : PlacedChange) → Contains done.0.items c
+        → HasLeast before start.space trace.now c) }
 {
     let replies = replies(alloc, trace)?;
     let mut space = start;
+    let mut widened = widened;
     let mut changes = Vec::new(alloc);
     for (place, call) in trace.log().iter().enumerate() {
         let op = match operation_of(trace, *call) {
             Some(op) => op,
             None => continue,
         };
+        pages_are_a_space(&space);
         let change = apply(&mut space, op)?;
+        pages_are_a_space(&space);
+        let passed = pass(&mut widened, change, &space)?;
         list(
             &mut changes,
-            change,
+            passed,
             place as u32,
             *call,
             replies[*call as usize],
         )?;
     }
-    Ok((changes, space))
+    Ok((changes, space, widened))
 }

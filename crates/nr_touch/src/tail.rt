@@ -1,16 +1,21 @@
 //! What the segments so far leave for the touches of later ones: how addresses may still be found to look.
 
-ghost use Rattle.std.specs.Prelude.{◌≡◌, ◌↔◌, ◌+◌, ◌<◌, ◌^◌, ◌++◌, ◌⊎◌, if◌then◌else◌, map, true, false, [], None, Contains, IfOk, IsTrue};
+ghost use Rattle.std.specs.Prelude.{◌≡◌, ◌↔◌, ◌+◌, ◌<◌, ◌^◌, ◌++◌, ◌∷◌, ◌⊎◌, if◌then◌else◌, map, true, false, [], List, None, Contains, IfOk, IsTrue, OnOk};
+ghost use Rattle.std.specs.BTreeSet.{contains};
 ghost use Rattle.std.specs.List.Sorted.{IsNonDecreasingBy};
+ghost use Rattle.std.specs.Ordering.{nat_cmp};
 ghost use Rattle.nr_touch.specs.Tails.{AreSound, IsSoundLeft, IsSoundTail, IsTailOf};
 ghost use Rattle.nr_touch.specs.declared.change.PlacedChange.{PlacedChange};
 ghost use Rattle.nr_touch.specs.inside.Changes.{number_of};
 ghost use Rattle.nr_touch.specs.inside.Columns.{AreColumns, IsNumbered};
-ghost use Rattle.nr_touch.specs.inside.Lefts.{left_of, placed_at, ArePlacedAs, HasOver, IsHiddenBy, KeepLooks};
+ghost use Rattle.nr_touch.specs.declared.tail.Left.{Left as LeftRow};
+ghost use Rattle.nr_touch.specs.inside.Lefts.{left_of, placed_at, region_of, AreNoted, ArePlacedAs, HasOver, IsHiddenBy, KeepLooks};
 
 use crate::change::{Change, PlacedChange};
 use crate::history::{History, number_at};
+use crate::widened::Widened;
 use std::alloc::Global;
+use std::collections::BTreeSet;
 use vs_types::{Memory, Size};
 
 /// A change of how addresses look that an update of an earlier segment made.
@@ -22,10 +27,12 @@ pub(crate) struct Left {
 }
 
 /// Behind some segments, how addresses may still be found to look: the changes, in the order of the log, of updates that were never
-/// answered, and of those behind them that were.
+/// answered, and of those behind them that were; and the rights that may be kept of pages to which others were added.
 #[derive(Debug, Drop)]
 pub struct Tail {
     pub(crate) changes: Vec<Left>,
+    /// The rights from which the pages were widened that are there now.
+    pub(crate) widened: Widened,
 }
 
 impl Tail {
@@ -36,6 +43,7 @@ impl Tail {
     {
         Tail {
             changes: Vec::new(alloc),
+            widened: Widened::none(alloc),
         }
     }
 
@@ -43,7 +51,7 @@ impl Tail {
     pub fn is_none(&self) -> bool
         ensures { IsTrue result ↔ IsTailOf None self.now }
     {
-        self.changes.is_empty()
+        self.changes.is_empty() && self.widened.is_none()
     }
 }
 
@@ -162,53 +170,90 @@ fn is_hidden(history: &History, left: &Left, place: u32) -> bool
     is_hidden_in(history, left, place, Size::G1)
 }
 
-/// Whether a change says nothing more: it is over, and the first that is kept, or a later one hides it.
-fn is_needless(history: &History, left: &Left, place: u32, is_first: bool) -> bool
+/// The number of the gigabyte in which the page of a change lies.
+fn region_of(left: &Left) -> u64
+    ensures { result ≡ region_of left.now }
+{
+    number_at(left.change.page.base, Size::G1)
+}
+
+/// Notes the gigabyte of a change that isn't over. Allocates memory for a new one.
+fn note(regions: &mut BTreeSet<u64>, left: &Left) -> Result<(), Memory>
+    ensures { (changes : List LeftRow) → AreNoted changes regions.old
+        → OnOk result (AreNoted (changes ++ left.now ∷ []) regions.new) }
+{
+    if left.over {
+        return Ok(());
+    }
+    regions.insert(region_of(left))?;
+    Ok(())
+}
+
+/// Whether the gigabyte of a change isn't noted: then no change that isn't over has an address of it.
+fn is_far(regions: &BTreeSet<u64>, left: &Left) -> bool
+    ensures { IsTrue result → contains nat_cmp regions.now (region_of left.now) ≡ false }
+{
+    let region = region_of(left);
+    if regions.contains(&region) {
+        return false;
+    }
+    true
+}
+
+/// Whether a change says nothing more: it is over, and far from those before it that aren't; or a later one hides it.
+fn is_needless(history: &History, left: &Left, place: u32, regions: &BTreeSet<u64>) -> bool
     requires columns { AreColumns history.now }
     requires sound { IsSoundLeft left.now }
     requires few { place + 1 < 2 ^ 32 }
-    ensures { IsTrue result → ((left.now.over ≡ true) × (is_first ≡ true))
+    ensures { IsTrue result
+        → ((left.now.over ≡ true) × (contains nat_cmp regions.now (region_of left.now) ≡ false))
         ⊎ IsHiddenBy history.now.changes.items left.now place }
 {
-    if left.over && is_first {
+    if left.over && is_far(regions, left) {
         return true;
     }
     is_hidden(history, left, place)
 }
 
-/// The changes without those that say nothing more.
+/// The changes without those that say nothing more. Of the changes that are over it keeps only those in a gigabyte of one that isn't.
 fn thinned(alloc: Global, changes: &[Left]) -> Result<Vec<Left>, Memory>
     requires { AreSound changes.now }
     ensures looks { IfOk result (λ kept. KeepLooks changes.now kept.items) }
     ensures sound { IfOk result (λ kept. AreSound kept.items) }
 {
     let history = History::of(alloc, placed(alloc, changes)?)?;
+    let mut regions = BTreeSet::new(alloc);
     let mut kept = Vec::new(alloc);
     for (place, left) in changes.iter().enumerate() {
-        if is_needless(&history, left, place as u32, kept.is_empty()) {
+        if is_needless(&history, left, place as u32, &regions) {
             continue;
         }
+        note(&mut regions, left)?;
         kept.push(*left)?;
     }
     Ok(kept)
 }
 
-/// What is left behind the segments so far and one more, which made these changes.
-pub(crate) fn tail_after(alloc: Global, tail: Tail, own: &[PlacedChange]) -> Result<Tail, Memory>
-    requires tail { IsSoundTail tail }
+/// The changes that are left behind the segments so far and one more, which made these.
+pub(crate) fn left_after(
+    alloc: Global,
+    changes: Vec<Left>,
+    own: &[PlacedChange],
+) -> Result<Vec<Left>, Memory>
+    requires changes { AreSound changes.items }
     requires own { (c : PlacedChange) → Contains own.now c → IsNumbered c }
     ensures looks { IfOk result
-        (λ found. KeepLooks (tail.changes.items ++ map left_of own.now) found.changes.items) }
-    ensures sound { IfOk result IsSoundTail }
+        (λ found. KeepLooks (changes.items ++ map left_of own.now) found.items) }
+    ensures sound { IfOk result (λ found. AreSound found.items) }
 {
-    let changes = joined(alloc, tail.changes, own)?;
+    let changes = joined(alloc, changes, own)?;
     if !has_open(&changes) {
-        return Ok(Tail::none(alloc));
+        return Ok(Vec::new(alloc));
     }
     let many = changes.len();
     if many >= 4294967295 {
         return Err(Memory);
     }
-    let changes = thinned(alloc, &changes)?;
-    Ok(Tail { changes })
+    let kept = thinned(alloc, &changes)?;
+    Ok(kept)
 }

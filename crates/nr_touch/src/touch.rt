@@ -9,6 +9,9 @@ pub struct Touch {
     pub made: u32,
     /// The index of the event at which it was answered.
     pub answered: u32,
+    /// How many entries of the log its replica was known to have applied when it was made: those that replies before it show, of
+    /// calls that were made there.
+    pub known: u64,
     pub address: u64,
     pub mode: Mode,
     pub access: Access,

@@ -6,8 +6,9 @@ use Rattle.vs_types.specs.declared.depth.Depth.{Depth}
 use Rattle.vs_types.specs.declared.request.Query.{Query}
 use Rattle.vs_types.specs.declared.fields.RequestFields.{RequestFields}
 use Rattle.vs_types.specs.declared.answer.Answer.{Answer}
+use Rattle.vs_types.specs.declared.page.Size.{Size}
 use Rattle.nr_trace.specs.Versions.{KnowsQuery}
-use Rattle.nr_trace.specs.Spelling.{answer_fields, touch_fields}
+use Rattle.nr_trace.specs.Spelling.{answer_fields, release_fields, touch_fields}
 use Rattle.nr_trace.specs.inside.Reading.{HasAnswerFields, IsAskedIn, IsRequestIn, IsAnswerIn, SpellsEvent}
 use Rattle.nr_trace.specs.declared.reading.events.Asked.{Asked}
 use Rattle.nr_trace.specs.declared.reading.events.Asked.TheVariants as askeds
@@ -16,9 +17,9 @@ use Rattle.vs_types.specs.declared.access.Access.{Access as AccessKind}
 use Rattle.nr_trace.specs.declared.fields.AnswerFields.{AnswerFields}
 use Rattle.nr_trace.specs.declared.version.Version.{Version}
 use Rattle.nr_trace.specs.declared.event.Event.{Event}
-use Rattle.nr_trace.specs.declared.event.Event.TheVariants.{Call, Reply, Touch}
+use Rattle.nr_trace.specs.declared.event.Event.TheVariants.{Call, Release, Reply, Touch}
 use Rattle.nr_trace.proofs.LawsOfUnits.{IsWide, request_apart}
-use Rattle.nr_trace.proofs.EventsApart.{call_bytes, CallFits, call_fits, one_call, reply_bytes, ReplyFits, reply_fits, one_reply, touch_fits}
+use Rattle.nr_trace.proofs.EventsApart.{call_bytes, CallFits, call_fits, one_call, reply_bytes, ReplyFits, release_fits, reply_fits, one_reply, touch_fits}
 
 -- a call that the bytes spell has those fields
 call_fields : (version : Version) (layout : Layout) (bytes : List ℕ) (replica thread unused : ℕ) (fields : RequestFields) (rest : List ℕ) → IsWide layout
@@ -47,7 +48,15 @@ touch_has version layout bytes replica thread unused fields rest well parts fits
     one_call bytes replica thread unused r t fields (touch_fields address mode access) rest parts fits
     (touch_fits version layout r t address mode access well spells.in_range) spells.spelled
 
--- no event has this tag, and these fields, of which the version knows neither a request nor a touch
+-- a release that the bytes spell has those fields
+release_has : (version : Version) (layout : Layout) (bytes : List ℕ) (replica thread unused : ℕ) (fields : RequestFields) (rest : List ℕ) → IsWide layout
+    → bytes ≡ call_bytes replica thread fields unused ++ rest → CallFits replica thread fields unused
+    → (r t : ℕ) (size : Size) (phys : ℕ) → SpellsEvent version layout (0 ∷ bytes) (Release r t size phys) → fields ≡ release_fields size phys
+release_has version layout bytes replica thread unused fields rest well parts fits r t size phys spells =
+    one_call bytes replica thread unused r t fields (release_fields size phys) rest parts fits
+    (release_fits version layout r t size phys well spells.in_range) spells.spelled
+
+-- no event has this tag, and these fields, of which the version knows neither a request nor a touch nor a release
 pub no_call : (version : Version) (layout : Layout) (bytes : List ℕ) (replica thread unused : ℕ) (fields : RequestFields) (rest : List ℕ) → IsWide layout
     → bytes ≡ call_bytes replica thread fields unused ++ rest → CallFits replica thread fields unused
     → ((asked : Asked) → IsAskedIn version layout.depth fields asked → ⊥)
@@ -59,6 +68,11 @@ no_call version layout bytes replica thread unused fields rest well parts fits n
     none (askeds.Touch address mode access) (record {
       in_range = (spells.in_range.2, spells.in_range.3);
       fields_are = touch_has version layout bytes replica thread unused fields rest well parts fits r t address mode access spells;
+    })
+no_call version layout bytes replica thread unused fields rest well parts fits none (Release r t size phys) spells =
+    none (askeds.Release size phys) (record {
+      in_range = (spells.in_range.2, spells.in_range.3);
+      fields_are = release_has version layout bytes replica thread unused fields rest well parts fits r t size phys spells;
     })
 no_call version layout bytes replica thread unused fields rest well parts fits none (Reply call at answer) spells =
     absurd (omega (arith, ap (λ (l : List ℕ). get_or l 0 0) spells.spelled))

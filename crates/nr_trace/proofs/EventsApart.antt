@@ -1,25 +1,27 @@
 -- Events that fit are read back from their spelling, so it differs from any other, whatever comes after it.
-use Rattle.std.proofs.Common.{◌≡◌, ◌==◌, ℕ, zero, suc, ◌<◌, ◌^◌, ◌%◌, false, List, [], ◌∷◌, ◌++◌, get_or, drop, ap, sym, ◌∙◌, arith}
+use Rattle.std.proofs.Common.{◌≡◌, ◌==◌, ℕ, zero, suc, ◌<◌, ◌^◌, ◌%◌, Bool, false, List, [], ◌∷◌, ◌++◌, get_or, drop, ap, sym, ◌∙◌, arith}
 use Rattle.std.specs.Prelude.{if◌then◌else◌}
 use Rattle.std.specs.Int.{w8, w16, w32, w64, to_be_bytes, from_be_bytes}
 use Rattle.std.proofs.lemmas.Bool.{ne_eqb}
 use Rattle.std.proofs.lemmas.Nat.{from_be_bytes-to_be_bytes_2, from_be_bytes-to_be_bytes_4, from_be_bytes-to_be_bytes_8}
 use Rattle.vs_types.specs.Config.{Layout}
 use Rattle.vs_types.specs.Fields.{request_fields}
+use Rattle.vs_types.specs.declared.page.Size.{Size}
 use Rattle.vs_types.specs.declared.access.Mode.{Mode}
 use Rattle.vs_types.specs.declared.access.Access as accesses
 use Rattle.vs_types.specs.declared.request.Query.{Query}
 use Rattle.vs_types.specs.declared.request.Query.TheVariants.{Access}
 use Rattle.vs_types.specs.declared.fields.RequestFields.{RequestFields}
 use Rattle.vs_types.specs.declared.answer.Answer.{Answer}
+use Rattle.vs_types.proofs.LogWords.{size_code_low}
 use Rattle.nr_trace.specs.Recording.{IsEvent}
-use Rattle.nr_trace.specs.Spelling.{answer_fields, touch_fields, event}
+use Rattle.nr_trace.specs.Spelling.{answer_fields, release_fields, touch_fields, event}
 use Rattle.nr_trace.specs.declared.fields.AnswerFields.{AnswerFields}
 use Rattle.nr_trace.specs.declared.version.Version.{Version}
 use Rattle.nr_trace.specs.declared.event.Event.{Event}
-use Rattle.nr_trace.specs.declared.event.Event.TheVariants.{Call, Reply, Touch}
+use Rattle.nr_trace.specs.declared.event.Event.TheVariants.{Call, Release, Reply, Touch}
 use Rattle.nr_trace.proofs.LawsOfUnits.{ToldApart, IsWide, apart_by, length-event, request_from, request_back, request_fits, touch_back, answer_from}
-use Rattle.nr_trace.proofs.LawsOfUnits.{answer_back, answer_fits}
+use Rattle.nr_trace.proofs.LawsOfUnits.{answer_back, answer_fits, size_back, size_from}
 
 -- what comes after the tag of a call, and of a reply; the unused field of each has this number
 abbrev pub call_bytes : ℕ → ℕ → RequestFields → ℕ → List ℕ
@@ -132,6 +134,24 @@ touch_fits version layout replica thread address mode access l h =
       physical = fits.physical;
     }
 
+pub release_fits : (version : Version) (layout : Layout) (replica thread : ℕ) (size : Size) (phys : ℕ) → IsWide layout
+    → IsEvent version layout (Release replica thread size phys) → CallFits replica thread (release_fields size phys) 0
+release_fits version layout replica thread size phys l h =
+    let r : replica < layout.replicas = h.0 in
+    let t : thread < layout.threads = h.1 in
+    let memory = h.2 in
+    let low = size_code_low size in
+    record {
+      replica_fits = omega (arith, l.few_replicas);
+      thread_fits = omega (arith, l.few_threads);
+      kind = omega arith;
+      size = omega (arith, low);
+      rights = omega arith;
+      unused_fits = omega arith;
+      address = omega arith;
+      physical = omega (arith, memory.1);
+    }
+
 pub reply_fits : (version : Version) (layout : Layout) (call at : ℕ) (answer : Answer) → IsEvent version layout (Reply call at answer)
     → ReplyFits (answer_fields answer) call at 0
 reply_fits version layout call at answer h =
@@ -146,16 +166,18 @@ reply_fits version layout call at answer h =
       value = fits.value;
     }
 
--- of kind 5, a touch
+-- of kind 5, a touch; of kind 6, a release
 abbrev pub touch_by : ℕ → ℕ → Query → Event
 touch_by replica thread (Access address mode access) = Touch replica thread address mode access
 touch_by replica thread request = Call replica thread request
 
+abbrev pub asked_from : ℕ → ℕ → ℕ → RequestFields → Event
+asked_from kind replica thread fields =
+    if kind == 5 then touch_by replica thread (request_from fields)
+    else (if kind == 6 then Release replica thread (size_from fields.size) fields.physical else Call replica thread (request_from fields))
+
 abbrev pub event_by : ℕ → List ℕ → Event
-event_by zero bytes =
-    let request = request_from (request_at bytes) in
-    if get_or bytes 4 0 == 5 then touch_by (get_or bytes 1 0) (from_be_bytes w16 (drop 2 bytes)) request
-    else Call (get_or bytes 1 0) (from_be_bytes w16 (drop 2 bytes)) request
+event_by zero bytes = asked_from (get_or bytes 4 0) (get_or bytes 1 0) (from_be_bytes w16 (drop 2 bytes)) (request_at bytes)
 event_by (suc tag) bytes = Reply (from_be_bytes w32 (drop 4 bytes)) (from_be_bytes w32 (drop 8 bytes)) (answer_from (answer_at bytes))
 
 abbrev pub event_from : List ℕ → Event
@@ -170,15 +192,14 @@ event_back version layout l (Call r t q) h =
     let thread = from_be_bytes-to_be_bytes_2 t fits.thread_fits in
     let kind : fields.kind % 256 ≡ fields.kind = omega (arith, fits.kind) in
     let same : request_at (event (Call r t q)) ≡ fields = call_back r t 0 fields [] fits in
-    let request = ap request_from same ∙ request_back q in
-    let asked : ℕ → Query → Event = λ kind made. if kind == 5 then touch_by (r % 256) (from_be_bytes w16 (drop 2 (event (Call r t q)))) made
-    else Call (r % 256) (from_be_bytes w16 (drop 2 (event (Call r t q)))) made in
     let few = (request_fits layout.depth q h.2).kind in
-    let other : (fields.kind == 5) ≡ false = ne_eqb _ _ (λ e. omega (arith, few, e)) in
-    ap (λ (n : ℕ). asked n (request_from (request_at (event (Call r t q))))) kind
-    ∙ ap (λ b. if b then touch_by (r % 256) (from_be_bytes w16 (drop 2 (event (Call r t q)))) (request_from (request_at (event (Call r t q))))
-    else Call (r % 256) (from_be_bytes w16 (drop 2 (event (Call r t q)))) (request_from (request_at (event (Call r t q))))) other
-    ∙ (λ i. Call (replica i) (thread i) (request i))
+    let no_touch : (fields.kind == 5) ≡ false = ne_eqb _ _ (λ e. omega (arith, few, e)) in
+    let no_release : (fields.kind == 6) ≡ false = ne_eqb _ _ (λ e. omega (arith, few, e)) in
+    (λ i. asked_from (kind i) (replica i) (thread i) (same i))
+    ∙ ap (λ (b : Bool). if b then touch_by r t (request_from fields)
+    else (if fields.kind == 6 then Release r t (size_from fields.size) fields.physical else Call r t (request_from fields))) no_touch
+    ∙ ap (λ (b : Bool). if b then Release r t (size_from fields.size) fields.physical else Call r t (request_from fields)) no_release
+    ∙ ap (λ (made : Query). Call r t made) (request_back q)
 event_back version layout l (Touch r t a m c) h =
     let fits = touch_fits version layout r t a m c l h in
     let replica : r % 256 ≡ r = omega (arith, fits.replica_fits) in
@@ -186,6 +207,14 @@ event_back version layout l (Touch r t a m c) h =
     let same : request_at (event (Touch r t a m c)) ≡ touch_fields a m c = call_back r t 0 (touch_fields a m c) [] fits in
     let request = ap request_from same ∙ touch_back a m c in
     λ i. touch_by (replica i) (thread i) (request i)
+event_back version layout l (Release r t s p) h =
+    let fits = release_fits version layout r t s p l h in
+    let replica : r % 256 ≡ r = omega (arith, fits.replica_fits) in
+    let thread = from_be_bytes-to_be_bytes_2 t fits.thread_fits in
+    let same : request_at (event (Release r t s p)) ≡ release_fields s p = call_back r t 0 (release_fields s p) [] fits in
+    let size = ap (λ (f : RequestFields). size_from f.size) same ∙ size_back s in
+    let phys = ap (λ (f : RequestFields). f.physical) same in
+    λ i. Release (replica i) (thread i) (size i) (phys i)
 event_back version layout l (Reply c a x) h =
     let fits = reply_fits version layout c a x h in
     let call = from_be_bytes-to_be_bytes_4 c fits.call_fits in

@@ -13,6 +13,7 @@ use Rattle.vs_types.specs.Query.{IsQuery}
 use Rattle.vs_types.specs.declared.depth.Depth.{Depth}
 use Rattle.vs_types.specs.declared.depth.Depth.TheVariants.{Four, Five}
 use Rattle.vs_types.specs.declared.page.Page.{Page}
+use Rattle.vs_types.specs.declared.page.Size.{Size}
 use Rattle.vs_types.specs.declared.limits.TheConstants.{REPLICAS, LOG_PLACES, CALLS}
 use Rattle.vs_types.specs.declared.op.Action.TheVariants.{Map, Unmap, Protect}
 use Rattle.vs_types.specs.declared.request.Query.{Query}
@@ -21,7 +22,7 @@ use Rattle.vs_types.specs.declared.answer.Answer.{Answer}
 use Rattle.vs_types.specs.declared.answer.Answer.TheVariants.{Overlap, Full, Removed, Inside, Mapped, Allowed, Fault}
 use Rattle.nr_trace.specs.Versions.{KnowsDepth, KnowsQuery, KnowsAnswer, KnowsTouch, IsVersionOf, least_frames, most_frames, most_start, most_tables}
 use Rattle.nr_trace.specs.Versions.{most_threads}
-use Rattle.nr_trace.specs.Recording.{IsAnswer, IsEvent}
+use Rattle.nr_trace.specs.Recording.{IsAnswer, IsEvent, IsMemory}
 use Rattle.nr_trace.specs.FirstFault.{IsCounts, IsDumpHead, IsNext}
 use Rattle.nr_trace.specs.declared.version.Version.{Version}
 use Rattle.nr_trace.specs.declared.version.Version.TheVariants.{V1, V2, Segment}
@@ -30,7 +31,7 @@ use Rattle.nr_trace.specs.declared.version.Form.TheVariants as forms
 use Rattle.nr_trace.specs.declared.fields.Counts.{Counts}
 use Rattle.nr_trace.specs.declared.fields.DumpHead.{DumpHead}
 use Rattle.nr_trace.specs.declared.event.Event.{Event}
-use Rattle.nr_trace.specs.declared.event.Event.TheVariants.{Call, Reply, Touch}
+use Rattle.nr_trace.specs.declared.event.Event.TheVariants.{Call, Release, Reply, Touch}
 
 -- it holds, or it does not
 abbrev pub Known : Type 0 → Type 0
@@ -123,11 +124,16 @@ version_known (forms.Segment before) V1 = never
 version_known (forms.Segment before) V2 = never
 version_known _ _ = always
 
+memory_known : (size : Size) (phys : ℕ) → Known (IsMemory size phys)
+memory_known size phys = both (cases_eq (phys % bytes_of size) 0) (at_most (phys + bytes_of size) (2 ^ 51))
+
 pub event_known : (version : Version) (layout : Layout) (recorded : Event) → Known (IsEvent version layout recorded)
 event_known version layout (Call replica thread request) =
     all_four (below replica layout.replicas) (below thread layout.threads) (query_known layout.depth request) (knows_query version request)
 event_known version layout (Touch replica thread address mode access) =
     all_four (below replica layout.replicas) (below thread layout.threads) (query_known layout.depth (Access address mode access)) (knows_touch version)
+event_known version layout (Release replica thread size phys) =
+    all_four (below replica layout.replicas) (below thread layout.threads) (memory_known size phys) (knows_touch version)
 event_known version layout (Reply call at answer) =
     all_four (below call (2 ^ 32)) (below at (2 ^ 32)) (answer_known answer) (knows_answer version answer)
 

@@ -25,7 +25,7 @@ use Rattle.nr_trace.specs.declared.fault.Fault.{Fault}
 use Rattle.nr_trace.specs.declared.fault.Fault.TheVariants.{Format, ThreadOpen, NoSuchCall, AnsweredTwice, NotAnUpdate, PlacedTwice, NotPlaced, PastLog, Early}
 use Rattle.nr_trace.specs.declared.fault.Fault.TheVariants.{WrongAnswer, PrefixPastLog, PrefixShort, MissingFrame, SharedFrame, ReservedBit, StrayFrame}
 use Rattle.nr_trace.specs.declared.fault.Fault.TheVariants.{Differs}
-use Rattle.nr_trace.specs.declared.fault.Fault.TheVariants.{StartMissing, StartShared, StartReserved, StartStray, StartBeyond, StartDiffers, Stale}
+use Rattle.nr_trace.specs.declared.fault.Fault.TheVariants.{StartMissing, StartShared, StartReserved, StartStray, StartBeyond, StartDiffers, Stale, Reachable}
 use Rattle.nr_trace.proofs.LawsOfLists.{In, earlier_member, member_before, in_from_Contains, Contains-from_in, same_place}
 use Rattle.nr_trace.proofs.LawsOfCalls.{answered_stands, call_within, is_some_from, ordered_from_made, reply_below}
 use Rattle.nr_trace.proofs.LawsOfOrder.{standing_is_member}
@@ -69,6 +69,7 @@ same_rank start trace (StartStray n) g a b h k e = absurd h
 same_rank start trace (StartBeyond n) g a b h k e = absurd h
 same_rank start trace (StartDiffers n) g a b h k e = absurd h
 same_rank start trace (Stale n) g a b h k e = absurd h
+same_rank start trace (Reachable n) g a b h k e = absurd h
 same_rank start trace (ThreadOpen i) (ThreadOpen j) a b h k e = ap ThreadOpen (ap second e)
 same_rank start trace (NoSuchCall i) (NoSuchCall j) a b h k e = ap NoSuchCall (ap second e)
 same_rank start trace (AnsweredTwice i) (AnsweredTwice j) a b h k e = ap AnsweredTwice (ap second e)
@@ -142,7 +143,8 @@ pass (PastLog index) = 4
 pass (Early call) = 5
 pass (WrongAnswer call) = 6
 pass (Stale call) = 7
-pass _ = 8
+pass (Reachable call) = 8
+pass _ = 9
 
 abbrev pub index_of : Recording → Fault → ℕ
 index_of trace fault = get_or (rank trace fault) 1 0

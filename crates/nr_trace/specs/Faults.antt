@@ -15,7 +15,7 @@ use Rattle.nr_trace.specs.declared.fault.Fault.{Fault}
 use Rattle.nr_trace.specs.declared.fault.Fault.TheVariants.{Format, ThreadOpen, NoSuchCall, AnsweredTwice, NotAnUpdate, PlacedTwice, NotPlaced, PastLog, Early}
 use Rattle.nr_trace.specs.declared.fault.Fault.TheVariants.{WrongAnswer, PrefixPastLog, PrefixShort, MissingFrame, SharedFrame, ReservedBit, StrayFrame}
 use Rattle.nr_trace.specs.declared.fault.Fault.TheVariants.{Differs}
-use Rattle.nr_trace.specs.declared.fault.Fault.TheVariants.{StartMissing, StartShared, StartReserved, StartStray, StartBeyond, StartDiffers, Stale}
+use Rattle.nr_trace.specs.declared.fault.Fault.TheVariants.{StartMissing, StartShared, StartReserved, StartStray, StartBeyond, StartDiffers, Stale, Reachable}
 
 -- the event is a call of a thread that has an earlier call with no reply before the event
 pub record OpensTwice (trace : Recording) (index : ℕ) : Type 0 where
@@ -42,7 +42,7 @@ StandsAfter trace call entries =
     (IsUpdate trace call × (slice_get trace.log entries ≡ Some call))
     ⊎ (IsRead trace call × (reply : Response) × (reply_to trace call ≡ Some reply) × (reply.at ≡ entries))
 
--- an answered call, no touch, whose answer the space does not give in the recorded order
+-- an answered call, no touch or release, whose answer the space does not give in the recorded order
 pub record IsWrongFrom (start : Space) (trace : Recording) (call : ℕ) : Type 0 where
   pub made : Invocation
   pub is_made : call_of trace call ≡ Some made
@@ -65,7 +65,7 @@ pub record RestsOnMore (trace : Recording) (replica : ℕ) (dump : Image) : Type
 abbrev pub HasDump : Recording → ℕ → (Image → Type 0) → Type 0
 HasDump trace replica P = (dump : Image) × (slice_get trace.dumps replica ≡ Some dump) × IsThere dump × P dump
 
--- what each fault but that of the format says of a trace, from a space on; a trace by itself has no start, and no touch that is stale
+-- what each fault but that of the format says of a trace, from a space on; a trace by itself has no start, no touch that is stale, and no release
 abbrev pub HasFaultFrom : Space → Recording → Fault → Type 0
 HasFaultFrom start trace (Format fault) = ⊥
 HasFaultFrom start trace (ThreadOpen index) = OpensTwice trace index
@@ -92,7 +92,7 @@ abbrev pub HasFault : Recording → Fault → Type 0
 HasFault trace fault = HasFaultFrom no_pages trace fault
 
 -- the rank of a fault: its pass, then its index in that pass, then its number. A start is looked at behind the format, and touches behind the
--- answers, which are compared in the recorded order
+-- answers, which are compared in the recorded order; then releases
 abbrev pub rank : Recording → Fault → List ℕ
 rank trace (Format fault) = 1 ∷ 0 ∷ 1 ∷ []
 rank trace (StartMissing number) = 1 ∷ 1 ∷ 18 ∷ []
@@ -111,13 +111,14 @@ rank trace (PastLog index) = 4 ∷ index ∷ 8 ∷ []
 rank trace (Early call) = 5 ∷ call ∷ 9 ∷ []
 rank trace (WrongAnswer call) = 6 ∷ length (before call (recorded_order trace)) ∷ 10 ∷ []
 rank trace (Stale call) = 7 ∷ call ∷ 24 ∷ []
-rank trace (PrefixPastLog replica) = 8 ∷ replica ∷ 11 ∷ []
-rank trace (PrefixShort replica) = 8 ∷ replica ∷ 12 ∷ []
-rank trace (MissingFrame replica number) = 8 ∷ replica ∷ 13 ∷ []
-rank trace (SharedFrame replica number) = 8 ∷ replica ∷ 14 ∷ []
-rank trace (ReservedBit replica number index) = 8 ∷ replica ∷ 15 ∷ []
-rank trace (StrayFrame replica number) = 8 ∷ replica ∷ 16 ∷ []
-rank trace (Differs replica address) = 8 ∷ replica ∷ 17 ∷ []
+rank trace (Reachable call) = 8 ∷ call ∷ 25 ∷ []
+rank trace (PrefixPastLog replica) = 9 ∷ replica ∷ 11 ∷ []
+rank trace (PrefixShort replica) = 9 ∷ replica ∷ 12 ∷ []
+rank trace (MissingFrame replica number) = 9 ∷ replica ∷ 13 ∷ []
+rank trace (SharedFrame replica number) = 9 ∷ replica ∷ 14 ∷ []
+rank trace (ReservedBit replica number index) = 9 ∷ replica ∷ 15 ∷ []
+rank trace (StrayFrame replica number) = 9 ∷ replica ∷ 16 ∷ []
+rank trace (Differs replica address) = 9 ∷ replica ∷ 17 ∷ []
 
 -- the first fault comes before the second one
 abbrev pub Earlier : Recording → Fault → Fault → Type 0

@@ -25,7 +25,7 @@ use Rattle.nr_trace.specs.declared.fields.Counts.{Counts}
 use Rattle.nr_trace.specs.declared.fields.DumpHead.{DumpHead}
 use Rattle.nr_trace.specs.declared.fields.AnswerFields.{AnswerFields}
 use Rattle.nr_trace.specs.declared.event.Event.{Event}
-use Rattle.nr_trace.specs.declared.event.Event.TheVariants.{Call, Reply, Touch}
+use Rattle.nr_trace.specs.declared.event.Event.TheVariants.{Call, Reply, Release, Touch}
 
 -- the magic, 4 bytes
 abbrev pub magic : Version → List ℕ
@@ -77,6 +77,10 @@ answer_fields (Fault code) = value_fields (Fault code) code
 abbrev pub touch_fields : ℕ → Mode → Access → RequestFields
 touch_fields address mode access = record (request_fields (queries.Access address mode access)) { kind = 5 }
 
+-- the fields of a release: kind 6, the size of the memory, and where it begins
+abbrev pub release_fields : Size → ℕ → RequestFields
+release_fields size phys = record { kind = 6; size = size_code size; rights = 0; address = 0; physical = phys }
+
 -- tag 0, replica, thread, kind, size, rights, a 0, address, physical address
 abbrev pub asked : ℕ → ℕ → RequestFields → List ℕ
 asked replica thread fields =
@@ -87,6 +91,7 @@ asked replica thread fields =
 abbrev pub event : Event → List ℕ
 event (Call replica thread request) = asked replica thread (request_fields request)
 event (Touch replica thread address mode access) = asked replica thread (touch_fields address mode access)
+event (Release replica thread size phys) = asked replica thread (release_fields size phys)
 event (Reply call at answer) =
     let fields = answer_fields answer in
     to_be_bytes w8 1 ++ to_be_bytes w8 fields.code ++ to_be_bytes w8 fields.size ++ to_be_bytes w8 fields.rights

@@ -9,7 +9,7 @@ use Rattle.vs_types.specs.declared.request.Query.TheVariants.{Access}
 use Rattle.vs_types.specs.declared.answer.Answer.{Answer}
 use Rattle.vs_types.specs.declared.answer.Answer.TheVariants.{Allowed, Fault}
 use Rattle.nr_trace.specs.declared.event.Event.{Event}
-use Rattle.nr_trace.specs.declared.event.Event.TheVariants.{Call, Reply, Touch}
+use Rattle.nr_trace.specs.declared.event.Event.TheVariants.{Call, Reply, Release, Touch}
 use Rattle.nr_trace.specs.declared.version.Version.{Version}
 use Rattle.nr_trace.specs.declared.version.Version.TheVariants.{V1, V2, Segment}
 use Rattle.nr_trace.specs.declared.version.Form.{Form}
@@ -60,7 +60,7 @@ abbrev pub KnowsDepth : Version → Depth → Type 0
 KnowsDepth V1 Five = ⊥
 KnowsDepth version depth = ⊤
 
--- only a segment has touches
+-- only a segment has touches and releases
 abbrev pub KnowsTouch : Version → Type 0
 KnowsTouch Segment = ⊤
 KnowsTouch version = ⊥
@@ -81,6 +81,7 @@ abbrev pub KnowsEvent : Version → Event → Type 0
 KnowsEvent version (Call replica thread request) = KnowsQuery version request
 KnowsEvent version (Reply call at answer) = KnowsAnswer version answer
 KnowsEvent version (Touch replica thread address mode access) = KnowsTouch version
+KnowsEvent version (Release replica thread size phys) = KnowsTouch version
 
 -- version 1 knows the depth and each event
 abbrev pub FitsFirst : Depth → List Event → Type 0

@@ -1,6 +1,6 @@
-//! An event of a recorded run: a call, a touch or a reply.
+//! An event of a recorded run: a call, a touch, a release or a reply.
 
-use vs_types::{Access, Answer, Mode, Request};
+use vs_types::{Access, Answer, Mode, Request, Size};
 
 /// What was recorded.
 #[derive(Clone, Copy, Debug, PartialEq, Eq)]
@@ -19,7 +19,16 @@ pub enum Event {
         mode: Mode,
         access: Access,
     },
-    /// A call is answered. `at` is the place of an update, for a read how many entries its replica had applied, and for a touch nothing.
+    /// Memory of this size, from a physical address on, is given to somebody else, on a thread of a replica: from here on no access may
+    /// reach it. Its number is the index of this event too.
+    Release {
+        replica: u8,
+        thread: u16,
+        size: Size,
+        phys: u64,
+    },
+    /// A call is answered. `at` is the place of an update, for a read how many entries its replica had applied, and for a touch or a release
+    /// nothing.
     Reply {
         call: u32,
         at: u32,

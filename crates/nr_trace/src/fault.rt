@@ -75,4 +75,7 @@ pub enum Fault {
     StartDiffers(u64),
     /// This touch, the first such one, is answered as its address was at no moment that was still allowed.
     Stale(u32),
+    /// This release, the first such one, gives memory away that an access which begins then could reach; or it is answered otherwise than
+    /// by `Done`.
+    Reachable(u32),
 }

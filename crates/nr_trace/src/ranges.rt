@@ -2,7 +2,7 @@
 
 ghost use Rattle.std.specs.Prelude.{◌≡◌, ◌≤◌, ◌↔◌, IsTrue, IsFalse, All, Any, IfSome, MatchOption};
 ghost use Rattle.vs_walk.specs.Dump.{IsDump};
-ghost use Rattle.nr_trace.specs.Recording.{start_frames, IsEvent, IsImage, IsStart};
+ghost use Rattle.nr_trace.specs.Recording.{start_frames, IsEvent, IsImage, IsMemory, IsStart};
 ghost use Rattle.nr_trace.specs.Versions.{most_start};
 ghost use Rattle.nr_trace.specs.Parts.{HasFrames, IsFirstOut, LacksFrames};
 
@@ -10,7 +10,19 @@ use crate::event::Event;
 use crate::layout::TraceLayout;
 use crate::recorded::Recorded;
 use crate::version::Version;
+use vs_types::{Page, Size};
 use vs_walk::Dump;
+
+/// Whether memory of this size may begin at the physical address: that is a multiple of the size, and the memory ends at or below 2^51.
+pub(crate) fn is_memory(size: Size, phys: u64) -> bool
+    ensures { IsTrue result ↔ IsMemory size phys }
+{
+    let bytes = size.bytes();
+    if phys > Page::PHYS_END - bytes {
+        return false;
+    }
+    phys % bytes == 0
+}
 
 fn is_in_range(version: Version, layout: TraceLayout, event: Event) -> bool
     ensures { IsTrue result ↔ IsEvent version layout event }
@@ -36,6 +48,17 @@ fn is_in_range(version: Version, layout: TraceLayout, event: Event) -> bool
             replica < layout.replicas()
                 && thread < layout.threads()
                 && layout.depth().is_canonical(address)
+                && version.knows_touch()
+        }
+        Event::Release {
+            replica,
+            thread,
+            size,
+            phys,
+        } => {
+            replica < layout.replicas()
+                && thread < layout.threads()
+                && is_memory(size, phys)
                 && version.knows_touch()
         }
         Event::Reply { answer, .. } => version.knows_answer(answer),

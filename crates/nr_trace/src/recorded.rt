@@ -27,6 +27,8 @@ enum Kept {
     Access(u8, u16, Mode, Access, u64),
     /// Replica, thread, mode, access, address.
     Touch(u8, u16, Mode, Access, u64),
+    /// Replica, thread, size, physical address.
+    Release(u8, u16, Size, u64),
     /// Call, `at`.
     Done(u32, u32),
     /// Call, `at`, base.
@@ -141,6 +143,18 @@ fn touch_of(replica: u8, thread: u16, address: u64, mode: Mode, access: Access) 
 }
 
 #[inline(always)]
+fn release_of(replica: u8, thread: u16, size: Size, phys: u64) -> Event
+    ensures { result ≡ Event.Release replica thread size phys }
+{
+    Event::Release {
+        replica,
+        thread,
+        size,
+        phys,
+    }
+}
+
+#[inline(always)]
 fn reply_of(call: u32, at: u32, answer: Answer) -> Event
     ensures { result ≡ Event.Reply call at answer }
 {
@@ -197,6 +211,14 @@ impl Recorded {
             } => Recorded {
                 kept: Kept::Touch(replica, thread, mode, access, address),
             },
+            Event::Release {
+                replica,
+                thread,
+                size,
+                phys,
+            } => Recorded {
+                kept: Kept::Release(replica, thread, size, phys),
+            },
             Event::Reply { call, at, answer } => Recorded {
                 kept: Kept::reply(call, at, answer),
             },
@@ -231,6 +253,7 @@ impl Recorded {
             Kept::Touch(replica, thread, mode, access, address) => {
                 touch_of(replica, thread, address, mode, access)
             }
+            Kept::Release(replica, thread, size, phys) => release_of(replica, thread, size, phys),
             Kept::Done(call, at) => reply_of(call, at, Answer::Done),
             Kept::Overlap(call, at, base) => reply_of(call, at, Answer::Overlap(base)),
             Kept::Full(call, at, need) => reply_of(call, at, Answer::Full(need)),

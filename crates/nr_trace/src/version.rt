@@ -124,7 +124,7 @@ impl Version {
         }
     }
 
-    /// Whether there may be touches.
+    /// Whether there may be touches and releases.
     pub(crate) fn knows_touch(self) -> bool
         ensures { IsTrue result ↔ KnowsTouch self }
     {
@@ -171,6 +171,7 @@ impl Version {
         match event {
             Event::Call { request, .. } => self.knows_query(request.query()),
             Event::Touch { .. } => self.knows_touch(),
+            Event::Release { .. } => self.knows_touch(),
             Event::Reply { answer, .. } => self.knows_answer(answer),
         }
     }

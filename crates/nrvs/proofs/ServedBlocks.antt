@@ -41,7 +41,8 @@ pub record IsReading (setup : Setup) (chain : ChainSetup) (known unread old now 
   pub few : request_count portion.lists < chain.most
 
 -- nothing is read
-pub reading_begins : (setup : Setup) (chain : ChainSetup) (known old : Option (List ℕ)) (layout : Layout) (run : RunState) (portion : PortionState) (log : TableId)
+pub reading_begins : (setup : Setup) (chain : ChainSetup) (known old : Option (List ℕ)) (layout : Layout) (run : RunState)
+    (portion : PortionState) (log : TableId)
     → 1 ≤ chain.most → layout ≡ chain_layout setup → run ≡ new_run layout log → portion ≡ no_portion setup.depth
     → IsReading setup chain known known old old run portion MOST_BLOCKS
 reading_begins setup chain known old layout run portion log some laid is none = record {

@@ -51,7 +51,8 @@ zipped_behind R _ vs _ ws front back = absurd front
 no_steps : (first second : List Line) → steps_of first ≡ [] → steps_of second ≡ [] → steps_of (first ++ second) ≡ []
 no_steps first second none other = flat_map-append step_in first second ∙ ap₂ (λ (a b : List Step). a ++ b) none other
 
-given_behind : (segments : List Ran) (ran : Ran) (thread : ℕ) → given_to (segments ++ ran ∷ []) thread ≡ given_to segments thread ++ get_or ran.scripts thread []
+given_behind : (segments : List Ran) (ran : Ran) (thread : ℕ)
+    → given_to (segments ++ ran ∷ []) thread ≡ given_to segments thread ++ get_or ran.scripts thread []
 given_behind segments ran thread =
     flat_map-append (λ (ran : Ran). get_or ran.scripts thread []) segments (ran ∷ [])
     ∙ ap (λ (more : List Query). given_to segments thread ++ more) (append-nil (get_or ran.scripts thread []))
@@ -66,7 +67,8 @@ text_behind as_trace segments ran =
 
 -- what is left was given to the segment
 all_given : (said : List Line) (segments : List Ran) (ran : Ran) (lists : List (List Query)) → ran.scripts ≡ lists
-    → AreGivenBut (λ thread. get_or lists thread []) said segments → (thread : ℕ) → thread < 64 → given_to (segments ++ ran ∷ []) thread ≡ requests_by said thread
+    → AreGivenBut (λ thread. get_or lists thread []) said segments → (thread : ℕ) → thread < 64
+    → given_to (segments ++ ran ∷ []) thread ≡ requests_by said thread
 all_given said segments ran lists is given thread below =
     given_behind segments ran thread
     ∙ ap (λ (lists : List (List Query)). given_to segments thread ++ get_or lists thread []) is
@@ -87,7 +89,8 @@ full_more most segments ran full size =
 -- the run goes on behind a segment that is right
 pub goes_behind : (setup : Setup) (chain : ChainSetup) (said : List Line) (lists : List (List Query)) (old now new : Option (List ℕ)) (run next : RunState)
     (ran : Ran) (passes : List Known) (history : List LogEvent) → HasAsked setup chain said lists old now run → ran.scripts ≡ lists
-    → request_count lists ≡ chain.most → IsRightSegment run ran passes history → GoesOnBehind run ran history next → Appends now new (segment_text chain.as_trace ran)
+    → request_count lists ≡ chain.most → IsRightSegment run ran passes history → GoesOnBehind run ran history next
+    → Appends now new (segment_text chain.as_trace ran)
     → HasAsked setup chain said (replicate 64 []) old new next
 goes_behind setup chain said lists old now new run next ran passes history asked is size right on written = record {
   log = asked.log;
@@ -107,7 +110,8 @@ pub segment_goes : {J : Type 0} (setup : Setup) (chain : ChainSetup) (said : Lis
     (run next : RunState) → HasAsked setup chain said lists old now run → request_count lists ≡ chain.most
     → HasRunSegment {J = J} chain.as_trace run lists now new (GoesOn next) → HasAsked setup chain said (replicate 64 []) old new next
 segment_goes {J = J} setup chain said lists old now new run next asked size made = by_cases made.outcome made.of_scripts made.goes_so made.written where
-  by_cases : (outcome : SegmentOutcome J) → IsOutcomeOf run lists outcome → IsAfter outcome (GoesOn next) → Appends now new (told_of_segment chain.as_trace outcome)
+  by_cases : (outcome : SegmentOutcome J) → IsOutcomeOf run lists outcome → IsAfter outcome (GoesOn next)
+      → Appends now new (told_of_segment chain.as_trace outcome)
       → HasAsked setup chain said (replicate 64 []) old new next
   by_cases (Right answers bytes order behind) gone same written =
       subst (HasAsked setup chain said (replicate 64 []) old new) same
@@ -145,13 +149,15 @@ pub segment_ends : {J : Type 0} (setup : Setup) (chain : ChainSetup) (said : Lis
     (run : RunState) (status : ℕ) → HasAsked setup chain said lists old now run → request_count lists ≤ chain.most
     → HasRunSegment {J = J} chain.as_trace run lists now new (Ends status) → HasEnded setup chain said old new status
 segment_ends {J = J} setup chain said lists old now new run status asked few made = by_cases made.outcome made.of_scripts made.goes_so made.written where
-  by_cases : (outcome : SegmentOutcome J) → IsOutcomeOf run lists outcome → IsAfter outcome (Ends status) → Appends now new (told_of_segment chain.as_trace outcome)
+  by_cases : (outcome : SegmentOutcome J) → IsOutcomeOf run lists outcome → IsAfter outcome (Ends status)
+      → Appends now new (told_of_segment chain.as_trace outcome)
       → HasEnded setup chain said old new status
   by_cases (Right answers bytes order behind) gone same written = absurd same
   by_cases (Last answers bytes order passes) ended same written =
       let ran = ran_of ended.trace lists answers bytes order in
       let front = segments_text chain.as_trace asked.segments in
-      let is : front ++ asked_for chain.as_trace bytes (verified_text answers) ≡ segments_text chain.as_trace (asked.segments ++ ran ∷ []) ++ end_line chain.as_trace =
+      let is : front ++ asked_for chain.as_trace bytes (verified_text answers) ≡ segments_text chain.as_trace (asked.segments ++ ran ∷ [])
+      ++ end_line chain.as_trace =
       ap (λ (more : List ℕ). front ++ more) (sym (last_text chain.as_trace bytes (said_lines answers)))
       ∙ sym (append_assoc front (segment_text chain.as_trace ran) (end_line chain.as_trace))
       ∙ ap (λ (text : List ℕ). text ++ end_line chain.as_trace) (sym (text_behind chain.as_trace asked.segments ran)) in
@@ -178,7 +184,8 @@ segment_ends {J = J} setup chain said lists old now new run status asked few mad
   by_cases (Wrong bytes fault) failed same written = record {
     text = segments_text chain.as_trace asked.segments ++ told_of_segment {J = J} chain.as_trace (Wrong bytes fault);
     written =
-        Appends-trans old now new (segments_text chain.as_trace asked.segments) (told_of_segment {J = J} chain.as_trace (Wrong bytes fault)) asked.written written;
+        Appends-trans old now new (segments_text chain.as_trace asked.segments) (told_of_segment {J = J} chain.as_trace (Wrong bytes fault))
+        asked.written written;
     tells = λ front behind rest script one. inr (record {
       so_far = run_so_far setup chain said lists old now run asked front behind rest script one;
       scripts = lists;
@@ -195,7 +202,8 @@ segment_ends {J = J} setup chain said lists old now new run status asked few mad
 -- all was asked, and the line behind the last segment is written
 pub all_told : {J : Type 0} (setup : Setup) (chain : ChainSetup) (said : List Line) (lists : List (List Query)) (old now new end : Option (List ℕ))
     (run next : RunState) (bytes : List ℕ) → HasAsked setup chain said lists old now run → request_count lists ≤ chain.most
-    → HasRunSegment {J = J} chain.as_trace run lists now new (GoesOn next) → Appends new end (end_line chain.as_trace) → BeginsAsScript setup.depth bytes said []
+    → HasRunSegment {J = J} chain.as_trace run lists now new (GoesOn next) → Appends new end (end_line chain.as_trace)
+    → BeginsAsScript setup.depth bytes said []
     → (text : List ℕ) × TellsAll setup chain bytes text 0 × Appends old end text
 all_told {J = J} setup chain said lists old now new end run next bytes asked few made line script =
     by_cases made.outcome made.of_scripts made.goes_so made.written

@@ -58,6 +58,7 @@ fault_numbers (faults.StartStray number) = with_dump 21 0 number 0
 fault_numbers (faults.StartBeyond base) = with_dump 22 0 base 0
 fault_numbers (faults.StartDiffers address) = with_dump 23 0 address 0
 fault_numbers (faults.Stale call) = with_index 24 call
+fault_numbers (faults.Reachable call) = with_index 25 call
 
 -- how many calls the order of a yes has; the numbers of the fault of a no
 abbrev pub finding_of : Verdict → Finding

@@ -69,6 +69,7 @@ impl Finding {
             Fault::StartBeyond(base) => Finding::with_dump(22, 0, base, 0),
             Fault::StartDiffers(address) => Finding::with_dump(23, 0, address, 0),
             Fault::Stale(call) => Finding::with_index(24, call),
+            Fault::Reachable(call) => Finding::with_index(25, call),
         }
     }
 

@@ -1,6 +1,8 @@
 #define _GNU_SOURCE
 #include "parts.h"
 
+#include "given.h"
+
 #include <errno.h>
 #include <fcntl.h>
 #include <pthread.h>
@@ -179,7 +181,7 @@ static void *access_shared(void *which)
 	return NULL;
 }
 
-static void begin_shared(uint64_t address, int only_reads)
+void begin_shared(uint64_t address, int only_reads)
 {
 	stay_on(0);
 	shared.at = map_at(address, 64 * PAGE, READ_WRITE, PRIVATE, -1);
@@ -188,13 +190,13 @@ static void begin_shared(uint64_t address, int only_reads)
 	touch(shared.at, 64 * PAGE);
 }
 
-static void start_readers(void)
+void start_readers(void)
 {
 	for (uintptr_t k = 0; k < READERS; k++)
 		pthread_create(&shared.threads[k], NULL, access_shared, (void *)(k + 1));
 }
 
-static void end_shared(void)
+void end_shared(void)
 {
 	shared.is_over = 1;
 	for (unsigned k = 0; k < READERS; k++)
@@ -472,7 +474,8 @@ static const struct {
 } parts[] = {
 	{ "threads", threads }, { "crowd", crowd }, { "shootdown", shootdown }, { "copied", copied }, { "cow", cow }, { "huge", huge },
 	{ "moved", moved }, { "files", files }, { "merged", merged }, { "reclaimed", reclaimed }, { "emptied", emptied },
-	{ "kinds", kinds }, { "planted", planted },
+	{ "kinds", kinds }, { "planted", planted }, { "given", give_pages }, { "lazy", give_lazily }, { "lazy-large", give_large_lazily },
+	{ "equal", give_equal_pages }, { "compacted", give_by_compaction },
 };
 
 void run_part(const char *name)

@@ -23,6 +23,11 @@ char *map_at(uint64_t address, uint64_t bytes, int protection, int flags, int fi
 /* The thread runs on this processor alone, or, below 0, on any. */
 void stay_on(long processor);
 
+/* The thread stays on processor 0, and has pages there that the threads which start then read and write, or only read, on others. */
+void begin_shared(uint64_t address, int only_reads);
+void start_readers(void);
+void end_shared(void);
+
 /* A drawn number below a bound. */
 uint64_t draw(uint64_t *state, uint64_t below);
 

@@ -30,7 +30,10 @@ void flushes_stored(unsigned cpu)
 
 struct flush flushes_of_task(unsigned cpu)
 {
+	static const struct flush all = { .end = NOWHERE };
 	unsigned k = find(guest_task(cpu));
 
+	if (guest.nested)
+		return all;
 	return k < TASKS ? latest[k].flush : guest_flush(cpu);
 }

@@ -7,7 +7,7 @@
 /* A task stored to the words of its processor's flush: what is there is its flush. */
 void flushes_stored(unsigned cpu);
 
-/* The latest flush of the processor's task. */
+/* The latest flush of the processor's task. That of nested tables is of all that the processors have. */
 struct flush flushes_of_task(unsigned cpu);
 
 #endif

@@ -32,8 +32,9 @@ static const struct {
 	{ "levels", &guest.levels }, { "isolated", &guest.isolated }, { "percpu", &guest.percpu }, { "loaded", &guest.loaded },
 	{ "current", &guest.current }, { "flushing", &guest.flushing }, { "birth", &guest.birth }, { "pgd", &guest.pgd },
 	{ "entry", &guest.entry }, { "entry_end", &guest.entry_end }, { "text", &guest.text }, { "text_end", &guest.text_end },
-	{ "page_bytes", &guest.page_bytes }, { "page_type", &guest.page_type }, { "table_mask", &guest.table_mask },
-	{ "table_kind", &guest.table_kind }, { "rest", &guest.rest }, { "nested", &guest.nested }, { "nested_end", &guest.nested_end },
+	{ "page_bytes", &guest.page_bytes }, { "page_flags", &guest.page_flags }, { "page_type", &guest.page_type },
+	{ "table_mask", &guest.table_mask }, { "table_kind", &guest.table_kind }, { "rest", &guest.rest }, { "nested", &guest.nested },
+	{ "nested_end", &guest.nested_end },
 };
 
 int guest_set(const char *name, const char *value)
@@ -95,6 +96,13 @@ uint64_t guest_of_host(const void *byte)
 uint64_t guest_own_base(unsigned cpu)
 {
 	return guest_word(guest.percpu - KERNEL_TEXT + 8 * cpu);
+}
+
+uint64_t guest_frame_of(uint64_t address)
+{
+	uint64_t offset = address - struct_pages() - guest.page_flags;
+
+	return offset % guest.page_bytes ? NOWHERE : offset / guest.page_bytes;
 }
 
 /* The physical address of a processor's copy of a variable. */

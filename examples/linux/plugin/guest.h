@@ -20,7 +20,8 @@ struct guest {
 	uint64_t birth, pgd;   /* pgd_alloc, which makes the table of a new address space, and where in mm_struct its caller stores that */
 	uint64_t entry, entry_end; /* do_syscall_64 */
 	uint64_t text, text_end;   /* the kernel's code, without its modules' */
-	uint64_t page_bytes, page_type; /* of struct page, and where in it the kind of the frame is, */
+	uint64_t page_bytes, page_flags; /* of struct page, and where in it a frame's flags are, */
+	uint64_t page_type;              /* .. and its kind, */
 	uint64_t table_mask, table_kind; /* and what of that word is what, while the frame is a page table */
 	uint64_t rest;         /* 0, or: at each so many stores that take rights away, let QEMU go to the next processor */
 	uint64_t nested, nested_end;   /* 0, or the function of KVM that loads a guest's nested tables: these are watched, no process */
@@ -43,6 +44,9 @@ uint64_t guest_direct(uint64_t address);
 
 /* The physical address of a byte that QEMU holds, or NOWHERE. */
 uint64_t guest_of_host(const void *byte);
+
+/* The frame whose struct page has its flags at that address of the kernel; NOWHERE, or a number of no frame, where there are none. */
+uint64_t guest_frame_of(uint64_t address);
 
 /* The place of a processor's own variables: what is added to an address of the kernel. */
 uint64_t guest_own_base(unsigned cpu);

@@ -7,4 +7,10 @@ int say_tag(char character);
 
 void say(const char *form, ...) __attribute__((format(printf, 1, 2)));
 
+/* Before the next line this is called, once, so that it says another one. */
+void say_later(void (*call)(void));
+
+/* What waits for the next line is said now. */
+void say_waiting(void);
+
 #endif

@@ -1,6 +1,7 @@
 #include "tables.h"
 
 #include "guest.h"
+#include "releases.h"
 #include "say.h"
 
 #include <inttypes.h>
@@ -27,6 +28,13 @@ static int is_table(uint64_t word, unsigned level)
 static uint64_t frame_in(uint64_t word)
 {
 	return (word & ADDRESS) >> 12;
+}
+
+/* A page, if the word is one, is had. */
+static void have(uint64_t word, unsigned level)
+{
+	if (word & PRESENT && !is_table(word, level))
+		releases_had(frame_in(word) & ~(((uint64_t)1 << 9 * (level - 1)) - 1), level);
 }
 
 static unsigned entries(uint64_t frame)
@@ -62,6 +70,7 @@ static void follow(uint64_t frame, unsigned level)
 		word = words_of[frame][index] = guest_word((frame << 12) + 8 * index);
 		if (word)
 			say("@word %" PRIx64 " %x %" PRIx64 "\n", frame, index, word);
+		have(word, level);
 		if (is_table(word, level))
 			follow(frame_in(word), level - 1);
 	}
@@ -122,6 +131,7 @@ void tables_changed(const struct change *change)
 	int was = is_table(change->old, change->level), is = is_table(change->new, change->level);
 	int is_other = frame_in(change->old) != frame_in(change->new);
 
+	have(change->new, change->level);
 	if (was && (!is || is_other))
 		leave(frame_in(change->old), change->level - 1);
 	if (is && (!was || is_other))

@@ -5,18 +5,19 @@
  * host runs all processors, so that what is logged comes one at a time, in order.
  *
  * With the setting `nested` it is no process's address space but the memory of a guest in the guest, which the guest's KVM maps by nested
- * tables: stores to these are logged, accesses of that guest, and that the task that runs it has left the kernel. Two copies of the plugin
- * watch both at once; with the setting `tag` the lines of one begin with another character than @.
+ * tables: stores to these are logged, accesses of that guest, KVM's flushes, frames that are freed, and that the task that runs it has left
+ * the kernel. Two copies of the plugin watch both at once; with the setting `tag` the lines of one begin with another character than @.
  *
  * Lines, numbers in hexadecimal but for levels, processors and counts:
  *
  *     @born SPACE ROOT LOADED                         the address space has a root; LOADED: the frame that CR3 has in the kernel, or 0
  *     @table FRAME LEVEL                              a table was linked, with
  *     @word FRAME INDEX WORD                          .. these words that aren't 0; before the @store of its link
- *     @callers BACK:CALLED ..                         words of the stack behind a call, with what is called there; before each
+ *     @callers BACK:CALLED ..                         words of the stack behind a call, with what is called there; before @released and
  *     @store CPU TASK OWN PC FRAME INDEX OLD NEW      a word of a table changed; OWN: by a processor that has the address space loaded
  *     @access CPU TASK MODE ACCESS ADDRESS PHYSICAL PC  an access went through; MODE s or u, ACCESS r, w or x
  *     @flushed CPU TASK BEGIN END                     a flush of BEGIN to END of this address space is over
+ *     @released CPU TASK PC FRAME COUNT               the kernel frees so many frames, which the address space had
  *     @user CPU TASK                                  a task that had taken something away is in user mode again
  *     @entered CPU TASK NUMBER A0 A1 A2 A3            a system call begins
  *     @returned CPU TASK NUMBER A0 A1 A2 RESULT A3    one that changes mappings ends
@@ -28,11 +29,13 @@
  */
 #include "callers.h"
 #include "flushes.h"
+#include "functions.h"
 #include "guest.h"
 #include "instructions.h"
 #include "owing.h"
 #include "processor.h"
 #include "qemu_plugin.h"
+#include "releases.h"
 #include "say.h"
 #include "seen.h"
 #include "system_calls.h"
@@ -56,7 +59,6 @@ enum later_mark { MARK_LATER = 0x100, MARK_CHOSEN = 0x200 };
 #define WRITABLE 2u
 #define BIRTH_BYTES 512 /* of code behind the call of pgd_alloc: there its result is stored */
 #define STACK_BYTES 16384u
-#define FLUSHERS 4
 #define REST 110000 /* microseconds: QEMU goes to the next processor 10 times a second */
 
 EXPORTED int qemu_plugin_version = PLUGIN_VERSION;
@@ -75,11 +77,8 @@ static uint64_t result_slot; /* where on a stack a system call's result goes */
 static qemu_plugin_id_t plugin;
 static int follows; /* code is followed; else, as until the guest asks for it, it runs as without the plugin: so it boots faster */
 
-/* The functions that end with a flush, each from its first instruction to behind its last. */
-static struct {
-	uint64_t begin, end;
-} flushers[FLUSHERS];
-static unsigned flusher_count;
+/* The functions that end with a flush, and those that free frames. */
+static struct functions flushers, releasers;
 
 static void end(const char *why)
 {
@@ -115,6 +114,7 @@ static void begin(uint64_t watched, uint64_t root)
 	space = watched;
 	seen_begin();
 	owing_begin();
+	releases_begin();
 	state = WATCHING;
 	say("@born %" PRIx64 " %" PRIx64 " %" PRIx64 "\n", space, root, guest.nested ? 0 : root - guest.isolated);
 	tables_begin(root);
@@ -313,6 +313,14 @@ static void on_call(unsigned cpu, qemu_plugin_meminfo_t info, uint64_t address, 
 	kernel_accessed(cpu, info, address, (uint64_t)pc);
 }
 
+static void on_release(unsigned cpu, qemu_plugin_meminfo_t info, uint64_t address, void *pc)
+{
+	cpu = processor_that_runs(cpu);
+	if (state == WATCHING && qemu_plugin_mem_is_store(info))
+		releases_stored(cpu, address, (uint64_t)pc);
+	kernel_accessed(cpu, info, address, (uint64_t)pc);
+}
+
 /* ---- instructions ---- */
 
 struct code {
@@ -336,7 +344,7 @@ static void on_flushed(unsigned cpu, void *unused)
 	struct flush flush;
 
 	(void)unused;
-	if (state != WATCHING || guest.nested)
+	if (state != WATCHING)
 		return;
 	cpu = processor_that_runs(cpu);
 	flush = flushes_of_task(cpu);
@@ -370,19 +378,25 @@ static void ask(struct qemu_plugin_insn *instruction, qemu_plugin_ran *call)
 	qemu_plugin_register_vcpu_insn_exec_cb(instruction, call, PROCESSOR_FLAGS, NULL);
 }
 
+static qemu_plugin_accessed *accessed_by(struct qemu_plugin_insn *instruction, uint64_t pc)
+{
+	if (instructions_is_call(instruction))
+		return on_call;
+	return functions_find(&releasers, pc) < releasers.count ? on_release : on_kernel_memory;
+}
+
 static void translate_kernel(struct qemu_plugin_insn *instruction)
 {
 	uint64_t pc = qemu_plugin_insn_vaddr(instruction);
+	unsigned k = functions_find(&flushers, pc);
 
-	qemu_plugin_register_vcpu_mem_cb(instruction, instructions_is_call(instruction) ? on_call : on_kernel_memory, PROCESSOR_FLAGS,
-		QEMU_PLUGIN_MEM_RW, (void *)pc);
+	qemu_plugin_register_vcpu_mem_cb(instruction, accessed_by(instruction, pc), PROCESSOR_FLAGS, QEMU_PLUGIN_MEM_RW, (void *)pc);
 	if (pc == guest.entry)
 		ask(instruction, on_entry);
 	if (pc == guest.birth)
 		ask(instruction, on_birth);
-	for (unsigned k = 0; k < flusher_count; k++)
-		if (pc >= flushers[k].begin && pc < flushers[k].end && instructions_is_return(instruction, flushers[k].begin, flushers[k].end))
-			ask(instruction, on_flushed);
+	if (k < flushers.count && instructions_is_return(instruction, flushers.each[k].begin, flushers.each[k].end))
+		ask(instruction, on_flushed);
 }
 
 /* The first instruction of a block in user mode is logged as a fetch. */
@@ -453,15 +467,12 @@ static void on_translate_at_first(qemu_plugin_id_t id, struct qemu_plugin_tb *bl
 
 static int set(const char *name, const char *value)
 {
-	char *rest;
-
 	if (!strcmp(name, "tag"))
 		return say_tag(value[0]);
-	if (!strcmp(name, "flusher") && flusher_count < FLUSHERS) {
-		flushers[flusher_count].begin = strtoull(value, &rest, 0);
-		flushers[flusher_count].end = *rest == '-' ? strtoull(rest + 1, NULL, 0) : 0;
-		return flushers[flusher_count++].end != 0;
-	}
+	if (!strcmp(name, "flusher"))
+		return functions_take(&flushers, value);
+	if (!strcmp(name, "releaser"))
+		return functions_take(&releasers, value);
 	return guest_set(name, value);
 }
 

@@ -13,7 +13,7 @@ use serde_json::Value;
 use std::alloc::{AllocError, Global};
 
 #[tactic(auto, unfolding(crate::specs::ChainEvidence::chain_counts_parts))]
-fn chain_counts_parts<'a>(counts: ChainCounts) -> [Part<'a>; 15]
+fn chain_counts_parts<'a>(counts: ChainCounts) -> [Part<'a>; 21]
     ensures { map part_of result ≡ chain_counts_parts counts }
 {
     [
@@ -25,12 +25,18 @@ fn chain_counts_parts<'a>(counts: ChainCounts) -> [Part<'a>; 15]
         Part::InBoth("reads", Says::Count(counts.reads)),
         Part::Words("\ntouches: "),
         Part::InBoth("touches", Says::Count(counts.touches)),
+        Part::Words("\nreleases: "),
+        Part::InBoth("releases", Says::Count(counts.releases)),
         Part::Words("\ndumps: "),
         Part::InBoth("dumps", Says::Count(counts.dumps)),
         Part::Words("\nreplicas: "),
         Part::InBoth("replicas", Says::Count(u64::from(counts.replicas))),
         Part::Words("\npages: "),
         Part::InBoth("pages", Says::Count(counts.pages)),
+        Part::Words("\noverlapping calls: "),
+        Part::InBoth("overlapping", Says::Count(counts.overlapping)),
+        Part::Words("\ntouches beside an update: "),
+        Part::InBoth("beside", Says::Count(counts.beside)),
         Part::Words("\n"),
     ]
 }

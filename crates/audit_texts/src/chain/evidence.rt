@@ -7,12 +7,15 @@ ghost use Rattle.audit_texts.specs.ChainEvidence.{allowed_parts, allowed_says, b
 ghost use Rattle.audit_texts.specs.ChainEvidence.{difference_parts, looks_of, moment_data, moment_line, origin_parts, origin_says};
 ghost use Rattle.audit_texts.specs.ChainEvidence.{other_answer_parts, segment_evidence_data, segment_evidence_text, segment_parts};
 ghost use Rattle.audit_texts.specs.ChainEvidence.{start_beyond_parts, start_differs_parts};
-ghost use Rattle.audit_texts.specs.ChainEvidence.{start_stray_parts, window_parts, with_looks};
+ghost use Rattle.audit_texts.specs.ChainEvidence.{stale_parts, start_stray_parts, window_parts, with_looks};
 
 use crate::answer::answer_text;
 use crate::chain::earlier::{push_earlier, put_earlier};
+use crate::chain::missed::put_missed;
+use crate::chain::releases::{put_lag, put_why};
 use crate::evidence::{put_evidence, put_missing, put_reserved, put_shared};
 use crate::fact_json::Members;
+use crate::nearby::put_nearby;
 use crate::output::Output;
 use crate::parts::{Part, Says};
 use crate::shared::{put_answer, put_look, put_read, put_stray_frame, put_unlike};
@@ -84,8 +87,11 @@ fn put_other_answer<O: Output>(
         ≡ put_all (other_answer_parts wrong origin) (O.held out.old)) }
 {
     let changed = wrong.changed;
+    let right = wrong.right;
+    let memory = wrong.memory;
     put_answer(out, alloc, wrong)?;
-    put_change(out, alloc, changed, origin)
+    put_change(out, alloc, changed, origin)?;
+    put_nearby(out, alloc, right, memory)
 }
 
 #[tactic(auto, unfolding(crate::specs::ChainEvidence::difference_parts))]
@@ -250,6 +256,15 @@ fn put_window<O: Output>(out: &mut O, alloc: Global, touch: &StaleTouch) -> Resu
     out.put_all(alloc, &parts)
 }
 
+/// Puts a stale touch, and how far the table of its replica may lag, if that counts.
+#[tactic(auto, unfolding(crate::specs::ChainEvidence::stale_parts))]
+fn put_stale<O: Output>(out: &mut O, alloc: Global, touch: &StaleTouch) -> Result<(), AllocError>
+    ensures { OnOk result (O.held out.new ≡ put_all (stale_parts touch.now) (O.held out.old)) }
+{
+    put_window(out, alloc, touch)?;
+    put_lag(out, alloc, touch.lag)
+}
+
 /// Puts what is said of a fault, but for the moments of a touch.
 #[tactic(auto, unfolding(crate::specs::ChainEvidence::segment_parts))]
 fn put_segment<O: Output>(
@@ -272,7 +287,8 @@ fn put_segment<O: Output>(
         SegmentEvidence::StartStray(frame) => put_start_stray(out, alloc, *frame),
         SegmentEvidence::StartBeyond(wrong) => put_start_beyond(out, alloc, wrong),
         SegmentEvidence::StartDiffers(wrong) => put_start_differs(out, alloc, wrong),
-        SegmentEvidence::Stale(touch) => put_window(out, alloc, touch),
+        SegmentEvidence::Stale(touch) => put_stale(out, alloc, touch),
+        SegmentEvidence::Reachable(wrong) => put_why(out, alloc, wrong.call, wrong.why),
     }
 }
 
@@ -362,6 +378,7 @@ pub(crate) fn segment_evidence_text(
     put_segment(&mut text, alloc, shown)?;
     push_earlier(alloc, &mut text, shown)?;
     push_looks(alloc, &mut text, shown)?;
+    put_missed(&mut text, alloc, shown)?;
     Ok(text)
 }
 
@@ -377,5 +394,6 @@ pub(crate) fn segment_evidence_value(
     put_segment(&mut members, alloc, shown)?;
     put_looks(&mut members, alloc, shown)?;
     put_earlier(&mut members, alloc, shown)?;
+    put_missed(&mut members, alloc, shown)?;
     Ok(Value::Object(members))
 }

@@ -2,19 +2,23 @@
 
 ghost use Rattle.std.specs.Prelude.{◌≡◌, IfOk, string_bytes};
 ghost use Rattle.vs_text.specs.Words.{hexadecimal};
-ghost use Rattle.audit_texts.specs.ChainSentence.{bad_segment_sentence, segment_reason, segment_sentence, stale_sentence};
+ghost use Rattle.audit_texts.specs.ChainSentence.{back_words, bad_segment_sentence, kept_words, limit_words, segment_reason};
+ghost use Rattle.audit_texts.specs.ChainSentence.{segment_sentence, stale_sentence};
 ghost use Rattle.audit_texts.specs.ChainSentence.{start_beyond_sentence, start_differs_sentence};
 ghost use Rattle.audit_texts.specs.ChainSentence.{start_stray_sentence, window_text};
 
 use crate::answer::answer_text;
 use crate::chain::earlier::earlier_words;
+use crate::chain::releases::release_sentence;
 use crate::sentence::{
     difference_sentence, missing_sentence, other_answer_sentence, reason_text, reserved_sentence,
     sentence_text, shared_sentence,
 };
 use crate::text::walk_words;
 use crate::units::bytes_text;
-use nr_explain::{BadUnit, SegmentEvidence, StaleTouch, StartBeyond, StartDiffers};
+use nr_explain::{
+    BadUnit, Kept, Lag, SegmentEvidence, StaleTouch, StartBeyond, StartDiffers, TakenAway, fewest,
+};
 use nr_trace::Format;
 use std::alloc::{AllocError, Global};
 
@@ -59,7 +63,7 @@ fn start_beyond_sentence(alloc: Global, wrong: &StartBeyond) -> Result<String, A
     format!(in alloc; "At 0x{base:x} the start has a page that ends above 0x8000000000000.")
 }
 
-fn address_text(alloc: Global, address: u64) -> Result<String, AllocError>
+pub(crate) fn address_text(alloc: Global, address: u64) -> Result<String, AllocError>
     ensures { IfOk result (λ text. string_bytes text ≡ hexadecimal address) }
 {
     format!(in alloc; "0x{address:x}")
@@ -83,15 +87,55 @@ fn window_text(alloc: Global, first: u32, last: u32) -> Result<String, AllocErro
     format!(in alloc; "{first} to {last} entries of the log")
 }
 
+/// What limits the entries that a touch may see.
+#[tactic(auto, unfolding(crate::specs::ChainSentence::limit_words))]
+fn limit_words(lag: Option<Lag>) -> &'static str
+    ensures { result.now ≡ limit_words lag }
+{
+    match lag {
+        None => "it may see only ",
+        Some(_) => "even by a table that lags it may see only ",
+    }
+}
+
+/// That rights which were kept don't make a fault of a page right: which update took them away.
+#[tactic(auto, unfolding(crate::specs::ChainSentence::back_words))]
+fn back_words(alloc: Global, taken: Option<TakenAway>) -> Result<String, AllocError>
+    ensures { IfOk result (λ text. string_bytes text ≡ back_words taken) }
+{
+    match taken {
+        None => String::from_str(alloc, " Nor is it a fault by rights that were kept."),
+        Some(taken) => {
+            let call = taken.update.call.event;
+            format!(in alloc;
+                " Nor is it a fault by rights that were kept: call {call} did more than add rights."
+            )
+        }
+    }
+}
+
+/// So it is said of a fault of a page.
+#[tactic(auto, unfolding(crate::specs::ChainSentence::kept_words))]
+fn kept_words(alloc: Global, kept: Option<Kept>) -> Result<String, AllocError>
+    ensures { IfOk result (λ text. string_bytes text ≡ kept_words kept) }
+{
+    match kept {
+        None => Ok(String::new(alloc)),
+        Some(kept) => back_words(alloc, kept.taken),
+    }
+}
+
 fn stale_sentence(alloc: Global, touch: &StaleTouch) -> Result<String, AllocError>
     ensures { IfOk result (λ text. string_bytes text ≡ stale_sentence touch.now) }
 {
     let call = touch.call.event;
     let told = answer_text(alloc, touch.reply.answer)?;
-    let window = window_text(alloc, touch.first, touch.last)?;
+    let limit = limit_words(touch.lag);
+    let window = window_text(alloc, fewest(touch.first, touch.lag), touch.last)?;
     let earlier = earlier_words(&touch.earlier);
+    let kept = kept_words(alloc, touch.kept)?;
     format!(in alloc;
-        "Touch {call} was answered `{told}`, but it may see only {window}, and after none of these its address looks so.{earlier}"
+        "Touch {call} was answered `{told}`, but {limit}{window}, and after none of these its address looks so.{earlier}{kept}"
     )
 }
 
@@ -112,5 +156,6 @@ pub(crate) fn segment_sentence(alloc: Global, shown: &SegmentEvidence) -> Result
         SegmentEvidence::StartBeyond(wrong) => start_beyond_sentence(alloc, wrong),
         SegmentEvidence::StartDiffers(wrong) => start_differs_sentence(alloc, wrong),
         SegmentEvidence::Stale(touch) => stale_sentence(alloc, touch),
+        SegmentEvidence::Reachable(wrong) => release_sentence(alloc, wrong.call, wrong.why),
     }
 }

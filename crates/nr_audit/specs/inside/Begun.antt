@@ -1,5 +1,5 @@
 -- What is found of a start, and the touches of a segment as a list. No public clause cites this file.
-use Rattle.std.specs.Prelude.{◌≡◌, ℕ, ◌+◌, ◌<◌, ◌≤◌, List, length, slice_get, Option, Some, None, All, Contains, IsTrue}
+use Rattle.std.specs.Prelude.{◌≡◌, ℕ, ◌+◌, ◌<◌, ◌≤◌, Bool, List, length, slice_get, true, false, Option, Some, None, All, Contains, IsTrue}
 use Rattle.std.specs.List.{AllPairs}
 use Rattle.vs_types.specs.Page.{bytes_of, covers, IsPage}
 use Rattle.vs_types.specs.Space.{Space}
@@ -7,12 +7,15 @@ use Rattle.vs_types.specs.declared.depth.Depth.{Depth}
 use Rattle.vs_types.specs.declared.page.Page.{Page}
 use Rattle.vs_types.specs.declared.page.TheConstants.Page.{PHYS_END}
 use Rattle.vs_walk.specs.Differences.{IsStray}
+use Rattle.vs_types.specs.declared.op.Action.{Action}
+use Rattle.vs_types.specs.declared.op.Action.TheVariants.{Map, Unmap, Protect}
 use Rattle.vs_walk.specs.Dump.{Image}
 use Rattle.vs_walk.specs.Traversal.{walk_fault}
-use Rattle.nr_trace.specs.Recording.{Recording}
-use Rattle.nr_trace.specs.Calls.{Answers, IsTouch}
+use Rattle.nr_trace.specs.Recording.{IsRecording, Recording}
+use Rattle.nr_trace.specs.Calls.{operation_of, Answers, IsTouch}
 use Rattle.nr_trace.specs.declared.event.Event.{Event}
 use Rattle.nr_trace.specs.declared.event.Event.TheVariants as events
+use Rattle.nr_touch.specs.declared.release.Release.{Release}
 use Rattle.nr_touch.specs.declared.touch.Touch.{Touch}
 use Rattle.nr_trace.specs.declared.fault.Fault.{Fault}
 use Rattle.nr_trace.specs.declared.fault.Fault.TheVariants.{StartMissing, StartShared, StartReserved, StartStray, StartBeyond, StartDiffers}
@@ -20,7 +23,8 @@ use Rattle.nr_joined.specs.Run.{Run}
 use Rattle.nr_touch.specs.Tails.{IsTailOf}
 use Rattle.nr_touch.specs.declared.tail.Tail.{Tail}
 use Rattle.nr_audit.specs.Start.{HoldsOfStart}
-use Rattle.nr_audit.specs.Touches.{HasTouch, IsStale}
+use Rattle.nr_audit.specs.Releases.{HasRelease, IsWrongAt}
+use Rattle.nr_audit.specs.Touches.{known_when, HasTouch, IsStale}
 
 -- the first fault of the traversal comes first, then a stray frame, then a page beyond, then an address that differs
 abbrev pub rank_in_start : Fault → ℕ
@@ -67,14 +71,14 @@ IsFirstBeyond pages base = (index : ℕ) × (page : Page) × (slice_get pages in
 abbrev pub HasNoneBeyond : List Page → Type 0
 HasNoneBeyond pages = All (λ page. page.phys + bytes_of page.size ≤ PHYS_END) pages
 
--- the touch that is made by one event, of this number, and answered by another, of that number, if these are that
-abbrev pub touch_by : ℕ → ℕ → Option Event → Option Event → Option Touch
-touch_by made answered (Some (events.Touch replica thread address mode access)) (Some (events.Reply call at answer)) =
-    Some (record { made = made; answered = answered; address = address; mode = mode; access = access; answer = answer })
-touch_by made answered event reply = None
+-- the touch that is made by one event, of this number, and answered by another, of that number, if these are that; so many entries are known at it
+abbrev pub touch_by : ℕ → ℕ → ℕ → Option Event → Option Event → Option Touch
+touch_by made answered known (Some (events.Touch replica thread address mode access)) (Some (events.Reply call at answer)) =
+    Some (record { made = made; answered = answered; known = known; address = address; mode = mode; access = access; answer = answer })
+touch_by made answered known event reply = None
 
 abbrev pub touch_between : Recording → ℕ → ℕ → Option Touch
-touch_between segment made answered = touch_by made answered (slice_get segment.events made) (slice_get segment.events answered)
+touch_between segment made answered = touch_by made answered (known_when segment made) (slice_get segment.events made) (slice_get segment.events answered)
 
 -- the answered touches that are made below an event, by the event at which they are made
 pub record AreTouchesBelow (segment : Recording) (end : ℕ) (touches : List Touch) : Type 0 where
@@ -88,7 +92,7 @@ IsTouchAt segment made None = (touch : Touch) → HasTouch segment touch → tou
 IsTouchAt segment made (Some touch) =
     HasTouch segment touch × (touch.made ≡ made) × ((other : Touch) → HasTouch segment other → other.made ≡ made → other ≡ touch)
 
--- an event is a touch
+-- an event is a touch or a release
 abbrev pub HasSomeTouch : Recording → Type 0
 HasSomeTouch segment = (call : ℕ) × IsTouch segment call
 
@@ -100,11 +104,50 @@ IsPlaceAnswered segment place = (call : ℕ) → slice_get segment.log place ≡
 abbrev pub ArePlacesAnswered : Recording → Type 0
 ArePlacesAnswered segment = (place : ℕ) → place < length segment.log → IsPlaceAnswered segment place
 
--- nothing is left so far, the segment has no touch, and nothing is left by it
+-- whether an operation gives a page other rights
+abbrev pub is_protect : Option Action → Bool
+is_protect (Some (Protect base rights)) = true
+is_protect (Some (Map page)) = false
+is_protect (Some (Unmap base)) = false
+is_protect None = false
+
+-- the call that the log has at the place gives no page other rights
+abbrev pub IsPlacePlain : Recording → ℕ → Type 0
+IsPlacePlain segment place = (call : ℕ) → slice_get segment.log place ≡ Some call → is_protect (operation_of segment call) ≡ false
+
+-- no call of the log does
+abbrev pub ArePlacesPlain : Recording → Type 0
+ArePlacesPlain segment = (place : ℕ) → place < length segment.log → IsPlacePlain segment place
+
+-- nothing is left so far, the segment has no touch, release or protect, and nothing is left by it
 pub record IsQuiet (segment : Recording) (tail : Tail) : Type 0 where
   pub none : IsTailOf None tail
   pub untouched : HasSomeTouch segment → ⊥
   pub answered : ArePlacesAnswered segment
+  pub plain : ArePlacesPlain segment
+  pub in_range : IsRecording segment
+
+-- the release that is made by an event, of this number, if it is one; it is answered by nothing but Done, or not
+abbrev pub release_by : ℕ → Bool → Option Event → Option Release
+release_by made done (Some (events.Release replica thread size phys)) = Some (record { made = made; size = size; phys = phys; is_done = done })
+release_by made done event = None
+
+-- the releases that are made below an event, by the event at which they are made
+pub record AreReleasesBelow (segment : Recording) (end : ℕ) (releases : List Release) : Type 0 where
+  pub each : (index : ℕ) (release : Release) → slice_get releases index ≡ Some release → HasRelease segment release × (release.made < end)
+  pub all : (release : Release) → HasRelease segment release → release.made < end → (index : ℕ) × (slice_get releases index ≡ Some release)
+  pub rising : AllPairs (λ first second. first.made < second.made) releases
+
+-- the release that is made at an event, if there is one
+abbrev pub IsReleaseAt : Recording → ℕ → Option Release → Type 0
+IsReleaseAt segment made None = (release : Release) → HasRelease segment release → release.made ≡ made → ⊥
+IsReleaseAt segment made (Some release) =
+    HasRelease segment release × (release.made ≡ made) × ((other : Release) → HasRelease segment other → other.made ≡ made → other ≡ release)
+
+-- the release of this number is wrong, and none of a lower number is
+pub record IsFirstWrong (before : Option Run) (start : Space) (segment : Recording) (call : ℕ) : Type 0 where
+  pub wrong : IsWrongAt before start segment call
+  pub none_lower : (lower : ℕ) → lower < call → IsWrongAt before start segment lower → ⊥
 
 -- the touch of this number is stale, and none of a lower number is
 pub record IsFirstStale (before : Option Run) (start : Space) (segment : Recording) (call : ℕ) : Type 0 where

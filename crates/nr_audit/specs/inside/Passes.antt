@@ -3,7 +3,7 @@ use Rattle.std.specs.Prelude.{◌≡◌, ℕ, ⊤}
 use Rattle.nr_trace.specs.declared.fault.Fault.{Fault}
 use Rattle.nr_trace.specs.declared.fault.Fault.TheVariants.{ThreadOpen, NoSuchCall, AnsweredTwice, NotAnUpdate, PlacedTwice, NotPlaced, PastLog, Early}
 use Rattle.nr_trace.specs.declared.fault.Fault.TheVariants.{WrongAnswer, PrefixPastLog, PrefixShort, MissingFrame, SharedFrame, ReservedBit, StrayFrame}
-use Rattle.nr_trace.specs.declared.fault.Fault.TheVariants.{Differs, Stale}
+use Rattle.nr_trace.specs.declared.fault.Fault.TheVariants.{Differs, Stale, Reachable}
 
 -- a fault of calls and replies, at the event of this index
 abbrev pub IsCallFaultAt : ℕ → Fault → Type 0
@@ -56,6 +56,10 @@ IsAnswerFault fault = ⊥
 abbrev pub IsTouchFault : Fault → Type 0
 IsTouchFault (Stale call) = ⊤
 IsTouchFault fault = ⊥
+
+abbrev pub IsReleaseFault : Fault → Type 0
+IsReleaseFault (Reachable call) = ⊤
+IsReleaseFault fault = ⊥
 
 abbrev pub IsFloorFault : Fault → Type 0
 IsFloorFault fault = (call : ℕ) × IsFloorFaultAt call fault

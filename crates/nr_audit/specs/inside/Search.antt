@@ -4,18 +4,20 @@ use Rattle.vs_types.specs.Space.{Space, no_pages}
 use Rattle.nr_trace.specs.Recording.{Recording}
 use Rattle.nr_trace.specs.Faults.{HasFaultFrom, Earlier}
 use Rattle.nr_trace.specs.declared.fault.Fault.{Fault}
-use Rattle.nr_trace.specs.declared.fault.Fault.TheVariants.{Early, Stale}
+use Rattle.nr_trace.specs.declared.fault.Fault.TheVariants.{Early, Stale, Reachable}
 use Rattle.nr_joined.specs.Run.{Run}
+use Rattle.nr_audit.specs.Releases.{IsWrongAt}
 use Rattle.nr_audit.specs.Touches.{IsStale}
 use Rattle.nr_audit.specs.inside.Passes.{IsFloorFault, IsFloorFaultAt}
 
--- what each fault behind the start but that of touches says of a trace or a segment that begins with this space
+-- what each fault behind the start but those of touches and releases says of a trace or a segment that begins with this space
 abbrev pub HasFaultOn : Space → Recording → Fault → Type 0
 HasFaultOn start trace fault = HasFaultFrom start trace fault
 
 -- what each says of a segment behind a run
 abbrev pub HasFaultBehind : Option Run → Space → Recording → Fault → Type 0
 HasFaultBehind before start segment (Stale call) = IsStale before start segment call
+HasFaultBehind before start segment (Reachable call) = IsWrongAt before start segment call
 HasFaultBehind before start segment fault = HasFaultFrom start segment fault
 
 abbrev pub HasNoFaultBehind : Option Run → Space → Recording → Type 0
@@ -49,6 +51,12 @@ pub record IsFirstAmongFrom (start : Space) (Among : Fault → Type 0) (trace : 
 
 abbrev pub IsFirstAmong : (Fault → Type 0) → Recording → Fault → Type 0
 IsFirstAmong Among trace fault = IsFirstAmongFrom no_pages Among trace fault
+
+-- the fault of a stale touch, or else of a release that is wrong, if there is one
+abbrev pub late_fault : Option ℕ → Option ℕ → Option Fault
+late_fault (Some call) reachable = Some (Stale call)
+late_fault None (Some call) = Some (Reachable call)
+late_fault None None = None
 
 -- the fault is the first behind any run, from each start on
 abbrev pub IsFirstFromAny : Recording → Fault → Type 0

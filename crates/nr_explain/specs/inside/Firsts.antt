@@ -6,17 +6,28 @@ use Rattle.nr_trace.specs.Recording.{Recording}
 use Rattle.nr_trace.specs.Faults.{Earlier, HasFaultFrom}
 use Rattle.nr_trace.specs.Laws.{HasCleanLog}
 use Rattle.nr_trace.specs.declared.fault.Fault.{Fault}
-use Rattle.nr_trace.specs.declared.fault.Fault.TheVariants.{StartMissing, StartShared, StartReserved, StartStray, StartBeyond, StartDiffers, Stale}
+use Rattle.nr_trace.specs.declared.fault.Fault.TheVariants.{StartMissing, StartShared, StartReserved, StartStray, StartBeyond, StartDiffers, Stale, Reachable}
 use Rattle.nr_touch.specs.Looks.{IsLookLeft}
+use Rattle.nr_touch.specs.Releases.{IsWrongRelease}
+use Rattle.nr_touch.specs.Tails.{GoesOn}
+use Rattle.nr_touch.specs.declared.release.Release.{Release}
 use Rattle.nr_touch.specs.declared.tail.Left.{Left}
 use Rattle.nr_touch.specs.declared.touch.Touch.{Touch}
 use Rattle.nr_audit.specs.Start.{first_space, BeginsRight, HasStartFault}
+use Rattle.nr_audit.specs.Releases.{HasRelease}
 use Rattle.nr_audit.specs.Touches.{HasTouch}
 use Rattle.nr_explain.specs.Facts.{asked_address}
+use Rattle.nr_explain.specs.Progress.{ChainState, Seen, run_in, IsSeenOf}
+use Rattle.nr_explain.specs.inside.Reading.{space_seen}
+use Rattle.nr_explain.specs.declared.chain.evidence.Leading.{Leading}
+use Rattle.nr_explain.specs.declared.chain.evidence.Leading.TheVariants.{Within, Earlier as Before}
+use Rattle.nr_explain.specs.declared.chain.evidence.Reach.{Reach}
+use Rattle.nr_explain.specs.declared.chain.evidence.WhyWrong.{WhyWrong}
+use Rattle.nr_explain.specs.declared.chain.evidence.WhyWrong.TheVariants.{Otherwise, Reached}
 use Rattle.nr_explain.specs.declared.chain.evidence.SegmentEvidence.{SegmentEvidence}
 use Rattle.nr_explain.specs.declared.chain.evidence.SegmentEvidence.TheVariants as evidence
 
--- what each fault but that of touches says of a segment, where that is the space before it, or no segment is
+-- what each fault but those of touches and releases says of a segment, where that is the space before it, or no segment is
 abbrev pub HasFaultOver : Option Space → Recording → Fault → Type 0
 HasFaultOver before segment (StartMissing number) = HasStartFault before segment (StartMissing number)
 HasFaultOver before segment (StartShared number) = HasStartFault before segment (StartShared number)
@@ -26,7 +37,7 @@ HasFaultOver before segment (StartBeyond base) = HasStartFault before segment (S
 HasFaultOver before segment (StartDiffers address) = HasStartFault before segment (StartDiffers address)
 HasFaultOver before segment fault = HasFaultFrom (first_space before segment) segment fault
 
--- the fault holds of the segment, and no earlier one does but perhaps one of a touch
+-- the fault holds of the segment, and no earlier one does but perhaps one of a touch or a release
 pub record IsFirstOver (before : Option Space) (segment : Recording) (fault : Fault) : Type 0 where
   pub holds : HasFaultOver before segment fault
   pub none_earlier : (other : Fault) → HasFaultOver before segment other → Earlier segment other fault → ⊥
@@ -39,15 +50,41 @@ pub record IsTouchToShow (before : Option Space) (segment : Recording) (call : �
   pub has : HasTouch segment touch
   pub made : touch.made ≡ call
 
+-- the call of this number is a release that is wrong behind some run of which this is kept, and nothing is wrong with the events and the log
+pub record IsReleaseToShow (seen : Option Seen) (start : Space) (segment : Recording) (call : ℕ) : Type 0 where
+  pub clean : HasCleanLog segment
+  pub came : Option ChainState
+  pub kept : IsSeenOf came seen
+  pub goes_on : GoesOn (run_in came) segment start
+  pub release : Release
+  pub has : HasRelease segment release
+  pub made : release.made ≡ call
+  pub wrong : IsWrongRelease (run_in came) start segment release
+
 -- what is to be known of the first fault of a segment, so that it can be shown
-abbrev pub IsToShow : Option Space → Recording → Fault → Type 0
-IsToShow before segment (Stale call) = IsTouchToShow before segment call
-IsToShow before segment fault = IsFirstOver before segment fault
+abbrev pub IsToShow : Option Seen → Recording → Fault → Type 0
+IsToShow seen segment (Stale call) = IsTouchToShow (space_seen seen) segment call
+IsToShow seen segment (Reachable call) =
+    BeginsRight (space_seen seen) segment × IsReleaseToShow seen (first_space (space_seen seen) segment) segment call
+IsToShow seen segment fault = IsFirstOver (space_seen seen) segment fault
 
 -- what shows a stale touch has just the looks that the changes leave, where it may be answered from no entry of its segment
 abbrev pub AreEarlierLeft : List Left → ℕ → ℕ → List Answer → Type 0
 AreEarlierLeft changes address first looks = (look : Answer) → Contains looks look ↔ ((first ≡ 0) × IsLookLeft changes address look)
 
+-- an address that leads somewhere behind the segments before has such a look
+abbrev pub IsLeftAs : List Left → ℕ → Answer → Leading → Type 0
+IsLeftAs changes address look (Within entries taken) = ⊤
+IsLeftAs changes address look Before = IsLookLeft changes address look
+
+abbrev pub IsReachLeft : List Left → Reach → Type 0
+IsReachLeft changes reach = IsLeftAs changes reach.address reach.look reach.leading
+
+abbrev pub ShowsReachLeft : List Left → WhyWrong → Type 0
+ShowsReachLeft changes (Otherwise reply) = ⊤
+ShowsReachLeft changes (Reached reply reach) = IsReachLeft changes reach
+
 abbrev pub ShowsLeft : List Left → SegmentEvidence → Type 0
+ShowsLeft changes (evidence.Reachable wrong) = ShowsReachLeft changes wrong.why
 ShowsLeft changes (evidence.Stale stale) = AreEarlierLeft changes (asked_address stale.call.request) stale.first stale.earlier.items
 ShowsLeft changes shown = ⊤

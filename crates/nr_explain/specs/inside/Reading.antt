@@ -9,7 +9,8 @@ use Rattle.nr_trace.specs.declared.fault.Format.TheVariants.{Truncated}
 use Rattle.nr_trace.specs.declared.version.Form.TheVariants as forms
 use Rattle.nr_audit.specs.Start.{first_space, start_space, BeginsRight}
 use Rattle.nr_audit.specs.declared.past.Past.{Past}
-use Rattle.nr_touch.specs.Tails.{AreSound}
+use Rattle.nr_joined.specs.Run.{Run}
+use Rattle.nr_touch.specs.Tails.{AreSound, IsTailOfRun}
 use Rattle.nr_touch.specs.declared.tail.Left.{Left}
 use Rattle.vs_types.specs.Config.{Layout}
 use Rattle.vs_types.specs.Space.{Space, pages}
@@ -27,7 +28,7 @@ abbrev pub state_of : Progress → Seen
 state_of came = record {
   layout = came.layout;
   space = came.space.space;
-  left = came.tail.changes.items;
+  tail = came.tail;
   began = option_map (λ (space : BoundedSpace). space.space) came.began;
   sums = came.sums;
 }
@@ -51,7 +52,7 @@ sums_seen (Some last) = last.sums
 -- the changes that the segments leave
 abbrev pub left_seen : Option Seen → List Left
 left_seen None = []
-left_seen (Some last) = last.left
+left_seen (Some last) = last.tail.changes.items
 
 -- the space with which the chain begins, where its first segment has a start, as this segment comes next
 abbrev pub began_seen : Option Seen → Recording → Option Space
@@ -66,9 +67,12 @@ counts_seen last = record {
   updates = last.sums.updates;
   reads = last.sums.reads;
   touches = last.sums.touches;
+  releases = last.sums.releases;
   dumps = last.sums.dumps;
   replicas = last.layout.replicas;
   pages = length (pages last.space);
+  overlapping = last.sums.overlapping;
+  beside = last.sums.beside;
 }
 
 -- the evidence shows the fault of a segment that comes next, by what is kept
@@ -80,6 +84,7 @@ IsShownSeen seen segment fault shown =
 pub record IsTwice (came : Progress) (past : Past) : Type 0 where
   pub space : past.space ≡ came.space
   pub left : past.tail.changes.items ≡ came.tail.changes.items
+  pub tail : (run : Run) → IsTailOfRun run came.tail → IsTailOfRun run past.tail
 
 abbrev pub AreTwice : Option Progress → Option Past → Type 0
 AreTwice None None = ⊤

@@ -6,14 +6,14 @@ use Rattle.vs_walk.specs.Dump.{Image}
 use Rattle.vs_walk.specs.Traversal.{walk_fault}
 use Rattle.nr_audit.specs.Start.{HasPageBeyond}
 use Rattle.nr_trace.specs.declared.fault.Fault.{Fault}
-use Rattle.nr_trace.specs.declared.fault.Fault.TheVariants.{StartMissing, StartShared, StartReserved, StartStray, StartBeyond, StartDiffers, Stale}
+use Rattle.nr_trace.specs.declared.fault.Fault.TheVariants.{StartMissing, StartShared, StartReserved, StartStray, StartBeyond, StartDiffers, Stale, Reachable}
 use Rattle.nr_explain.specs.ChainEvidence.{IsStartBeyond}
 use Rattle.nr_explain.specs.Evidence.{IsMissingTable, IsReservedEntry, IsSharedTable}
 use Rattle.nr_explain.specs.declared.trace.evidence.Owner.TheVariants as owners
 use Rattle.nr_explain.specs.declared.chain.evidence.SegmentEvidence.{SegmentEvidence}
 use Rattle.nr_explain.specs.declared.chain.evidence.SegmentEvidence.TheVariants as evidence
 
--- the fault is one that a trace may have too: none of a start, and no stale touch
+-- the fault is one that a trace may have too: none of a start, and no stale touch or wrong release
 abbrev pub is_within : Fault → Bool
 is_within (StartMissing frame) = false
 is_within (StartShared frame) = false
@@ -22,6 +22,7 @@ is_within (StartStray frame) = false
 is_within (StartBeyond base) = false
 is_within (StartDiffers address) = false
 is_within (Stale call) = false
+is_within (Reachable call) = false
 is_within fault = true
 
 -- the fault holds of the tables, and where it is one of a page, the traversal has none

@@ -1,8 +1,13 @@
 -- The moments from which a touch may be answered, as they are looked for. No public clause cites this file.
-use Rattle.std.specs.Prelude.{◌≡◌, ℕ, ◌+◌, ◌<◌, ◌≤◌, ◌⊎◌, length, List, All, AllPairs, Contains}
-use Rattle.vs_types.specs.Space.{Space}
+use Rattle.std.specs.Prelude.{◌≡◌, ℕ, ◌+◌, ◌<◌, ◌≤◌, ◌⊎◌, length, take, List, All, AllPairs, Contains}
+use Rattle.vs_types.specs.Space.{Space, IsSpace}
+use Rattle.vs_types.specs.declared.answer.Answer.{Answer}
+use Rattle.vs_types.specs.declared.answer.Answer.TheVariants.{Mapped}
+use Rattle.vs_types.specs.declared.page.Rights.{Rights}
+use Rattle.vs_types.specs.declared.page.Size.{Size}
+use Rattle.nr_trace.specs.Orders.{space_from}
 use Rattle.nr_trace.specs.Recording.{Recording}
-use Rattle.nr_touch.specs.Touches.{ChangesLook, IsAnsweredBefore, IsMadeAfter}
+use Rattle.nr_touch.specs.Touches.{ChangesLook, Includes, IsAnsweredBefore, IsMadeAfter, OnlyWidens}
 use Rattle.nr_explain.specs.Facts.{looks_from}
 use Rattle.nr_explain.specs.ChainFacts.{IsChangedAt}
 use Rattle.nr_explain.specs.declared.chain.evidence.Moment.{Moment}
@@ -14,6 +19,11 @@ IsFlushed start segment address made place = ChangesLook start segment address p
 
 abbrev pub IsForeseen : Space → Recording → ℕ → ℕ → ℕ → Type 0
 IsForeseen start segment address answered place = ChangesLook start segment address place × IsMadeAfter segment place answered
+
+-- a number of entries is none, or the last of them is such an update
+abbrev pub HasReached : Space → Recording → ℕ → ℕ → ℕ → Type 0
+HasReached start segment address made first =
+    (first ≡ 0) ⊎ ((place : ℕ) × (place + 1 ≡ first) × (place < length segment.log) × IsFlushed start segment address made place)
 
 -- of the places below an end, those behind and those before which the window lies
 pub record IsWindowBelow (start : Space) (segment : Recording) (address made answered end : ℕ) (window : Window) : Type 0 where
@@ -38,3 +48,20 @@ pub record AreLooksBelow (start : Space) (segment : Recording) (address first en
   pub changed : All (λ moment. (moment.entries ≡ first) ⊎ IsChangedAt start segment address moment.entries) looks
   pub all : (n : ℕ) → first ≤ n → n < end → (n ≡ first) ⊎ IsChangedAt start segment address n
       → (moment : Moment) × Contains looks moment × (moment.entries ≡ n)
+
+-- an address looks as by the same page before, with rights that include those that it had
+pub record AddsRights (before then : Answer) : Type 0 where
+  pub phys : ℕ
+  pub size : Size
+  pub old : Rights
+  pub new : Rights
+  pub was : before ≡ Mapped phys size old
+  pub is : then ≡ Mapped phys size new
+  pub more : Includes old new
+
+-- of the updates of these places none does more than add rights, and how the address looks behind them
+pub record IsKeptTo (start : Space) (segment : Recording) (address from place : ℕ) (looks : Answer) : Type 0 where
+  pub begun : from ≤ place
+  pub looked : looks ≡ looks_from start segment address place
+  pub is_space : IsSpace segment.layout.depth (space_from start segment (take place segment.log))
+  pub widens : OnlyWidens start segment address from place

@@ -7,8 +7,10 @@ ghost use Rattle.nr_explain.specs.Evidence.{IsOtherAnswer};
 ghost use Rattle.nr_explain.specs.Facts.{address_about, asked_address};
 
 use crate::search::events::call_at;
+use crate::search::memory::memory_of;
+use crate::search::nearest::nearest;
 use crate::search::replies::first_reply;
-use crate::search::spaces::{answer_after, last_look, no_pages};
+use crate::search::spaces::{answer_after, last_look, no_pages, space_at};
 use crate::trace::evidence::OtherAnswer;
 use nr_trace::Trace;
 use std::alloc::Global;
@@ -37,8 +39,8 @@ pub fn address_about(request: Request, answer: Answer) -> u64
     }
 }
 
-/// The call that is answered otherwise than the space answers it, that answer, and the last update that made it so. Allocates
-/// memory for a space, and for another when that one is freed.
+/// The call that is answered otherwise than the space answers it, that answer, the last update that made it so, and what is near: where
+/// the answer would have been right, and where its memory is. Allocates memory for a space, and for others when that one is freed.
 pub(crate) fn other_answer(alloc: Global, trace: &Trace, index: u32) -> Result<OtherAnswer, Memory>
     requires { IsFirst trace.now (WrongAnswer index) }
     ensures event { IfOk result (λ wrong. wrong.call.event ≡ index) }
@@ -51,11 +53,17 @@ pub(crate) fn other_answer(alloc: Global, trace: &Trace, index: u32) -> Result<O
     let wanted = answer_after(trace, no_pages(alloc, trace), call.request, reply.at)?;
     let address = address_about(call.request, wanted);
     let last = last_look(trace, no_pages(alloc, trace), address, reply.at)?;
+    let empty = no_pages(alloc, trace);
+    let right = nearest(trace, empty, call.request, reply.answer, reply.at, reply.at)?;
+    let then = space_at(alloc, trace, reply.at)?;
+    let memory = memory_of(&then, reply.answer)?;
     Ok(OtherAnswer {
         call,
         reply,
         wanted,
         address,
         changed: last.1,
+        right,
+        memory,
     })
 }

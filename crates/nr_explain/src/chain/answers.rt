@@ -8,8 +8,10 @@ ghost use Rattle.nr_explain.specs.Evidence.{IsOtherAnswerFrom};
 
 use crate::calls::answers::address_about;
 use crate::search::events::call_at;
+use crate::search::memory::memory_of;
+use crate::search::nearest::nearest;
 use crate::search::replies::reply_to;
-use crate::search::spaces::{answer_after, last_look};
+use crate::search::spaces::{answer_after, last_look, space_from};
 use crate::trace::evidence::OtherAnswer;
 use nr_audit::copy;
 use nr_trace::Trace;
@@ -17,8 +19,9 @@ use std::alloc::Global;
 use vs_plain::PlainSpace;
 use vs_types::Memory;
 
-/// The call that is answered otherwise than the space answers it, where the segment begins with this one; that answer, and the last
-/// update of the segment that made it so. Allocates memory for a copy of the space, and for another when that one is freed.
+/// The call that is answered otherwise than the space answers it, where the segment begins with this one; that answer, the last update of
+/// the segment that made it so, and what is near: where the answer would have been right, and where its memory is. Allocates memory for a
+/// copy of the space, and for others when that one is freed.
 pub(crate) fn other_answer(
     alloc: Global,
     segment: &Trace,
@@ -40,11 +43,25 @@ pub(crate) fn other_answer(
     let address = address_about(call.request, wanted);
     let again = copy(alloc, tables, first)?;
     let last = last_look(segment, again, address, reply.at)?;
+    let before = copy(alloc, tables, first)?;
+    let right = nearest(
+        segment,
+        before,
+        call.request,
+        reply.answer,
+        reply.at,
+        reply.at,
+    )?;
+    let begun = copy(alloc, tables, first)?;
+    let then = space_from(segment, begun, reply.at)?;
+    let memory = memory_of(&then, reply.answer)?;
     Ok(OtherAnswer {
         call,
         reply,
         wanted,
         address,
         changed: last.1,
+        right,
+        memory,
     })
 }

@@ -4,9 +4,10 @@ ghost use Rattle.std.specs.Prelude.{◌≡◌};
 ghost use Rattle.nr_explain.specs.Progress.{sum_up};
 
 use crate::trace::evidence::{
-    Difference, Evidence, MissingTable, OtherAnswer, RecordedCall, RecordedReply, ReservedEntry,
-    SharedTable, TableEntry,
+    Difference, Evidence, MissingTable, OtherAnswer, PlacedUpdate, RecordedCall, RecordedReply,
+    ReservedEntry, SharedTable, TableEntry,
 };
+use crate::trace::nearby::RightAfter;
 use crate::units::BadUnit;
 use vs_types::{Answer, Page};
 use vs_walk::Walk;
@@ -70,6 +71,23 @@ pub struct Moment {
     pub look: Answer,
 }
 
+/// How far the table of a touch's replica may lag behind the log.
+#[derive(Clone, Copy, Debug, PartialEq, Eq)]
+pub struct Lag {
+    /// How many entries its replica was known to have applied when the touch was made.
+    pub known: u64,
+    /// The first reply that shows so many, if there are any.
+    pub shown: Option<RecordedReply>,
+}
+
+/// An update that was over before a touch was made.
+#[derive(Clone, Copy, Debug, PartialEq, Eq)]
+pub struct MissedUpdate {
+    pub update: PlacedUpdate,
+    /// The first reply to it, which comes before the touch.
+    pub reply: RecordedReply,
+}
+
 /// A touch that is answered as its address was at no moment that was still allowed.
 #[derive(Debug, Drop)]
 pub struct StaleTouch {
@@ -79,11 +97,75 @@ pub struct StaleTouch {
     pub first: u32,
     /// The most. No moment is allowed where they are fewer than the fewest.
     pub last: u32,
+    /// How far the table of its replica may lag, where the touch found no page: then it may be answered from the entries that were known
+    /// on, too.
+    pub lag: Option<Lag>,
     /// How its address looked at the first of these moments, and then after each update that changed that, up to the last.
     pub looks: Vec<Moment>,
     /// Where the fewest is none, how its address may still be found to look behind the segments before, too: as before updates that
     /// their segments never answered. Else none.
     pub earlier: Vec<Answer>,
+    /// The last update of its segment that changed how its address looks and was answered before the touch was made, if there is one. The
+    /// touch should have seen it.
+    pub missed: Option<MissedUpdate>,
+    /// After how many entries of its segment's log the space gives its answer: nearest below the fewest, and nearest above the most.
+    pub right: RightAfter,
+    /// Where the touch found a page that doesn't allow it, what ended that it may fault so by rights that were kept.
+    pub kept: Option<Kept>,
+}
+
+/// What ended that a touch may fault by rights that were kept while others were added.
+#[derive(Clone, Copy, Debug, PartialEq, Eq)]
+pub struct Kept {
+    /// The first update that did more than add rights to the page, from the last entries below the fewest on after which the space gives
+    /// the touch's answer. `None` where there are no such entries, or no such update.
+    pub taken: Option<TakenAway>,
+}
+
+/// An update that takes away what an address had before it: that it leads into some memory, or rights that may be kept.
+#[derive(Clone, Copy, Debug, PartialEq, Eq)]
+pub struct TakenAway {
+    pub update: PlacedUpdate,
+    /// The first reply to it, if there is one.
+    pub reply: Option<RecordedReply>,
+}
+
+/// When an address leads into some memory.
+#[derive(Clone, Copy, Debug, PartialEq, Eq)]
+pub enum Leading {
+    /// After so many entries of its segment's log, the most that are allowed; and what takes that away from then on, if something does.
+    Within(u32, Option<TakenAway>),
+    /// Behind the segments before: as before an update of them that was never answered.
+    Earlier,
+}
+
+/// An address from which an access that begins with a release may reach the memory that it gives away.
+#[derive(Clone, Copy, Debug, PartialEq, Eq)]
+pub struct Reach {
+    pub address: u64,
+    /// The fewest entries of its segment's log after which the access may be answered.
+    pub first: u32,
+    /// The most.
+    pub last: u32,
+    /// How the address looks then: it leads into the memory.
+    pub look: Answer,
+    pub leading: Leading,
+}
+
+/// Why a release is wrong.
+#[derive(Clone, Copy, Debug, PartialEq, Eq)]
+pub enum WhyWrong {
+    /// This first reply to it is another one than `Done`.
+    Otherwise(RecordedReply),
+    /// Its memory may be reached so; and the first reply to it, if there is one.
+    Reached(Option<RecordedReply>, Reach),
+}
+
+/// A release of memory that may still be reached, or that is answered otherwise than by `Done`.
+#[derive(Clone, Copy, Debug, PartialEq, Eq)]
+pub struct WrongRelease {
+    pub call: RecordedCall,
+    pub why: WhyWrong,
 }
 
 /// What shows a fault of a segment.
@@ -105,4 +187,5 @@ pub enum SegmentEvidence {
     StartBeyond(StartBeyond),
     StartDiffers(StartDiffers),
     Stale(StaleTouch),
+    Reachable(WrongRelease),
 }

@@ -6,8 +6,9 @@ ghost use Rattle.nr_trace.specs.Faults.{IsFirstFrom};
 ghost use Rattle.nr_explain.specs.Dumps.{replica_of};
 ghost use Rattle.nr_explain.specs.ChainEvidence.{IsOfItself};
 ghost use Rattle.nr_explain.specs.inside.Itself.{IsShownByItself};
-ghost use Rattle.nr_explain.specs.inside.Firsts.{IsFirstOver, IsToShow, IsTouchToShow, ShowsLeft};
-ghost use Rattle.nr_explain.specs.inside.Reading.{all_states, left_seen, space_seen, FitsSegment, IsShownSeen};
+ghost use Rattle.nr_audit.specs.Start.{first_space};
+ghost use Rattle.nr_explain.specs.inside.Firsts.{IsFirstOver, IsReleaseToShow, IsToShow, IsTouchToShow, ShowsLeft};
+ghost use Rattle.nr_explain.specs.inside.Reading.{all_states, left_seen, space_seen, BeginsWell, FitsSegment, IsShownSeen};
 ghost use Rattle.nr_explain.specs.inside.Starts.{is_within};
 
 use crate::chain::answers::other_answer;
@@ -15,6 +16,7 @@ use crate::chain::differences::difference;
 use crate::chain::evidence::SegmentEvidence;
 use crate::chain::origins::origin_of;
 use crate::chain::progress::Progress;
+use crate::chain::releases::wrong_release;
 use crate::chain::spaces::begin;
 use crate::chain::starts::explain_start;
 use crate::chain::touches::stale_touch;
@@ -84,6 +86,7 @@ fn is_within(fault: Fault) -> bool
             | Fault::StartBeyond(_)
             | Fault::StartDiffers(_)
             | Fault::Stale(_)
+            | Fault::Reachable(_)
     )
 }
 
@@ -137,9 +140,28 @@ fn explain_touch(
     Ok(SegmentEvidence::Stale(stale_touch(alloc, last, segment, &first, call)?))
 }
 
+/// A release that is wrong, and from where its memory may be reached.
+fn explain_release(
+    alloc: Global,
+    last: &Option<Progress>,
+    segment: &Trace,
+    call: u32,
+) -> Result<SegmentEvidence, Memory>
+    requires fits { IfSome last.now (FitsSegment segment.now) }
+    requires well { BeginsWell last.now segment.now }
+    requires release { IsReleaseToShow (all_states last.now)
+        (first_space (space_seen (all_states last.now)) segment.now) segment.now call }
+    ensures shown { IfOk result
+        (IsShownSeen (all_states last.now) segment.now (Fault.Reachable call)) }
+    ensures left { IfOk result (ShowsLeft (left_seen (all_states last.now))) }
+{
+    let first = begin(alloc, last, segment)?;
+    Ok(SegmentEvidence::Reachable(wrong_release(alloc, last, segment, &first, call)?))
+}
+
 /// What shows the first fault of a segment that comes behind what the segments so far have come to: each fact of it is one of the segment,
 /// of the space before it, of what lingers behind the segments before, or of the space with which the chain begins. Allocates memory for
-/// a space or two, and for what is shown.
+/// a space or two, and for what is shown; for a release what a judgement of it takes.
 pub(crate) fn explain_segment(
     alloc: Global,
     last: &Option<Progress>,
@@ -147,7 +169,7 @@ pub(crate) fn explain_segment(
     fault: Fault,
 ) -> Result<SegmentEvidence, Memory>
     requires fits { IfSome last.now (FitsSegment segment.now) }
-    requires first { IsToShow (space_seen (all_states last.now)) segment.now fault }
+    requires first { IsToShow (all_states last.now) segment.now fault }
     ensures shown { IfOk result (IsShownSeen (all_states last.now) segment.now fault) }
     ensures left { IfOk result (ShowsLeft (left_seen (all_states last.now))) }
 {
@@ -156,6 +178,7 @@ pub(crate) fn explain_segment(
     }
     match fault {
         Fault::Stale(call) => explain_touch(alloc, last, segment, call),
+        Fault::Reachable(call) => explain_release(alloc, last, segment, call),
         _ => explain_start(alloc, last, segment, fault),
     }
 }

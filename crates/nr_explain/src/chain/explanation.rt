@@ -12,11 +12,16 @@ pub struct ChainCounts {
     pub updates: u64,
     pub reads: u64,
     pub touches: u64,
+    pub releases: u64,
     /// The dumps that are there.
     pub dumps: u64,
     pub replicas: u8,
     /// The pages of the space after the last segment.
     pub pages: u64,
+    /// The answered updates and reads that were open while another one of their segment was.
+    pub overlapping: u64,
+    /// The answered touches that were open while an update of their segment was that changes how their address looks.
+    pub beside: u64,
 }
 
 /// What an audit of a chain finds, and what shows it.

@@ -1,16 +1,19 @@
 //! What the segments of a chain so far have come to.
 
 ghost use Rattle.std.specs.Prelude.{◌≡◌, ◌<◌, IfOk, IfSome, None, count_by, length, option_map};
+ghost use Rattle.nr_trace.specs.Laws.{HasCleanLog};
 ghost use Rattle.nr_trace.specs.Orders.{recorded_order, space_from};
+ghost use Rattle.nr_touch.specs.Beside.{beside};
 ghost use Rattle.nr_audit.specs.Verdict.{space_of};
 ghost use Rattle.nr_audit.specs.Start.{first_space};
-ghost use Rattle.nr_explain.specs.Progress.{is_there, is_touch, nothing_yet, sums_after};
-ghost use Rattle.nr_explain.specs.inside.Reading.{all_states, began_seen, counts_seen, space_seen, state_of, sums_seen, BeginsWell, FitsSegment};
+ghost use Rattle.nr_explain.specs.Progress.{is_release, is_there, is_touch, nothing_yet, sums_after};
+ghost use Rattle.nr_explain.specs.inside.Reading.{all_states, began_seen, counts_seen, space_seen, state_of, sums_seen, BeginsWell, FitsSegment, IsTwice};
 
 use crate::chain::explanation::ChainCounts;
-use crate::chain::spaces::{follow, start_space};
-use nr_audit::{Order, Past, copy};
-use nr_touch::Tail;
+use crate::chain::spaces::{begin_first, start_space};
+use crate::trace::meetings::overlapping;
+use nr_audit::{Order, Past};
+use nr_touch::{Tail, touches_beside};
 use nr_trace::{Event, Trace, TraceLayout};
 use std::alloc::Global;
 use vs_plain::PlainSpace;
@@ -24,7 +27,12 @@ pub(crate) struct Sums {
     pub(crate) updates: u64,
     pub(crate) reads: u64,
     pub(crate) touches: u64,
+    pub(crate) releases: u64,
     pub(crate) dumps: u64,
+    /// The answered updates and reads that were open while another one of their segment was.
+    pub(crate) overlapping: u64,
+    /// The answered touches that were open while an update of their segment was that changes how their address looks.
+    pub(crate) beside: u64,
     /// The bytes that spell them.
     pub(crate) bytes: u64,
 }
@@ -39,7 +47,10 @@ impl Sums {
             updates: 0,
             reads: 0,
             touches: 0,
+            releases: 0,
             dumps: 0,
+            overlapping: 0,
+            beside: 0,
             bytes: 0,
         }
     }
@@ -85,6 +96,23 @@ fn touches_in(segment: &Trace) -> usize
         .count()
 }
 
+fn is_release(event: Event) -> bool
+    ensures { result ≡ is_release event }
+{
+    matches!(event, Event::Release { .. })
+}
+
+/// How many releases a segment has.
+fn releases_in(segment: &Trace) -> usize
+    ensures { result ≡ count_by is_release segment.now.events }
+{
+    segment
+        .events()
+        .iter()
+        .filter(|event| is_release(event.event()))
+        .count()
+}
+
 /// How many dumps of a segment are there.
 fn dumps_in(segment: &Trace) -> usize
     ensures { result ≡ count_by is_there segment.now.dumps }
@@ -96,90 +124,109 @@ fn dumps_in(segment: &Trace) -> usize
         .count()
 }
 
-/// How much there is with a segment more, of which this is the order, and which so many bytes spell.
-fn sums_after(sums: Sums, segment: &Trace, order: &Order, size: usize) -> Sums
+/// How much there is with a segment more, of which this is the order, of which so many touches were open beside an update, and which so many
+/// bytes spell. Allocates four bytes for each event.
+fn sums_after(
+    alloc: Global,
+    sums: Sums,
+    segment: &Trace,
+    order: &Order,
+    near: u64,
+    size: usize,
+) -> Result<Sums, Memory>
     requires { order.now ≡ recorded_order segment.now }
-    ensures { result ≡ sums_after sums segment.now size }
+    ensures { IfOk result (λ after. after ≡ sums_after sums segment.now near size) }
 {
+    let meeting = overlapping(alloc, segment)?;
     let calls = order.calls().len() as u64;
     let updates = segment.log().len() as u64;
-    Sums {
+    Ok(Sums {
         segments: sums.segments.saturating_add(1),
         calls: sums.calls.saturating_add(calls),
         updates: sums.updates.saturating_add(updates),
         reads: sums.reads.saturating_add(calls - updates),
         touches: sums.touches.saturating_add(touches_in(segment) as u64),
+        releases: sums.releases.saturating_add(releases_in(segment) as u64),
         dumps: sums.dumps.saturating_add(dumps_in(segment) as u64),
+        overlapping: sums.overlapping.saturating_add(meeting),
+        beside: sums.beside.saturating_add(near),
         bytes: sums.bytes.saturating_add(size as u64),
-    }
+    })
 }
 
-/// The space after a segment, which this one is too, and that with which the chain begins, where its first segment has a start. This one
-/// may be that, and nothing is wrong with it.
-fn spaces_after(
+/// The space with which a segment begins, with whose start nothing is wrong, and that with which the chain begins, where its first segment
+/// has a start. Of a first segment it allocates memory for both, and for two checks of the start.
+fn spaces_before(
     alloc: Global,
     last: Option<Progress>,
     segment: &Trace,
-    after: &PlainSpace,
 ) -> Result<(PlainSpace, Option<PlainSpace>), Memory>
     requires fits { IfSome last (FitsSegment segment.now) }
     requires well { BeginsWell last segment.now }
-    requires after { after.now ≡ space_of segment.now.layout
-        (space_from (first_space (space_seen (all_states last)) segment.now) segment.now
-        segment.now.log) }
-    ensures space { IfOk result (λ spaces. spaces.0 ≡ after.now) }
+    ensures space { IfOk result (λ spaces. spaces.0 ≡ space_of segment.now.layout
+        (first_space (space_seen (all_states last)) segment.now)) }
     ensures began { IfOk result (λ spaces.
         option_map (λ space. space.space) spaces.1 ≡ began_seen (all_states last) segment.now) }
 {
     match last {
-        Some(came) => {
-            let space = follow(segment, came.space)?;
-            Ok((space, came.began))
-        }
+        Some(came) => Ok((came.space, came.began)),
         None => {
             let began = start_space(alloc, segment)?;
-            let space = copy(alloc, segment.layout().tables(), after)?;
+            let space = begin_first(alloc, segment)?;
             Ok((space, began))
         }
     }
 }
 
-/// What is come to with a segment more, of which this is the order, which leaves this, and which so many bytes spell. It allocates two
-/// spaces where the segment is the first, else memory for the pages that its log maps; and the changes that are left.
+/// What is come to with a segment more, of which this is the order, which leaves this, and which so many bytes spell; and what it leaves,
+/// once more. It allocates two spaces where the segment is the first, and memory for the pages that its log maps, the changes that its updates
+/// make, and a copy of what is left.
 pub(crate) fn go_on(
     alloc: Global,
     last: Option<Progress>,
     segment: &Trace,
     order: &Order,
-    after: &Past,
+    after: Past,
     size: usize,
-) -> Result<Progress, Memory>
+) -> Result<(Progress, Past), Memory>
     requires fits { IfSome last (FitsSegment segment.now) }
     requires well { BeginsWell last segment.now }
     requires order { order.now ≡ recorded_order segment.now }
-    requires after { after.now.space ≡ space_of segment.now.layout
+    requires clean { HasCleanLog segment.now }
+    requires after { after.space ≡ space_of segment.now.layout
         (space_from (first_space (space_seen (all_states last)) segment.now) segment.now
         segment.now.log) }
-    ensures layout { IfOk result (λ came. came.layout ≡ segment.now.layout) }
-    ensures space { IfOk result (λ came. came.space ≡ after.now.space) }
-    ensures left { IfOk result
-        (λ came. came.tail.changes.items ≡ after.now.tail.changes.items) }
-    ensures began { IfOk result (λ came.
-        (state_of came).began ≡ began_seen (all_states last) segment.now) }
-    ensures sums { IfOk result (λ came.
-        came.sums ≡ sums_after (sums_seen (all_states last)) segment.now size) }
+    ensures layout { IfOk result (λ done. done.0.layout ≡ segment.now.layout) }
+    ensures space { IfOk result (λ done. done.0.space ≡ after.space) }
+    ensures tail { IfOk result (λ done. done.0.tail ≡ after.tail) }
+    ensures twice { IfOk result (λ done. IsTwice done.0 done.1) }
+    ensures began { IfOk result (λ done.
+        (state_of done.0).began ≡ began_seen (all_states last) segment.now) }
+    ensures sums { IfOk result (λ done.
+        done.0.sums ≡ sums_after (sums_seen (all_states last)) segment.now
+        (beside (first_space (space_seen (all_states last)) segment.now) segment.now) size) }
 {
-    let sums = sums_after(sums_of(&last), segment, order, size);
+    let sums = sums_of(&last);
     let layout = segment.layout();
-    let (space, began) = spaces_after(alloc, last, segment, &after.space)?;
-    let tail = after.tail.copy(alloc)?;
-    Ok(Progress {
+    let (first, began) = spaces_before(alloc, last, segment)?;
+    let (near, space) = touches_beside(alloc, segment, first)?;
+    let sums = sums_after(alloc, sums, segment, order, near, size)?;
+    let left = after.tail.copy(alloc)?;
+    let Past { space: end, tail } = after;
+    let came = Progress {
         layout,
         space,
         tail,
         began,
         sums,
-    })
+    };
+    Ok((
+        came,
+        Past {
+            space: end,
+            tail: left,
+        },
+    ))
 }
 
 /// How much a chain has whose segments have come to this. Allocates memory for a list of the pages.
@@ -194,8 +241,11 @@ pub(crate) fn counts_of(came: &Progress) -> Result<ChainCounts, Memory>
         updates: sums.updates,
         reads: sums.reads,
         touches: sums.touches,
+        releases: sums.releases,
         dumps: sums.dumps,
         replicas: came.layout.replicas(),
         pages: pages.len() as u64,
+        overlapping: sums.overlapping,
+        beside: sums.beside,
     })
 }

@@ -41,13 +41,13 @@ impl Model for ChainReader {
     ghost use Rattle.std.specs.FinMap as finite;
     ghost use Rattle.std.specs.Ordering.{nat_cmp};
     ghost use Rattle.vs_types.specs.contracts.page.Page as page_contract;
-    ghost use Rattle.nr_touch.specs.contracts.tail.Left as left_contract;
+    ghost use Rattle.nr_touch.specs.contracts.tail.Tail as tail_contract;
     ghost use Rattle.nr_explain.specs.Progress.{ReaderState};
     ghost use Rattle.nr_explain.specs.inside.Reading.{all_states, IsReading};
 
     ghost Value = { ReaderState };
 
-    ghost coded = { Prim.hlevel (codes, finite.code {R = nat_cmp} coded_ℕ page_contract.the_row.coded, left_contract.the_row.coded) };
+    ghost coded = { Prim.hlevel (codes, finite.code {R = nat_cmp} coded_ℕ page_contract.the_row.coded, tail_contract.the_row.coded) };
 
     ghost view = { λ r. record { state = all_states r.last; bytes = r.bytes.items } };
 
@@ -217,12 +217,12 @@ fn judge_next(
 {
     match judge_segment(alloc, segment, before) {
         Ok((order, past)) => {
-            let came = go_on(alloc, last, segment, &order, &past, size)?;
+            let (came, kept) = go_on(alloc, last, segment, &order, past, size)?;
             let feed = SegmentFeed::new(alloc, Some(came.layout));
             let next = ChainReader {
                 alloc,
                 last: Some(came),
-                before: Some(past),
+                before: Some(kept),
                 bytes: Vec::new(alloc),
                 feed,
             };

@@ -1,13 +1,11 @@
 //! The space with which a segment begins.
 
 ghost use Rattle.std.specs.Prelude.{◌≡◌, IfOk, IfSome, None, Some, option_map};
-ghost use Rattle.nr_trace.specs.Orders.{space_from};
 ghost use Rattle.nr_audit.specs.Verdict.{space_of};
 ghost use Rattle.nr_audit.specs.Start.{first_space, start_space, BeginsRight};
 ghost use Rattle.nr_explain.specs.inside.Reading.{all_states, space_seen, BeginsWell, FitsSegment};
 
 use crate::chain::progress::Progress;
-use crate::search::spaces::apply_place;
 use nr_audit::copy;
 use nr_trace::Trace;
 use std::alloc::Global;
@@ -16,7 +14,7 @@ use vs_types::{Fail, Memory};
 
 /// The space with which a first segment begins, with whose start nothing is wrong. It allocates memory for it, and for a check of
 /// the start.
-fn begin_first(alloc: Global, segment: &Trace) -> Result<PlainSpace, Memory>
+pub(crate) fn begin_first(alloc: Global, segment: &Trace) -> Result<PlainSpace, Memory>
     requires { BeginsRight None segment.now }
     ensures { IfOk result (λ space. space
         ≡ space_of segment.now.layout (first_space None segment.now)) }
@@ -41,20 +39,6 @@ pub(crate) fn start_space(alloc: Global, segment: &Trace) -> Result<Option<Plain
     };
     let space = begin_first(alloc, segment)?;
     Ok(Some(space))
-}
-
-/// The space after a segment that begins with this one. It allocates memory for the pages that the segment's log maps.
-pub(crate) fn follow(segment: &Trace, first: PlainSpace) -> Result<PlainSpace, Memory>
-    requires { first ≡ space_of segment.now.layout first.space }
-    ensures { IfOk result (λ space. space ≡ space_of segment.now.layout
-        (space_from first.space segment.now segment.now.log)) }
-{
-    let places = segment.log().len() as u32;
-    let mut space = first;
-    for place in 0..places {
-        apply_place(segment, &mut space, place)?;
-    }
-    Ok(space)
 }
 
 /// The space with which a segment begins, with whose start nothing is wrong. It allocates memory for it, and of a first segment

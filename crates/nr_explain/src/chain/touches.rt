@@ -1,30 +1,35 @@
 //! What shows a stale touch.
 
-ghost use Rattle.std.specs.Prelude.{◌≡◌, ◌≢◌, ◌<◌, ◌≤◌, ◌⊎◌, ◌↔◌, IfOk, IfSome, IsTrue, false, length};
-ghost use Rattle.vs_types.specs.Space.{IsSpace};
+ghost use Rattle.std.specs.Prelude.{◌≡◌, ◌≢◌, ◌<◌, ◌≤◌, ◌⊎◌, ◌↔◌, ℕ, IfOk, IfSome, IsTrue, false, length};
+ghost use Rattle.vs_types.specs.Space.{IsSpace, Space};
 ghost use Rattle.vs_types.specs.Step.{look};
 ghost use Rattle.nr_audit.specs.Verdict.{space_of};
 ghost use Rattle.nr_touch.specs.Looks.{AreLooksLeft};
 ghost use Rattle.nr_touch.specs.Touches.{IsAnsweredBefore};
-ghost use Rattle.nr_explain.specs.ChainEvidence.{AreLooks, IsStaleTouch};
+ghost use Rattle.nr_explain.specs.ChainEvidence.{fewest, AreLooks, IsMissed, IsStaleTouch};
+ghost use Rattle.nr_explain.specs.ChainFacts.{IsFaultOfNone, IsLagOf};
 ghost use Rattle.nr_explain.specs.Facts.{asked_address};
 ghost use Rattle.nr_explain.specs.inside.Firsts.{AreEarlierLeft, IsTouchToShow};
 ghost use Rattle.nr_explain.specs.inside.Reading.{all_states, left_seen, space_seen, FitsSegment, HasSoundTail};
-ghost use Rattle.nr_explain.specs.inside.Windows.{IsWindowBelow, Narrows};
+ghost use Rattle.nr_explain.specs.inside.Windows.{HasReached, IsWindowBelow, Narrows};
 
 use crate::calls::answers::asked_address;
-use crate::chain::evidence::{Moment, StaleTouch};
+use crate::chain::evidence::{Lag, MissedUpdate, Moment, StaleTouch};
+use crate::chain::kept::kept_of;
 use crate::chain::origins::is_same;
 use crate::chain::progress::Progress;
 use crate::search::events::call_at;
+use crate::search::known::known_at;
+use crate::search::nearest::nearest;
 use crate::search::replies::reply_to;
-use crate::search::spaces::apply_place;
+use crate::search::spaces::{apply_place, update_at};
+use crate::trace::evidence::RecordedCall;
 use nr_audit::copy;
 use nr_trace::Trace;
 use std::alloc::Global;
 use vs_plain::PlainSpace;
 use vs_plain::laws::pages_are_a_space;
-use vs_types::{Answer, Memory};
+use vs_types::{Answer, Memory, Query, Request, fault_code};
 
 /// From how many entries of the log to how many a touch may be answered.
 #[derive(Clone, Copy)]
@@ -65,7 +70,7 @@ fn narrow(window: Window, segment: &Trace, place: u32, made: u32, answered: u32)
 }
 
 /// How an address looks in a space.
-fn look_of(space: &PlainSpace, address: u64) -> Answer
+pub(crate) fn look_of(space: &PlainSpace, address: u64) -> Answer
     ensures looks { result ≡ look space.now.space address }
     ensures is_space { IsSpace space.now.depth space.now.space }
 {
@@ -75,7 +80,7 @@ fn look_of(space: &PlainSpace, address: u64) -> Answer
 
 /// From how many entries to how many a touch of an address may be answered that is made and answered at these events, where the
 /// segment begins with this space.
-fn window_of(
+pub(crate) fn window_of(
     segment: &Trace,
     start: PlainSpace,
     address: u64,
@@ -149,7 +154,11 @@ fn looks_in(
 }
 
 /// How an address may still be found to look behind the segments so far. Allocates a list of these looks.
-fn looks_before(alloc: Global, last: &Option<Progress>, address: u64) -> Result<Vec<Answer>, Memory>
+pub(crate) fn looks_before(
+    alloc: Global,
+    last: &Option<Progress>,
+    address: u64,
+) -> Result<Vec<Answer>, Memory>
     requires { IfSome last.now HasSoundTail }
     ensures { IfOk result
         (λ looks. AreLooksLeft (left_seen (all_states last.now)) address looks.items) }
@@ -177,8 +186,71 @@ fn earlier_looks(
     looks_before(alloc, last, address)
 }
 
-/// A stale touch, where the segment begins with this space: from which moments it may be answered, and how its address looked at these.
-/// Allocates memory for a copy of the space, and for another when that one is freed.
+/// Whether an access that asks this would be answered so where no page has its address.
+fn is_fault_of_none(request: Request, answer: Answer) -> bool
+    ensures { IsTrue result ↔ IsFaultOfNone request answer }
+{
+    match request.query() {
+        Query::Access(_, mode, access) => {
+            is_same(answer, Answer::Fault(fault_code(false, mode, access)))
+        }
+        Query::Update(_) | Query::Resolve(_) => false,
+    }
+}
+
+/// How far the table of a touch's replica may lag, where the touch found no page.
+fn lag_of(segment: &Trace, call: &RecordedCall, answer: Answer) -> Option<Lag>
+    ensures { IsLagOf segment.now call.now answer result }
+{
+    if !is_fault_of_none(call.request, answer) {
+        return None;
+    }
+    let (known, shown) = known_at(segment, call.replica, call.event);
+    Some(Lag { known, shown })
+}
+
+/// From how many entries of the log on a touch may be answered: from the fewest that are allowed, or from the known ones if these are
+/// fewer, by a table that lags.
+pub fn fewest(first: u32, lag: Option<Lag>) -> u32
+    ensures { result ≡ fewest first lag }
+{
+    match lag {
+        Some(lag) => u64::from(first).min(lag.known) as u32,
+        None => first,
+    }
+}
+
+/// The window of a touch, with the moments from which it may be answered by a table that lags.
+fn with_lag(window: Window, lag: Option<Lag>) -> Window
+    ensures first { result.first ≡ fewest window.first lag }
+    ensures last { result.last ≡ window.last }
+{
+    Window {
+        first: fewest(window.first, lag),
+        last: window.last,
+    }
+}
+
+/// The update that ends right before the window of a touch of an address that is made at this event, and its first reply.
+fn missed_update(segment: &Trace, first: u32) -> Option<MissedUpdate>
+    requires { (start : Space) × (address : ℕ) × (made : ℕ)
+        × HasReached start segment.now address made first }
+    ensures { (start : Space) (address made : ℕ) → HasReached start segment.now address made first
+        → IsMissed start segment.now address made first result }
+{
+    if first == 0 {
+        return None;
+    }
+    let update = update_at(segment, first - 1);
+    match reply_to(segment, update.call.event) {
+        Some(reply) => Some(MissedUpdate { update, reply }),
+        None => unreachable!(),
+    }
+}
+
+/// A stale touch, where the segment begins with this space: from which moments it may be answered, how its address looked at these, which
+/// update it should have seen, after which entries its answer would be right, and what ended that it may fault by rights that were kept.
+/// Allocates memory for a copy of the space, and for others when that one is freed.
 pub(crate) fn stale_touch(
     alloc: Global,
     last: &Option<Progress>,
@@ -199,18 +271,35 @@ pub(crate) fn stale_touch(
         unreachable!()
     };
     let address = asked_address(call.request);
+    let lag = lag_of(segment, &call, reply.answer);
     let tables = segment.layout().tables();
     let space = copy(alloc, tables, first)?;
     let window = window_of(segment, space, address, index, reply.event)?;
     let again = copy(alloc, tables, first)?;
-    let looks = looks_in(alloc, segment, again, address, window)?;
+    let from = with_lag(window, lag);
+    let looks = looks_in(alloc, segment, again, address, from)?;
     let earlier = earlier_looks(alloc, last, address, window.first)?;
+    let missed = missed_update(segment, window.first);
+    let begun = copy(alloc, tables, first)?;
+    let right = nearest(
+        segment,
+        begun,
+        call.request,
+        reply.answer,
+        window.first,
+        window.last,
+    )?;
+    let kept = kept_of(alloc, segment, first, &call, &reply, window, right)?;
     Ok(StaleTouch {
         call,
         reply,
         first: window.first,
         last: window.last,
+        lag,
         looks,
         earlier,
+        missed,
+        right,
+        kept,
     })
 }

@@ -4,10 +4,11 @@ ghost use Rattle.std.specs.Prelude.{◌≡◌, ◌<◌, ◌↔◌, ◌+◌, Matc
 ghost use Rattle.vs_types.specs.Query.{IsQuery};
 ghost use Rattle.nr_trace.specs.Calls.{call_of, operation_of, reply_of, touch_of, IsCall};
 ghost use Rattle.nr_trace.specs.Orders.{known_by};
+ghost use Rattle.nr_trace.specs.Recording.{IsMemory};
 ghost use Rattle.nr_explain.specs.Facts.{response, IsCallOf, IsReplyOf};
 ghost use Rattle.nr_explain.specs.inside.Searches.{IsReply};
 
-use crate::trace::evidence::{RecordedCall, RecordedReply};
+use crate::trace::evidence::{Given, RecordedCall, RecordedReply};
 use nr_audit::request_of;
 use nr_trace::{Event, Trace};
 use vs_types::{Query, Request};
@@ -24,6 +25,8 @@ pub(crate) fn find_call(trace: &Trace, index: u32) -> Option<RecordedCall>
     ensures is { MatchOption result (call_of trace.now index ≡ None)
         (λ call. IsCallOf trace.now call × (call.event ≡ index)) }
     ensures well_formed { IfSome result (λ call. IsQuery trace.now.layout.depth call.request) }
+    ensures memory { IfSome result
+        (λ call. IfSome call.gives (λ given. IsMemory given.size given.phys)) }
 {
     match trace.events().get(index as usize)?.event() {
         Event::Call {
@@ -36,6 +39,7 @@ pub(crate) fn find_call(trace: &Trace, index: u32) -> Option<RecordedCall>
             thread,
             request,
             touch: false,
+            gives: None,
         }),
         Event::Touch {
             replica,
@@ -49,6 +53,20 @@ pub(crate) fn find_call(trace: &Trace, index: u32) -> Option<RecordedCall>
             thread,
             request: Request::of(Query::Access(address, mode, access)),
             touch: true,
+            gives: None,
+        }),
+        Event::Release {
+            replica,
+            thread,
+            size,
+            phys,
+        } => Some(RecordedCall {
+            event: index,
+            replica,
+            thread,
+            request: Request::of(Query::Resolve(0)),
+            touch: true,
+            gives: Some(Given { size, phys }),
         }),
         Event::Reply { .. } => None,
     }
@@ -60,7 +78,7 @@ pub(crate) fn find_reply(trace: &Trace, index: u32) -> Option<RecordedReply>
         (λ reply. IsReplyOf trace.now reply × (reply.event ≡ index)) }
 {
     match event_at(trace, index)? {
-        Event::Call { .. } | Event::Touch { .. } => None,
+        Event::Call { .. } | Event::Touch { .. } | Event::Release { .. } => None,
         Event::Reply { call, at, answer } => Some(RecordedReply {
             event: index,
             call,
@@ -76,6 +94,7 @@ pub fn call_at(trace: &Trace, index: u32) -> RecordedCall
     ensures is { IsCallOf trace.now result }
     ensures event { result.event ≡ index }
     ensures well_formed { IsQuery trace.now.layout.depth result.request }
+    ensures memory { IfSome result.gives (λ given. IsMemory given.size given.phys) }
 {
     match find_call(trace, index) {
         Some(call) => call,
@@ -95,12 +114,12 @@ pub(crate) fn reply_at(trace: &Trace, index: u32) -> RecordedReply
     }
 }
 
-/// Whether a touch has this number.
+/// Whether a touch or a release has this number.
 fn is_touch(trace: &Trace, call: u32) -> bool
     ensures { result ≡ is_some (touch_of trace.now call) }
 {
     match event_at(trace, call) {
-        Some(event) => matches!(event, Event::Touch { .. }),
+        Some(event) => matches!(event, Event::Touch { .. } | Event::Release { .. }),
         None => false,
     }
 }
@@ -116,7 +135,7 @@ pub(crate) fn is_update(trace: &Trace, call: u32) -> bool
 }
 
 /// How many entries of the log are known by a reply: those up to the update's own, or those that the read saw; by one to a
-/// touch none.
+/// touch or a release none.
 pub(crate) fn entries_known(trace: &Trace, reply: RecordedReply) -> u64
     ensures { result ≡ known_by trace.now (response reply) }
 {

@@ -39,7 +39,7 @@ pub fn apply_place(trace: &Trace, space: &mut PlainSpace, place: u32) -> Result<
 }
 
 /// The space after this many places, from this space on.
-fn space_from(trace: &Trace, start: PlainSpace, end: u32) -> Result<PlainSpace, Memory>
+pub(crate) fn space_from(trace: &Trace, start: PlainSpace, end: u32) -> Result<PlainSpace, Memory>
     requires start { start ≡ space_of trace.now.layout start.space }
     requires within { end ≤ length trace.now.log }
     ensures { IfOk result (λ space. space ≡ space_of trace.now.layout
@@ -90,14 +90,15 @@ pub fn answer_after(
     serve(&mut space, request)
 }
 
-fn is_same(left: Answer, right: Answer) -> bool
+/// Whether two answers are one.
+pub(crate) fn is_same(left: Answer, right: Answer) -> bool
     ensures { IsTrue result ↔ (left ≡ right) }
 {
     left == right
 }
 
 /// The update at a place of the log.
-fn update_at(trace: &Trace, place: u32) -> PlacedUpdate
+pub(crate) fn update_at(trace: &Trace, place: u32) -> PlacedUpdate
     requires within { place < length trace.now.log }
     requires call { HasCallAt trace.now place }
     ensures place { result.place ≡ place }

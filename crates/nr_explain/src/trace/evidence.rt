@@ -1,9 +1,18 @@
 //! What shows each fault of a trace.
 
+use crate::trace::nearby::{NamedMemory, RightAfter};
 use crate::units::BadUnit;
 use nr_trace::Event;
-use vs_types::{Answer, Request};
+use vs_types::{Answer, Request, Size};
 use vs_walk::Walk;
+
+/// Memory that a release gives to somebody else.
+#[derive(Clone, Copy, Debug, PartialEq, Eq)]
+pub struct Given {
+    pub size: Size,
+    /// The physical address at which it begins.
+    pub phys: u64,
+}
 
 /// A call as a trace has it. Its number is the index of its event.
 #[derive(Clone, Copy, Debug, PartialEq, Eq)]
@@ -11,9 +20,12 @@ pub struct RecordedCall {
     pub event: u32,
     pub replica: u8,
     pub thread: u16,
+    /// What it asks; of a release, which asks nothing, a resolve of address 0.
     pub request: Request,
-    /// Whether it is a touch. A trace has none.
+    /// Whether it is a touch or a release. A trace has none.
     pub touch: bool,
+    /// What it gives away, if it is a release.
+    pub gives: Option<Given>,
 }
 
 /// A reply as a trace has it.
@@ -134,6 +146,10 @@ pub struct OtherAnswer {
     pub address: u64,
     /// The last update before the call that changed how this address looks, if one did.
     pub changed: Option<PlacedUpdate>,
+    /// After how many entries, nearest to those that the call had, the space gives the answer.
+    pub right: RightAfter,
+    /// Where the space before the call has the memory that the answer names, if it names any.
+    pub memory: Option<NamedMemory>,
 }
 
 /// A dump that has applied more entries than the log has.

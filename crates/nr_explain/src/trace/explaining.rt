@@ -67,6 +67,7 @@ pub fn explain(alloc: Global, trace: &Trace, fault: Fault) -> Result<Evidence, M
         Fault::StartBeyond(_) => unreachable!(),
         Fault::StartDiffers(_) => unreachable!(),
         Fault::Stale(_) => unreachable!(),
+        Fault::Reachable(_) => unreachable!(),
     }
 }
 

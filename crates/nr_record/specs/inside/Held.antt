@@ -4,7 +4,7 @@ use Rattle.vs_types.specs.Config.{Layout}
 use Rattle.vs_types.specs.declared.request.Query.{Query}
 use Rattle.nr_trace.specs.Recording.{IsEvent}
 use Rattle.nr_trace.specs.declared.event.Event.{Event}
-use Rattle.nr_trace.specs.declared.event.Event.TheVariants.{Call, Reply, Touch}
+use Rattle.nr_trace.specs.declared.event.Event.TheVariants.{Call, Release, Reply, Touch}
 use Rattle.nr_trace.specs.declared.version.Version.TheVariants.{V2}
 use Rattle.nr_record.specs.Stamps.{Rise}
 use Rattle.nr_record.specs.Pen.{PenState, call_by, calls_in, home_of, stamped, stamps_of}
@@ -15,10 +15,11 @@ use Rattle.nr_record.specs.declared.view.View.{View}
 abbrev pub HasMade : Layout → ℕ → List Stamped → ℕ → Type 0
 HasMade layout thread made call = (request : Query) × Contains made (stamped call (call_by layout thread request))
 
--- a call of the thread, or the reply to one; a pen makes no touches
+-- a call of the thread, or the reply to one; a pen makes no touches and no releases
 abbrev pub IsOwn : Layout → ℕ → List Stamped → Event → Type 0
 IsOwn layout thread made (Call replica caller request) = (replica ≡ home_of layout thread) × (caller ≡ thread)
 IsOwn layout thread made (Touch replica caller address mode access) = ⊥
+IsOwn layout thread made (Release replica caller size phys) = ⊥
 IsOwn layout thread made (Reply call at answer) = HasMade layout thread made call
 
 abbrev pub waits : Option ℕ → ℕ

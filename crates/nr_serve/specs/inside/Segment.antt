@@ -6,7 +6,7 @@ use Rattle.vs_types.specs.declared.depth.Depth.{Depth}
 use Rattle.vs_types.specs.declared.request.Query.{Query}
 use Rattle.nr_audit.specs.Segments.{FitsPast}
 use Rattle.nr_audit.specs.declared.past.Past.{Past}
-use Rattle.nr_ring.specs.Pass.{Known, TableId}
+use Rattle.nr_ring.specs.Pass.{Known}
 use Rattle.nr_record.specs.Pen.{ClockId, PenState}
 use Rattle.nr_replicas.specs.Replicas.{OpenState}
 use Rattle.nr_serve.specs.RunState.{RunState}

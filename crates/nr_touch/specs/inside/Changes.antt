@@ -17,6 +17,10 @@ use Rattle.nr_touch.specs.declared.change.PlacedChange.{PlacedChange}
 abbrev pub page_before : Change → Option Page
 page_before change = if change.was_mapped then Some change.page else None
 
+-- the same, but with the least rights that may be kept
+abbrev pub kept_before : Change → Option Page
+kept_before change = if change.was_mapped then Some (record change.page { rights = change.least }) else None
+
 -- the addresses of one page look otherwise in the second space, and no others; and no page begins otherwise but at the base of that one
 pub record IsPageChange (depth : Depth) (before after : Space) (change : Change) : Type 0 where
   pub well_formed : IsPage depth change.page

@@ -6,7 +6,7 @@ use Rattle.vs_types.specs.declared.op.Action.TheVariants.{Map, Unmap, Protect}
 use Rattle.vs_types.specs.declared.request.Query.TheVariants.{Update, Resolve, Access}
 use Rattle.vs_types.specs.declared.answer.Answer.TheVariants.{Done, Overlap, Full, Removed, NotMapped, Inside, Changed, Mapped, Allowed, Fault}
 use Rattle.nr_trace.specs.declared.event.Event.{Event}
-use Rattle.nr_trace.specs.declared.event.Event.TheVariants.{Call, Reply, Touch}
+use Rattle.nr_trace.specs.declared.event.Event.TheVariants.{Call, Reply, Release, Touch}
 use Rattle.nr_trace.specs.declared.recorded.Kept.{Kept}
 use Rattle.nr_trace.specs.declared.recorded.Kept.TheVariants as kept
 use Rattle.nr_trace.specs.declared.recorded.Recorded.TheInside as of_recorded
@@ -19,6 +19,7 @@ event_of (kept.Protect replica thread rights base) = Call replica thread (Update
 event_of (kept.Resolve replica thread address) = Call replica thread (Resolve address)
 event_of (kept.Access replica thread mode access address) = Call replica thread (Access address mode access)
 event_of (kept.Touch replica thread mode access address) = Touch replica thread address mode access
+event_of (kept.Release replica thread size phys) = Release replica thread size phys
 event_of (kept.Done call at) = Reply call at Done
 event_of (kept.Overlap call at base) = Reply call at (Overlap base)
 event_of (kept.Full call at need) = Reply call at (Full need)
@@ -37,6 +38,7 @@ kept_of (Call replica thread (Update (Protect base rights))) = kept.Protect repl
 kept_of (Call replica thread (Resolve address)) = kept.Resolve replica thread address
 kept_of (Call replica thread (Access address mode access)) = kept.Access replica thread mode access address
 kept_of (Touch replica thread address mode access) = kept.Touch replica thread mode access address
+kept_of (Release replica thread size phys) = kept.Release replica thread size phys
 kept_of (Reply call at Done) = kept.Done call at
 kept_of (Reply call at (Overlap base)) = kept.Overlap call at base
 kept_of (Reply call at (Full need)) = kept.Full call at need
@@ -52,6 +54,7 @@ kept_of (Reply call at (Fault code)) = kept.Fault call at code
 abbrev pub IsKept : Event → Type 0
 IsKept (Call replica thread request) = IsSomeQuery request
 IsKept (Touch replica thread address mode access) = ⊤
+IsKept (Release replica thread size phys) = ⊤
 IsKept (Reply call at answer) = ⊤
 
 same : (k : Kept) → kept_of (event_of k) ≡ k
@@ -61,6 +64,7 @@ same (kept.Protect replica thread rights base) = refl
 same (kept.Resolve replica thread address) = refl
 same (kept.Access replica thread mode access address) = refl
 same (kept.Touch replica thread mode access address) = refl
+same (kept.Release replica thread size phys) = refl
 same (kept.Done call at) = refl
 same (kept.Overlap call at base) = refl
 same (kept.Full call at need) = refl

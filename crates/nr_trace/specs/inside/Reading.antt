@@ -10,17 +10,18 @@ use Rattle.vs_types.specs.declared.fields.RequestFields.{RequestFields}
 use Rattle.vs_types.specs.declared.request.Query.{Query}
 use Rattle.vs_types.specs.declared.request.Query.TheVariants.{Access}
 use Rattle.vs_types.specs.declared.answer.Answer.{Answer}
+use Rattle.vs_types.specs.declared.page.Size.{Size}
 use Rattle.vs_walk.specs.Dump.{OpenImage}
 use Rattle.nr_trace.specs.Versions.{KnowsQuery, KnowsAnswer, KnowsTouch}
-use Rattle.nr_trace.specs.Recording.{IsAnswer, IsEvent}
-use Rattle.nr_trace.specs.Spelling.{answer_fields, touch_fields, counts, log_word, event, dump_head, frame_words}
+use Rattle.nr_trace.specs.Recording.{IsAnswer, IsEvent, IsMemory}
+use Rattle.nr_trace.specs.Spelling.{answer_fields, release_fields, touch_fields, counts, log_word, event, dump_head, frame_words}
 use Rattle.nr_trace.specs.FirstFault.{IsCounts, IsDumpHead, refusal_at}
 use Rattle.nr_trace.specs.declared.version.Version.{Version}
 use Rattle.nr_trace.specs.declared.fields.AnswerFields.{AnswerFields}
 use Rattle.nr_trace.specs.declared.fields.Counts.{Counts}
 use Rattle.nr_trace.specs.declared.fields.DumpHead.{DumpHead}
 use Rattle.nr_trace.specs.declared.event.Event.{Event}
-use Rattle.nr_trace.specs.declared.event.Event.TheVariants.{Call, Touch}
+use Rattle.nr_trace.specs.declared.event.Event.TheVariants.{Call, Release, Touch}
 use Rattle.nr_trace.specs.declared.reading.events.Asked.{Asked}
 use Rattle.nr_trace.specs.declared.reading.events.Asked.TheVariants as askeds
 use Rattle.nr_trace.specs.declared.fault.Format.TheVariants.{BadEvent}
@@ -37,18 +38,21 @@ pub record IsRequestIn (version : Version) (depth : Depth) (fields : RequestFiel
   pub has : HasFields depth fields request
   pub known : KnowsQuery version request
 
--- what is asked by a call or a touch, and the event that a thread asks it at a replica
+-- what is asked by a call, a touch or a release, and the event that a thread asks it at a replica
 abbrev pub asked_by : ℕ → ℕ → Asked → Event
 asked_by replica thread (askeds.Request request) = Call replica thread request
 asked_by replica thread (askeds.Touch address mode access) = Touch replica thread address mode access
+asked_by replica thread (askeds.Release size phys) = Release replica thread size phys
 
 abbrev pub asked_fields : Asked → RequestFields
 asked_fields (askeds.Request request) = request_fields request
 asked_fields (askeds.Touch address mode access) = touch_fields address mode access
+asked_fields (askeds.Release size phys) = release_fields size phys
 
 abbrev pub IsAsked : Version → Depth → Asked → Type 0
 IsAsked version depth (askeds.Request request) = IsQuery depth request × KnowsQuery version request
 IsAsked version depth (askeds.Touch address mode access) = IsQuery depth (Access address mode access) × KnowsTouch version
+IsAsked version depth (askeds.Release size phys) = IsMemory size phys × KnowsTouch version
 
 pub record IsAskedIn (version : Version) (depth : Depth) (fields : RequestFields) (asked : Asked) : Type 0 where
   pub in_range : IsAsked version depth asked
@@ -62,6 +66,14 @@ pub record IsTouchWith (depth : Depth) (fields : RequestFields) (asked : Asked) 
   pub asked_is : asked ≡ askeds.Touch address mode access
   pub in_range : IsQuery depth (Access address mode access)
   pub fields_are : fields ≡ touch_fields address mode access
+
+-- a release with these fields
+pub record IsReleaseWith (fields : RequestFields) (asked : Asked) : Type 0 where
+  pub size : Size
+  pub phys : ℕ
+  pub asked_is : asked ≡ askeds.Release size phys
+  pub in_range : IsMemory size phys
+  pub fields_are : fields ≡ release_fields size phys
 
 pub record IsAnswerIn (version : Version) (fields : AnswerFields) (answer : Answer) : Type 0 where
   pub has : HasAnswerFields fields answer

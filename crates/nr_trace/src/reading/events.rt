@@ -1,19 +1,22 @@
 //! The event that a unit spells.
 
-ghost use Rattle.std.specs.Prelude.{◌≡◌, ◌∷◌, length};
+ghost use Rattle.std.specs.Prelude.{◌≡◌, ◌≢◌, ◌↔◌, ◌∷◌, length, IsTrue};
 ghost use Rattle.vs_types.specs.Config.{Layout};
+ghost use Rattle.vs_types.specs.Codes.{size_code};
 ghost use Rattle.vs_types.specs.Finds.{Finds};
-ghost use Rattle.nr_trace.specs.Recording.{IsEvent};
-ghost use Rattle.nr_trace.specs.Spelling.{event};
-ghost use Rattle.nr_trace.specs.inside.Reading.{asked_by, IsAnswerIn, IsAskedIn, IsRequestIn, IsTouchWith, SpellsEvent};
+ghost use Rattle.vs_types.specs.declared.depth.Depth.{Depth as DepthKind};
+ghost use Rattle.nr_trace.specs.Recording.{IsEvent, IsMemory};
+ghost use Rattle.nr_trace.specs.Spelling.{event, release_fields};
+ghost use Rattle.nr_trace.specs.inside.Reading.{asked_by, IsAnswerIn, IsAskedIn, IsReleaseWith, IsRequestIn, IsTouchWith, SpellsEvent};
 
 use crate::event::Event;
 use crate::fields::AnswerFields;
 use crate::layout::TraceLayout;
+use crate::ranges::is_memory;
 use crate::reading::numbers::{take_u8, take_u16, take_u32, take_u64};
 use crate::recorded::Recorded;
 use crate::version::Version;
-use vs_types::{Access, Answer, Depth, Mode, Query, Request, RequestFields};
+use vs_types::{Access, Answer, Depth, Mode, Query, Request, RequestFields, Size};
 
 /// The request that has the fields, if the version knows it.
 fn request_of(version: Version, depth: Depth, fields: RequestFields) -> Option<Request>
@@ -30,11 +33,15 @@ fn request_of(version: Version, depth: Depth, fields: RequestFields) -> Option<R
 /// The kind of a touch.
 const TOUCH: u8 = 5;
 
+/// The kind of a release.
+const RELEASE: u8 = 6;
+
 /// What a call asks.
 #[derive(Clone, Copy)]
 enum Asked {
     Request(Request),
     Touch(u64, Mode, Access),
+    Release(Size, u64),
 }
 
 impl Asked {
@@ -55,6 +62,12 @@ impl Asked {
                 mode,
                 access,
             },
+            Asked::Release(size, phys) => Event::Release {
+                replica,
+                thread,
+                size,
+                phys,
+            },
         }
     }
 }
@@ -71,19 +84,71 @@ fn touch_of(depth: Depth, fields: RequestFields) -> Option<Asked>
     }
 }
 
+/// Whether memory of the size begins where the fields say, and the other fields of a release are 0.
+fn is_release(fields: RequestFields, size: Size) -> bool
+    requires kind { fields.kind ≡ RELEASE }
+    requires code { fields.size ≡ size_code size }
+    ensures { IsTrue result
+        ↔ IsMemory size fields.physical × (fields ≡ release_fields size fields.physical) }
+{
+    fields.rights == 0 && fields.address == 0 && is_memory(size, fields.physical)
+}
+
+/// The release that has the fields: of memory of a size, from a physical address on.
+fn release_of(fields: RequestFields) -> Option<Asked>
+    requires { fields.kind ≡ RELEASE }
+    ensures { Finds (IsReleaseWith fields) result }
+{
+    let size = Size::of_code(fields.size)?;
+    if is_release(fields, size) {
+        Some(Asked::Release(size, fields.physical))
+    } else {
+        None
+    }
+}
+
+/// The touch that has the fields, if the version knows touches.
+fn known_touch(version: Version, depth: Depth, fields: RequestFields) -> Option<Asked>
+    requires { fields.kind ≡ TOUCH }
+    ensures { Finds (IsAskedIn version depth fields) result }
+{
+    if version.knows_touch() {
+        touch_of(depth, fields)
+    } else {
+        None
+    }
+}
+
+/// The release that has the fields, if the version knows releases.
+fn known_release(version: Version, fields: RequestFields) -> Option<Asked>
+    requires { fields.kind ≡ RELEASE }
+    ensures { (depth : DepthKind) → Finds (IsAskedIn version depth fields) result }
+{
+    if version.knows_touch() {
+        release_of(fields)
+    } else {
+        None
+    }
+}
+
+/// The request that has the fields, as what is asked, if the version knows it.
+fn known_request(version: Version, depth: Depth, fields: RequestFields) -> Option<Asked>
+    requires touch { fields.kind ≢ TOUCH }
+    requires release { fields.kind ≢ RELEASE }
+    ensures { Finds (IsAskedIn version depth fields) result }
+{
+    let request = request_of(version, depth, fields)?;
+    Some(Asked::Request(request))
+}
+
 /// What has the fields, if the version knows it.
 fn asked_of(version: Version, depth: Depth, fields: RequestFields) -> Option<Asked>
     ensures { Finds (IsAskedIn version depth fields) result }
 {
-    if fields.kind == TOUCH {
-        if version.knows_touch() {
-            touch_of(depth, fields)
-        } else {
-            None
-        }
-    } else {
-        let request = request_of(version, depth, fields)?;
-        Some(Asked::Request(request))
+    match fields.kind {
+        TOUCH => known_touch(version, depth, fields),
+        RELEASE => known_release(version, fields),
+        _ => known_request(version, depth, fields),
     }
 }
 

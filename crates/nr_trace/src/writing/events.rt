@@ -1,11 +1,11 @@
 //! An event as 24 bytes.
 
 ghost use Rattle.std.specs.Prelude.{◌≡◌, ◌++◌, OnOk};
-ghost use Rattle.nr_trace.specs.Spelling.{asked, event, touch_fields};
+ghost use Rattle.nr_trace.specs.Spelling.{asked, event, release_fields, touch_fields};
 
 use crate::event::Event;
 use crate::fields::AnswerFields;
-use vs_types::{Access, Answer, Memory, Mode, Request, RequestFields};
+use vs_types::{Access, Answer, Memory, Mode, Request, RequestFields, Size};
 
 /// The fields of a touch.
 fn touch_fields(address: u64, mode: Mode, access: Access) -> RequestFields
@@ -17,6 +17,19 @@ fn touch_fields(address: u64, mode: Mode, access: Access) -> RequestFields
         rights: mode.code(),
         address,
         physical: 0,
+    }
+}
+
+/// The fields of a release.
+fn release_fields(size: Size, phys: u64) -> RequestFields
+    ensures { result ≡ release_fields size phys }
+{
+    RequestFields {
+        kind: 6,
+        size: size.code(),
+        rights: 0,
+        address: 0,
+        physical: phys,
     }
 }
 
@@ -63,6 +76,12 @@ fn event_bytes(recorded: Event) -> [u8; 24]
             mode,
             access,
         } => asked_bytes(replica, thread, touch_fields(address, mode, access)),
+        Event::Release {
+            replica,
+            thread,
+            size,
+            phys,
+        } => asked_bytes(replica, thread, release_fields(size, phys)),
         Event::Reply { call, at, answer } => reply_bytes(call, at, answer),
     }
 }

@@ -1,23 +1,21 @@
-use Rattle.std.proofs.Common.{◌≡◌, refl, ap, sym, subst, lit<}
+use Rattle.std.proofs.Common.{◌≡◌, refl, ap, sym, ◌∙◌, subst, lit<}
 use Rattle.std.proofs.lemmas.Result.{err_from_is_err_and}
 use Rattle.std.specs.Prelude.{All}
 use Rattle.vs_types.specs.Space.{Space}
-use Rattle.vs_types.specs.Refusal.{IfRefused}
 use Rattle.vs_plain.specs.Plain.{BoundedSpace}
 use Rattle.nr_trace.specs.Calls.{IsCall}
 use Rattle.nr_trace.specs.Laws.{HasCleanLog}
 use Rattle.nr_trace.specs.Orders.{recorded_order}
-use Rattle.nr_trace.specs.declared.fault.Fault.TheVariants.{Stale}
 use Rattle.nr_audit.specs.inside.LastEvents.{AreLastEvents}
-use Rattle.nr_audit.specs.inside.Search.{HasNoFaultOn, HasNone, HasNoneFrom, IsFirstOn}
+use Rattle.nr_audit.specs.inside.Search.{HasNoFaultOn, HasNone, HasNoneFrom}
 use Rattle.nr_audit.specs.inside.Passes.{IsCallFault, IsLogFault, IsAnswerFault, IsDumpFault}
-use Rattle.nr_audit.proofs.FirstOfPasses.{none_of_format, after_calls, after_positions, before_answers, after_answers, after_touches, after_dumps}
+use Rattle.nr_audit.proofs.FirstOfPasses.{none_of_format, after_calls, after_positions, before_answers, after_answers, after_releases, after_dumps}
 use Rattle.nr_audit.proofs.FirstOfPasses.{clean_after_positions, faultless_after_all, refused_by_pass, refused_early, refused_from_any, refused_of, refused_of_any}
 use Rattle.nr_audit.proofs.FirstOfPasses.{refused_on, refused_in, refused_start}
 use Rattle.nr_audit.proofs.FirstOfPasses.{HasNoneBefore, call_faults, log_faults, answer_faults, dump_faults}
 use Rattle.nr_audit.proofs.ComparedDumps.{none_found}
 use Rattle.nr_audit.proofs.LastEvents.{all_calls}
-use Rattle.nr_audit.proofs.Judgements.{none_behind, refused_late, stale_first}
+use Rattle.nr_audit.proofs.Judgements.{late_first, no_stale, no_wrong, none_behind, refused_late}
 use Rattle.nr_audit.proofs.search.search.Goals as goal
 
 pub returns-in_err-history-clause-first : goal.returns-in_err-history-clause-first
@@ -85,16 +83,19 @@ pub returns-in-Some-clause-first : goal.returns-in-Some-clause-first
 returns-in-Some-clause-first c = λ run of_tail goes_on.
     let start = c.args.start.space in
     let trace = c.args.trace.now in
-    let again : c.in_ok-touched.touched.start.space ≡ start = ap (λ (s : BoundedSpace). s.space) c.in_ok-touched.ensures.start in
+    let touched = c.in_ok-touched.touched in
+    let again : touched.start.space ≡ start = ap (λ (s : BoundedSpace). s.space) c.in_ok-touched.ensures.start in
     let same = c.in_ok-history.ensures.history in
     let t = c.in_ok-history.history in
     let calls = subst (λ t. HasNone IsCallFault t) (sym same) c.in_ok-history.ensures.clean in
     let clean = subst (λ t. HasCleanLog t) same (clean_after_positions t (after_positions t calls c.in_ok-places.ensures.clean c.in_ok-standing.ensures.clean.0)) in
     let right = subst (λ (s : Space). HasNoneFrom s IsAnswerFault t) again
-    (subst (λ t. HasNoneFrom c.in_ok-touched.touched.start.space IsAnswerFault t) (sym same) c.in_ok-order-2.ensures.right) in
+    (subst (λ t. HasNoneFrom touched.start.space IsAnswerFault t) (sym same) c.in_ok-order-2.ensures.right) in
     let before = subst (λ t. HasNoneBefore start 7 t) same
     (after_answers t calls c.in_ok-places.ensures.clean c.in_ok-standing.ensures.clean.0 c.in_ok-standing.ensures.clean.1 start right) in
-    stale_first run start trace c.in-Some.call before (rw c.in-Some.is at (c.in_ok-touched.ensures.some run of_tail goes_on clean))
+    late_first run start trace touched.stale touched.reachable c.in-Some.fault (sym c.late_fault.ensures ∙ c.in-Some.is)
+    (c.in_ok-touched.ensures.none run of_tail goes_on clean) (c.in_ok-touched.ensures.some run of_tail goes_on clean)
+    (c.in_ok-touched.ensures.reaches run of_tail goes_on clean) before
 
 pub returns-clause-touches : goal.returns-clause-touches
 returns-clause-touches c = λ run of_tail goes_on.
@@ -102,7 +103,8 @@ returns-clause-touches c = λ run of_tail goes_on.
     let t = c.in_ok-history.history in
     let calls = subst (λ t. HasNone IsCallFault t) (sym same) c.in_ok-history.ensures.clean in
     let clean = subst (λ t. HasCleanLog t) same (clean_after_positions t (after_positions t calls c.in_ok-places.ensures.clean c.in_ok-standing.ensures.clean.0)) in
-    rw c.in_default.is at (c.in_ok-touched.ensures.none run of_tail goes_on clean)
+    rw (no_stale c.in_ok-touched.touched.stale c.in_ok-touched.touched.reachable (sym c.late_fault.ensures ∙ c.in_default.is)) at
+    (c.in_ok-touched.ensures.none run of_tail goes_on clean)
 
 pub returns-clause-tail : goal.returns-clause-tail
 returns-clause-tail c = λ run of_tail goes_on.
@@ -121,13 +123,17 @@ returns-in_err-check_dumps-clause-first c = λ run of_tail goes_on.
     let t = c.in_ok-history.history in
     let calls = subst (λ t. HasNone IsCallFault t) (sym same) c.in_ok-history.ensures.clean in
     let clean = subst (λ t. HasCleanLog t) same (clean_after_positions t (after_positions t calls c.in_ok-places.ensures.clean c.in_ok-standing.ensures.clean.0)) in
-    let touches = rw c.in_default.is at (c.in_ok-touched.ensures.none run of_tail goes_on clean) in
+    let nothing = sym c.late_fault.ensures ∙ c.in_default.is in
+    let touches = rw (no_stale c.in_ok-touched.touched.stale c.in_ok-touched.touched.reachable nothing) at
+    (c.in_ok-touched.ensures.none run of_tail goes_on clean) in
+    let released = rw (no_wrong c.in_ok-touched.touched.stale c.in_ok-touched.touched.reachable nothing) at
+    (c.in_ok-touched.ensures.released run of_tail goes_on clean) in
     let right = subst (λ t. HasNoneFrom start IsAnswerFault t) (sym same) c.in_ok-order-2.ensures.right in
-    let none_before = subst (λ t. HasNoneBefore start 8 t) same
-    (after_touches t calls c.in_ok-places.ensures.clean c.in_ok-standing.ensures.clean.0 c.in_ok-standing.ensures.clean.1 start right) in
-    rw (p.1, p.2) (refused_late run c.args.start.space c.args.trace.now touches _
+    let none_before = subst (λ t. HasNoneBefore start 9 t) same
+    (after_releases t calls c.in_ok-places.ensures.clean c.in_ok-standing.ensures.clean.0 c.in_ok-standing.ensures.clean.1 start right) in
+    rw (p.1, p.2) (refused_late run c.args.start.space c.args.trace.now touches released _
     (refused_start start c.args.start.space c.args.trace.now _ again
-    (refused_by_pass start 8 IsDumpFault c.args.trace.now _ dump_faults none_before (c.in_err-check_dumps.ensures.first start
+    (refused_by_pass start 9 IsDumpFault c.args.trace.now _ dump_faults none_before (c.in_err-check_dumps.ensures.first start
     (record { whole = c.in_ok-order-2.ensures.space; found = c.in_ok-order-2.ensures.found })))))
 
 pub returns-clause-none : goal.returns-clause-none
@@ -140,7 +146,10 @@ returns-clause-none c = λ run of_tail goes_on.
     let right = subst (λ t. HasNoneFrom start IsAnswerFault t) (sym same) c.in_ok-order-2.ensures.right in
     let dumps = subst (λ t. HasNoneFrom start IsDumpFault t) (sym same) (c.in_ok-check_dumps.ensures.clean start
     (record { whole = c.in_ok-order-2.ensures.space; found = c.in_ok-order-2.ensures.found })) in
-    none_behind run c.args.start.space c.args.trace.now (returns-clause-touches c run of_tail goes_on)
+    let clean = subst (λ t. HasCleanLog t) same (clean_after_positions t (after_positions t calls c.in_ok-places.ensures.clean c.in_ok-standing.ensures.clean.0)) in
+    let released = rw (no_wrong c.in_ok-touched.touched.stale c.in_ok-touched.touched.reachable (sym c.late_fault.ensures ∙ c.in_default.is)) at
+    (c.in_ok-touched.ensures.released run of_tail goes_on clean) in
+    none_behind run c.args.start.space c.args.trace.now (returns-clause-touches c run of_tail goes_on) released
     (subst (λ (s : Space). HasNoFaultOn s c.args.trace.now) again
     (subst (λ t. HasNoFaultOn start t) same (faultless_after_all start t (after_dumps t calls c.in_ok-places.ensures.clean
     c.in_ok-standing.ensures.clean.0 c.in_ok-standing.ensures.clean.1 start right dumps))))

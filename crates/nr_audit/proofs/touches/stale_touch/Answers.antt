@@ -1,12 +1,18 @@
-use Rattle.std.proofs.Common.{◌≡◌, List, length, slice_get, option_map, option_and_then, ap, sym, ◌∙◌, subst}
+use Rattle.std.proofs.Common.{List, length, slice_get, option_map, option_and_then, ap, sym, ◌∙◌, subst}
+use Rattle.vs_types.specs.Space.{IsSpace}
+use Rattle.vs_types.specs.declared.depth.Depth.{Depth}
+use Rattle.vs_plain.specs.Plain.{BoundedSpace}
+use Rattle.nr_touch.specs.Releases.{AreMemory}
+use Rattle.nr_touch.specs.declared.release.Release.{Release}
 use Rattle.nr_touch.specs.declared.touch.Touch.{Touch}
-use Rattle.nr_audit.specs.inside.Begun.{AreTouchesBelow}
+use Rattle.nr_audit.specs.inside.Begun.{AreReleasesBelow, AreTouchesBelow}
 use Rattle.nr_audit.proofs.Judgements.{no_touches}
 use Rattle.nr_audit.proofs.Pasts.{left_quiet}
+use Rattle.nr_audit.proofs.ReleaseLists.{no_releases, none_found as releases_found, some_found as reached_found}
 use Rattle.nr_audit.proofs.TouchLists.{none_found, some_found}
 use Rattle.nr_audit.proofs.touches.stale_touch.Goals as goal
 
--- `deref` is the list that is followed, `deref-2` that in which the number is looked up
+-- `deref` and `deref-2` are the lists that are followed, `deref-3` and `deref-4` those in which the numbers are looked up
 
 pub returns-clause-none : goal.returns-clause-none
 returns-clause-none c = λ run of_tail goes_on clean.
@@ -15,7 +21,7 @@ returns-clause-none c = λ run of_tail goes_on clean.
     let are = subst (AreTouchesBelow segment (length segment.events)) (sym c.deref.ensures.value) c.in_ok-touches.ensures in
     none_found run c.args.start.space segment all are c.in_ok-followed.followed.stale c.number_in-stale.result
     (c.in_ok-followed.ensures.finds run of_tail goes_on clean) (c.number_in-stale.ensures ∙ ap (λ (ts : List Touch). option_map (λ (t : Touch). t.made) (option_and_then (slice_get ts) c.in_ok-followed.followed.stale))
-    (c.deref-2.ensures.value ∙ sym c.deref.ensures.value))
+    (c.deref-3.ensures.value ∙ sym c.deref.ensures.value))
 
 pub returns-clause-some : goal.returns-clause-some
 returns-clause-some c = λ run of_tail goes_on clean.
@@ -24,7 +30,32 @@ returns-clause-some c = λ run of_tail goes_on clean.
     let are = subst (AreTouchesBelow segment (length segment.events)) (sym c.deref.ensures.value) c.in_ok-touches.ensures in
     some_found run c.args.start.space segment all are c.in_ok-followed.followed.stale c.number_in-stale.result
     (c.in_ok-followed.ensures.finds run of_tail goes_on clean) (c.number_in-stale.ensures ∙ ap (λ (ts : List Touch). option_map (λ (t : Touch). t.made) (option_and_then (slice_get ts) c.in_ok-followed.followed.stale))
-    (c.deref-2.ensures.value ∙ sym c.deref.ensures.value))
+    (c.deref-3.ensures.value ∙ sym c.deref.ensures.value))
+
+pub follow-requires-clause-memory : goal.follow-requires-clause-memory
+follow-requires-clause-memory c = subst (λ (rs : List Release). AreMemory rs) (sym c.deref-2.ensures.value) c.in_ok-releases.ensures.memory
+
+pub returns-clause-released : goal.returns-clause-released
+returns-clause-released c = λ run of_tail goes_on clean.
+    let segment = c.args.segment.now in
+    let all = c.deref-2.result.now in
+    let are = subst (AreReleasesBelow segment (length segment.events)) (sym c.deref-2.ensures.value) c.in_ok-releases.ensures.below in
+    releases_found run c.args.start.space segment all are c.in_ok-followed.followed.reachable c.release_number-reachable.result
+    (c.in_ok-followed.ensures.reaches run of_tail goes_on clean)
+    (c.release_number-reachable.ensures
+    ∙ ap (λ (rs : List Release). option_map (λ (r : Release). r.made) (option_and_then (slice_get rs) c.in_ok-followed.followed.reachable))
+    (c.deref-4.ensures.value ∙ sym c.deref-2.ensures.value))
+
+pub returns-clause-reaches : goal.returns-clause-reaches
+returns-clause-reaches c = λ run of_tail goes_on clean.
+    let segment = c.args.segment.now in
+    let all = c.deref-2.result.now in
+    let are = subst (AreReleasesBelow segment (length segment.events)) (sym c.deref-2.ensures.value) c.in_ok-releases.ensures.below in
+    reached_found run c.args.start.space segment all are c.in_ok-followed.followed.reachable c.release_number-reachable.result
+    (c.in_ok-followed.ensures.reaches run of_tail goes_on clean)
+    (c.release_number-reachable.ensures
+    ∙ ap (λ (rs : List Release). option_map (λ (r : Release). r.made) (option_and_then (slice_get rs) c.in_ok-followed.followed.reachable))
+    (c.deref-4.ensures.value ∙ sym c.deref-2.ensures.value))
 
 pub returns-clause-tail : goal.returns-clause-tail
 returns-clause-tail c = λ run of_tail goes_on clean. c.in_ok-followed.ensures.tail run of_tail goes_on clean
@@ -38,7 +69,15 @@ returns-then-is_quiet-clause-none c = λ run of_tail goes_on clean.
 pub returns-then-is_quiet-clause-some : goal.returns-then-is_quiet-clause-some
 returns-then-is_quiet-clause-some c = λ run of_tail goes_on clean. tt
 
+pub returns-then-is_quiet-clause-released : goal.returns-then-is_quiet-clause-released
+returns-then-is_quiet-clause-released c = λ run of_tail goes_on clean.
+    no_releases run c.args.start.space c.args.segment.now (c.is_quiet.ensures c.if-is_quiet.true).untouched
+
+pub returns-then-is_quiet-clause-reaches : goal.returns-then-is_quiet-clause-reaches
+returns-then-is_quiet-clause-reaches c = λ run of_tail goes_on clean. tt
+
 pub returns-then-is_quiet-clause-tail : goal.returns-then-is_quiet-clause-tail
 returns-then-is_quiet-clause-tail c = λ run of_tail goes_on clean.
     let quiet = c.is_quiet.ensures c.if-is_quiet.true in
     left_quiet run c.args.start.space c.args.segment.now c.args.tail of_tail goes_on clean quiet
+    (subst (λ (depth : Depth). IsSpace depth c.args.start.space) (ap (λ (s : BoundedSpace). s.depth) c.requires.start) c.pages_are_a_space.ensures)

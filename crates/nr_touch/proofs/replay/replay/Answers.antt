@@ -14,6 +14,9 @@ use Rattle.nr_touch.specs.inside.Changes.{AreChangesBelow, IsChange}
 use Rattle.nr_touch.specs.inside.Columns.{IsNumbered}
 use Rattle.nr_touch.specs.declared.change.PlacedChange.{PlacedChange}
 use Rattle.nr_touch.specs.inside.Undo.{LeadsTo}
+use Rattle.nr_touch.specs.inside.Widened.{AreLeastBehind, IsKeptTo}
+use Rattle.vs_types.specs.Space.{IsSpace}
+use Rattle.nr_touch.proofs.KeptBehind.{kept_more}
 use Rattle.nr_touch.proofs.Replayed.{change_fits, none_listed, none_rise, listed_more, listed_rises, read_log, replied}
 use Rattle.nr_touch.proofs.Undone.{listed_leads, listed_numbered}
 use Rattle.nr_touch.proofs.replay.replay.Goals as goal
@@ -32,6 +35,10 @@ loop-place-init c =
         reached = refl;
         are = none_listed c.args.start.space c.args.trace.now c.new-changes.result.items none;
       };
+      kept = λ clean before orderly goes_on least. record {
+        now = least;
+        own = λ change (k, l, at). absurd (let empty = ap length none in omega (arith, l, empty));
+      };
     }
 
 pub index-requires : goal.index-requires
@@ -44,7 +51,9 @@ index-requires c =
     omega (arith, within, many, c.in_ok-replies.replies.ok.0)
 
 pub list-requires : goal.list-requires
-list-requires c = change_fits c.loop-place.space.depth c.loop-place.space.space c.apply.new.space.space c.in_ok-change.change c.in_ok-change.ensures.change
+list-requires c =
+    change_fits c.loop-place.space.depth c.loop-place.space.space c.apply.new.space.space c.in_ok-passed.passed
+    (c.in_ok-passed.ensures.change c.loop-place.space.depth c.loop-place.space.space c.in_ok-change.ensures.change)
 
 pub loop-place-preserved-in-None : goal.loop-place-preserved-in-None
 loop-place-preserved-in-None c =
@@ -56,6 +65,15 @@ loop-place-preserved-in-None c =
       numbered = λ change has. let (is, low) = inv.numbered change has in (is, omega (arith, low));
       rising = inv.rising;
       clean = λ clean. absurd (
+          let trace = c.args.trace.now in
+          let place = c.loop-place.place in
+          let call = get_or c.log-call-items.result.now place 0 in
+          let placed = read_log trace c.log-call-items.result.now place c.log-call-items.ensures.reads c.loop-place-test.true in
+          let op = the_some (operation_of trace call) (placed_is_update trace place call clean placed) in
+          let none : operation_of trace call ≡ None = sym c.operation_of.ensures.asks ∙ c.in-None.is in
+          let some = op.1 in
+          cc);
+      kept = λ clean. absurd (
           let trace = c.args.trace.now in
           let place = c.loop-place.place in
           let call = get_or c.log-call-items.result.now place 0 in
@@ -80,7 +98,9 @@ loop-place-preserved c =
     let new = c.apply.new.space in
     let depth = trace.layout.depth in
     let limit = trace.layout.tables in
-    let change = c.in_ok-change.change in
+    let change = c.in_ok-passed.passed in
+    let changed : IsChange old.depth old.space new.space change =
+    c.in_ok-passed.ensures.change old.depth old.space c.in_ok-change.ensures.change in
     let replies = c.in_ok-replies.replies.items in
     let known = c.in_ok-replies.ensures in
     let is_call = call_within trace call (update_is_call trace call (subst IsSome (sym op) refl)) in
@@ -98,10 +118,11 @@ loop-place-preserved c =
       leads = subst (λ (cs : List PlacedChange). LeadsTo c.args.start.depth start (map (λ (each : PlacedChange). each.change) cs) new.space)
           (sym c.in_ok-list.ensures)
           (listed_leads c.args.start.depth start c.loop-place.changes.items old.space new.space change place call c.index.result.now inv.leads
-          (subst (λ (d : Depth). LeadsTo d old.space (option_to_list change) new.space) (inv.depth ∙ sym c.requires.depth) c.in_ok-change.ensures.leads));
+          (subst (λ (d : Depth). LeadsTo d old.space (option_to_list change) new.space) (inv.depth ∙ sym c.requires.depth)
+          (c.in_ok-passed.ensures.leads old.depth old.space c.in_ok-change.ensures.leads)));
       numbered = subst (λ (cs : List PlacedChange). (each : PlacedChange) → Contains cs each → IsNumbered each × (each.place < place + 1))
           (sym c.in_ok-list.ensures)
-          (listed_numbered old.depth old.space new.space c.loop-place.changes.items place change call c.index.result.now few c.in_ok-change.ensures.change
+          (listed_numbered old.depth old.space new.space c.loop-place.changes.items place change call c.index.result.now few changed
           inv.numbered);
       rising = subst (IsNonDecreasingBy (λ each. each.place)) (sym c.in_ok-list.ensures)
           (listed_rises c.loop-place.changes.items place (λ each has. (inv.numbered each has).1) change call c.index.result.now inv.rising);
@@ -117,12 +138,25 @@ loop-place-preserved c =
           let changes : IsChange depth before (space_from start trace (take (place + 1) trace.log)) change =
           subst (λ s. IsChange depth before s change) after
           (subst (λ s. IsChange depth s new.space change) done.reached
-          (subst (λ d. IsChange d old.space new.space change) inv.depth c.in_ok-change.ensures.change)) in
+          (subst (λ d. IsChange d old.space new.space change) inv.depth changed)) in
           record {
             reached = after;
             are = subst (λ xs. AreChangesBelow start trace xs (place + 1)) (sym c.in_ok-list.ensures)
                 (listed_more start trace c.loop-place.changes.items place done.are change call c.index.result.now placed told changes);
           };
+      kept = λ clean before orderly goes_on least.
+          let done = inv.clean clean in
+          let after : new.space ≡ space_from start trace (take (place + 1) trace.log) =
+          ap (λ s. s.space) stepped
+          ∙ ap (λ d. (step d old.limit old.space c.in-Some.op).space) inv.depth
+          ∙ ap (λ n. (step depth n old.space c.in-Some.op).space) inv.limit
+          ∙ ap (λ s. (step depth limit s c.in-Some.op).space) done.reached
+          ∙ sym (space_next start trace place call c.in-Some.op placed op) in
+          let new_is = subst (λ (d : Depth). IsSpace d new.space) (ap (λ s. s.depth) stepped) c.pages_are_a_space-in-loop-place.ensures in
+          subst (λ xs. IsKeptTo before start trace xs (place + 1) c.pass.new.widened.least) (sym c.in_ok-list.ensures)
+          (kept_more before start trace orderly goes_on c.loop-place.changes.items place old.space new.space c.pages_are_a_space.ensures new_is
+          done.reached after c.loop-place.widened.least c.pass.new.widened.least (inv.kept clean before orderly goes_on least) change changed
+          (c.in_ok-passed.ensures.passed old.depth old.space c.in_ok-change.ensures.change) call c.index.result.now);
     }
 
 pub returns-clause-numbered : goal.returns-clause-numbered
@@ -144,3 +178,13 @@ returns-clause-space c = λ clean.
     let end : c.loop-place.place ≡ length trace.log = omega (arith, all, c.loop-place-test.false, c.loop-place.auto.place-end) in
     (c.loop-place.invariant.clean clean).reached
     ∙ ap (space_from c.args.start.space trace) (ap (λ n. take n trace.log) end ∙ take-length trace.log)
+
+pub returns-clause-least : goal.returns-clause-least
+returns-clause-least c = λ before orderly goes_on least clean.
+    let all = ap length c.log-call-items.ensures.reads in
+    let end : c.loop-place.place ≡ length c.args.trace.now.log = omega (arith, all, c.loop-place-test.false, c.loop-place.auto.place-end) in
+    subst (λ n. AreLeastBehind before c.args.start.space c.args.trace.now n c.loop-place.widened.least) end
+    (c.loop-place.invariant.kept clean before orderly goes_on least).now
+
+pub returns-clause-kept : goal.returns-clause-kept
+returns-clause-kept c = λ before orderly goes_on least clean. (c.loop-place.invariant.kept clean before orderly goes_on least).own

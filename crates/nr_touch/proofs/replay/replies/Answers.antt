@@ -4,7 +4,7 @@ use Rattle.nr_touch.specs.inside.Changes.{AreReplies}
 use Rattle.nr_trace.proofs.LawsOfCalls.{read_event}
 use Rattle.nr_touch.proofs.Replayed.{no_replies, pass_call, pass_reply, put_reply}
 use Rattle.nr_touch.proofs.replay.replies.Goals as goal
-use Rattle.nr_touch.proofs.replay.replies.Goals.{in-Call, in-Touch, in-Reply+then-call-len, in-Reply+else-call-len}
+use Rattle.nr_touch.proofs.replay.replies.Goals.{in-Call, in-Touch, in-Release, in-Reply+then-call-len, in-Reply+else-call-len}
 
 pub loop-index-init : goal.loop-index-init
 loop-index-init c = no_replies c.args.trace.now c.in_ok-replies.replies.items _ c.in_ok-replies.ensures (ap length c.events-events.ensures.reads)
@@ -23,6 +23,10 @@ loop-index-preserved c =
       | in-Touch w ↦
           let is = read_event trace c.events-events.result.now i _ _ c.events-events.ensures.reads c.loop-index-test.true c.index-events-index.is
           (sym c.event.ensures ∙ w.in-Touch.is) in
+          subst (λ (v : Vec ℕ Global). AreReplies trace v.items (i + 1)) (sym w.replies-is) (pass_call trace old i _ is refl inv)
+      | in-Release w ↦
+          let is = read_event trace c.events-events.result.now i _ _ c.events-events.ensures.reads c.loop-index-test.true c.index-events-index.is
+          (sym c.event.ensures ∙ w.in-Release.is) in
           subst (λ (v : Vec ℕ Global). AreReplies trace v.items (i + 1)) (sym w.replies-is) (pass_call trace old i _ is refl inv)
       | in-Reply+then-call-len w ↦
           let is = read_event trace c.events-events.result.now i _ _ c.events-events.ensures.reads c.loop-index-test.true c.index-events-index.is

@@ -5,8 +5,10 @@ use Rattle.nr_trace.specs.Recording.{Recording}
 use Rattle.nr_joined.specs.Run.{Run}
 use Rattle.nr_touch.specs.Stale.{AreRightBelow}
 use Rattle.nr_touch.specs.inside.Earlier.{IsFollowed}
+use Rattle.nr_touch.specs.inside.Keeping.{IsKeptBehind}
 use Rattle.nr_touch.proofs.stale.first_of.Given as goal
 
 abbrev pub invariant-loop-index : goal.invariant-loop-index
 invariant-loop-index l = (before : Option Run) (start : Space) (segment : Recording) → IsFollowed before start segment l.history l.earlier
+    → IsKeptBehind before start segment l.history l.earlier l.widened.least
     → l.space.space ≡ space_from start segment segment.log → l.places ≡ length segment.log → AreRightBelow before start segment l.touches l.index

@@ -1,42 +1,24 @@
-use Rattle.std.proofs.Common.{inl, inr, refl, sym, ◌∙◌, arith}
-use Rattle.std.proofs.lemmas.Bool.{false≢true}
-use Rattle.nr_touch.proofs.Lingering.{behind_right, own_right, right_behind}
+use Rattle.std.proofs.Common.{inl, inr, refl, sym, ◌∙◌}
+use Rattle.std.proofs.lemmas.Bool.{cases_Bool, false≢true}
+use Rattle.nr_touch.specs.inside.Tables.{IsRightByTablesBehind}
+use Rattle.nr_touch.proofs.Kept.{by_tables, kept_right, tables_right}
 use Rattle.nr_touch.proofs.stale.is_right_behind.Goals as goal
 
-pub returns-then-is_right : goal.returns-then-is_right
-returns-then-is_right c = λ before start segment followed are places.
-    let right = (c.is_right.ensures start segment followed.own are places).0 c.if-is_right.true in (
-      λ t. own_right before start segment c.args.earlier.now.changes.items c.args.touch.now followed.goes_on followed.earlier right,
-      λ r. refl,
-    )
-
-pub returns-then-first-eq0 : goal.returns-then-first-eq0
-returns-then-first-eq0 c = λ before start segment followed are places.
-    let own = c.args.history.now.changes.items in
-    let earlier = c.args.earlier.now.changes.items in
-    let touch = c.args.touch.now in
-    let first = c.first_allowed-first.result in
-    let past = c.first_allowed-first.ensures.past in
-    let fits = c.first_allowed-first.ensures.in_range in (
-      λ t. behind_right start segment own earlier followed.own touch fits first past before followed.goes_on followed.earlier c.if-first-eq0.true
-          (c.is_of_earlier.ensures.0 t),
-      λ right. elim (right_behind start segment own earlier followed.own touch fits first past before followed.goes_on followed.earlier right) [
-        | inl mine ↦ absurd (false≢true (sym c.if-is_right.false ∙ (c.is_right.ensures start segment followed.own are places).1 mine))
-        | inr it ↦ c.is_of_earlier.ensures.1 it.1
-      ],
-    )
+pub returns-then-is_right_by_tables : goal.returns-then-is_right_by_tables
+returns-then-is_right_by_tables c = λ before start segment followed kept are places.
+    let right = (c.is_right_by_tables.ensures before start segment followed are places).0 c.if-is_right_by_tables.true in
+    (λ t. tables_right before start segment c.args.touch.now right, λ r. refl)
 
 pub returns : goal.returns
-returns c = λ before start segment followed are places.
-    let own = c.args.history.now.changes.items in
-    let earlier = c.args.earlier.now.changes.items in
-    let touch = c.args.touch.now in
-    let first = c.first_allowed-first.result in
-    let past = c.first_allowed-first.ensures.past in
-    let fits = c.first_allowed-first.ensures.in_range in (
-      λ t. absurd (false≢true t),
-      λ right. absurd (elim (right_behind start segment own earlier followed.own touch fits first past before followed.goes_on followed.earlier right) [
-        | inl mine ↦ false≢true (sym c.if-is_right.false ∙ (c.is_right.ensures start segment followed.own are places).1 mine)
-        | inr it ↦ let some = c.if-first-eq0.false in omega (arith, it.0, some)
-      ]),
-    )
+returns c = λ before start segment followed kept are places. (
+  λ t. kept_right before start segment c.args.touch.now (c.is_of_kept.ensures.sound before start segment followed kept are places t),
+  λ right. elim (cases_Bool c.is_of_kept.result) [
+    | inl told ↦ told
+    | inr untold ↦ absurd (
+        let tables : IsRightByTablesBehind before start segment c.args.touch.now = elim (by_tables before start segment c.args.touch.now right) [
+          | inl mine ↦ mine
+          | inr it ↦ c.is_of_kept.ensures.whole before start segment followed kept are places it untold
+        ] in
+        false≢true (sym c.if-is_right_by_tables.false ∙ (c.is_right_by_tables.ensures before start segment followed are places).1 tables))
+  ],
+)

@@ -13,6 +13,7 @@ abbrev no_change : Change
 no_change = record {
   page = record { base = 0; size = K4; rights = record { write = false; user = false; exec = false }; phys = 0 };
   was_mapped = false;
+  least = record { write = false; user = false; exec = false };
 }
 
 -- the change that is undone next, and the changes that are then left

@@ -5,7 +5,7 @@ use Rattle.nr_explain.specs.Progress.{run_in}
 use Rattle.nr_explain.specs.inside.Reading.{all_states}
 use Rattle.nr_explain.proofs.Feeding.{fresh_reading}
 use Rattle.nr_explain.proofs.Known.{shown_alike, sums_alike}
-use Rattle.nr_explain.proofs.Wholes.{behind, fits_after, fits_before, known_next, seen_next, show_behind, twice_after, well_behind, whole_behind}
+use Rattle.nr_explain.proofs.Wholes.{behind, clean_behind, fits_after, fits_before, known_next, seen_next, show_behind, well_behind, whole_behind}
 use Rattle.nr_explain.proofs.chain.reader.judge_next.Goals as goal
 
 pub judge_segment-requires : goal.judge_segment-requires
@@ -19,6 +19,11 @@ go_on-requires-clause-well c =
 pub go_on-requires-clause-order : goal.go_on-requires-clause-order
 go_on-requires-clause-order c = c.in-Ok.ensures.order
 
+pub go_on-requires-clause-clean : goal.go_on-requires-clause-clean
+go_on-requires-clause-clean c =
+    clean_behind c.args.last c.args.segment.now c.args.before c.requires.twice c.requires.follows c.requires.known
+    (λ came is. c.in-Ok.ensures.sound (run_in came) is)
+
 pub go_on-requires-clause-after : goal.go_on-requires-clause-after
 go_on-requires-clause-after c =
     whole_behind c.args.last c.args.segment.now c.args.before c.requires.twice c.requires.follows c.in-Ok.past c.requires.known c.in-Ok.ensures.fits
@@ -29,10 +34,10 @@ invariant_of-next c =
     let came = c.in_ok-came-in-Ok.came in
     let is = c.in_ok-came-in-Ok.ensures in
     let past = c.in-Ok.past in
-    fresh_reading (Some came) (Some past) _ c.new-feed.result c.new.ensures.items c.new-feed.ensures
-    (fits_after came past c.args.segment.now c.in-Ok.ensures.fits is.layout is.space is.left) (twice_after came past is.space is.left)
+    fresh_reading (Some came) (Some c.in_ok-came-in-Ok.kept) _ c.new-feed.result c.new.ensures.items c.new-feed.ensures
+    (fits_after came past c.args.segment.now c.in-Ok.ensures.fits is.layout is.space is.tail) is.twice
     (known_next c.args.last c.args.segment.now c.args.before c.requires.twice c.requires.follows came past c.args.size c.requires.known
-    (λ came is. c.in-Ok.ensures.kept (run_in came) is) is.layout is.space is.left is.began is.sums)
+    (λ came is. c.in-Ok.ensures.kept (run_in came) is) is.layout is.space is.tail is.began is.sums)
 
 pub returns-in-Ok : goal.returns-in-Ok
 returns-in-Ok c = λ came seen.
@@ -42,7 +47,7 @@ returns-in-Ok c = λ came seen.
       c.in-Ok.ensures.sound (run_in came) here,
       record {
         seen = seen_next c.args.last c.args.segment.now c.args.before c.requires.twice c.requires.follows came c.in_ok-came-in-Ok.came c.in-Ok.past
-            c.args.size seen (c.in-Ok.ensures.kept (run_in came) here) is.layout is.space is.left is.began is.sums;
+            c.args.size seen (c.in-Ok.ensures.kept (run_in came) here) is.layout is.space is.tail is.began is.sums;
         none = c.new.ensures.items;
       },
     )

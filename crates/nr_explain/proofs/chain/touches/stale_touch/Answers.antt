@@ -1,11 +1,14 @@
-use Rattle.std.proofs.Common.{◌≡◌, ℕ, length, ap, sym, ◌∙◌, subst}
+use Rattle.std.proofs.Common.{◌≡◌, ℕ, length, ap, sym, ◌∙◌, subst, arith}
 use Rattle.vs_types.specs.Space.{Space}
 use Rattle.vs_plain.specs.Plain.{BoundedSpace}
 use Rattle.nr_trace.specs.Calls.{IsCall}
-use Rattle.nr_explain.specs.ChainEvidence.{AreLooks}
+use Rattle.nr_explain.specs.ChainEvidence.{fewest, AreLooks, IsMissed}
+use Rattle.nr_explain.specs.Nearest.{IsNearest}
 use Rattle.nr_explain.specs.inside.Windows.{IsWindowBelow}
 use Rattle.nr_explain.proofs.Answering.{none_open, of_touch, touch_asks, touch_is_call}
 use Rattle.nr_explain.proofs.EarlierLooks.{earlier_at, sound_tail}
+use Rattle.nr_explain.proofs.KeptRights.{first_within, last_below}
+use Rattle.nr_explain.proofs.Lags.{lagging}
 use Rattle.nr_explain.specs.inside.Reading.{all_states, left_seen}
 use Rattle.nr_explain.proofs.Windows.{window_is}
 use Rattle.nr_explain.proofs.chain.touches.stale_touch.Goals as goal
@@ -24,7 +27,23 @@ pub earlier_looks-requires : goal.earlier_looks-requires
 earlier_looks-requires c = sound_tail c.args.segment.now c.args.last.now c.requires.fits
 
 pub looks_in-requires-clause-within : goal.looks_in-requires-clause-within
-looks_in-requires-clause-within c = c.in_ok-window.ensures.within
+looks_in-requires-clause-within c =
+    let few = c.in_ok-window.ensures.within in
+    omega (arith, few, c.with_lag-from.ensures.last)
+
+pub missed_update-missed-requires : goal.missed_update-missed-requires
+missed_update-missed-requires c =
+    (c.in_ok-space.space.space, c.asked_address-address.result, c.args.index, c.in_ok-window.ensures.reached)
+
+pub kept_of-requires-clause-order : goal.kept_of-requires-clause-order
+kept_of-requires-clause-order c =
+    last_below c.in_ok-begun.begun.space c.args.segment.now c.call_at-call.result.request c.in-Some.reply.answer c.in_ok-window.window.first
+    c.in_ok-window.window.last c.in_ok-right.right c.in_ok-right.ensures
+
+pub kept_of-requires-clause-within : goal.kept_of-requires-clause-within
+kept_of-requires-clause-within c =
+    first_within c.in_ok-space.space.space c.args.segment.now c.asked_address-address.result c.args.index c.in-Some.reply.event c.in_ok-window.window
+    c.in_ok-window.ensures
 
 pub returns-clause-is : goal.returns-clause-is
 returns-clause-is c =
@@ -39,8 +58,10 @@ returns-clause-is c =
     let names = first.1 ∙ sym event in
     let here : c.in_ok-space.space.space ≡ start = ap (λ (s : BoundedSpace). s.space) c.in_ok-space.ensures in
     let again : c.in_ok-again.again.space ≡ start = ap (λ (s : BoundedSpace). s.space) c.in_ok-again.ensures in
+    let begun : c.in_ok-begun.begun.space ≡ start = ap (λ (s : BoundedSpace). s.space) c.in_ok-begun.ensures in
     let is = subst (λ (s : Space). IsWindowBelow s segment address c.args.index reply.event (length segment.log) window) here c.in_ok-window.ensures in
-    let looks = subst (λ (s : Space). AreLooks s segment address window.first window.last c.in_ok-looks.looks.items) again c.in_ok-looks.ensures in
+    let looks = subst (λ (s : Space). AreLooks s segment address c.with_lag-from.result.first c.with_lag-from.result.last c.in_ok-looks.looks.items) again
+    c.in_ok-looks.ensures in
     record {
       call = c.call_at-call.ensures.is;
       reply = first.0;
@@ -49,7 +70,25 @@ returns-clause-is c =
           window_is start segment address c.args.index reply.event touch window
           (sym (touch_asks segment call touch c.call_at-call.ensures.is has made) ∙ sym c.asked_address-address.ensures) (made ∙ event)
           (of_touch segment c.args.index reply touch c.requires.touch.clean first.0 first.1 has (made ∙ event)) is n;
-      looks = subst (λ (a : ℕ). AreLooks start segment a window.first window.last c.in_ok-looks.looks.items) c.asked_address-address.ensures looks;
+      lag = c.lag_of-lag.ensures;
+      lagging = lagging start segment address reply.event call window c.call_at-call.ensures.is
+          (subst (λ (n : ℕ). IsWindowBelow start segment address n reply.event (length segment.log) window) (sym event) is) reply.answer c.lag_of-lag.result
+          c.lag_of-lag.ensures (λ touch has made. record {
+            address = sym (touch_asks segment call touch c.call_at-call.ensures.is has made) ∙ sym c.asked_address-address.ensures;
+            made = made;
+            answered = of_touch segment c.args.index reply touch c.requires.touch.clean first.0 first.1 has (made ∙ event);
+            known = has.known;
+          });
+      looks = subst (λ (n : ℕ). AreLooks start segment n (fewest window.first c.lag_of-lag.result) window.last c.in_ok-looks.looks.items)
+          c.asked_address-address.ensures
+          (subst (λ (n : ℕ). AreLooks start segment address (fewest window.first c.lag_of-lag.result) n c.in_ok-looks.looks.items) c.with_lag-from.ensures.last
+          (subst (λ (n : ℕ). AreLooks start segment address n c.with_lag-from.result.last c.in_ok-looks.looks.items) c.with_lag-from.ensures.first looks));
+      missed = subst (λ (a : ℕ). IsMissed start segment a call.event window.first c.missed_update-missed.result) c.asked_address-address.ensures
+          (subst (λ (m : ℕ). IsMissed start segment address m window.first c.missed_update-missed.result) (sym event)
+          (c.missed_update-missed.ensures start address c.args.index is.reached));
+      right = subst (λ (s : Space). IsNearest s segment call.request reply.answer window.first window.last c.in_ok-right.right) begun
+          c.in_ok-right.ensures;
+      kept = c.in_ok-kept.ensures;
     }
 
 pub returns-clause-left : goal.returns-clause-left

@@ -30,4 +30,5 @@ returns c =
       reads = omega (arith, order, log, few);
       replicas = c.replicas.ensures.reads ∙ ap (λ (l : Layout). l.replicas) c.layout.ensures.reads;
       pages = c.len.ensures ∙ c.in_ok-pages.pages.ok.0 ∙ ap length (c.in_ok-pages.ensures.lists ∙ ap (λ (s : BoundedSpace). pages s.space) whole);
+      overlapping = c.in_ok-meeting.ensures;
     }

@@ -147,7 +147,8 @@ returns-in-Ends-clause-ok g c =
     let piece = take c.in_ok-count.count c.read_block.new.block in
     let full : length c.read_block.new.block ≡ 4096 = omega (arith, c.read_block.auto.block, c.loop-room.auto.block, c.requires.block) in
     let reading = here.invariant in
-    ended_report c.args.setup c.args.chain (length piece) (reading.read ++ piece) (known c.args.reader.now) (known c.read_block.new.reader) (contents c.args.writer.now)
+    ended_report c.args.setup c.args.chain (length piece) (reading.read ++ piece) (known c.args.reader.now) (known c.read_block.new.reader)
+    (contents c.args.writer.now)
     (contents c.feed_piece.new.writer) c.in-Ends.status
     (lost_with c.args.setup c.args.chain _ (known here.reader) (known c.read_block.new.reader) _ _ here.run here.portion here.room piece reading
     c.in_ok-count.ensures.ok)

@@ -1,7 +1,0 @@
-use Rattle.std.proofs.Common.{◌≡◌, take}
-use Rattle.nr_trace.specs.Orders.{space_from}
-use Rattle.nr_audit.specs.Verdict.{space_of}
-use Rattle.nr_explain.proofs.chain.spaces.follow.Given as goal
-
-abbrev pub invariant-loop-place : goal.invariant-loop-place
-invariant-loop-place l = l.space ≡ space_of l.segment.layout (space_from l.fn.first.space l.segment (take l.place l.segment.log))

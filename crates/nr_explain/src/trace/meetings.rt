@@ -1,0 +1,96 @@
+//! How many answered calls of a trace were open while another one was.
+
+ghost use Rattle.std.specs.Prelude.{◌≡◌, ◌<◌, ◌≤◌, ◌↔◌, ◌⊎◌, IfOk, IsSomeAnd, IsTrue, length, replicate};
+ghost use Rattle.nr_touch.specs.inside.Changes.{AreReplies};
+ghost use Rattle.nr_explain.specs.Meetings.{is_asked, overlapping};
+
+use nr_audit::request_of;
+use nr_trace::{Event, Trace};
+use std::alloc::Global;
+use vs_types::Memory;
+
+/// The last update or read so far: the first reply to it, or `u32::MAX`, and whether an earlier one was open as it was made.
+#[derive(Clone, Copy)]
+pub(crate) struct Latest {
+    pub(crate) call: u32,
+    pub(crate) reply: u32,
+    pub(crate) has_met: bool,
+}
+
+/// Whether an update or a read has this number.
+fn is_asked(trace: &Trace, call: u32) -> bool
+    ensures { result ≡ is_asked trace.now call }
+{
+    request_of(trace, call).is_some()
+}
+
+/// A table of so many events, of none of which a reply is known.
+fn no_replies(alloc: Global, rows: usize) -> Result<Vec<u32>, Memory>
+    ensures { IfOk result (λ table. table.items ≡ replicate rows 4294967295) }
+{
+    Ok(vec![in alloc; u32::MAX; rows]?)
+}
+
+/// By the index of each call the first event that answers it, or `u32::MAX` where there is none.
+fn replies(alloc: Global, trace: &Trace) -> Result<Vec<u32>, Memory>
+    ensures { IfOk result
+        (λ replies. AreReplies trace.now replies.items (length trace.now.events)) }
+{
+    let events = trace.events();
+    let mut replies = no_replies(alloc, events.len())?;
+    for (index, event) in events.iter().enumerate() {
+        match event.event() {
+            Event::Call { .. } => {}
+            Event::Touch { .. } => {}
+            Event::Release { .. } => {}
+            Event::Reply { call, .. } => {
+                let call = call as usize;
+                if call < replies.len() {
+                    replies[call] = replies[call].min(index as u32);
+                }
+            }
+        }
+    }
+    Ok(replies)
+}
+
+/// Whether the last call before one is answered, and has met an earlier call or is still open as that one is made.
+fn meets(last: Option<Latest>, events: u32, call: u32) -> bool
+    ensures { IsTrue result ↔ IsSomeAnd last (λ latest. (latest.reply < events)
+        × (IsTrue latest.has_met ⊎ (call ≤ latest.reply))) }
+{
+    match last {
+        Some(latest) => latest.reply < events && (latest.has_met || latest.reply >= call),
+        None => false,
+    }
+}
+
+/// How many updates and reads that are answered overlap another one. Allocates a table of four bytes for each event.
+pub(crate) fn overlapping(alloc: Global, trace: &Trace) -> Result<u64, Memory>
+    ensures { IfOk result (λ count. count ≡ overlapping trace.now) }
+{
+    let replies = replies(alloc, trace)?;
+    let events = trace.events().len() as u32;
+    let mut last = None;
+    let mut end: u64 = 0;
+    let mut count: u64 = 0;
+    for call in 0..events {
+        if is_asked(trace, call) {
+            if meets(last, events, call) {
+                count += 1;
+            }
+            let reply = replies[call as usize];
+            let has_met = end > u64::from(call);
+            last = Some(Latest {
+                call,
+                reply,
+                has_met,
+            });
+            end = end.max(u64::from(reply) + 1);
+        }
+    }
+    if meets(last, events, events) {
+        count += 1;
+    }
+    Ok(count)
+}

@@ -1,0 +1,52 @@
+-- Faults by a table that lags, as answers after some entries.
+use Rattle.std.proofs.Common.{◌≡◌, ℕ, ◌+◌, ◌-◌, ◌<◌, ◌≤◌, Bool, true, false, cond, length, List, None, Option, Some, refl, sym, ap, ◌∙◌, arith}
+use Rattle.vs_types.specs.Access.{allows, fault_code}
+use Rattle.vs_types.specs.Space.{Space}
+use Rattle.vs_types.specs.Step.{allow_in_page}
+use Rattle.vs_types.specs.declared.access.Access.{Access}
+use Rattle.vs_types.specs.declared.access.Mode.{Mode}
+use Rattle.vs_types.specs.declared.answer.Answer.TheVariants.{Allowed, Fault}
+use Rattle.vs_types.specs.declared.page.Page.{Page}
+use Rattle.nr_trace.specs.Recording.{Recording}
+use Rattle.nr_touch.specs.Touches.{IsFaultOfLagging, IsFaultOfNone, page_after}
+use Rattle.nr_touch.specs.declared.change.PlacedChange.{PlacedChange}
+use Rattle.nr_touch.specs.declared.touch.Touch.{Touch}
+use Rattle.nr_touch.specs.inside.Changes.{AreChanges}
+use Rattle.nr_touch.specs.inside.Columns.{Covers, IsAhead}
+use Rattle.nr_touch.specs.inside.Walk.{IsAnsweredWithin}
+use Rattle.nr_touch.proofs.Walked.{last_within, none_foreseen, up_to_foreseen}
+
+-- bit 0 of the code says whether a page has the address
+other_code : (mode : Mode) (access : Access) → fault_code false mode access ≡ fault_code true mode access → ⊥
+other_code mode access e = omega (arith, e)
+
+-- only where no page has the address an access is answered by that fault
+none_covers : (address : ℕ) (mode : Mode) (access : Access) (page : Option Page)
+    → Fault (fault_code false mode access) ≡ allow_in_page address mode access page → page ≡ None
+none_covers address mode access None e = refl
+none_covers address mode access (Some page) e = absurd (by (allows page.rights mode access) e) where
+  by : (b : Bool) → Fault (fault_code false mode access) ≡ cond b (Allowed (page.phys + (address - page.base))) (Fault (fault_code true mode access)) → ⊥
+  by true e = cc
+  by false e = other_code mode access (let same : fault_code false mode access ≡ fault_code true mode access = cc in same)
+
+module _ (start : Space) (trace : Recording) (changes : List PlacedChange) (are : AreChanges start trace changes) (touch : Touch) (last : ℕ)
+    (ahead : IsAhead changes (λ c. Covers touch.address c × (touch.answered < c.made)) (length trace.log) last) where
+  pub lagging_within : IsFaultOfNone touch → IsAnsweredWithin start trace touch touch.known last → IsFaultOfLagging start trace touch
+  lagging_within fault (m, low, high, answered) = (
+    fault,
+    m,
+    record {
+      within = let most = last_within start trace changes are touch last ahead in omega (arith, most, high);
+      known = low;
+      not_foreseen = none_foreseen start trace changes are touch last ahead m high;
+      absent = none_covers touch.address touch.mode touch.access (page_after start trace touch.address m) (sym fault ∙ answered);
+    },
+  )
+
+  pub within_lagging : IsFaultOfLagging start trace touch → (touch.known ≤ last) × IsAnsweredWithin start trace touch touch.known last
+  within_lagging (fault, m, it) =
+      let low = it.known in
+      let high = up_to_foreseen start trace changes are touch last ahead m it.within it.not_foreseen in (
+        omega (arith, low, high),
+        (m, low, high, fault ∙ ap (allow_in_page touch.address touch.mode touch.access) (sym it.absent)),
+      )

@@ -1,0 +1,80 @@
+-- How many touches were open while an update of their page was.
+use Rattle.std.specs.Prelude.{ℕ, ◌+◌, ◌==◌, ◌&&◌, not, Bool, true, false, length, take, slice_get, slice_index, count_by, Option, Some, None, option_and_then}
+use Rattle.std.specs.List.{list_any}
+use Rattle.std.specs.Option.{option_eq, option_map_or}
+use Rattle.vs_types.specs.Page.{level_of}
+use Rattle.vs_types.specs.Space.{Space}
+use Rattle.vs_types.specs.declared.page.Page.{Page}
+use Rattle.vs_types.specs.declared.page.Rights.{Rights}
+use Rattle.nr_trace.specs.Recording.{Recording}
+use Rattle.nr_trace.specs.Orders.{below}
+use Rattle.nr_trace.specs.declared.event.Event.{Event}
+use Rattle.nr_trace.specs.declared.event.Event.TheVariants.{Call, Release, Reply, Touch}
+use Rattle.nr_touch.specs.Touches.{page_after}
+
+-- whether an event is a reply to the call
+abbrev pub is_reply_to : ℕ → Event → Bool
+is_reply_to call (Call replica thread request) = false
+is_reply_to call (Touch replica thread address mode access) = false
+is_reply_to call (Release replica thread size phys) = false
+is_reply_to call (Reply other at answer) = other == call
+
+-- whether a reply to the call comes before the event
+abbrev pub is_over : Recording → ℕ → ℕ → Bool
+is_over trace call event = list_any (is_reply_to call) (take event trace.events)
+
+-- whether neither of two calls is over when the other one is made
+abbrev pub are_open_at_once : Recording → ℕ → ℕ → Bool
+are_open_at_once trace call other = not (is_over trace call other) && not (is_over trace other call)
+
+-- the address of a touch
+abbrev pub touched_in : Event → Option ℕ
+touched_in (Call replica thread request) = None
+touched_in (Touch replica thread address mode access) = Some address
+touched_in (Release replica thread size phys) = None
+touched_in (Reply call at answer) = None
+
+-- the address of the call of this number, if it is a touch
+abbrev pub touched : Recording → ℕ → Option ℕ
+touched trace call = option_and_then touched_in (slice_get trace.events call)
+
+-- ---- how an address looks
+
+-- whether two tests answer alike
+abbrev pub is_alike : Bool → Bool → Bool
+is_alike true other = other
+is_alike false other = not other
+
+-- whether two pages' rights are the same
+abbrev pub has_same_rights : Rights → Rights → Bool
+has_same_rights one other = is_alike one.write other.write && (is_alike one.user other.user && is_alike one.exec other.exec)
+
+-- whether two pages are the same
+abbrev pub is_same_page : Page → Page → Bool
+is_same_page one other =
+    (one.base == other.base) && ((level_of one.size == level_of other.size) && ((one.phys == other.phys) && has_same_rights one.rights other.rights))
+
+-- whether the update of a place changes how the address looks: another page covers it after its place than before
+abbrev pub changes_look : Space → Recording → ℕ → ℕ → Bool
+changes_look start trace address place =
+    not (option_eq is_same_page (page_after start trace address place) (page_after start trace address (place + 1)))
+
+-- ---- touches beside updates
+
+-- whether the update of a place changes how the address looks, and is open while the call is
+abbrev pub is_open_beside : Space → Recording → ℕ → ℕ → ℕ → Bool
+is_open_beside start trace address call place =
+    changes_look start trace address place && are_open_at_once trace call (slice_index trace.log place)
+
+-- whether the call is answered, and open while an update is that changes how the address looks
+abbrev pub meets_update : Space → Recording → ℕ → ℕ → Bool
+meets_update start trace call address =
+    is_over trace call (length trace.events) && list_any (is_open_beside start trace address call) (below (length trace.log))
+
+-- whether it is an answered touch that was open while an update of its page was
+abbrev pub is_beside : Space → Recording → ℕ → Bool
+is_beside start trace call = option_map_or (meets_update start trace call) (touched trace call) false
+
+-- how many of the touches are
+abbrev pub beside : Space → Recording → ℕ
+beside start trace = count_by (is_beside start trace) (below (length trace.events))

@@ -1,0 +1,90 @@
+-- The pages that a touch may find, and how a release is compared with them. No public clause cites this file.
+use Rattle.std.specs.Prelude.{◌≡◌, ℕ, ◌+◌, ◌*◌, ◌%◌, ◌<◌, ◌≤◌, ◌^◌, ◌⊎◌, true, List, None, Option, Some, Contains}
+use Rattle.vs_types.specs.Page.{bytes_of}
+use Rattle.vs_types.specs.Space.{Space, pages}
+use Rattle.vs_types.specs.declared.access.Access.TheVariants.{Read}
+use Rattle.vs_types.specs.declared.access.Mode.TheVariants.{Supervisor}
+use Rattle.vs_types.specs.declared.answer.Answer.TheVariants.{Allowed}
+use Rattle.vs_types.specs.declared.page.Page.{Page}
+use Rattle.nr_trace.specs.Recording.{Recording}
+use Rattle.nr_joined.specs.Run.{Run}
+use Rattle.nr_touch.specs.Releases.{HasPhys, IsReachedFrom}
+use Rattle.nr_touch.specs.inside.Tables.{IsRightByTablesBehind}
+use Rattle.nr_touch.specs.inside.Changes.{number_of}
+use Rattle.nr_touch.specs.inside.Columns.{IsOf}
+use Rattle.nr_touch.specs.declared.change.PlacedChange.{PlacedChange}
+use Rattle.nr_touch.specs.declared.release.Release.{Release}
+use Rattle.nr_touch.specs.declared.seen.Seen.{Seen}
+use Rattle.nr_touch.specs.declared.touch.Touch.{Touch}
+
+-- the touch that is made and answered at an event, and finds this physical address at that one
+abbrev pub probe_at : ℕ → ℕ → ℕ → Touch
+probe_at event address phys = record {
+  made = event;
+  answered = event;
+  known = 0;
+  address = address;
+  mode = Supervisor;
+  access = Read;
+  answer = Allowed phys;
+}
+
+-- a page that begins at multiples of its size, and ends in time
+pub record IsRoomy (page : Page) : Type 0 where
+  pub base : page.base % bytes_of page.size ≡ 0
+  pub frame : page.phys % bytes_of page.size ≡ 0
+  pub ends : page.base + bytes_of page.size ≤ 2 ^ 64
+  pub low : page.phys + bytes_of page.size < 2 ^ 64
+
+-- the memory of a release has what lies so far behind the base of a page, and a touch that finds it there would be right
+pub record IsMetAt (before : Option Run) (start : Space) (segment : Recording) (release : Release) (page : Page) (offset : ℕ) : Type 0 where
+  pub has : HasPhys release (page.phys + offset)
+  pub right : IsRightByTablesBehind before start segment (probe_at release.made (page.base + offset) (page.phys + offset))
+
+-- some frame of the page is so
+pub record LeadsThere (before : Option Run) (start : Space) (segment : Recording) (release : Release) (page : Page) : Type 0 where
+  pub frame : ℕ
+  pub within : frame * 4096 < bytes_of page.size
+  pub met : IsMetAt before start segment release page (frame * 4096)
+
+-- some page of these is so
+abbrev pub SomeLeadsThere : Option Run → Space → Recording → Release → List Seen → Type 0
+SomeLeadsThere before start segment release seen = (s : Seen) × Contains seen s × LeadsThere before start segment release s.page
+
+-- a frame of the page in which the memory of a release is met, or none
+abbrev pub FindsFrame : Option Run → Space → Recording → Release → Page → Option ℕ → Type 0
+FindsFrame before start segment release page None = LeadsThere before start segment release page → ⊥
+FindsFrame before start segment release page (Some frame) = IsMetAt before start segment release page (frame * 4096)
+
+-- an address from which the memory of a release is reached, or none where no page of these leads there
+abbrev pub FindsAddress : Option Run → Space → Recording → Release → List Seen → Option ℕ → Type 0
+FindsAddress before start segment release seen None = SomeLeadsThere before start segment release seen → ⊥
+FindsAddress before start segment release seen (Some address) = IsReachedFrom before start segment release address
+
+-- an address, or another one if there is one and that is lower
+abbrev pub IsLower : Option ℕ → ℕ → ℕ → Type 0
+IsLower None other lower = lower ≡ other
+IsLower (Some address) other lower = (lower ≡ address) ⊎ (lower ≡ other)
+
+-- a page that is there after the whole log; before a change of the segment; or before one that earlier segments left
+abbrev pub seen_now : ℕ → Page → Seen
+seen_now places page = record { page = page; place = places; there = true }
+
+abbrev pub seen_before : PlacedChange → Seen
+seen_before c = record { page = c.change.page; place = c.place; there = c.change.was_mapped }
+
+abbrev pub seen_left : PlacedChange → Seen
+seen_left c = record { page = c.change.page; place = 0; there = c.change.was_mapped }
+
+-- all of them
+pub record AreSeen (own earlier : List PlacedChange) (space : Space) (places : ℕ) (seen : List Seen) : Type 0 where
+  pub present : (page : Page) → Contains (pages space) page → Contains seen (seen_now places page)
+  pub before : (c : PlacedChange) → Contains own c → Contains seen (seen_before c)
+  pub left : (c : PlacedChange) → Contains earlier c → Contains seen (seen_left c)
+  pub roomy : (s : Seen) → Contains seen s → IsRoomy s.page
+
+-- so far as the changes of the page itself say, a touch may find it at an event
+pub record IsAlive (changes : List PlacedChange) (s : Seen) (event : ℕ) : Type 0 where
+  pub there : s.there ≡ true
+  pub from : (c : PlacedChange) → Contains changes c → IsOf (number_of s.page) c → c.place < s.place → c.made ≤ event
+  pub until : (c : PlacedChange) → Contains changes c → IsOf (number_of s.page) c → s.place ≤ c.place → event ≤ c.answered

@@ -1,0 +1,107 @@
+//! The pages that a touch of a segment may find: those of the space at its end, and those before its changes and the ones left before it.
+
+ghost use Rattle.std.specs.Prelude.{◌≡◌, ◌++◌, map, IfOk};
+ghost use Rattle.nr_touch.specs.inside.Columns.{AreColumns};
+ghost use Rattle.nr_touch.specs.inside.Reached.{seen_before, seen_left, seen_now, AreSeen};
+
+use crate::change::PlacedChange;
+use crate::history::History;
+use std::alloc::Global;
+use vs_plain::PlainSpace;
+use vs_types::{Memory, Page};
+
+/// A page that a touch may find after so many entries of the log.
+#[derive(Clone, Copy, Debug)]
+pub(crate) struct Seen {
+    pub(crate) page: Page,
+    pub(crate) place: u32,
+    /// Whether it is there then: a page that is mapped next is not.
+    pub(crate) there: bool,
+}
+
+fn seen_now(page: Page, places: u32) -> Seen
+    ensures { result ≡ seen_now places page }
+{
+    Seen {
+        page,
+        place: places,
+        there: true,
+    }
+}
+
+fn seen_before(placed: &PlacedChange) -> Seen
+    ensures { result ≡ seen_before placed.now }
+{
+    Seen {
+        page: placed.change.page,
+        place: placed.place,
+        there: placed.change.was_mapped,
+    }
+}
+
+fn seen_left(placed: &PlacedChange) -> Seen
+    ensures { result ≡ seen_left placed.now }
+{
+    Seen {
+        page: placed.change.page,
+        place: 0,
+        there: placed.change.was_mapped,
+    }
+}
+
+/// The pages that are there after the whole log, of so many places.
+fn all_now(alloc: Global, present: &[Page], places: u32) -> Result<Vec<Seen>, Memory>
+    ensures { IfOk result (λ v. v.items ≡ map (seen_now places) present.now) }
+{
+    Ok(
+        present
+            .iter()
+            .map(|page| seen_now(*page, places))
+            .collect(alloc)?,
+    )
+}
+
+/// The pages before the changes of the segment.
+fn all_before(alloc: Global, changes: &[PlacedChange]) -> Result<Vec<Seen>, Memory>
+    ensures { IfOk result (λ v. v.items ≡ map seen_before changes.now) }
+{
+    Ok(changes.iter().map(|each| seen_before(each)).collect(alloc)?)
+}
+
+/// The pages before the changes that earlier segments left.
+fn all_left(alloc: Global, changes: &[PlacedChange]) -> Result<Vec<Seen>, Memory>
+    ensures { IfOk result (λ v. v.items ≡ map seen_left changes.now) }
+{
+    Ok(changes.iter().map(|each| seen_left(each)).collect(alloc)?)
+}
+
+/// Some pages, and behind them others.
+fn joined(seen: Vec<Seen>, more: &[Seen]) -> Result<Vec<Seen>, Memory>
+    ensures { IfOk result (λ v. v.items ≡ seen.items ++ more.now) }
+{
+    let mut seen = seen;
+    seen.extend_from_slice(more)?;
+    Ok(seen)
+}
+
+/// The pages that a touch of a segment may find, which has so many places. Allocates 40 bytes for each of them.
+pub(crate) fn seen_of(
+    alloc: Global,
+    history: &History,
+    earlier: &History,
+    space: &PlainSpace,
+    places: u32,
+) -> Result<Vec<Seen>, Memory>
+    requires own { AreColumns history.now }
+    requires earlier { AreColumns earlier.now }
+    ensures { IfOk result (λ seen. AreSeen history.now.changes.items earlier.now.changes.items
+        space.now.space places seen.items) }
+{
+    let present = space.pages()?;
+    let now = all_now(alloc, &present, places)?;
+    let before = all_before(alloc, &history.changes)?;
+    let own = joined(now, &before)?;
+    let left = all_left(alloc, &earlier.changes)?;
+    let seen = joined(own, &left)?;
+    Ok(seen)
+}

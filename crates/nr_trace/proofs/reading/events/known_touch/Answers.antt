@@ -1,0 +1,12 @@
+use Rattle.std.proofs.Common.{◌≡◌, true, subst, arith}
+use Rattle.nr_trace.proofs.Touches.{none_known, touches_asked}
+use Rattle.nr_trace.proofs.reading.events.known_touch.Goals as goal
+
+pub returns-then-knows_touch : goal.returns-then-knows_touch
+returns-then-knows_touch c =
+    touches_asked c.args.version c.args.depth c.args.fields c.touch_of.result (c.knows_touch.ensures.0 c.if-knows_touch.true) c.requires c.touch_of.ensures
+
+pub returns-else-knows_touch : goal.returns-else-knows_touch
+returns-else-knows_touch c =
+    none_known c.args.version c.args.depth c.args.fields
+    (λ knows. let yes : c.knows_touch.result ≡ true = c.knows_touch.ensures.1 knows in absurd cc) (omega (arith, c.requires))
