@@ -1,20 +1,45 @@
 -- The address from which the memory of a release is reached, page by page.
-use Rattle.std.proofs.Common.{ℕ, ◌+◌, ◌*◌, ◌<◌, ◌≤◌, inl, inr, List, get_or, length, Option, Some, None, refl, sym, subst}
+use Rattle.std.proofs.Common.{◌≡◌, ℕ, ◌+◌, ◌*◌, ◌<◌, ◌≤◌, ◌⊎◌, inl, inr, List, get_or, slice_get, length, Option, Some, None, Contains, refl, sym, ap, ◌∙◌, subst, arith}
+use Rattle.std.proofs.lemmas.Bool.{cases_lt}
+use Rattle.std.proofs.lemmas.Option.{same_Some, slice_get_within, slice_get-get_or}
 use Rattle.vs_types.specs.Space.{Space}
 use Rattle.vs_types.specs.declared.page.Page.{Page}
 use Rattle.nr_trace.specs.Recording.{Recording}
 use Rattle.nr_joined.specs.Run.{Run}
 use Rattle.nr_touch.specs.Releases.{FindsReached, IsReachable, IsReachedFrom}
-use Rattle.nr_touch.specs.inside.Reached.{probe_at, FindsAddress, IsLower, IsMetAt, LeadsThere, SomeLeadsThere}
+use Rattle.nr_touch.specs.inside.Reached.{probe_at, FindsAddress, IsFirstFrame, IsLower, IsMetAt, LeadsBelow, LeadsThere}
 use Rattle.nr_touch.specs.declared.release.Release.{Release}
 use Rattle.nr_touch.specs.declared.seen.Seen.{Seen}
 use Rattle.nr_touch.proofs.Kept.{tables_right}
 use Rattle.nr_touch.proofs.FirstWrong.{none_leads, nothing_leads, NoneLeadsBelow}
+use Rattle.nr_touch.proofs.Lefts.{in_got}
 
--- of the pages below an index none leads there, or there is an address from which the memory is reached
+-- the pages below an index lead there at no lower address
+abbrev pub IsLeastBelow : Option Run → Space → Recording → Release → List Seen → ℕ → ℕ → Type 0
+IsLeastBelow before start segment release seen end address = (k : ℕ) (s : Seen) → k < end → slice_get seen k ≡ Some s
+    → (leads : LeadsThere before start segment release s.page) → address ≤ s.page.base + leads.frame * 4096
+
+-- of the pages below an index none leads there, or there is an address from which the memory is reached, and no lower one through these
 abbrev pub FindsBelow : Option Run → Space → Recording → Release → List Seen → ℕ → Option ℕ → Type 0
 FindsBelow before start segment release seen end None = NoneLeadsBelow before start segment release seen end
-FindsBelow before start segment release seen end (Some address) = IsReachedFrom before start segment release address
+FindsBelow before start segment release seen end (Some address) =
+    IsReachedFrom before start segment release address × IsLeastBelow before start segment release seen end address
+
+-- an address that is reached is one of an access that can be made
+can_reach : (before : Option Run) (start : Space) (segment : Recording) (release : Release) (address : ℕ)
+    → IsReachedFrom before start segment release address → (can : IsReachable before start segment release) × (can.touch.address ≡ address)
+can_reach before start segment release address it = (
+  record {
+    touch = it.touch;
+    made = it.made;
+    answered = it.answered;
+    phys = it.phys;
+    finds = it.finds;
+    within = it.within;
+    right = it.right;
+  },
+  it.of_it,
+)
 
 module _ (before : Option Run) (start : Space) (segment : Recording) (release : Release) where
   -- the address of a frame in which the memory is met
@@ -31,27 +56,85 @@ module _ (before : Option Run) (start : Space) (segment : Recording) (release : 
     right = tables_right before start segment (probe_at release.made (page.base + frame * 4096) (page.phys + frame * 4096)) met.right;
   }
 
-  -- the lower one of two such addresses is one
-  pub lower_reached : (seen : List Seen) (end : ℕ) (least : Option ℕ) (other lower : ℕ) → FindsBelow before start segment release seen end least
-      → IsReachedFrom before start segment release other → IsLower least other lower → IsReachedFrom before start segment release lower
-  lower_reached seen end None other lower found new is = subst (IsReachedFrom before start segment release) (sym is) new
-  lower_reached seen end (Some address) other lower found new (inl same) = subst (IsReachedFrom before start segment release) (sym same) found
-  lower_reached seen end (Some address) other lower found new (inr same) = subst (IsReachedFrom before start segment release) (sym same) new
+  module _ (seen : List Seen) (index : ℕ) (d : Seen) (l : index < length seen) where
+    abbrev last : Seen
+    last = get_or seen index d
 
-  -- a page more that doesn't lead there
-  pub none_more : (seen : List Seen) (index : ℕ) (d : Seen) (least : Option ℕ) → index < length seen
-      → (LeadsThere before start segment release (get_or seen index d).page → ⊥)
-      → FindsBelow before start segment release seen index least → FindsBelow before start segment release seen (index + 1) least
-  none_more seen index d None l not none = none_leads before start segment release seen index d l not none
-  none_more seen index d (Some address) l not found = found
+    -- a page more, through which no lower address leads there
+    least_more : (address lower : ℕ) → lower ≤ address → IsLeastBelow before start segment release seen index address
+        → ((leads : LeadsThere before start segment release last.page) → lower ≤ last.page.base + leads.frame * 4096)
+        → IsLeastBelow before start segment release seen (index + 1) lower
+    least_more address lower less least here k s within at leads = by (cases_lt k index) where
+      by : (k < index) ⊎ (index ≤ k) → lower ≤ s.page.base + leads.frame * 4096
+      by (inl early) = let low = least k s early at leads in omega (arith, low, less)
+      by (inr past) =
+          let same : k ≡ index = omega (arith, past, within) in
+          let one : last ≡ s = same_Some last s (sym (slice_get-get_or seen index d l) ∙ ap (slice_get seen) (sym same) ∙ at) in
+          (subst (λ (q : Seen). (it : LeadsThere before start segment release q.page) → lower ≤ q.page.base + it.frame * 4096) one here) leads
+
+    -- the first frame of a page has its lowest address
+    lowest_in : (frame : ℕ) → IsFirstFrame before start segment release last.page frame → (leads : LeadsThere before start segment release last.page)
+        → last.page.base + frame * 4096 ≤ last.page.base + leads.frame * 4096
+    lowest_in frame first leads = by (cases_lt leads.frame frame) where
+      by : (leads.frame < frame) ⊎ (frame ≤ leads.frame) → last.page.base + frame * 4096 ≤ last.page.base + leads.frame * 4096
+      by (inl early) = absurd (first.first leads.frame early leads.met)
+      by (inr past) = omega (arith, past)
+
+    -- a page more that leads there, and the lower one of two addresses
+    pub lower_reached : (least : Option ℕ) (frame other lower : ℕ) → other ≡ last.page.base + frame * 4096
+        → IsFirstFrame before start segment release last.page frame → FindsBelow before start segment release seen index least
+        → IsLower least other lower → FindsBelow before start segment release seen (index + 1) (Some lower)
+    lower_reached None frame other lower at first none is =
+        let same : lower ≡ last.page.base + frame * 4096 = is ∙ at in (
+          subst (IsReachedFrom before start segment release) (sym same) (reached_in last.page frame first.met),
+          (λ k s within at_k leads. by k s at_k leads within (cases_lt k index) same),
+        ) where
+          by : (k : ℕ) (s : Seen) → slice_get seen k ≡ Some s → (leads : LeadsThere before start segment release s.page) → k < index + 1
+              → (k < index) ⊎ (index ≤ k) → lower ≡ last.page.base + frame * 4096 → lower ≤ s.page.base + leads.frame * 4096
+          by k s at_k leads within (inl early) same = absurd (none k s early at_k leads)
+          by k s at_k leads within (inr past) same =
+              least_more lower lower (omega arith) (λ j t early at_j it. absurd (none j t early at_j it))
+              (λ it. let low = lowest_in frame first it in omega (arith, low, same)) k s within at_k leads
+    lower_reached (Some address) frame other lower at first (from, least) is = (
+      by (cases_lt other address),
+      least_more address lower (omega (arith, is)) least (λ it. let low = lowest_in frame first it in omega (arith, low, at, is)),
+    ) where
+      by : (other < address) ⊎ (address ≤ other) → IsReachedFrom before start segment release lower
+      by (inl less) =
+          let same : lower ≡ last.page.base + frame * 4096 = omega (arith, is, less, at) in
+          subst (IsReachedFrom before start segment release) (sym same) (reached_in last.page frame first.met)
+      by (inr more) =
+          let same : lower ≡ address = omega (arith, is, more) in
+          subst (IsReachedFrom before start segment release) (sym same) from
+
+    -- a page more that doesn't lead there
+    pub none_more : (least : Option ℕ) → (LeadsThere before start segment release last.page → ⊥)
+        → FindsBelow before start segment release seen index least → FindsBelow before start segment release seen (index + 1) least
+    none_more None not none = none_leads before start segment release seen index d l not none
+    none_more (Some address) not (from, least) = (from, least_more address address (omega arith) least (λ leads. absurd (not leads)))
 
   -- all pages
   pub found_of_all : (seen : List Seen) (end : ℕ) (least : Option ℕ) → length seen ≤ end → FindsBelow before start segment release seen end least
       → FindsAddress before start segment release seen least
   found_of_all seen end None all none = nothing_leads before start segment release seen end all none
-  found_of_all seen end (Some address) all found = found
+  found_of_all seen end (Some address) all (from, least) = record {
+    from = from;
+    least = λ s has leads.
+        let (k, at) = in_got seen s has in
+        let low = slice_get_within seen k s at in
+        least k s (omega (arith, low, all)) at leads;
+  }
 
-  pub finds_reached : (seen : List Seen) (least : Option ℕ) → (IsReachable before start segment release → SomeLeadsThere before start segment release seen)
+  pub finds_reached : (seen : List Seen) (least : Option ℕ)
+      → ((can : IsReachable before start segment release) → (s : Seen) × Contains seen s × LeadsBelow before start segment release can.touch.address s.page)
       → FindsAddress before start segment release seen least → FindsReached before start segment release least
-  finds_reached seen None leads none = λ can. none (leads can)
-  finds_reached seen (Some address) leads found = found
+  finds_reached seen None leads none = λ can. let (s, has, below) = leads can in none (s, has, below.0)
+  finds_reached seen (Some address) leads found = record {
+    from = found.from;
+    least = λ other reached.
+        let (can, of_it) = can_reach before start segment release other reached in
+        let (s, has, below) = leads can in
+        let low = found.least s has below.0 in
+        let up = below.1 in
+        omega (arith, low, up, of_it);
+  }

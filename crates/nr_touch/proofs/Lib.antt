@@ -17,6 +17,7 @@ pub mod Lingering
 pub mod LivesFound
 pub mod Looked
 pub mod LooksLeft
+pub mod LooksListed
 pub mod NoneLeft
 pub mod NotWidened
 pub mod Overs

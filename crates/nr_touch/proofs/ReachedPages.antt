@@ -27,7 +27,7 @@ use Rattle.nr_touch.specs.inside.Tables.{IsFaultOfKeptBehind, IsRightByTables, I
 use Rattle.nr_touch.specs.inside.Changes.{number_of, page_before, AreChanges}
 use Rattle.nr_touch.specs.inside.Columns.{Covers, IsNumbered, IsOf}
 use Rattle.nr_touch.specs.inside.Earlier.{AreOfRun, IsAnsweredSo}
-use Rattle.nr_touch.specs.inside.Reached.{probe_at, seen_before, seen_left, seen_now, AreSeen, IsAlive, LeadsThere}
+use Rattle.nr_touch.specs.inside.Reached.{probe_at, seen_before, seen_left, seen_now, AreSeen, IsAlive, LeadsBelow, LeadsThere}
 use Rattle.nr_touch.specs.declared.change.PlacedChange.{PlacedChange}
 use Rattle.nr_touch.specs.declared.release.Release.{Release}
 use Rattle.nr_touch.specs.declared.seen.Seen.{Seen}
@@ -122,8 +122,9 @@ record FoundPage (own : List PlacedChange) (seen : List Seen) (event a : ℕ) (p
   pub alive : IsAlive own s event
   pub looks : (b : ℕ) → a / 4096 ≡ b / 4096 → IsTrue (covers page b) → Looks b
 
--- a page that is seen and alive leads there, and shares memory with the release
-pub record ReachedPage (before : Option Run) (start : Space) (segment : Recording) (own : List PlacedChange) (seen : List Seen) (release : Release) : Type 0 where
+-- a page that is seen and alive leads there at or below an address, and shares memory with the release
+pub record ReachedPage (before : Option Run) (start : Space) (segment : Recording) (own : List PlacedChange) (seen : List Seen) (release : Release)
+    (address : ℕ) : Type 0 where
   pub s : Seen
   pub has : Contains seen s
   pub alive : IsAlive own s release.made
@@ -131,7 +132,7 @@ pub record ReachedPage (before : Option Run) (start : Space) (segment : Recordin
   pub shared : HasPhys release phys
   pub low : s.page.phys ≤ phys
   pub high : phys < s.page.phys + bytes_of s.page.size
-  pub leads : LeadsThere before start segment release s.page
+  pub leads : LeadsBelow before start segment release address s.page
 
 module _ (start : Space) (segment : Recording) (own earlier : List PlacedChange) (are : AreChanges start segment own)
     (numbered : (c : PlacedChange) → Contains own c → IsNumbered c) (left_numbered : (c : PlacedChange) → Contains earlier c → IsNumbered c)
@@ -303,7 +304,7 @@ module _ (start : Space) (segment : Recording) (own earlier : List PlacedChange)
     -- the frame of the address
     leads_so : (a phys : ℕ) (page : Page) (Looks : ℕ → Type 0) (there : FoundPage own seen event a page Looks) → phys ≡ page.phys + (a - page.base) → HasPhys release phys
         → ((b other : ℕ) → a / 4096 ≡ b / 4096 → Looks b → other ≡ page.phys + (b - page.base) → IsRightByTablesBehind before start segment (probe_at event b other))
-        → ReachedPage before start segment own seen release
+        → ReachedPage before start segment own seen release a
     leads_so a phys page Looks there is shared right =
         let roomy = subst (λ (q : Page). (q.base % bytes_of q.size ≡ 0) × (q.phys % bytes_of q.size ≡ 0)) there.is
         (let r = all.roomy there.s there.has in (r.base, r.frame)) in
@@ -326,19 +327,23 @@ module _ (start : Space) (segment : Recording) (own earlier : List PlacedChange)
           shared = shared;
           low = subst (λ (q : Page). q.phys ≤ phys) (sym there.is) (omega (arith, is));
           high = subst (λ (q : Page). phys < q.phys + bytes_of q.size) (sym there.is) (omega (arith, is, within.0, within.1));
-          leads = subst (LeadsThere before start segment release) (sym there.is) record {
-            frame = frame;
-            within = omega (arith, offset, within.0, within.1);
-            met = record {
-              has = (up, omega (arith, shared.1, is, offset));
-              right = subst (λ (e : ℕ). IsRightByTablesBehind before start segment (probe_at e (page.base + frame * 4096) (page.phys + frame * 4096))) (sym now)
-                  (right (page.base + frame * 4096) (page.phys + frame * 4096) so.same (there.looks (page.base + frame * 4096) so.same covers_b)
-                  (ap (λ (n : ℕ). page.phys + n) (sym back)));
-            };
-          };
+          leads = subst (LeadsBelow before start segment release a) (sym there.is) (
+            record {
+              frame = frame;
+              within = omega (arith, offset, within.0, within.1);
+              met = record {
+                has = (up, omega (arith, shared.1, is, offset));
+                right = subst (λ (e : ℕ). IsRightByTablesBehind before start segment (probe_at e (page.base + frame * 4096) (page.phys + frame * 4096)))
+                    (sym now)
+                    (right (page.base + frame * 4096) (page.phys + frame * 4096) so.same (there.looks (page.base + frame * 4096) so.same covers_b)
+                    (ap (λ (n : ℕ). page.phys + n) (sym back)));
+              };
+            },
+            omega (arith, offset, within.0),
+          );
         }
 
-    pub reached : IsReachable before start segment release → ReachedPage before start segment own seen release
+    pub reached : (can : IsReachable before start segment release) → ReachedPage before start segment own seen release can.touch.address
     reached can = by_right (by_tables before start segment can.touch can.right) where
       made : can.touch.made ≡ event
       made = can.made ∙ now
@@ -348,7 +353,7 @@ module _ (start : Space) (segment : Recording) (own earlier : List PlacedChange)
 
       in_segment : (n : ℕ) → IsAllowedPrefix start segment can.touch n
           → ((own_page : Page) × (page_after start segment can.touch.address n ≡ Some own_page)
-          × (can.phys ≡ own_page.phys + (can.touch.address - own_page.base))) → ReachedPage before start segment own seen release
+          × (can.phys ≡ own_page.phys + (can.touch.address - own_page.base))) → ReachedPage before start segment own seen release can.touch.address
       in_segment n allowed (page, at, is) =
           leads_so can.touch.address can.phys page (LooksSo can.touch made answered n allowed page at) (found can.touch made answered n allowed page at) is
           can.within
@@ -357,12 +362,13 @@ module _ (start : Space) (segment : Recording) (own earlier : List PlacedChange)
 
       left_over : NoneFlushedFrom start segment can.touch → (it : IsAnsweredSo earlier can.touch)
           → ((own_page : Page) × (page_before it.change.change ≡ Some own_page) × (can.phys ≡ own_page.phys + (can.touch.address - own_page.base)))
-          → ReachedPage before start segment own seen release
+          → ReachedPage before start segment own seen release can.touch.address
       left_over none it (page, at, is) =
           leads_so can.touch.address can.phys page (λ b. Covers b it.change) (left_found can.touch made none it page at) is can.within
           (λ b other frame covered so. left_right can.touch made none it page at before goes_on of_run b other frame covered so)
 
-      by : IsRightByTables start segment can.touch ⊎ (NoneFlushedFrom start segment can.touch × IsAnsweredSo earlier can.touch) → ReachedPage before start segment own seen release
+      by : IsRightByTables start segment can.touch ⊎ (NoneFlushedFrom start segment can.touch × IsAnsweredSo earlier can.touch)
+          → ReachedPage before start segment own seen release can.touch.address
       by (inl (inl (n, allowed, told))) =
           in_segment n allowed (found_page can.phys can.touch.address can.touch.mode can.touch.access
           (page_after start segment can.touch.address n) (sym can.finds ∙ told))
@@ -373,7 +379,7 @@ module _ (start : Space) (segment : Recording) (own earlier : List PlacedChange)
           (sym can.finds ∙ it.answered))
 
       by_right : IsRightByTablesBehind before start segment can.touch ⊎ IsFaultOfKeptBehind before start segment can.touch
-          → ReachedPage before start segment own seen release
+          → ReachedPage before start segment own seen release can.touch.address
       by_right (inl right) = by (parts_behind start segment earlier can.touch before goes_on of_run right)
       by_right (inr kept) = absurd (
           let fault = kept_fault before start segment can.touch kept in

@@ -1,9 +1,11 @@
 -- How an address may still be found to look, as a list of answers.
-use Rattle.std.specs.Prelude.{◌≡◌, ℕ, ◌↔◌, List, Option, Contains}
+use Rattle.std.specs.Prelude.{◌≡◌, ℕ, ◌↔◌, ◌++◌, ◌&&◌, ◌||◌, if◌then◌else◌, not, Bool, false, List, [], ◌∷◌, Option, Contains}
+use Rattle.vs_types.specs.Page.{covers}
 use Rattle.vs_types.specs.Step.{look_in_page}
 use Rattle.vs_types.specs.declared.answer.Answer.{Answer}
 use Rattle.vs_types.specs.declared.page.Page.{Page}
 use Rattle.nr_touch.specs.Tails.{IsLeft}
+use Rattle.nr_touch.specs.inside.Changes.{page_before}
 use Rattle.nr_touch.specs.declared.tail.Left.{Left}
 
 -- an address with one of the looks that the changes leave it looks so
@@ -13,3 +15,16 @@ IsLookLeft changes address look = (page : Option Page) × IsLeft changes address
 -- just these looks are left
 abbrev pub AreLooksLeft : List Left → ℕ → List Answer → Type 0
 AreLooksLeft changes address looks = (look : Answer) → Contains looks look ↔ IsLookLeft changes address look
+
+-- some change that has the address is over
+abbrev pub is_over : List Left → ℕ → Bool
+is_over [] address = false
+is_over (left ∷ later) address = (covers left.change.page address && left.over) || is_over later address
+
+-- how an address may still be found to look, in the order of the changes: as before each that has it, where neither that one nor a later one that
+-- has it is over
+abbrev pub looks_left : List Left → ℕ → List Answer
+looks_left [] address = []
+looks_left (left ∷ later) address =
+    (if covers left.change.page address && not (is_over (left ∷ later) address) then look_in_page address (page_before left.change) ∷ [] else [])
+    ++ looks_left later address

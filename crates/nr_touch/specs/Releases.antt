@@ -39,10 +39,15 @@ pub record IsReachedFrom (before : Option Run) (start : Space) (segment : Record
   pub within : HasPhys release phys
   pub right : IsRightBehind before start segment touch
 
--- an address from which the memory of a release can be reached, or none where it can't
+-- the least of these addresses
+pub record IsLeastReached (before : Option Run) (start : Space) (segment : Recording) (release : Release) (address : ℕ) : Type 0 where
+  pub from : IsReachedFrom before start segment release address
+  pub least : (other : ℕ) → IsReachedFrom before start segment release other → address ≤ other
+
+-- the least address from which the memory of a release can be reached, or none where it can't
 abbrev pub FindsReached : Option Run → Space → Recording → Release → Option ℕ → Type 0
 FindsReached before start segment release None = IsReachable before start segment release → ⊥
-FindsReached before start segment release (Some address) = IsReachedFrom before start segment release address
+FindsReached before start segment release (Some address) = IsLeastReached before start segment release address
 
 -- a wrong release: its memory can be reached, or it is answered otherwise than by Done
 abbrev pub IsWrongRelease : Option Run → Space → Recording → Release → Type 0

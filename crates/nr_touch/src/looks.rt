@@ -3,7 +3,7 @@
 ghost use Rattle.std.specs.Prelude.{◌≡◌, ◌↔◌, ◌++◌, ◌∷◌, [], IfOk, IsTrue, List, OnOk, Option};
 ghost use Rattle.vs_types.specs.Page.{covers};
 ghost use Rattle.nr_joined.specs.Run.{Run};
-ghost use Rattle.nr_touch.specs.Looks.{AreLooksLeft};
+ghost use Rattle.nr_touch.specs.Looks.{looks_left, AreLooksLeft};
 ghost use Rattle.nr_touch.specs.Tails.{AreSound, IsSoundLeft, IsSoundTail, IsTailOf};
 ghost use Rattle.nr_touch.specs.declared.tail.Left.{Left as LeftRow};
 
@@ -31,8 +31,10 @@ fn has(change: Change, address: u64) -> bool
 /// The looks that are left with one change more, which has this address or not.
 fn add_look(looks: &mut Vec<Answer>, left: &Left, address: u64) -> Result<(), Memory>
     requires { IsSoundLeft left.now }
-    ensures { (front : List LeftRow) → AreLooksLeft front address looks.old.items
+    ensures are { (front : List LeftRow) → AreLooksLeft front address looks.old.items
         → OnOk result (AreLooksLeft (front ++ left.now ∷ []) address looks.new.items) }
+    ensures list { (front : List LeftRow) → looks.old.items ≡ looks_left front address
+        → OnOk result (looks.new.items ≡ looks_left (front ++ left.now ∷ []) address) }
 {
     if !has(left.change, address) {
         return Ok(());
@@ -48,7 +50,8 @@ fn add_look(looks: &mut Vec<Answer>, left: &Left, address: u64) -> Result<(), Me
 /// How an address may still be found to look by these changes. Allocates the list.
 fn looks_of(alloc: Global, changes: &[Left], address: u64) -> Result<Vec<Answer>, Memory>
     requires { AreSound changes.now }
-    ensures { IfOk result (λ looks. AreLooksLeft changes.now address looks.items) }
+    ensures are { IfOk result (λ looks. AreLooksLeft changes.now address looks.items) }
+    ensures list { IfOk result (λ looks. looks.items ≡ looks_left changes.now address) }
 {
     let mut looks = Vec::new(alloc);
     for left in changes {
@@ -82,7 +85,10 @@ impl Tail {
     /// `Memory` where a growth of memory was refused.
     pub fn looks_left(&self, alloc: Global, address: u64) -> Result<Vec<Answer>, Memory>
         requires { IsSoundTail self.now }
-        ensures { IfOk result (λ looks. AreLooksLeft self.now.changes.items address looks.items) }
+        ensures are { IfOk result
+            (λ looks. AreLooksLeft self.now.changes.items address looks.items) }
+        ensures list { IfOk result
+            (λ looks. looks.items ≡ looks_left self.now.changes.items address) }
     {
         looks_of(alloc, &self.changes, address)
     }

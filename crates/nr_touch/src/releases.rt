@@ -420,7 +420,7 @@ fn address_of(
     least_address(history, earlier, space, places, &reach.seen, release)
 }
 
-/// The least multiple of 4,096 from which an access that begins with the release could reach its memory, or `None` where none could.
+/// The least address from which an access that begins with the release could reach its memory, or `None` where none could.
 ///
 /// The release lies in the segment, whose space begins with this start, behind segments that left this tail. Of a segment whose log isn't
 /// clean nothing is said. Allocates what `follow` allocates, and 168 bytes for each page of the space, and for each change of the

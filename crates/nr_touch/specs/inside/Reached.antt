@@ -1,5 +1,5 @@
 -- The pages that a touch may find, and how a release is compared with them. No public clause cites this file.
-use Rattle.std.specs.Prelude.{◌≡◌, ℕ, ◌+◌, ◌*◌, ◌%◌, ◌<◌, ◌≤◌, ◌^◌, ◌⊎◌, true, List, None, Option, Some, Contains}
+use Rattle.std.specs.Prelude.{◌≡◌, ℕ, ◌+◌, ◌*◌, ◌%◌, ◌<◌, ◌≤◌, ◌^◌, min, true, List, None, Option, Some, Contains}
 use Rattle.vs_types.specs.Page.{bytes_of}
 use Rattle.vs_types.specs.Space.{Space, pages}
 use Rattle.vs_types.specs.declared.access.Access.TheVariants.{Read}
@@ -47,24 +47,39 @@ pub record LeadsThere (before : Option Run) (start : Space) (segment : Recording
   pub within : frame * 4096 < bytes_of page.size
   pub met : IsMetAt before start segment release page (frame * 4096)
 
+-- the page is so at or below an address
+abbrev pub LeadsBelow : Option Run → Space → Recording → Release → ℕ → Page → Type 0
+LeadsBelow before start segment release address page =
+    (leads : LeadsThere before start segment release page) × (page.base + leads.frame * 4096 ≤ address)
+
 -- some page of these is so
 abbrev pub SomeLeadsThere : Option Run → Space → Recording → Release → List Seen → Type 0
 SomeLeadsThere before start segment release seen = (s : Seen) × Contains seen s × LeadsThere before start segment release s.page
 
--- a frame of the page in which the memory of a release is met, or none
+-- the memory of a release is met in a frame of the page, and in none before it
+pub record IsFirstFrame (before : Option Run) (start : Space) (segment : Recording) (release : Release) (page : Page) (frame : ℕ) : Type 0 where
+  pub met : IsMetAt before start segment release page (frame * 4096)
+  pub first : (lower : ℕ) → lower < frame → IsMetAt before start segment release page (lower * 4096) → ⊥
+
+-- the first frame of the page in which the memory of a release is met, or none
 abbrev pub FindsFrame : Option Run → Space → Recording → Release → Page → Option ℕ → Type 0
 FindsFrame before start segment release page None = LeadsThere before start segment release page → ⊥
-FindsFrame before start segment release page (Some frame) = IsMetAt before start segment release page (frame * 4096)
+FindsFrame before start segment release page (Some frame) = IsFirstFrame before start segment release page frame
 
--- an address from which the memory of a release is reached, or none where no page of these leads there
+-- an address from which the memory of a release is reached, where no page of these leads there at or below a lower one
+pub record IsLeastIn (before : Option Run) (start : Space) (segment : Recording) (release : Release) (seen : List Seen) (address : ℕ) : Type 0 where
+  pub from : IsReachedFrom before start segment release address
+  pub least : (s : Seen) → Contains seen s → (leads : LeadsThere before start segment release s.page) → address ≤ s.page.base + leads.frame * 4096
+
+-- such an address, or none where no page of these leads there
 abbrev pub FindsAddress : Option Run → Space → Recording → Release → List Seen → Option ℕ → Type 0
 FindsAddress before start segment release seen None = SomeLeadsThere before start segment release seen → ⊥
-FindsAddress before start segment release seen (Some address) = IsReachedFrom before start segment release address
+FindsAddress before start segment release seen (Some address) = IsLeastIn before start segment release seen address
 
 -- an address, or another one if there is one and that is lower
 abbrev pub IsLower : Option ℕ → ℕ → ℕ → Type 0
 IsLower None other lower = lower ≡ other
-IsLower (Some address) other lower = (lower ≡ address) ⊎ (lower ≡ other)
+IsLower (Some address) other lower = lower ≡ min address other
 
 -- a page that is there after the whole log; before a change of the segment; or before one that earlier segments left
 abbrev pub seen_now : ℕ → Page → Seen

@@ -25,8 +25,11 @@ is_met-requires-clause-frame c =
     omega (arith, within, low)
 
 pub returns-then-is_met-clause-finds : goal.returns-then-is_met-clause-finds
-returns-then-is_met-clause-finds c = λ before start segment followed are places.
-    (c.is_met.ensures before start segment followed are places).0 c.if-is_met.true
+returns-then-is_met-clause-finds c = λ before start segment followed are places. record {
+  met = (c.is_met.ensures before start segment followed are places).0 c.if-is_met.true;
+  first = λ lower less met.
+      c.loop-number.invariant before start segment followed are places lower (c.first_frame-first.ensures lower met.has) less met;
+}
 
 pub returns-then-is_met-clause-within : goal.returns-then-is_met-clause-within
 returns-then-is_met-clause-within c = c.end_frame-end.ensures.within c.loop-number.number c.loop-number-test.true

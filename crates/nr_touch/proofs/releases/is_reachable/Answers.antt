@@ -37,5 +37,5 @@ returns c = λ before start segment followed are places.
           let r = reached start segment own c.args.earlier.now.changes.items followed.own c.requires.own.numbered c.requires.earlier.numbered
           c.args.space.now.space c.args.space.now.depth c.pages_are_a_space.ensures are c.args.places places seen c.requires.seen release.made
           c.meet.ensures.in_range before followed.goes_on followed.earlier release c.requires.memory.0 refl can in
-          some.1 (r.s, subst (λ (xs : List Seen). Contains xs r.s) (sym c.deref.ensures.value) r.has, r.leads),
+          some.1 (r.s, subst (λ (xs : List Seen). Contains xs r.s) (sym c.deref.ensures.value) r.has, r.leads.0),
     )

@@ -1,7 +1,6 @@
 use Rattle.std.proofs.Common.{ℕ, ◌+◌, Option, sym, subst, arith}
 use Rattle.std.proofs.lemmas.List.Elements.{Contains-get_or}
-use Rattle.nr_touch.specs.Releases.{IsReachedFrom}
-use Rattle.nr_touch.proofs.Addresses.{found_of_all, lower_reached, none_more, reached_in, FindsBelow}
+use Rattle.nr_touch.proofs.Addresses.{found_of_all, lower_reached, none_more, FindsBelow}
 use Rattle.nr_touch.proofs.releases.least_address.Goals as goal
 use Rattle.nr_touch.proofs.releases.least_address.Goals.{in-Some, in-None}
 
@@ -23,11 +22,10 @@ loop-each-preserved c = λ before start segment followed are places.
     let old = c.loop-each.invariant before start segment followed are places in
     elim c.match-frame_there.branch [
       | in-Some w ↦ subst (λ (o : Option ℕ). FindsBelow before start segment release seen (index + 1) o) (sym w.least-is)
-          (lower_reached before start segment release seen index c.loop-each.least _ w.lower.result old
-          (subst (IsReachedFrom before start segment release) (sym w.frame_address-address.ensures)
-          (reached_in before start segment release _ w.in-Some.frame (w.in-Some.ensures.finds before start segment followed are places))) w.lower.ensures)
+          (lower_reached before start segment release seen index _ c.loop-each-test.true c.loop-each.least w.in-Some.frame w.frame_address-address.result
+          w.lower.result w.frame_address-address.ensures (w.in-Some.ensures.finds before start segment followed are places) old w.lower.ensures)
       | in-None w ↦ subst (λ (o : Option ℕ). FindsBelow before start segment release seen (index + 1) o) (sym w.least-is)
-          (none_more before start segment release seen index _ c.loop-each.least c.loop-each-test.true
+          (none_more before start segment release seen index _ c.loop-each-test.true c.loop-each.least
           (w.in-None.ensures.finds before start segment followed are places) old)
     ]
 

@@ -31,5 +31,6 @@ returns c =
       goes_on = show.goes_on;
       reached = subst (λ (s : Space). IsReachedFrom (run_in show.came) s segment (release_at c.args.index c.args.given) c.in-Some.address) here
           (subst (λ (o : Option ℕ). FindsReached (run_in show.came) c.in_ok-start.start.space segment (release_at c.args.index c.args.given) o) c.in-Some.is
-          (c.in_ok-found.ensures show.came show.kept (subst (λ (s : Space). GoesOn (run_in show.came) segment s) (sym here) show.goes_on) show.clean));
+          (c.in_ok-found.ensures show.came show.kept (subst (λ (s : Space). GoesOn (run_in show.came) segment s) (sym here) show.goes_on)
+          show.clean)).from;
     }

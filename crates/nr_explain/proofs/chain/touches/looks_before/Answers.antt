@@ -12,7 +12,7 @@ looks_left-requires c = subst (λ (l : Option Progress). IfSome l HasSoundTail) 
 pub returns-in-Some : goal.returns-in-Some
 returns-in-Some c =
     subst (λ (l : Option Progress). IfOk c.looks_left.result (λ looks. AreLooksLeft (left_seen (all_states l)) c.args.address looks.items))
-    (sym c.in-Some.is) c.looks_left.ensures
+    (sym c.in-Some.is) c.looks_left.ensures.are
 
 pub returns-in-None : goal.returns-in-None
 returns-in-None c = none_before c.args.last.now c.args.address _ c.in-None.is c.new.ensures.items
