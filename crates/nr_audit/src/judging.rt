@@ -56,10 +56,12 @@ fn parts_of(alloc: Global, before: Option<Past>) -> (Option<PlainSpace>, Tail)
 /// its segment doesn't answer is never over. A refusal does not say that no other order explains it.
 ///
 /// Allocates memory beside the trace: at most 16 bytes for each event and 4 for each thread, or where there are more threads than
-/// events an entry of a map for each thread that makes a call; where there are touches or releases, 8 bytes more for each event, these,
-/// and the changes of the space, which are done and undone; and, when these are freed but for 4 bytes for each call of the order, for
+/// events an entry of a map for each thread that makes a call; where there are touches, releases or protects, where a call has no reply,
+/// where something was left open before, or once memory was released, 8 bytes more for each event, the touches and releases, and the
+/// changes of the space, which are done and undone; and, when these are freed but for 4 bytes for each call of the order, for
 /// the pages of the space and what the check of a dump takes. It takes time for the segment's own events, log, start and dumps, and
-/// for the changes of updates without a reply, and not for the pages of the space before.
+/// for the changes of updates without a reply, and not for the pages of the space before. Only the first segment with releases lists
+/// all pages, in an index that is kept for the next ones: four rows of 16 bytes for each page.
 ///
 /// # Errors
 ///

@@ -6,7 +6,7 @@ use Rattle.vs_types.specs.declared.page.Size.{Size}
 use Rattle.vs_types.specs.declared.page.Size.TheVariants.{K4, M2, G1}
 use Rattle.nr_touch.specs.Releases.{HasPhys}
 use Rattle.nr_touch.specs.inside.Changes.{number_at}
-use Rattle.nr_touch.specs.inside.Lives.{whole, IsBlockFor, IsBlockOf}
+use Rattle.nr_touch.specs.inside.Blocks.{whole, IsBlockFor, IsBlockOf}
 use Rattle.nr_touch.specs.declared.release.Release.{Release}
 use Rattle.nr_touch.proofs.Sizes.{own_number}
 

@@ -21,10 +21,6 @@ NoneLeadsBelow before start segment release seen end = (k : ℕ) (s : Seen) → 
     → LeadsThere before start segment release s.page → ⊥
 
 module _ (before : Option Run) (start : Space) (segment : Recording) (release : Release) (seen : List Seen) where
-  pub some_leads : (index : ℕ) (d : Seen) → index < length seen → LeadsThere before start segment release (get_or seen index d).page
-      → SomeLeadsThere before start segment release seen
-  some_leads index d l leads = (get_or seen index d, Contains-get_or seen index d l, leads)
-
   pub none_leads : (index : ℕ) (d : Seen) → index < length seen → (LeadsThere before start segment release (get_or seen index d).page → ⊥)
       → NoneLeadsBelow before start segment release seen index → NoneLeadsBelow before start segment release seen (index + 1)
   none_leads index d l not none k s low at leads = elim (cases_lt k index) [

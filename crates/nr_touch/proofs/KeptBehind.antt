@@ -1,6 +1,6 @@
 -- The least rights that may be kept in a segment behind a run.
 use Rattle.std.specs.Prelude.{unwrap_or}
-use Rattle.std.proofs.Common.{◌≡◌, ℕ, ◌+◌, inl, inr, List, [], ◌++◌, length, take, Option, Some, None, Contains, nat_cmp, refl, sym, ap, ◌∙◌, subst, arith}
+use Rattle.std.proofs.Common.{◌≡◌, ℕ, ◌+◌, inl, inr, List, [], ◌++◌, length, take, Option, Some, None, Contains, IfSome, nat_cmp, refl, sym, ap, ◌∙◌, subst, arith}
 use Rattle.std.proofs.lemmas.List.{append-nil, nil_from_length}
 use Rattle.std.proofs.lemmas.List.Elements.{Contains-push_cases}
 use Rattle.std.specs.BTreeMap.{btree_map_len, BTreeMap, get}
@@ -15,9 +15,11 @@ use Rattle.nr_touch.specs.Kept.{listed_rights, AreLeast, IsLeast}
 use Rattle.nr_touch.specs.Tails.{GoesOn, IsTailOf}
 use Rattle.nr_touch.specs.Touches.{page_after}
 use Rattle.nr_touch.specs.inside.Changes.{listed, number_of, IsChange}
+use Rattle.nr_touch.specs.inside.Indexed.{HasPages}
 use Rattle.nr_touch.specs.inside.Widened.{offset_of, AreLeastBehind, HasLeast, HasPassed, IsKeptTo, IsOrderlyRun}
 use Rattle.nr_touch.specs.declared.change.Change.{Change}
 use Rattle.nr_touch.specs.declared.change.PlacedChange.{PlacedChange}
+use Rattle.nr_touch.specs.declared.index.Index.{Index}
 use Rattle.nr_touch.specs.declared.tail.Tail.{Tail}
 use Rattle.nr_touch.proofs.Behind.{look_front, look_rest}
 use Rattle.nr_touch.proofs.Kept.{least_alike, least_first}
@@ -35,6 +37,14 @@ pub orderly_of : (before : Option Run) (tail : Tail) → IsTailOf before tail �
 orderly_of None tail of_it = tt
 orderly_of (Some run) tail of_it = of_it.orderly
 
+-- the index of a tail has the pages of the segment's start
+pub index_of_tail : (before : Option Run) (start : Space) (segment : Recording) (tail : Tail) → GoesOn before segment start → IsTailOf before tail
+    → IfSome tail.index (λ i. HasPages i start)
+index_of_tail None start segment tail goes_on (none, empty, no_index) =
+    subst (λ (index : Option Index). IfSome index (λ i. HasPages i start)) (sym no_index) tt
+index_of_tail (Some run) start segment tail (ends, same_layout) of_it =
+    subst (λ (space : Space). IfSome tail.index (λ i. HasPages i space)) (sym ends) of_it.index
+
 -- where nothing is listed nothing is found
 pub none_listed : (widened : BTreeMap ℕ Rights) → btree_map_len widened ≡ 0 → (base : ℕ) → get nat_cmp widened base ≡ None
 none_listed widened none base =
@@ -43,7 +53,7 @@ none_listed widened none base =
 -- a tail has the least rights at the segment's start
 pub least_of_tail : (before : Option Run) (start : Space) (segment : Recording) (tail : Tail) → GoesOn before segment start → IsTailOf before tail
     → AreLeastBehind before start segment 0 tail.widened.least
-least_of_tail None start segment tail goes_on (none, empty) a page at =
+least_of_tail None start segment tail goes_on (none, empty, _) a page at =
     let zero_so : 0 + 0 ≡ 0 = omega arith in
     let own : listed_rights tail.widened.least page ≡ page.rights =
     ap (λ (o : Option Rights). unwrap_or o page.rights) (none_listed tail.widened.least empty page.base) in

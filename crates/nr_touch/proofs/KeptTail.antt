@@ -1,18 +1,20 @@
 -- What is left behind a run and a segment: the looks that linger, and the least rights that may be kept.
-use Rattle.std.proofs.Common.{◌≡◌, ℕ, ◌+◌, ◌<◌, ◌≤◌, ◌⊎◌, inl, inr, Bool, true, false, cond, List, [], ◌++◌, length, map, Option, Some, None, Contains, refl, sym, ap, ◌∙◌}
+use Rattle.std.proofs.Common.{◌≡◌, ℕ, ◌+◌, ◌<◌, ◌≤◌, ◌⊎◌, inl, inr, Bool, true, false, cond, List, [], ◌++◌, length, map, Option, Some, None, Contains, IfSome, refl, sym, ap, ◌∙◌}
 use Rattle.std.proofs.Common.{subst, arith}
 use Rattle.std.specs.List.Sorted.{IsNonDecreasingBy}
 use Rattle.vs_types.specs.Space.{Space}
 use Rattle.vs_types.specs.declared.page.Page.{Page}
 use Rattle.nr_trace.specs.Recording.{Recording}
+use Rattle.nr_trace.specs.Orders.{space_from}
 use Rattle.nr_joined.specs.Run.{Run, IsOrderly, end_of, run_with}
 use Rattle.nr_joined.proofs.Lists.{split_at}
-use Rattle.nr_joined.proofs.Orderly.{orderly_both, own_calls}
+use Rattle.nr_joined.proofs.Orderly.{orderly_both, own_calls, space_of_both}
 use Rattle.nr_touch.specs.Kept.{AreLeast, KeptLook}
 use Rattle.nr_touch.specs.Tails.{AreOpenFrom, GoesOn, IsLeftKept, IsNeverAnswered, IsTailOf, IsTailOfRun, Lingers, LingersKept}
 use Rattle.nr_touch.specs.Touches.{page_after, ChangesLook}
 use Rattle.nr_touch.specs.inside.Changes.{kept_before, page_before, AreChanges}
 use Rattle.nr_touch.specs.inside.Columns.{Covers}
+use Rattle.nr_touch.specs.inside.Indexed.{HasPages}
 use Rattle.nr_touch.specs.inside.Lefts.{left_of, KeepLooks}
 use Rattle.nr_touch.specs.inside.Widened.{offset_of, AreLeastBehind, HasLeast, IsOrderlyRun}
 use Rattle.nr_touch.specs.declared.change.PlacedChange.{PlacedChange}
@@ -87,10 +89,12 @@ LingerBoth run segment address page =
 
 module _ (start : Space) (segment : Recording) (orderly : IsOrderly segment) (own : List PlacedChange) (are : AreChanges start segment own)
     (by_place : IsNonDecreasingBy (λ (c : PlacedChange). c.place) own) (few : length segment.events < 4294967295) where
-  tail_first : (tail found : Tail) → ((c : PlacedChange) → Contains own c → HasLeast None start segment c)
-      → AreLeastBehind None start segment (length segment.log) found.widened.least → tail.changes.items ≡ [] → KeepLooks (tail.changes.items ++ map left_of own) found.changes.items
+  tail_first : (tail found : Tail) → IfSome found.index (λ i. HasPages i (space_from start segment segment.log))
+      → ((c : PlacedChange) → Contains own c → HasLeast None start segment c)
+      → AreLeastBehind None start segment (length segment.log) found.widened.least → tail.changes.items ≡ []
+      → KeepLooks (tail.changes.items ++ map left_of own) found.changes.items
       → IsTailOfRun (run_with None start segment) found
-  tail_first tail found least at_end none keep = record {
+  tail_first tail found indexed least at_end none keep = record {
     orderly = orderly;
     left = λ address page.
         let same : KeepLooks (map left_of own) found.changes.items =
@@ -116,22 +120,25 @@ module _ (start : Space) (segment : Recording) (orderly : IsOrderly segment) (ow
           looks = subst (λ (n : ℕ). KeptLook start segment address n (kept_before c.change)) (let it : 0 + c.place ≡ place = omega (arith, at_place) in it)
               (kept_look None start segment tt tt own are c has (least c has) address covered);
         };
+    index = indexed;
   } where
     all : KeepLooks (map left_of own) found.changes.items
     all = subst (λ (xs : List Left). KeepLooks (xs ++ map left_of own) found.changes.items) none keep
 
-  tail_behind : (run : Run) (tail found : Tail) → ((c : PlacedChange) → Contains own c → HasLeast (Some run) start segment c)
+  tail_behind : (run : Run) (tail found : Tail) → IfSome found.index (λ i. HasPages i (space_from start segment segment.log))
+      → ((c : PlacedChange) → Contains own c → HasLeast (Some run) start segment c)
       → AreLeastBehind (Some run) start segment (length segment.log) found.widened.least
       → IsTailOfRun run tail → start ≡ end_of run → segment.layout ≡ run.trace.layout
       → KeepLooks (tail.changes.items ++ map left_of own) found.changes.items
       → IsTailOfRun (run_with (Some run) start segment) found
-  tail_behind run tail found least at_end of_run ends same_layout keep = record {
+  tail_behind run tail found indexed least at_end of_run ends same_layout keep = record {
     orderly = orderly_both run.trace segment of_run.orderly orderly;
     left = λ address page. (
       λ it. lingers_to_both run.start run.trace segment same_layout (own_calls run.trace of_run.orderly) of_run.orderly.earlier of_run.orderly.own address page
           (forth address page (left_parts page_before address page tail.changes.items (map left_of own) ((keep page_before address page).0 it))),
       λ it. (keep page_before address page).1 (left_both page_before address page tail.changes.items (map left_of own)
-          (back address page (lingers_both run.start run.trace segment same_layout (own_calls run.trace of_run.orderly) of_run.orderly.earlier of_run.orderly.own
+          (back address page (lingers_both run.start run.trace segment same_layout (own_calls run.trace of_run.orderly)
+          of_run.orderly.earlier of_run.orderly.own
           address page it))),
     );
     widened = subst (λ (n : ℕ). AreLeast run.start (run_with (Some run) start segment).trace n found.widened.least)
@@ -139,6 +146,8 @@ module _ (start : Space) (segment : Recording) (orderly : IsOrderly segment) (ow
     kept = λ address page it.
         kept_parts address page (left_parts kept_before address page tail.changes.items (map left_of own) ((keep kept_before address page).0 it));
     keeps = λ address place changes since. keeps_by address place changes since (split_at (length run.trace.log) place);
+    index = subst (λ (space : Space). IfSome found.index (λ i. HasPages i space))
+        (ap (λ (s : Space). space_from s segment segment.log) ends ∙ sym (space_of_both run.start run.trace segment same_layout of_run.orderly)) indexed;
   } where
     kept_parts : (address : ℕ) (page : Option Page) → LeftSo kept_before address page tail.changes.items (map left_of own)
         → LingersKept run.start (run_with (Some run) start segment).trace address page
@@ -218,9 +227,11 @@ module _ (start : Space) (segment : Recording) (orderly : IsOrderly segment) (ow
           (subst (λ (s : Space). (place : ℕ) → ChangesLook s segment address place → IsNeverAnswered segment place) (sym ends) never),
     )
 
-  pub tail_with : (before : Option Run) (tail found : Tail) → ((c : PlacedChange) → Contains own c → HasLeast before start segment c)
+  pub tail_with : (before : Option Run) (tail found : Tail) → IfSome found.index (λ i. HasPages i (space_from start segment segment.log))
+      → ((c : PlacedChange) → Contains own c → HasLeast before start segment c)
       → AreLeastBehind before start segment (length segment.log) found.widened.least → IsTailOf before tail → GoesOn before segment start
       → KeepLooks (tail.changes.items ++ map left_of own) found.changes.items
       → IsTailOf (Some (run_with before start segment)) found
-  tail_with None tail found least at_end (none, empty) goes_on keep = tail_first tail found least at_end none keep
-  tail_with (Some run) tail found least at_end of_run (ends, same_layout) keep = tail_behind run tail found least at_end of_run ends same_layout keep
+  tail_with None tail found indexed least at_end (none, empty, _) goes_on keep = tail_first tail found indexed least at_end none keep
+  tail_with (Some run) tail found indexed least at_end of_run (ends, same_layout) keep =
+      tail_behind run tail found indexed least at_end of_run ends same_layout keep

@@ -2,9 +2,12 @@ pub mod Adding
 pub mod Addresses
 pub mod Behind
 pub mod Blocks
+pub mod ChangedRows
 pub mod Found
 pub mod FirstWrong
 pub mod HiddenChanges
+pub mod IndexRows
+pub mod IndexedPages
 pub mod Kept
 pub mod KeptBehind
 pub mod KeptFound
@@ -23,6 +26,7 @@ pub mod NotWidened
 pub mod Overs
 pub mod Placed
 pub mod QuietPages
+pub mod QuietRows
 pub mod Raised
 pub mod ReachedPages
 pub mod Replayed

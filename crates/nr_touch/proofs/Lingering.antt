@@ -298,7 +298,7 @@ module _ (start : Space) (segment : Recording) (own : List PlacedChange) (are : 
 
 pub of_run : (before : Option Run) (tail : Tail) (placed sorted : List PlacedChange) → IsTailOf before tail → ArePlacedAs tail.changes.items placed
     → IsPermutation placed sorted → AreOfRun before sorted
-of_run None tail placed sorted (none, empty) are same = λ c has.
+of_run None tail placed sorted (none, _, _) are same = λ c has.
     let (left, is, at) = placed_from tail.changes.items placed are c (Contains-permutation sorted placed c (IsPermutation-sym placed sorted same) has) in
     none-some left (sym (ap (λ (xs : List Left). slice_get xs c.place) none) ∙ is)
 of_run (Some run) tail placed sorted of_it are same = (

@@ -12,14 +12,14 @@ use Rattle.vs_types.specs.declared.page.Page.{Page}
 use Rattle.vs_types.specs.declared.page.Size.{Size}
 use Rattle.vs_types.specs.declared.page.Size.TheVariants.{K4, M2, G1}
 use Rattle.nr_touch.specs.inside.Bounds.{IsBoundary, IsRaised, IsRising}
-use Rattle.nr_touch.specs.inside.Lives.{around, lives_at, AreColumnsOf, AreLives, AreMet, HasLife, HaveLives, IsBlockOf, IsMet}
+use Rattle.nr_touch.specs.inside.Blocks.{around, IsBlockOf}
+use Rattle.nr_touch.specs.inside.Lives.{lives_at, AreColumnsOf, AreLives, AreRowsOf, HasLife, HasLifeOf, HaveLives, HaveRows, IsMet}
 use Rattle.nr_touch.specs.inside.Reached.{IsAlive}
 use Rattle.nr_touch.specs.declared.change.PlacedChange.{PlacedChange}
 use Rattle.nr_touch.specs.declared.lives.Life.{Life}
 use Rattle.nr_touch.specs.declared.lives.Lives.{Lives}
 use Rattle.nr_touch.specs.declared.seen.Seen.{Seen}
 use Rattle.nr_touch.proofs.Found.{element, far_bound, far_page}
-use Rattle.nr_touch.proofs.Lefts.{in_got}
 use Rattle.nr_touch.proofs.Spans.{raised_at}
 
 -- ---- the list of lives, page by page
@@ -27,50 +27,50 @@ use Rattle.nr_touch.proofs.Spans.{raised_at}
 -- the first pages, this many, have their lives
 abbrev pub HaveLivesTo : List PlacedChange → List Seen → List Life → ℕ → Type 0
 HaveLivesTo changes seen lives end = (k : ℕ) (s : Seen) (block event : ℕ) → k < end → slice_get seen k ≡ Some s → IsBlockOf s.page block
-    → event < 2 ^ 32 → IsAlive changes s event → HasLife lives block event event
+    → event < 2 ^ 32 → IsAlive changes s event → HasLifeOf lives block event k
 
 pub no_lives : (changes : List PlacedChange) (seen : List Seen) (lives : List Life) → HaveLivesTo changes seen lives 0
 no_lives changes seen lives k s block event l at of fits alive = absurd (omega (arith, l))
 
 -- a page's own lives
-own_life : (lives : List Life) (page : Page) (from until block event : ℕ) → IsBlockOf page block → from ≤ event → event ≤ until
-    → HasLife (lives ++ lives_at page from until) block event event
-own_life lives page from until block event of low high = by of where
+own_life : (lives : List Life) (page : Page) (from until row block event : ℕ) → IsBlockOf page block → from ≤ event → event ≤ until
+    → HasLifeOf (lives ++ lives_at page from until row) block event row
+own_life lives page from until row block event of low high = by of where
   life : ℕ → Life
-  life n = record { block = n; from = from; until = until }
+  life n = record { block = n; from = from; until = until; row = row }
 
-  there : (k : ℕ) (n : ℕ) → k < length (lives_at page from until) → get_or (lives_at page from until) k (life n) ≡ life n → n ≡ block → HasLife (lives ++ lives_at page from until) block event event
-  there k n l at is = (life n, Contains-append_right lives (lives_at page from until) (life n) (k, l, at), is, low, high)
+  there : (k : ℕ) (n : ℕ) → k < length (lives_at page from until row) → get_or (lives_at page from until row) k (life n) ≡ life n → n ≡ block
+      → HasLifeOf (lives ++ lives_at page from until row) block event row
+  there k n l at is = (life n, Contains-append_right lives (lives_at page from until row) (life n) (k, l, at), is, low, high, refl)
 
-  by_size : (size : Size) → block ≡ around page.phys size → HasLife (lives ++ lives_at page from until) block event event
+  by_size : (size : Size) → block ≡ around page.phys size → HasLifeOf (lives ++ lives_at page from until row) block event row
   by_size K4 e = there 0 (around page.phys K4) (omega arith) refl (sym e)
   by_size M2 e = there 1 (around page.phys M2) (omega arith) refl (sym e)
   by_size G1 e = there 2 (around page.phys G1) (omega arith) refl (sym e)
 
-  by : IsBlockOf page block → HasLife (lives ++ lives_at page from until) block event event
+  by : IsBlockOf page block → HasLifeOf (lives ++ lives_at page from until row) block event row
   by (inl (size, e)) = by_size size e
   by (inr e) = there 3 (around page.phys page.size + 3) (omega arith) refl (sym e)
 
 pub one_page_more : (changes : List PlacedChange) (seen : List Seen) (lives : List Life) (end : ℕ) (d : Seen) (from until : ℕ) → end < length seen
     → ((event : ℕ) → event < 2 ^ 32 → IsAlive changes (get_or seen end d) event → (from ≤ event) × (event ≤ until)) → HaveLivesTo changes seen lives end
-    → HaveLivesTo changes seen (lives ++ lives_at (get_or seen end d).page from until) (end + 1)
+    → HaveLivesTo changes seen (lives ++ lives_at (get_or seen end d).page from until end) (end + 1)
 one_page_more changes seen lives end d from until less spans have k s block event l at of fits alive = elim (cases_lt k end) [
   | inl low ↦
-      let (life, has, is, first, last) = have k s block event low at of fits alive in
-      (life, Contains-append_left lives (lives_at (get_or seen end d).page from until) life has, is, first, last)
+      let (life, has, is, first, last, row) = have k s block event low at of fits alive in
+      (life, Contains-append_left lives (lives_at (get_or seen end d).page from until end) life has, is, first, last, row)
   | inr past ↦
       let here : k ≡ end = omega (arith, l, past) in
       let same : get_or seen end d ≡ s = same_Some (get_or seen end d) s (sym (slice_get-get_or seen end d less) ∙ ap (slice_get seen) (sym here) ∙ at) in
       let within = spans event fits (subst (λ (q : Seen). IsAlive changes q event) (sym same) alive) in
-      own_life lives (get_or seen end d).page from until block event (subst (λ (q : Seen). IsBlockOf q.page block) (sym same) of) within.0 within.1
+      subst (λ (n : ℕ). HasLifeOf (lives ++ lives_at (get_or seen end d).page from until end) block event n) (sym here)
+      (own_life lives (get_or seen end d).page from until end block event (subst (λ (q : Seen). IsBlockOf q.page block) (sym same) of) within.0 within.1)
 ]
 
 pub all_lives : (changes : List PlacedChange) (seen : List Seen) (lives : List Life) (end : ℕ) → length seen ≤ end → HaveLivesTo changes seen lives end
     → HaveLives changes seen lives
-all_lives changes seen lives end all have s block event has of fits alive =
-    let (k, at) = in_got seen s has in
-    let l = slice_get_within seen k s at in
-    have k s block event (omega (arith, l, all)) at of fits alive
+all_lives changes seen lives end all have s row block event at of fits alive =
+    have row s block event (let l = slice_get_within seen row s at in omega (arith, l, all)) at of fits alive
 
 -- ---- the sorted lives
 
@@ -110,7 +110,8 @@ sorted_by_from xs rising = λ k d low l.
 
 module _ (rows sorted : List Life) (lives : Lives) (raw : List ℕ) (same : IsPermutation rows sorted)
     (blocks : lives.blocks.items ≡ map (λ (l : Life). l.block) sorted) (from : lives.from.items ≡ map (λ (l : Life). l.from) sorted)
-    (until : raw ≡ map (λ (l : Life). l.until) sorted) (raised : IsRaised lives.blocks.items raw lives.until.items (length raw))
+    (until : raw ≡ map (λ (l : Life). l.until) sorted) (row_of : lives.rows.items ≡ map (λ (l : Life). l.row) sorted)
+    (raised : IsRaised lives.blocks.items raw lives.until.items (length raw))
     (rising : IsRising (map (λ (l : Life). l.block) sorted) (map (λ (l : Life). l.from) sorted)) where
   pub columns : AreLives lives
   columns = record {
@@ -122,6 +123,7 @@ module _ (rows sorted : List Life) (lives : Lives) (raw : List ℕ) (same : IsPe
           (rising.by_page k (subst (λ (ns : List ℕ). k + 1 < length ns) blocks l));
       of_page = λ k l. raised.rising k (omega (arith, l, many_raw, many_blocks));
     };
+    rows = ap length row_of ∙ length-map sorted (λ (l : Life). l.row) ∙ sym many_blocks;
   } where
     many_raw : length raw ≡ length sorted
     many_raw = ap length until ∙ length-map sorted (λ (l : Life). l.until)
@@ -175,10 +177,26 @@ module _ (rows sorted : List Life) (lives : Lives) (raw : List ℕ) (same : IsPe
   pub columns_of : AreColumnsOf rows lives
   columns_of block first last = (met_of block first last, life_of block first last)
 
--- the pages are met that have their lives in the columns
-pub all_met : (rows : List Life) (lives : Lives) (changes : List PlacedChange) (seen : List Seen) → AreColumnsOf rows lives → HaveLives changes seen rows
-    → AreMet changes seen lives
-all_met rows lives changes seen are have s block event has of fits alive = (are block event event).0 (have s block event has of fits alive)
+  pub rows_of : AreRowsOf rows lives
+  rows_of block event row (life, has, of, low, high, is) =
+      let (k, l, at) = Contains-permutation rows sorted life same has in
+      let many = many_columns in
+      let all = many_of_raw in
+      let begins = from_at k life l at in
+      let ends = raw_at k life l at in
+      let up = raised.at_least k (omega (arith, l, all)) in (
+        k,
+        omega (arith, l, many),
+        block_at k life l at ∙ of,
+        omega (arith, begins, low),
+        omega (arith, ends, up, high),
+        ap (λ (ns : List ℕ). get_or ns k 0) row_of ∙ get_or-map (λ (x : Life). x.row) sorted k life 0 l ∙ ap (λ (x : Life). x.row) at ∙ is,
+      )
+
+-- the pages have their rows in the columns that have their lives
+pub all_rows : (rows : List Life) (lives : Lives) (changes : List PlacedChange) (seen : List Seen) → AreRowsOf rows lives → HaveLives changes seen rows
+    → HaveRows changes seen lives
+all_rows rows lives changes seen are have s row block event at of fits alive = are block event row (have s row block event at of fits alive)
 
 -- ---- the search
 

@@ -1,6 +1,6 @@
 -- Behind a run that leaves nothing, a segment whose log has answered calls alone, of which none adds rights to a page, leaves nothing.
 use Rattle.std.specs.Prelude.{unwrap_or}
-use Rattle.std.proofs.Common.{◌≡◌, ℕ, zero, suc, ◌+◌, ◌<◌, ◌⊎◌, List, [], get_or, slice_get, length, Option, Some, None, inl, inr, nat_cmp, sym, ap, ◌∙◌, subst, arith}
+use Rattle.std.proofs.Common.{◌≡◌, ℕ, zero, suc, ◌+◌, ◌<◌, ◌⊎◌, List, [], get_or, slice_get, length, Option, Some, None, IfSome, inl, inr, nat_cmp, sym, ap, ◌∙◌, subst, arith}
 use Rattle.std.proofs.lemmas.Option.{slice_get-get_or}
 use Rattle.std.specs.BTreeMap.{BTreeMap, get}
 use Rattle.vs_types.specs.Space.{Space}
@@ -15,8 +15,10 @@ use Rattle.nr_touch.specs.Kept.{listed_rights, AreLeast, IsLeast}
 use Rattle.nr_touch.specs.Tails.{AreOpenFrom, GoesOn, IsLeftBy, IsTailOf}
 use Rattle.nr_touch.specs.Touches.{page_after, ChangesLook, IsWidened}
 use Rattle.nr_touch.specs.inside.Changes.{kept_before, page_before}
+use Rattle.nr_touch.specs.inside.Indexed.{HasPages}
 use Rattle.nr_touch.specs.inside.Widened.{offset_of, AreLeastBehind, IsOrderlyRun}
 use Rattle.nr_touch.specs.declared.change.Change.{Change}
+use Rattle.nr_touch.specs.declared.index.Index.{Index}
 use Rattle.nr_touch.specs.declared.tail.Left.{Left}
 use Rattle.nr_touch.specs.declared.tail.Tail.{Tail}
 use Rattle.nr_touch.proofs.Behind.{change_within, changes_front, changes_rest, front_open, lingers_both, rest_open, whole_log}
@@ -84,7 +86,7 @@ module _ (segment : Recording) (answered : (place call : ℕ) → slice_get segm
       → ((address place : ℕ) → ChangesLook start segment address place
       → IsWidened (page_after start segment address place) (page_after start segment address (place + 1)) → ⊥)
       → IsTailOf (Some (run_with before start segment)) tail
-  nothing_left None start tail of_it (none, empty) goes_on orderly unwidened = record {
+  nothing_left None start tail of_it (none, empty, no_index) goes_on orderly unwidened = record {
     orderly = orderly;
     left = λ address page. (
       (λ left. absurd (none_left page_before tail.changes.items address page none left)),
@@ -92,11 +94,12 @@ module _ (segment : Recording) (answered : (place call : ℕ) → slice_get segm
     );
     widened = subst (λ (n : ℕ). AreLeast start segment n tail.widened.least) (let it : 0 + length segment.log ≡ length segment.log = omega arith in it)
         (least_quiet None start segment tt tt tail.widened.least (none_listed tail.widened.least empty) unwidened (length segment.log)
-        (least_of_tail None start segment tail tt (none, empty)));
+        (least_of_tail None start segment tail tt (none, empty, no_index)));
     kept = λ address page left. absurd (none_left kept_before tail.changes.items address page none left);
     keeps = λ address place changes since. absurd (none_open start address place changes since);
+    index = subst (λ (index : Option Index). IfSome index (λ i. HasPages i (end_of (run_with None start segment)))) (sym no_index) tt;
   }
-  nothing_left (Some run) start tail of_it (none, empty) (ends, same_layout) orderly unwidened = record {
+  nothing_left (Some run) start tail of_it (none, empty, no_index) (ends, same_layout) orderly unwidened = record {
     orderly = orderly_both run.trace segment of_it.orderly orderly;
     left = λ address page. (
       (λ left. absurd (none_left page_before tail.changes.items address page none left)),
@@ -113,6 +116,7 @@ module _ (segment : Recording) (answered : (place call : ℕ) → slice_get segm
         (length segment.log) (least_of_tail (Some run) start segment tail (ends, same_layout) of_it));
     kept = λ address page left. absurd (none_left kept_before tail.changes.items address page none left);
     keeps = λ address place changes since. absurd (by address place changes since (split_at (length run.trace.log) place));
+    index = subst (λ (index : Option Index). IfSome index (λ i. HasPages i (end_of (run_with (Some run) start segment)))) (sym no_index) tt;
   } where
     by : (address place : ℕ) → ChangesLook run.start (run_with (Some run) start segment).trace address place
         → AreOpenFrom run.start (run_with (Some run) start segment).trace address place

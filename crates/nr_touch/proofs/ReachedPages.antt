@@ -6,7 +6,7 @@ use Rattle.std.proofs.lemmas.Bool.{cases_lt}
 use Rattle.std.proofs.lemmas.Option.{same_Some}
 use Rattle.vs_types.specs.Access.{allows, fault_code}
 use Rattle.vs_types.specs.Page.{bytes_of, covers}
-use Rattle.vs_types.specs.Space.{Space, page_at, IsSpace}
+use Rattle.vs_types.specs.Space.{Space, page_at, pages, IsSpace}
 use Rattle.vs_types.specs.Step.{allow_in_page}
 use Rattle.vs_types.specs.declared.access.Access.{Access}
 use Rattle.vs_types.specs.declared.access.Access.TheVariants.{Read}
@@ -137,7 +137,8 @@ pub record ReachedPage (before : Option Run) (start : Space) (segment : Recordin
 module _ (start : Space) (segment : Recording) (own earlier : List PlacedChange) (are : AreChanges start segment own)
     (numbered : (c : PlacedChange) → Contains own c → IsNumbered c) (left_numbered : (c : PlacedChange) → Contains earlier c → IsNumbered c)
     (space : Space) (depth : Depth) (is_space : IsSpace depth space) (whole : space ≡ space_from start segment segment.log)
-    (places : ℕ) (many : places ≡ length segment.log) (seen : List Seen) (all : AreSeen own earlier space places seen) (event : ℕ) (fits : event < 2 ^ 32) where
+    (places : ℕ) (many : places ≡ length segment.log) (seen : List Seen) (all : AreSeen own earlier (pages space) places seen) (event : ℕ)
+    (fits : event < 2 ^ 32) where
   changes_alike : (a b place : ℕ) → a / 4096 ≡ b / 4096 → ChangesLook start segment a place → ChangesLook start segment b place
   changes_alike a b place same looks =
       let (c, has, at, covered) = are.all place a (change_within start segment a place looks) looks in
@@ -302,8 +303,10 @@ module _ (start : Space) (segment : Recording) (own earlier : List PlacedChange)
   module _ (before : Option Run) (goes_on : GoesOn before segment start) (of_run : AreOfRun before earlier) (release : Release)
       (aligned : release.phys % bytes_of release.size ≡ 0) (now : release.made ≡ event) where
     -- the frame of the address
-    leads_so : (a phys : ℕ) (page : Page) (Looks : ℕ → Type 0) (there : FoundPage own seen event a page Looks) → phys ≡ page.phys + (a - page.base) → HasPhys release phys
-        → ((b other : ℕ) → a / 4096 ≡ b / 4096 → Looks b → other ≡ page.phys + (b - page.base) → IsRightByTablesBehind before start segment (probe_at event b other))
+    leads_so : (a phys : ℕ) (page : Page) (Looks : ℕ → Type 0) (there : FoundPage own seen event a page Looks)
+        → phys ≡ page.phys + (a - page.base) → HasPhys release phys
+        → ((b other : ℕ) → a / 4096 ≡ b / 4096 → Looks b → other ≡ page.phys + (b - page.base)
+        → IsRightByTablesBehind before start segment (probe_at event b other))
         → ReachedPage before start segment own seen release a
     leads_so a phys page Looks there is shared right =
         let roomy = subst (λ (q : Page). (q.base % bytes_of q.size ≡ 0) × (q.phys % bytes_of q.size ≡ 0)) there.is

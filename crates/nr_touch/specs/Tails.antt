@@ -1,5 +1,6 @@
 -- What a run leaves for the touches of later segments: how addresses may still be found to look.
-use Rattle.std.specs.Prelude.{◌≡◌, ℕ, ◌+◌, ◌%◌, ◌<◌, ◌≤◌, ◌^◌, ◌↔◌, ◌⊎◌, List, [], ◌∷◌, length, slice_get, false, Option, None, Some, IsTrue, Contains, ⊤}
+use Rattle.std.specs.Prelude.{◌≡◌, ℕ, ◌+◌, ◌%◌, ◌<◌, ◌≤◌, ◌^◌, ◌↔◌, ◌⊎◌, List, [], ◌∷◌, length, slice_get, false, Option, None, Some, ⊤}
+use Rattle.std.specs.Prelude.{Contains, IfSome, IsTrue}
 use Rattle.std.specs.BTreeMap.{btree_map_len}
 use Rattle.vs_types.specs.Page.{bytes_of, covers}
 use Rattle.vs_types.specs.Space.{Space}
@@ -10,6 +11,7 @@ use Rattle.nr_joined.specs.Run.{Run, end_of, IsOrderly}
 use Rattle.nr_touch.specs.Touches.{page_after, ChangesLook}
 use Rattle.nr_touch.specs.Kept.{AreLeast, KeptLook}
 use Rattle.nr_touch.specs.inside.Changes.{kept_before, page_before}
+use Rattle.nr_touch.specs.inside.Indexed.{HasPages}
 use Rattle.nr_touch.specs.declared.change.Change.{Change}
 use Rattle.nr_touch.specs.declared.tail.Left.{Left}
 use Rattle.nr_touch.specs.declared.tail.Tail.{Tail}
@@ -75,7 +77,8 @@ pub record AreSound (changes : List Left) : Type 0 where
 abbrev pub IsSoundTail : Tail → Type 0
 IsSoundTail tail = AreSound tail.changes.items
 
--- what is left behind a run: just the looks that linger, and the least rights that may be kept of its pages and before updates that are open
+-- what is left behind a run: just the looks that linger, and the least rights that may be kept of its pages and before updates that are
+-- open; and the index, if there is one, has each page of the space at its end
 pub record IsTailOfRun (run : Run) (tail : Tail) : Type 0 where
   pub orderly : IsOrderly run.trace
   pub left : (address : ℕ) (page : Option Page) → IsLeft tail.changes.items address page ↔ Lingers run.start run.trace address page
@@ -83,13 +86,14 @@ pub record IsTailOfRun (run : Run) (tail : Tail) : Type 0 where
   pub kept : (address : ℕ) (page : Option Page) → IsLeftBy kept_before tail.changes.items address page → LingersKept run.start run.trace address page
   pub keeps : (address place : ℕ) → ChangesLook run.start run.trace address place → AreOpenFrom run.start run.trace address place
       → IsLeftKept run tail.changes.items address place
+  pub index : IfSome tail.index (λ index. HasPages index (end_of run))
 
 -- a segment goes on where a run ends, and is laid out as that
 abbrev pub GoesOn : Option Run → Recording → Space → Type 0
 GoesOn None segment start = ⊤
 GoesOn (Some run) segment start = (start ≡ end_of run) × (segment.layout ≡ run.trace.layout)
 
--- behind no run nothing is
+-- what is left behind a run; behind none nothing is left, and no index is built
 abbrev pub IsTailOf : Option Run → Tail → Type 0
-IsTailOf None tail = (tail.changes.items ≡ []) × (btree_map_len tail.widened.least ≡ 0)
+IsTailOf None tail = (tail.changes.items ≡ []) × (btree_map_len tail.widened.least ≡ 0) × (tail.index ≡ None)
 IsTailOf (Some run) tail = IsTailOfRun run tail

@@ -28,6 +28,7 @@ fn opening_of(placed: &PlacedChange) -> Life
         block: placed.number,
         from: placed.made,
         until: placed.answered,
+        row: placed.place as usize,
     }
 }
 
@@ -42,7 +43,7 @@ fn all_openings(alloc: Global, changes: &[PlacedChange]) -> Result<Vec<Life>, Me
     )
 }
 
-/// When the updates are open that make the changes. Allocates 32 bytes for each, of which half are freed.
+/// When the updates are open that make the changes. Allocates 48 bytes for each, of which half are freed.
 fn openings(alloc: Global, changes: &[PlacedChange]) -> Result<Lives, Memory>
     ensures lives { IfOk result AreLives }
     ensures columns { IfOk result (AreOpenings changes.now) }
@@ -103,7 +104,7 @@ fn is_beside(trace: &Trace, replies: &[u32], updates: &Lives, call: u32) -> bool
 /// How many touches of a segment that begins with this space were open while an update of it was that changes how their address looks;
 /// and the space after it. A touch that isn't answered is none of them; an update that isn't answered is open up to the end.
 ///
-/// Allocates a table of four bytes for each event, the changes that the updates make, and 32 bytes more for each of these; and the pages
+/// Allocates a table of four bytes for each event, the changes that the updates make, and 48 bytes more for each of these; and the pages
 /// that the log maps.
 ///
 /// # Errors

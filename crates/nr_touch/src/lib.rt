@@ -7,12 +7,17 @@
 
 mod beside;
 mod between;
+mod block;
 mod bounds;
 mod change;
+mod changed;
 mod history;
+mod index;
 pub mod laws;
 mod lives;
 mod looks;
+mod meeting;
+mod quiet;
 mod release;
 mod releases;
 mod replay;

@@ -1,18 +1,18 @@
-//! From when on and until when a release may meet a page, as far as the changes of that page say: sorted, so that one search finds whether
-//! some page leads into a block of memory at an event. When updates are open is sorted and searched likewise.
+//! From when on and until when a release may meet a page, as far as the changes of that page say: sorted, so that one search finds the
+//! pages that lead into a block of memory at an event. When updates are open is sorted and searched likewise.
 
 ghost use Rattle.std.specs.Prelude.{◌≡◌, ℕ, ◌+◌, ◌<◌, ◌≤◌, ◌^◌, ◌↔◌, ◌++◌, map, Contains, IfOk, IsTrue, OnOk};
 ghost use Rattle.std.specs.List.Sorted.{IsNonDecreasingBy, IsPermutation};
 ghost use Rattle.nr_touch.specs.declared.seen.Seen.{Seen as SeenRow};
-ghost use Rattle.nr_touch.specs.inside.Bounds.{IsRising};
+ghost use Rattle.nr_touch.specs.inside.Bounds.{IsBoundary, IsRising};
 ghost use Rattle.nr_touch.specs.inside.Columns.{AreColumns};
-ghost use Rattle.nr_touch.specs.inside.Lives.{around, lives_at, whole, AreColumnsOf, AreLives, AreMet, HaveLives, IsBlockFor, IsMet};
+ghost use Rattle.nr_touch.specs.inside.Lives.{lives_at, AreColumnsOf, AreLives, AreRowsOf, HaveLives, HaveRows, IsMet};
 ghost use Rattle.nr_touch.specs.inside.Reached.{IsAlive, IsRoomy};
 
+use crate::block::{around, whole};
 use crate::bounds::raise;
 use crate::change::number_of;
-use crate::history::{History, number_at};
-use crate::release::Release;
+use crate::history::History;
 use crate::search::search;
 use crate::seen::Seen;
 use std::alloc::Global;
@@ -25,34 +25,24 @@ pub(crate) struct Life {
     pub(crate) block: u64,
     pub(crate) from: u32,
     pub(crate) until: u32,
+    /// The index of what it is the life of: of the page among those that are given, or of the update in the log.
+    pub(crate) row: usize,
 }
 
 /// The lives by block and first event.
 #[derive(Debug, Drop)]
 pub(crate) struct Lives {
-    blocks: Vec<u64>,
-    from: Vec<u32>,
+    pub(crate) blocks: Vec<u64>,
+    pub(crate) from: Vec<u32>,
     /// The last event of each one, or of one before it of its block.
-    until: Vec<u32>,
-}
-
-/// The number of the memory of this size that has the physical address, as that in which a page lies.
-fn around(phys: u64, size: Size) -> u64
-    ensures { result ≡ around phys size }
-{
-    number_at(phys, size)
-}
-
-/// The number of the memory of this size that has the physical address, as that of a whole page.
-fn whole(phys: u64, size: Size) -> u64
-    ensures { result ≡ whole phys size }
-{
-    number_at(phys, size) + 3
+    pub(crate) until: Vec<u32>,
+    /// What each one is the life of.
+    pub(crate) rows: Vec<usize>,
 }
 
 /// The lives of a page: in the memory of each size, and as a whole.
-fn lives_at(page: Page, from: u32, until: u32) -> [Life; 4]
-    ensures { result ≡ lives_at page from until }
+fn lives_at(page: Page, from: u32, until: u32, row: usize) -> [Life; 4]
+    ensures { result ≡ lives_at page from until row }
 {
     let small = around(page.phys, Size::K4);
     let large = around(page.phys, Size::M2);
@@ -63,21 +53,25 @@ fn lives_at(page: Page, from: u32, until: u32) -> [Life; 4]
             block: small,
             from,
             until,
+            row,
         },
         Life {
             block: large,
             from,
             until,
+            row,
         },
         Life {
             block: huge,
             from,
             until,
+            row,
         },
         Life {
             block: own,
             from,
             until,
+            row,
         },
     ]
 }
@@ -98,10 +92,16 @@ fn span(history: &History, seen: &Seen) -> (u32, u32)
     (u32::MAX, 0)
 }
 
-fn put_lives(lives: &mut Vec<Life>, page: Page, from: u32, until: u32) -> Result<(), Memory>
-    ensures { OnOk result (lives.new.items ≡ lives.old.items ++ lives_at page from until) }
+fn put_lives(
+    lives: &mut Vec<Life>,
+    page: Page,
+    from: u32,
+    until: u32,
+    row: usize,
+) -> Result<(), Memory>
+    ensures { OnOk result (lives.new.items ≡ lives.old.items ++ lives_at page from until row) }
 {
-    lives.extend_from_slice(&lives_at(page, from, until))?;
+    lives.extend_from_slice(&lives_at(page, from, until, row))?;
     Ok(())
 }
 
@@ -112,9 +112,9 @@ fn lives_of(alloc: Global, history: &History, seen: &[Seen]) -> Result<Vec<Life>
     ensures { IfOk result (λ lives. HaveLives history.now.changes.items seen.now lives.items) }
 {
     let mut lives = Vec::new(alloc);
-    for each in seen {
+    for (row, each) in seen.iter().enumerate() {
         let (from, until) = span(history, each);
-        put_lives(&mut lives, each.page, from, until)?;
+        put_lives(&mut lives, each.page, from, until, row)?;
     }
     Ok(lives)
 }
@@ -157,22 +157,29 @@ fn until_of(alloc: Global, lives: &[Life]) -> Result<Vec<u32>, Memory>
     Ok(lives.iter().map(|each| each.until).collect(alloc)?)
 }
 
+fn rows_of(alloc: Global, lives: &[Life]) -> Result<Vec<usize>, Memory>
+    ensures { IfOk result (λ v. v.items ≡ map (λ l. l.row) lives.now) }
+{
+    Ok(lives.iter().map(|each| each.row).collect(alloc)?)
+}
+
 impl Lives {
-    /// Those of the pages, by the changes of a segment. Allocates 128 bytes for each page, of which half are freed.
+    /// Those of the pages, by the changes of a segment. Allocates 192 bytes for each page, of which half are freed.
     pub(crate) fn of(alloc: Global, history: &History, seen: &[Seen]) -> Result<Lives, Memory>
         requires columns { AreColumns history.now }
         requires roomy { (s : SeenRow) → Contains seen.now s → IsRoomy s.page }
         ensures lives { IfOk result AreLives }
-        ensures met { IfOk result (AreMet history.now.changes.items seen.now) }
+        ensures rows { IfOk result (HaveRows history.now.changes.items seen.now) }
     {
         let lives = lives_of(alloc, history, seen)?;
         Lives::sorted(alloc, lives)
     }
 
-    /// The columns of these. Allocates 16 bytes for each, and while it sorts a copy of them.
+    /// The columns of these. Allocates 24 bytes for each, and while it sorts a copy of them.
     pub(crate) fn sorted(alloc: Global, lives: Vec<Life>) -> Result<Lives, Memory>
         ensures lives { IfOk result AreLives }
         ensures columns { IfOk result (AreColumnsOf lives.items) }
+        ensures rows { IfOk result (AreRowsOf lives.items) }
     {
         let mut lives = lives;
         sort_by_from(&mut lives)?;
@@ -181,11 +188,23 @@ impl Lives {
         let from = from_of(alloc, &lives)?;
         let mut until = until_of(alloc, &lives)?;
         raise(&blocks, &mut until);
+        let rows = rows_of(alloc, &lives)?;
         Ok(Lives {
             blocks,
             from,
             until,
+            rows,
         })
+    }
+
+    /// How many lives come before the first one of the block that begins after the event: a search by halving.
+    pub(crate) fn begun(&self, block: u64, event: u32) -> usize
+        requires { AreLives self.now }
+        ensures found { IsBoundary self.now.blocks.items self.now.from.items block
+            (event + 1) result }
+        ensures in_range { event < 2 ^ 32 }
+    {
+        search(&self.blocks, &self.from, block, u64::from(event) + 1)
     }
 
     /// Whether some life of the block has an event from the first one up to the last: a search by halving.
@@ -206,26 +225,5 @@ impl Lives {
             return false;
         }
         true
-    }
-
-    /// Whether some page leads into the memory when it is released: four searches.
-    pub(crate) fn meet(&self, release: &Release) -> bool
-        requires { AreLives self.now }
-        ensures meets { (block : ℕ) → IsBlockFor release.now block
-            → IsMet self.now block release.now.made release.now.made → IsTrue result }
-        ensures in_range { release.now.made < 2 ^ 32 }
-    {
-        let phys = release.phys;
-        let made = release.made;
-        if self.meets(around(phys, release.size), made, made) {
-            return true;
-        }
-        if self.meets(whole(phys, Size::K4), made, made) {
-            return true;
-        }
-        if self.meets(whole(phys, Size::M2), made, made) {
-            return true;
-        }
-        self.meets(whole(phys, Size::G1), made, made)
     }
 }

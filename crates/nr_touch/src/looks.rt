@@ -1,11 +1,12 @@
 //! How an address may still be found to look behind some segments.
 
-ghost use Rattle.std.specs.Prelude.{◌≡◌, ◌↔◌, ◌++◌, ◌∷◌, [], IfOk, IsTrue, List, OnOk, Option};
+ghost use Rattle.std.specs.Prelude.{◌≡◌, ◌↔◌, ◌++◌, ◌∷◌, [], IfOk, IfSome, IsTrue, List, OnOk, Option};
 ghost use Rattle.vs_types.specs.Page.{covers};
-ghost use Rattle.nr_joined.specs.Run.{Run};
+ghost use Rattle.nr_joined.specs.Run.{Run, end_of};
 ghost use Rattle.nr_touch.specs.Looks.{looks_left, AreLooksLeft};
-ghost use Rattle.nr_touch.specs.Tails.{AreSound, IsSoundLeft, IsSoundTail, IsTailOf};
+ghost use Rattle.nr_touch.specs.Tails.{AreSound, IsSoundLeft, IsSoundTail, IsTailOf, IsTailOfRun};
 ghost use Rattle.nr_touch.specs.declared.tail.Left.{Left as LeftRow};
+ghost use Rattle.nr_touch.specs.inside.Indexed.{HasPages};
 
 use crate::change::Change;
 use crate::tail::{Left, Tail};
@@ -61,7 +62,8 @@ fn looks_of(alloc: Global, changes: &[Left], address: u64) -> Result<Vec<Answer>
 }
 
 impl Tail {
-    /// The same once more. Allocates memory for the changes.
+    /// The same once more, but without the index of the pages: the next segment with releases behind the copy lists them again. Allocates
+    /// memory for the changes.
     ///
     /// # Errors
     ///
@@ -71,10 +73,16 @@ impl Tail {
             (λ copy. copy.changes.items ≡ self.now.changes.items) }
         ensures tail { (before : Option Run) → IsTailOf before self.now
             → IfOk result (IsTailOf before) }
+        ensures back { (run : Run) → IfSome self.now.index (λ index. HasPages index (end_of run))
+            → IfOk result (λ copy. IsTailOfRun run copy → IsTailOfRun run self.now) }
     {
         let changes = Vec::from_slice(alloc, &self.changes)?;
         let widened = self.widened.copy()?;
-        Ok(Tail { changes, widened })
+        Ok(Tail {
+            changes,
+            widened,
+            index: None,
+        })
     }
 
     /// How an address may still be found to look: as before a change of it, which isn't over, nor is a later one of it. Allocates the

@@ -1,13 +1,13 @@
-//! The pages that a touch of a segment may find: those of the space at its end, and those before its changes and the ones left before it.
+//! The pages that a touch of a segment may find: those that are there at its end, and those before its changes and the ones left before it.
 
-ghost use Rattle.std.specs.Prelude.{◌≡◌, ◌++◌, map, IfOk};
+ghost use Rattle.std.specs.Prelude.{◌≡◌, ◌++◌, map, Contains, IfOk};
+ghost use Rattle.vs_types.specs.declared.page.Page.{Page as PageRow};
 ghost use Rattle.nr_touch.specs.inside.Columns.{AreColumns};
-ghost use Rattle.nr_touch.specs.inside.Reached.{seen_before, seen_left, seen_now, AreSeen};
+ghost use Rattle.nr_touch.specs.inside.Reached.{seen_before, seen_left, seen_now, AreSeen, IsRoomy};
 
 use crate::change::PlacedChange;
 use crate::history::History;
 use std::alloc::Global;
-use vs_plain::PlainSpace;
 use vs_types::{Memory, Page};
 
 /// A page that a touch may find after so many entries of the log.
@@ -84,21 +84,22 @@ fn joined(seen: Vec<Seen>, more: &[Seen]) -> Result<Vec<Seen>, Memory>
     Ok(seen)
 }
 
-/// The pages that a touch of a segment may find, which has so many places. Allocates 40 bytes for each of them.
+/// Of so many pages that are there after the log of a segment, which has so many places, and of those before its changes and the ones
+/// left before it: each that a touch may find. Allocates 40 bytes for each of them.
 pub(crate) fn seen_of(
     alloc: Global,
     history: &History,
     earlier: &History,
-    space: &PlainSpace,
+    present: &[Page],
     places: u32,
 ) -> Result<Vec<Seen>, Memory>
     requires own { AreColumns history.now }
     requires earlier { AreColumns earlier.now }
+    requires roomy { (page : PageRow) → Contains present.now page → IsRoomy page }
     ensures { IfOk result (λ seen. AreSeen history.now.changes.items earlier.now.changes.items
-        space.now.space places seen.items) }
+        present.now places seen.items) }
 {
-    let present = space.pages()?;
-    let now = all_now(alloc, &present, places)?;
+    let now = all_now(alloc, present, places)?;
     let before = all_before(alloc, &history.changes)?;
     let own = joined(now, &before)?;
     let left = all_left(alloc, &earlier.changes)?;

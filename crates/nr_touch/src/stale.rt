@@ -400,10 +400,11 @@ pub struct Followed {
 /// is answered otherwise than by `Done`.
 ///
 /// The touches and the releases lie in the segment, whose space begins with this start. Of a segment whose log isn't clean nothing is said
-/// but that the start comes back. It takes time for the events, the log, the touches and the tail, and not for the pages of the start
-/// unless there are releases: the updates of the log are done on it, and then undone. Allocates a table of four bytes for each event, 156
-/// bytes for each update that changes the space, 212 bytes for each change of the tail, and where there are releases 168 bytes for each of
-/// these and for each page of the space.
+/// but that the start comes back. It takes time for the events, the log, the touches, the releases and the tail, and not for the pages of
+/// the start: the updates of the log are done on it, and then undone. Only the first segment with releases lists all pages, in an index
+/// that the tail keeps from then on: four rows of 16 bytes for each page. Allocates a table of four bytes for each event, 156 bytes for
+/// each update that changes the space, and 212 bytes for each change of the tail; where there are releases 232 bytes more for each of
+/// these, and for each page that they changed.
 ///
 /// # Errors
 ///
@@ -437,19 +438,29 @@ pub fn follow(
     ensures start { IfOk result (λ found. found.start ≡ start) }
 {
     let places = segment.log().len() as u32;
-    let Tail { changes, widened } = tail;
+    let Tail {
+        changes,
+        widened,
+        index,
+    } = tail;
     let (own, space, widened) = replay(alloc, segment, start, widened)?;
     let done = changes_of(alloc, &own)?;
     let earlier = History::of(alloc, placed(alloc, &changes)?)?;
     let changes = left_after(alloc, changes, &own)?;
     let history = History::of(alloc, own)?;
     let stale = first_of(&history, &earlier, &space, &widened, places, touches);
-    let reachable = first_reachable(alloc, &history, &earlier, &space, places, releases)?;
+    let (reachable, index) = first_reachable(
+        alloc, &history, &earlier, &space, places, index, releases,
+    )?;
     let start = undo_all(space, &done)?;
     Ok(Followed {
         stale,
         reachable,
-        tail: Tail { changes, widened },
+        tail: Tail {
+            changes,
+            widened,
+            index,
+        },
         start,
     })
 }

@@ -1,6 +1,7 @@
 //! What the segments so far leave for the touches of later ones: how addresses may still be found to look.
 
-ghost use Rattle.std.specs.Prelude.{◌≡◌, ◌↔◌, ◌+◌, ◌<◌, ◌^◌, ◌++◌, ◌∷◌, ◌⊎◌, if◌then◌else◌, map, true, false, [], List, None, Contains, IfOk, IsTrue, OnOk};
+ghost use Rattle.std.specs.Prelude.{◌≡◌, ◌↔◌, ◌+◌, ◌<◌, ◌^◌, ◌++◌, ◌∷◌, ◌⊎◌, if◌then◌else◌, map, true, false, [], List, None, Contains};
+ghost use Rattle.std.specs.Prelude.{IfOk, IsTrue, OnOk};
 ghost use Rattle.std.specs.BTreeSet.{contains};
 ghost use Rattle.std.specs.List.Sorted.{IsNonDecreasingBy};
 ghost use Rattle.std.specs.Ordering.{nat_cmp};
@@ -13,6 +14,7 @@ ghost use Rattle.nr_touch.specs.inside.Lefts.{left_of, placed_at, region_of, Are
 
 use crate::change::{Change, PlacedChange};
 use crate::history::{History, number_at};
+use crate::index::Index;
 use crate::widened::Widened;
 use std::alloc::Global;
 use std::collections::BTreeSet;
@@ -27,12 +29,15 @@ pub(crate) struct Left {
 }
 
 /// Behind some segments, how addresses may still be found to look: the changes, in the order of the log, of updates that were never
-/// answered, and of those behind them that were; and the rights that may be kept of pages to which others were added.
+/// answered, and of those behind them that were; and the rights that may be kept of pages to which others were added. Once a segment has
+/// had releases, it also has an index of the pages of the space, by the memory that they lead into.
 #[derive(Debug, Drop)]
 pub struct Tail {
     pub(crate) changes: Vec<Left>,
     /// The rights from which the pages were widened that are there now.
     pub(crate) widened: Widened,
+    /// The pages that are there now, by the memory that they lead into: from the first segment with releases on.
+    pub(crate) index: Option<Index>,
 }
 
 impl Tail {
@@ -44,14 +49,21 @@ impl Tail {
         Tail {
             changes: Vec::new(alloc),
             widened: Widened::none(alloc),
+            index: None,
         }
     }
 
-    /// Whether nothing is left: as behind no segments.
+    /// Whether nothing is left, and no index of the pages is built: as behind no segments.
     pub fn is_none(&self) -> bool
         ensures { IsTrue result ↔ IsTailOf None self.now }
     {
-        self.changes.is_empty() && self.widened.is_none()
+        if !self.changes.is_empty() {
+            return false;
+        }
+        if !self.widened.is_none() {
+            return false;
+        }
+        self.index.is_none()
     }
 }
 

@@ -1,4 +1,4 @@
--- What an update does to one page, and the changes that the updates of a trace make. No public clause cites this file.
+-- What an update does to one page, and the changes that the updates of a trace make. Public clauses cite page_before and kept_before alone.
 use Rattle.std.specs.Prelude.{◌≡◌, ◌≢◌, ℕ, ◌+◌, ◌-◌, ◌%◌, ◌<◌, ◌^◌, ◌↔◌, if◌then◌else◌, nat_lt, false, List, [], ◌∷◌, length, slice_get, slice_index, Option}
 use Rattle.std.specs.Prelude.{Some, None, Contains, IsTrue}
 use Rattle.std.specs.FinMap as finite

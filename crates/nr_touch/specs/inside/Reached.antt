@@ -1,7 +1,7 @@
 -- The pages that a touch may find, and how a release is compared with them. No public clause cites this file.
 use Rattle.std.specs.Prelude.{◌≡◌, ℕ, ◌+◌, ◌*◌, ◌%◌, ◌<◌, ◌≤◌, ◌^◌, min, true, List, None, Option, Some, Contains}
 use Rattle.vs_types.specs.Page.{bytes_of}
-use Rattle.vs_types.specs.Space.{Space, pages}
+use Rattle.vs_types.specs.Space.{Space}
 use Rattle.vs_types.specs.declared.access.Access.TheVariants.{Read}
 use Rattle.vs_types.specs.declared.access.Mode.TheVariants.{Supervisor}
 use Rattle.vs_types.specs.declared.answer.Answer.TheVariants.{Allowed}
@@ -91,9 +91,9 @@ seen_before c = record { page = c.change.page; place = c.place; there = c.change
 abbrev pub seen_left : PlacedChange → Seen
 seen_left c = record { page = c.change.page; place = 0; there = c.change.was_mapped }
 
--- all of them
-pub record AreSeen (own earlier : List PlacedChange) (space : Space) (places : ℕ) (seen : List Seen) : Type 0 where
-  pub present : (page : Page) → Contains (pages space) page → Contains seen (seen_now places page)
+-- all of them, of the pages that are there after the log
+pub record AreSeen (own earlier : List PlacedChange) (after : List Page) (places : ℕ) (seen : List Seen) : Type 0 where
+  pub present : (page : Page) → Contains after page → Contains seen (seen_now places page)
   pub before : (c : PlacedChange) → Contains own c → Contains seen (seen_before c)
   pub left : (c : PlacedChange) → Contains earlier c → Contains seen (seen_left c)
   pub roomy : (s : Seen) → Contains seen s → IsRoomy s.page

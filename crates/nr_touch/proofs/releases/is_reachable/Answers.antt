@@ -1,41 +1,66 @@
-use Rattle.std.proofs.Common.{List, Contains, refl, sym, ◌∙◌, subst}
+use Rattle.std.proofs.Common.{inl, inr, Contains, IsTrue, refl, sym, ◌∙◌, subst}
 use Rattle.std.proofs.lemmas.Bool.{false≢true}
+use Rattle.vs_types.specs.Space.{Holds}
+use Rattle.vs_types.proofs.Spaces.{holds_listed}
+use Rattle.nr_touch.specs.inside.Reached.{seen_before, seen_left, LeadsThere}
 use Rattle.nr_touch.specs.declared.seen.Seen.{Seen}
-use Rattle.nr_touch.proofs.Blocks.{shares_block}
+use Rattle.nr_touch.proofs.IndexedPages.{own_or_not}
 use Rattle.nr_touch.proofs.ReachedPages.{reachable, reached}
+use Rattle.nr_touch.proofs.SeenPages.{listed_seen, plain_seen, split}
+use Rattle.nr_touch.proofs.Sighted.{map_contains}
 use Rattle.nr_touch.proofs.releases.is_reachable.Goals as goal
 
-pub leads_somewhere-requires-clause-roomy : goal.leads_somewhere-requires-clause-roomy
-leads_somewhere-requires-clause-roomy c = λ s has.
-    c.requires.seen.roomy s (subst (λ (xs : List Seen). Contains xs s) c.deref.ensures.value has)
+pub leads_by_changes-requires-clause-roomy : goal.leads_by_changes-requires-clause-roomy
+leads_by_changes-requires-clause-roomy c = c.requires.met.seen.roomy
 
-pub returns-then-not-meet : goal.returns-then-not-meet
-returns-then-not-meet c = λ before start segment followed are places. (
-  λ t. absurd (false≢true t),
-  λ can.
-      let own = c.args.history.now.changes.items in
-      let seen = c.args.reach.now.seen.items in
-      let release = c.args.release.now in
-      let event = release.made in
-      let fits = c.meet.ensures.in_range in
-      let r = reached start segment own c.args.earlier.now.changes.items followed.own c.requires.own.numbered c.requires.earlier.numbered c.args.space.now.space
-      c.args.space.now.depth c.pages_are_a_space.ensures are c.args.places places seen c.requires.seen event fits before followed.goes_on followed.earlier release
-      c.requires.memory.0 refl can in
-      let roomy = c.requires.seen.roomy r.s r.has in
-      let (block, of, for) = shares_block r.s.page release r.phys roomy.frame c.requires.memory.0 r.low r.high r.shared in
-      absurd (false≢true (sym c.if-not-meet.true ∙ c.meet.ensures.meets block for (c.requires.met r.s block event r.has of fits r.alive))),
+pub leads_by_changes-requires-clause-lives : goal.leads_by_changes-requires-clause-lives
+leads_by_changes-requires-clause-lives c = c.requires.met.lives
+
+pub leads_by_changes-requires-clause-rows : goal.leads_by_changes-requires-clause-rows
+leads_by_changes-requires-clause-rows c = c.requires.met.rows
+
+pub returns-then-leads_by_index : goal.returns-then-leads_by_index
+returns-then-leads_by_index c = λ before start segment followed are places quiet. (
+  λ t.
+      let (page, leads) = c.leads_by_index.ensures.sound before start segment followed are places c.if-leads_by_index.true in
+      reachable before start segment c.args.release.now page leads,
+  λ can. refl,
 )
 
 pub returns : goal.returns
-returns c = λ before start segment followed are places.
+returns c = λ before start segment followed are places quiet.
     let own = c.args.history.now.changes.items in
-    let seen = c.args.reach.now.seen.items in
+    let earlier = c.args.earlier.now.changes.items in
+    let space = c.args.space.now.space in
     let release = c.args.release.now in
-    let some = c.leads_somewhere.ensures before start segment followed are places in (
-      λ t. let (s, has, leads) = some.0 t in reachable before start segment release s.page leads,
+    let is_space = c.pages_are_a_space.ensures in
+    let met = c.requires.met in
+    let seen = listed_seen own earlier space c.args.places in
+    let all = plain_seen own earlier space c.args.places c.args.space.now.depth is_space c.requires.own.numbered c.requires.earlier.numbered in (
+      λ t.
+          let (page, leads) = c.leads_by_changes.ensures.sound before start segment followed are places t in
+          reachable before start segment release page leads,
       λ can.
-          let r = reached start segment own c.args.earlier.now.changes.items followed.own c.requires.own.numbered c.requires.earlier.numbered
-          c.args.space.now.space c.args.space.now.depth c.pages_are_a_space.ensures are c.args.places places seen c.requires.seen release.made
-          c.meet.ensures.in_range before followed.goes_on followed.earlier release c.requires.memory.0 refl can in
-          some.1 (r.s, subst (λ (xs : List Seen). Contains xs r.s) (sym c.deref.ensures.value) r.has, r.leads.0),
+          let r = reached start segment own earlier followed.own c.requires.own.numbered c.requires.earlier.numbered space c.args.space.now.depth is_space are
+          c.args.places places seen all release.made c.leads_by_changes.ensures.in_range before followed.goes_on followed.earlier release
+          c.requires.memory.0 refl can in
+          let by_changes : Contains c.args.reach.now.changed.seen.items r.s → IsTrue c.leads_by_changes.result =
+          λ has. c.leads_by_changes.ensures.whole before start segment r.s followed are places has r.alive r.leads.0 in
+          elim (split own earlier space c.args.places r.s r.has) [
+            | inl before ↦
+                let (change, has, same) = map_contains seen_before own r.s before in
+                by_changes (subst (Contains c.args.reach.now.changed.seen.items) same (met.seen.before change has))
+            | inr (inl left) ↦
+                let (change, has, same) = map_contains seen_left earlier r.s left in
+                by_changes (subst (Contains c.args.reach.now.changed.seen.items) same (met.seen.left change has))
+            | inr (inr (page, listed, same)) ↦
+                let holds : Holds space page = (holds_listed is_space page).0 listed in
+                elim (own_or_not own page) [
+                  | inl has_own ↦
+                      by_changes (subst (Contains c.args.reach.now.changed.seen.items) (sym same) (met.seen.present page (met.all page holds has_own)))
+                  | inr none ↦ absurd (false≢true (sym c.if-leads_by_index.false
+                      ∙ c.leads_by_index.ensures.whole before start segment page followed are places holds (quiet page holds none)
+                      (subst (λ (s : Seen). LeadsThere before start segment release s.page) same r.leads.0)))
+                ]
+          ],
     )

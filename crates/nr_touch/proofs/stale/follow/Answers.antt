@@ -1,4 +1,4 @@
-use Rattle.std.proofs.Common.{◌≡◌, ◌<◌, ◌++◌, ℕ, List, Contains, Option, length, map, refl, sym, ap, ◌∙◌, subst, arith}
+use Rattle.std.proofs.Common.{◌≡◌, ◌<◌, ◌++◌, ℕ, List, Contains, IfSome, Option, length, map, refl, sym, ap, ◌∙◌, subst, arith}
 use Rattle.std.specs.BTreeMap.{BTreeMap}
 use Rattle.std.specs.List.Sorted.{IsPermutation}
 use Rattle.std.proofs.lemmas.List.Sorted.{IsPermutation-sym, Contains-permutation}
@@ -12,6 +12,7 @@ use Rattle.nr_touch.specs.declared.change.Change.{Change}
 use Rattle.nr_touch.specs.declared.change.PlacedChange.{PlacedChange}
 use Rattle.nr_touch.specs.inside.Lefts.{left_of, ArePlacedAs, KeepLooks}
 use Rattle.nr_touch.specs.Tails.{AreSound, IsTailOf}
+use Rattle.nr_touch.specs.inside.Indexed.{HasPages, HasStayed}
 use Rattle.nr_touch.specs.inside.Keeping.{AreKeptOfRun, IsKeptBehind, IsOnePlace}
 use Rattle.nr_touch.specs.inside.Widened.{AreLeastBehind, HasLeast}
 use Rattle.nr_touch.specs.declared.history.History.{History}
@@ -19,10 +20,12 @@ use Rattle.nr_touch.specs.declared.tail.Tail.{Tail}
 use Rattle.nr_touch.specs.inside.Columns.{IsNumbered}
 use Rattle.nr_touch.specs.inside.Undo.{LeadsTo}
 use Rattle.nr_touch.specs.declared.tail.Left.{Left}
-use Rattle.nr_touch.proofs.KeptBehind.{least_of_tail, orderly_of}
+use Rattle.nr_touch.proofs.IndexedPages.{still_there}
+use Rattle.nr_touch.proofs.KeptBehind.{index_of_tail, least_of_tail, orderly_of}
 use Rattle.nr_touch.proofs.KeptJudged.{kept_of_run}
 use Rattle.nr_touch.proofs.KeptTail.{tail_with}
 use Rattle.nr_touch.proofs.Lingering.{of_run, one_of_place}
+use Rattle.nr_touch.proofs.Sighted.{map_contains}
 use Rattle.nr_touch.proofs.Undone.{same_bounded}
 use Rattle.nr_touch.proofs.Walked.{permuted}
 use Rattle.nr_touch.proofs.stale.follow.Goals as goal
@@ -67,6 +70,16 @@ kept_behind run start segment tail own sorted placed earlier history left widene
   one = subst IsOnePlace (sym left_is) (one_of_place tail.changes.items placed earlier are same_left);
 }
 
+-- a page at whose base no change begins was there at the start
+stayed : (depth : Depth) (start space : Space) (own sorted : List PlacedChange) → IsPermutation own sorted
+    → LeadsTo depth start (map (λ (each : PlacedChange). each.change) own) space → HasStayed sorted start space
+stayed depth start space own sorted same leads = λ page holds none.
+    still_there depth start (map (λ (each : PlacedChange). each.change) own) space leads page
+    (λ change has begins.
+    let (placed, listed, is) = map_contains (λ (each : PlacedChange). each.change) own change has in
+    none (placed, Contains-permutation own sorted placed same listed, ap (λ (one : Change). one.page.base) is ∙ begins))
+    holds
+
 pub returns-clause-finds : goal.returns-clause-finds
 returns-clause-finds c = λ run of_tail goes_on clean.
     let start = c.args.start.space in
@@ -80,7 +93,8 @@ returns-clause-finds c = λ run of_tail goes_on clean.
     c.first_of-stale.ensures.finds run start segment
     (record { orderly = clean_is_orderly segment clean; goes_on = goes_on; own = are; earlier = earlier })
     (kept_behind run start segment c.args.tail c.in_ok-own.own.items c.in_ok-history.history.changes.items c.in_ok-placed.field-0.items
-    c.in_ok-earlier.earlier.changes.items c.in_ok-history.history c.in_ok-earlier.earlier c.in_ok-own.widened.least of_tail c.in_ok-history.ensures.same refl refl
+    c.in_ok-earlier.earlier.changes.items c.in_ok-history.history c.in_ok-earlier.earlier c.in_ok-own.widened.least of_tail
+    c.in_ok-history.ensures.same refl refl
     (c.in_ok-own.ensures.kept run orderly goes_on at_start clean) (c.in_ok-own.ensures.least run orderly goes_on at_start clean) placed
     c.in_ok-earlier.ensures.same)
     (c.in_ok-own.ensures.space clean) (ap length c.log.ensures.reads)
@@ -95,20 +109,26 @@ returns-clause-reaches c = λ run of_tail goes_on clean.
     let earlier = of_run run c.args.tail c.in_ok-placed.field-0.items c.in_ok-earlier.earlier.changes.items of_tail placed c.in_ok-earlier.ensures.same in
     c.in_ok-reachable.ensures.finds run start segment
     (record { orderly = clean_is_orderly segment clean; goes_on = goes_on; own = are; earlier = earlier }) (c.in_ok-own.ensures.space clean)
-    (ap length c.log.ensures.reads)
+    (ap length c.log.ensures.reads) (index_of_tail run start segment c.args.tail goes_on of_tail)
+    (stayed c.args.start.depth start c.in_ok-own.space.space c.in_ok-own.own.items c.in_ok-history.history.changes.items c.in_ok-history.ensures.same
+    c.in_ok-own.ensures.leads)
 
 pub returns-clause-tail : goal.returns-clause-tail
 returns-clause-tail c = λ run of_tail goes_on clean.
     let start = c.args.start.space in
     let segment = c.args.segment.now in
-    let found : Tail = record { changes = c.in_ok-changes.changes; widened = c.in_ok-own.widened } in
+    let found : Tail = record { changes = c.in_ok-changes.changes; widened = c.in_ok-own.widened; index = c.in_ok-reachable.index } in
     let orderly = orderly_of run c.args.tail of_tail in
     let at_start = least_of_tail run start segment c.args.tail goes_on of_tail in
     let few : length segment.events < 4294967295 = let most = c.log.ensures.in_range.few_events in omega (arith, most) in
     let looks = subst (λ (own : List PlacedChange). KeepLooks (c.args.tail.changes.items ++ map left_of own) found.changes.items) c.deref-3.ensures.value
     c.in_ok-changes.ensures.looks in
+    let indexed = subst (λ (space : Space). IfSome found.index (λ i. HasPages i space)) (c.in_ok-own.ensures.space clean)
+    (c.in_ok-reachable.ensures.index start (index_of_tail run start segment c.args.tail goes_on of_tail)
+    (stayed c.args.start.depth start c.in_ok-own.space.space c.in_ok-own.own.items c.in_ok-history.history.changes.items c.in_ok-history.ensures.same
+    c.in_ok-own.ensures.leads)) in
     tail_with start segment (clean_is_orderly segment clean) c.in_ok-own.own.items (c.in_ok-own.ensures.changes clean)
-    c.in_ok-own.ensures.by_place few run c.args.tail found (c.in_ok-own.ensures.kept run orderly goes_on at_start clean)
+    c.in_ok-own.ensures.by_place few run c.args.tail found indexed (c.in_ok-own.ensures.kept run orderly goes_on at_start clean)
     (c.in_ok-own.ensures.least run orderly goes_on at_start clean) of_tail goes_on looks
 
 pub returns-clause-start : goal.returns-clause-start

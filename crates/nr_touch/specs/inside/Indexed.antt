@@ -1,0 +1,38 @@
+-- The pages of a space by the memory that they lead into. Public clauses cite HasPages alone.
+use Rattle.std.specs.Prelude.{◌≡◌, ℕ, List, Contains, IsTrue}
+use Rattle.std.specs.BTreeSet.{contains}
+use Rattle.std.specs.Ordering.{nat_cmp, ordering_then}
+use Rattle.std.specs.declared.cmp.Ordering.{Ordering}
+use Rattle.vs_types.specs.Space.{Space, Holds}
+use Rattle.vs_types.specs.declared.page.Page.{Page}
+use Rattle.nr_touch.specs.inside.Blocks.{IsBlockOf}
+use Rattle.nr_touch.specs.declared.change.PlacedChange.{PlacedChange}
+use Rattle.nr_touch.specs.declared.index.Index.{Index}
+
+-- the order of the rows: by block, and then by base
+abbrev pub row_cmp : ℕ × ℕ → ℕ × ℕ → Ordering
+row_cmp one other = ordering_then (nat_cmp one.0 other.0) (nat_cmp one.1 other.1)
+
+-- a page has its rows in the index: its base under each block that it leads into
+abbrev pub IsIndexed : Index → Page → Type 0
+IsIndexed index page = (block : ℕ) → IsBlockOf page block → IsTrue (contains row_cmp index.rows (block, page.base))
+
+-- each page of a space has its rows in the index
+abbrev pub HasPages : Index → Space → Type 0
+HasPages index space = (page : Page) → Holds space page → IsIndexed index page
+
+-- some change is of a page that begins where this one does
+abbrev pub HasOwn : List PlacedChange → Page → Type 0
+HasOwn changes page = (c : PlacedChange) × Contains changes c × (c.change.page.base ≡ page.base)
+
+-- each page after the changes at whose base none of them begins was there before them
+abbrev pub HasStayed : List PlacedChange → Space → Space → Type 0
+HasStayed changes before after = (page : Page) → Holds after page → (HasOwn changes page → ⊥) → Holds before page
+
+-- each page of a space at whose base no change begins has its rows in the index
+abbrev pub HaveQuiet : List PlacedChange → Space → Index → Type 0
+HaveQuiet changes space index = (page : Page) → Holds space page → (HasOwn changes page → ⊥) → IsIndexed index page
+
+-- each page of a space at whose base a change begins is listed
+abbrev pub HavePresent : List PlacedChange → Space → List Page → Type 0
+HavePresent changes space present = (page : Page) → Holds space page → HasOwn changes page → Contains present page
