@@ -261,9 +261,9 @@ def words_of_stale(shown, places):
 
 
 def taken_lines(taken):
-    """The lines of the update that takes something away, or that none does."""
+    """The lines of the update that takes something away, or that none of the segment does."""
     if not taken:
-        return ["taken away by: none"]
+        return ["taken away by: none in this segment"]
     return [f"taken away by place {taken['place']}, {event_line(taken['call'])}",
             event_line(taken["reply"]) if taken["reply"] else "no reply to it"]
 
@@ -338,7 +338,7 @@ def words_of_reachable(shown):
         when = f"is answered only at event {taken['reply']['event']}" if taken["reply"] else "is never answered"
         how = f"call {taken['call']['event']} takes it from there, and {when}"
     else:
-        lines += [f"taken away by: {taken or 'none'}"]
+        lines += [f"taken away by: {taken or 'none in this segment'}"]
         how = "an update of an earlier segment took it from there, and was never answered" if taken else "no update takes it from there"
     return f"Release {number} gives memory away that an access of {shown['address']} may still reach: {how}.", lines
 

@@ -6,7 +6,7 @@ use Rattle.serde_json.specs.Written.{has_float, items_have_float}
 use Rattle.nr_trace.specs.declared.fault.Fault.{Fault}
 use Rattle.nr_audit.specs.declared.verdict.Verdict.{Verdict}
 use Rattle.nr_audit.specs.declared.verdict.Verdict.TheVariants.{Yes, No}
-use Rattle.audit_texts.specs.AuditJson.{FaultNumber, addressed, counted, fault_members, fault_number_data, fault_numbers}
+use Rattle.audit_texts.specs.AuditJson.{FaultNumber, addressed, counted, fault_number_data, fault_numbers}
 use Rattle.audit_texts.specs.AuditJson.{right_members, verdict_members}
 use Rattle.audit_texts.specs.ChainJson.{end_members}
 use Rattle.audit_texts.specs.EvidenceJson.{number_data}

@@ -31,7 +31,8 @@ use Rattle.audit_texts.specs.Evidence.{bad_unit_parts, difference_parts, early_p
 use Rattle.audit_texts.specs.Evidence.{open_parts, other_answer_parts}
 use Rattle.audit_texts.specs.Evidence.{past_end_parts, reserved_parts, shared_parts, short_prefix_parts, stray_parts, stray_reply_parts, two_places_parts}
 use Rattle.audit_texts.specs.Evidence.{two_replies_parts}
-use Rattle.audit_texts.specs.Evidence.{answer_parts, changed_parts, look_parts, missing_frame_parts, nearby_parts, owner_parts, read_parts, replica_parts, reserved_entry_parts}
+use Rattle.audit_texts.specs.Evidence.{answer_parts, changed_parts, look_parts, missing_frame_parts, nearby_parts, owner_parts, read_parts, replica_parts}
+use Rattle.audit_texts.specs.Evidence.{reserved_entry_parts}
 use Rattle.audit_texts.specs.Evidence.{shared_frame_parts, stray_frame_parts, unlike_parts}
 use Rattle.audit_texts.specs.Explained.{explanation_data}
 

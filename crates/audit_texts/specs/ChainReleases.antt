@@ -53,9 +53,9 @@ leading_parts look (Within entries away) = words (codes "after ") ∷ in_both (c
 leading_parts look Earlier = in_json (codes "entries") nothing ∷ words (codes "before the segment: ")
     ∷ in_both (codes "look") (answer look) ∷ words line_end ∷ []
 
--- the update that takes something away, or that none does
+-- the update that takes something away, or that none of the segment does
 unfoldable pub away_parts : Option TakenAway → List Part
-away_parts None = words (codes "taken away by: ") ∷ in_both (codes "taken") nothing ∷ words line_end ∷ []
+away_parts None = words (codes "taken away by: ") ∷ in_both (codes "taken") nothing ∷ words (codes " in this segment\n") ∷ []
 away_parts (Some away) = in_both (codes "taken") (taken away) ∷ []
 
 -- what takes away that an address leads somewhere

@@ -17,7 +17,8 @@ use Rattle.nr_explain.specs.declared.chain.evidence.SegmentEvidence.TheVariants 
 use Rattle.audit_texts.specs.Text.{answer_text, walk_words}
 use Rattle.audit_texts.specs.ChainReleases.{release_sentence}
 use Rattle.audit_texts.specs.EvidenceText.{bytes_text}
-use Rattle.audit_texts.specs.Sentence.{difference_sentence, missing_sentence, other_answer_sentence, reason_text, reserved_sentence, sentence_text, shared_sentence}
+use Rattle.audit_texts.specs.Sentence.{difference_sentence, missing_sentence, other_answer_sentence, reason_text, reserved_sentence, sentence_text}
+use Rattle.audit_texts.specs.Sentence.{shared_sentence}
 
 -- why bytes with this fault are no segment: but for these two as of a trace
 unfoldable pub segment_reason : BadUnit → Format → List ℕ

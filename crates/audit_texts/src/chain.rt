@@ -5,6 +5,7 @@ pub(crate) mod earlier;
 pub(crate) mod evidence;
 pub(crate) mod explanation;
 pub(crate) mod json;
+pub(crate) mod lags;
 pub(crate) mod missed;
 pub(crate) mod releases;
 pub(crate) mod sentence;

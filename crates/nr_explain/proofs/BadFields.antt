@@ -24,7 +24,8 @@ use Rattle.nr_explain.specs.Fields.{address_fault, answers_of, call_fault, event
 use Rattle.nr_explain.specs.Fields.{number_16, number_32, number_64, physical_fault, reply_fault, rights_fault, rights_of, size_fault, size_of}
 use Rattle.nr_explain.specs.Fields.{sizes_of}
 use Rattle.nr_explain.specs.declared.fields.EventField.TheVariants as fields
-use Rattle.nr_explain.proofs.RightFields.{both, below, kinds, answers_known, Says, says, header_bytes, release_there, request_there, touch_there, knows_release, knows_touch, answer_there}
+use Rattle.nr_explain.proofs.RightFields.{both, below, kinds, answers_known, Says, says, header_bytes, release_there, request_there, touch_there, knows_release}
+use Rattle.nr_explain.proofs.RightFields.{knows_touch, answer_there}
 
 -- ---- bytes
 

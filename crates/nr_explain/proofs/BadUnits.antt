@@ -1,6 +1,7 @@
 -- The unit that a refusal is about, and that bytes have one.
 use Rattle.std.proofs.Common.{◌≡◌, ℕ, ◌+◌, ◌-◌, ◌≤◌, List, [], ◌++◌, length, min, take, drop, refl, ap, sym, ◌∙◌, subst, subst₂, arith, append_assoc}
-use Rattle.std.proofs.lemmas.List.{append-nil, append_cancel_left, length-append, length-drop, length-take-le, take-append-drop, take-append-le, take-take, take_at, take_min}
+use Rattle.std.proofs.lemmas.List.{append-nil, append_cancel_left, length-append, length-drop, length-take-le, take-append-drop, take-append-le, take-take}
+use Rattle.std.proofs.lemmas.List.{take_at, take_min}
 use Rattle.nr_trace.specs.FirstFault.{HasRefusalAs, IsRefusedBy, refusal_at, unit_size}
 use Rattle.nr_trace.specs.declared.refusal.Refusal.{Refusal}
 use Rattle.nr_trace.specs.declared.refusal.TraceUnit.{TraceUnit}

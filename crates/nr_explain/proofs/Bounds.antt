@@ -1,5 +1,6 @@
 -- How many bytes a trace has at most, and bytes with which nothing is wrong yet.
-use Rattle.std.proofs.Common.{◌≡◌, ◌≢◌, ℕ, zero, suc, ◌+◌, ◌*◌, ◌<◌, ◌≤◌, ◌^◌, inl, inr, All, List, length, Option, Some, None, refl, ap, sym, ◌∙◌, subst, arith}
+use Rattle.std.proofs.Common.{◌≡◌, ◌≢◌, ℕ, zero, suc, ◌+◌, ◌*◌, ◌<◌, ◌≤◌, ◌^◌, inl, inr, All, List, length, Option, Some, None, refl, ap, sym, ◌∙◌, subst}
+use Rattle.std.proofs.Common.{arith}
 use Rattle.std.specs.Prelude.{⊤}
 use Rattle.std.proofs.lemmas.List.{length-append}
 use Rattle.std.proofs.lemmas.Option.{same_Some}
@@ -8,7 +9,8 @@ use Rattle.vs_types.specs.Frame.{IsFrame}
 use Rattle.nr_trace.specs.Recording.{IsEvent}
 use Rattle.nr_trace.specs.Spelling.{version_word, counts, log_word, event, dump_head, frame_number, frame_words}
 use Rattle.nr_trace.specs.Versions.{IsVersionOf, most_frames, most_start}
-use Rattle.nr_trace.specs.FirstFault.{counts_bytes, counts_unit, magic_of, of_dump, own_at, refusal_at, AtUnit, AtEnd, AtFrames, AtStart, AtDumps, AtEvents, AtLog}
+use Rattle.nr_trace.specs.FirstFault.{counts_bytes, counts_unit, magic_of, of_dump, own_at, refusal_at, AtUnit, AtEnd, AtFrames, AtStart, AtDumps, AtEvents}
+use Rattle.nr_trace.specs.FirstFault.{AtLog}
 use Rattle.nr_trace.specs.FirstFault.{HasRefusalAs, IsCounts, IsDumpHead}
 use Rattle.nr_trace.specs.FirstFault.{IsNext}
 use Rattle.nr_trace.specs.Feed.{HasNoFaultYet}

@@ -14,7 +14,7 @@ use Rattle.vs_types.specs.declared.request.Query.{Query}
 use Rattle.vs_types.proofs.Spaces.{page_at_means}
 use Rattle.nr_trace.specs.Recording.{Recording}
 use Rattle.nr_trace.specs.Orders.{space_from}
-use Rattle.nr_touch.specs.Touches.{page_after, ChangesLook, Includes, IsWidened, OnlyWidens}
+use Rattle.nr_touch.specs.Touches.{page_after, ChangesLook, Includes, IsWidened}
 use Rattle.nr_explain.specs.Facts.{looks_from}
 use Rattle.nr_explain.specs.Nearest.{IsLastStretch, IsNearest, IsRightAfter}
 use Rattle.nr_explain.specs.inside.Windows.{AddsRights, IsKeptTo, IsWindowBelow}
@@ -80,7 +80,8 @@ module _ (start : Space) (segment : Recording) (address from : ℕ) where
     widens = λ place low high changes. absurd (omega arith);
   }
 
-  module _ (place : ℕ) (looks next : Answer) (kept : IsKeptTo start segment address from place looks) (looked : next ≡ looks_from start segment address (place + 1))
+  module _ (place : ℕ) (looks next : Answer) (kept : IsKeptTo start segment address from place looks)
+      (looked : next ≡ looks_from start segment address (place + 1))
       (is : IsSpace segment.layout.depth (space_from start segment (take (place + 1) segment.log))) where
     changed_look : ChangesLook start segment address place → (looks ≢ next)
     changed_look changes = λ same. changes (same_page segment.layout.depth _ _ address kept.is_space is (sym kept.looked ∙ same ∙ looked))

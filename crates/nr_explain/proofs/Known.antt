@@ -1,14 +1,15 @@
 -- What is kept of a run, beside the run.
-use Rattle.std.proofs.Common.{◌≡◌, ◌↔◌, ℕ, true, false, List, length, Option, Some, None, Contains, is_some, refl, ap, ◌∙◌, subst}
+use Rattle.std.proofs.Common.{◌≡◌, ◌↔◌, ℕ, true, false, List, length, Option, Some, None, Contains, is_some, refl, ap, subst}
 use Rattle.vs_types.specs.Space.{Space, pages}
 use Rattle.vs_types.specs.declared.answer.Answer.{Answer}
 use Rattle.nr_trace.specs.Recording.{Recording}
 use Rattle.nr_trace.specs.declared.fault.Fault.{Fault}
 use Rattle.nr_touch.specs.Looks.{IsLookLeft}
+use Rattle.nr_touch.specs.Tails.{GoesOn}
 use Rattle.nr_audit.specs.Start.{first_space}
 use Rattle.nr_explain.specs.Facts.{asked_address}
 use Rattle.nr_explain.specs.Progress.{ChainState, Seen, began_with, counts_of, layout_in, run_in, space_in, sums_in, IsSeen, IsSeenOf}
-use Rattle.nr_explain.specs.ChainEvidence.{AreEarlier, IsShown, LingersAs, LingersBehind, ReachLingers, ShowsEarlier}
+use Rattle.nr_explain.specs.ChainEvidence.{AreEarlier, IsReachBehind, IsShown, LingersAs, LingersBehind, ShowsEarlier}
 use Rattle.nr_explain.specs.ChainExplanation.{IsShownBehind}
 use Rattle.nr_explain.specs.inside.Firsts.{AreEarlierLeft, IsLeftAs, ShowsLeft, ShowsReachLeft}
 use Rattle.nr_explain.specs.inside.Reading.{began_seen, counts_seen, layout_seen, left_seen, space_seen, sums_seen, IsShownSeen}
@@ -18,6 +19,7 @@ use Rattle.nr_explain.specs.declared.chain.evidence.WhyWrong.{WhyWrong}
 use Rattle.nr_explain.specs.declared.chain.evidence.WhyWrong.TheVariants.{Otherwise, Reached}
 use Rattle.nr_explain.specs.declared.chain.evidence.SegmentEvidence.{SegmentEvidence}
 use Rattle.nr_explain.specs.declared.chain.evidence.SegmentEvidence.TheVariants as evidence
+use Rattle.nr_explain.specs.declared.trace.evidence.RecordedCall.{RecordedCall}
 
 pub layout_alike : (came : Option ChainState) (seen : Option Seen) → IsSeenOf came seen → layout_seen seen ≡ layout_in came
 layout_alike None None is = refl
@@ -90,25 +92,29 @@ leading_alike : (came : Option ChainState) (seen : Option Seen) (address : ℕ) 
 leading_alike came seen address look (Within entries taken) is left = tt
 leading_alike came seen address look Earlier is left = (looks_alike came seen address look is).0 left
 
-reach_alike : (came : Option ChainState) (seen : Option Seen) (why : WhyWrong) → IsSeenOf came seen → ShowsReachLeft (left_seen seen) why
-    → ReachLingers (run_in came) why
-reach_alike came seen (Otherwise reply) is left = tt
-reach_alike came seen (Reached reply reach) is left = leading_alike came seen reach.address reach.look reach.leading is left
+reach_alike : (came : Option ChainState) (seen : Option Seen) (start : Space) (segment : Recording) (call : RecordedCall) (why : WhyWrong)
+    → IsSeenOf came seen → GoesOn (run_in came) segment start → ShowsReachLeft seen start segment call why
+    → IsReachBehind (run_in came) start segment call why
+reach_alike came seen start segment call (Otherwise reply) is goes_on left = tt
+reach_alike came seen start segment call (Reached reply reach) is goes_on left =
+    (leading_alike came seen reach.address reach.look reach.leading is left.0, λ given gives. left.1 given gives came is goes_on)
 
-earlier_alike : (came : Option ChainState) (seen : Option Seen) (shown : SegmentEvidence) → IsSeenOf came seen → ShowsLeft (left_seen seen) shown
-    → ShowsEarlier (run_in came) shown
-earlier_alike came seen (evidence.Stale stale) is left =
+earlier_alike : (came : Option ChainState) (seen : Option Seen) (start : Space) (segment : Recording) (shown : SegmentEvidence) → IsSeenOf came seen
+    → GoesOn (run_in came) segment start → ShowsLeft seen start segment shown → ShowsEarlier (run_in came) start segment shown
+earlier_alike came seen start segment (evidence.Stale stale) is goes_on left =
     earlier_of came seen (asked_address stale.call.request) stale.first stale.earlier.items is left
-earlier_alike came seen (evidence.Reachable wrong) is left = reach_alike came seen wrong.why is left
-earlier_alike came seen shown is left = tt
+earlier_alike came seen start segment (evidence.Reachable wrong) is goes_on left = reach_alike came seen start segment wrong.call wrong.why is goes_on left
+earlier_alike came seen start segment shown is goes_on left = tt
 
 -- ---- what shows a fault
 
 pub shown_alike : (came : Option ChainState) (seen : Option Seen) (segment : Recording) (fault : Fault) (shown : SegmentEvidence) → IsSeenOf came seen
-    → IsShownSeen seen segment fault shown → ShowsLeft (left_seen seen) shown → IsShownBehind came segment fault shown
-shown_alike came seen segment fault shown is shows left = (
+    → GoesOn (run_in came) segment (first_space (space_in came) segment) → IsShownSeen seen segment fault shown
+    → ShowsLeft seen (first_space (space_seen seen) segment) segment shown → IsShownBehind came segment fault shown
+shown_alike came seen segment fault shown is goes_on shows left = (
   subst (λ (began : Option Space). IsShown began (space_in came) (first_space (space_in came) segment) segment fault shown) (began_alike came seen segment is)
       (subst (λ (before : Option Space). IsShown (began_seen seen segment) before (first_space before segment) segment fault shown) (space_alike came seen is)
       shows),
-  earlier_alike came seen shown is left,
+  earlier_alike came seen (first_space (space_in came) segment) segment shown is goes_on
+      (subst (λ (before : Option Space). ShowsLeft seen (first_space before segment) segment shown) (space_alike came seen is) left),
 )

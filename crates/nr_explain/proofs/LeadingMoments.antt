@@ -88,7 +88,8 @@ look_stays given looks index d None l not none = λ k look low at leads. elim (c
   | inl earlier ↦ none k look earlier at leads
   | inr past ↦
       let same : k ≡ index = omega (arith, low, past) in
-      let one : get_or looks index d ≡ look = same_Some (get_or looks index d) look (sym (slice_get-get_or looks index d l) ∙ ap (slice_get looks) (sym same) ∙ at) in
+      let one : get_or looks index d ≡ look = same_Some (get_or looks index d) look
+      (sym (slice_get-get_or looks index d l) ∙ ap (slice_get looks) (sym same) ∙ at) in
       not (subst (LeadsInto given) (sym one) leads)
 ]
 look_stays given looks index d (Some look) l not found = found

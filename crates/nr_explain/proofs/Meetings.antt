@@ -68,7 +68,8 @@ module _ (trace : Recording) (replies : List ℕ) (are : AreReplies trace replie
     so_meets : (call : ℕ) → call < length trace.events → Asks trace call → IsOver call → HasMet trace replies call ⊎ MeetsLater call → meets trace call ≡ true
     so_meets call within own over either =
         and_from (is_asked trace call) (is_over trace call (length trace.events) && any call) own
-        (and_from (is_over trace call (length trace.events)) (any call) ((over_is trace replies are call (length trace.events) (fits call within).0 few).1 over) (elim either [
+        (and_from (is_over trace call (length trace.events)) (any call)
+        ((over_is trace replies are call (length trace.events) (fits call within).0 few).1 over) (elim either [
           | inl met ↦ (let (other, less, asks, more) = met in
               below_any (overlaps trace call) (length trace.events) other (omega arith)
               (and_from (is_asked trace other) _ asks
@@ -225,7 +226,8 @@ module _ (trace : Recording) (replies : List ℕ) (are : AreReplies trace replie
     all_counted last count new b is says sum =
         sum ∙ counted_to (length trace.events) last count b (omega arith) is
         (widened (length trace.events) (length trace.events) last count b is
-        (λ latest same over. none_is_later latest count (subst (λ (l : Option Latest). IsCountedTo trace replies (length trace.events) l count) same is) over) says)
+        (λ latest same over. none_is_later latest count (subst (λ (l : Option Latest). IsCountedTo trace replies (length trace.events) l count) same is) over)
+        says)
 
 -- ---- how far replies reach
 

@@ -1,5 +1,6 @@
 -- An address from which the memory of a release could be reached leads there: in its segment, or by what is left behind the segments before.
-use Rattle.std.proofs.Common.{◌≡◌, ◌↔◌, ℕ, ◌+◌, ◌-◌, ◌<◌, ◌≤◌, ◌⊎◌, inl, inr, Bool, true, false, cond, List, length, take, Option, Some, None, refl, sym, ap, subst}
+use Rattle.std.proofs.Common.{◌≡◌, ◌↔◌, ℕ, ◌+◌, ◌-◌, ◌<◌, ◌≤◌, ◌⊎◌, inl, inr, Bool, true, false, cond, List, length, take, Option, Some, None, refl, sym, ap}
+use Rattle.std.proofs.Common.{subst}
 use Rattle.std.proofs.Common.{◌∙◌, arith}
 use Rattle.std.specs.Prelude.{option_and_then, slice_get, IfSome, IsSome}
 use Rattle.std.proofs.lemmas.Bool.{false≢true}
@@ -32,12 +33,12 @@ use Rattle.nr_touch.specs.declared.touch.Touch.{Touch}
 use Rattle.nr_touch.proofs.Behind.{in_time_parts}
 use Rattle.nr_audit.specs.Releases.{HasRelease, IsDoneOrOpen}
 use Rattle.nr_audit.proofs.ReleasesBehind.{found_in_time}
-use Rattle.nr_explain.specs.ChainEvidence.{IsReach, IsWrongSo}
+use Rattle.nr_explain.specs.ChainEvidence.{release_at, IsReach, IsWrongSo}
 use Rattle.nr_explain.specs.ChainFacts.{IsIn, LeadsInto}
 use Rattle.nr_explain.specs.Facts.{IsFirstReplyTo, released, response}
 use Rattle.nr_explain.specs.Progress.{ChainState, Seen, run_in, IsSeen, IsSeenOf}
-use Rattle.nr_explain.specs.inside.Firsts.{IsReleaseToShow, ShowsReachLeft}
-use Rattle.nr_explain.specs.inside.Reaches.{release_at, FindsBefore, FindsReach, FindsWithin, IsReachBefore, IsReachOf}
+use Rattle.nr_explain.specs.inside.Firsts.{IsLeastSeen, IsReleaseToShow, ShowsReachLeft}
+use Rattle.nr_explain.specs.inside.Reaches.{FindsBefore, FindsReach, FindsWithin, IsReachBefore}
 use Rattle.nr_explain.specs.inside.Reaches.{IsWhyOf, LeadsNowhere, NothingLeads}
 use Rattle.nr_explain.specs.inside.Reading.{left_seen, state_of}
 use Rattle.nr_explain.specs.inside.Windows.{IsWindowBelow}
@@ -133,26 +134,34 @@ module _ (changes : List Left) (start : Space) (segment : Recording) (event : �
       → IsAllowedPrefix start segment touch n ↔ ((window.first ≤ n) × (n ≤ window.last))
   allowed_so touch at made answered n = window_is start segment address event event touch window at made answered is n
 
-  pub reach_within : (found : Reach) → FindsWithin start segment address window given (Some found) → IsReachOf changes start segment event given found
-  reach_within found (moment, (low, below, looks, leads, later), it) = subst (IsReachOf changes start segment event given) (sym it.is) record {
-    is = record {
-      window = allowed_so;
-      leads = leads;
-      leading = (low, omega (arith, below), looks, (λ n past high more. later n past (omega (arith, high)) more), it.takes);
-    };
-    left = tt;
-  }
+  pub reach_within : (found : Reach) → FindsWithin start segment address window given (Some found)
+      → FindsReach changes start segment event given address (Some found)
+  reach_within found (moment, (low, below, looks, leads, later), it) = subst (λ (r : Reach). FindsReach changes start segment event given address (Some r))
+      (sym it.is) (
+        record {
+          is = record {
+            window = allowed_so;
+            leads = leads;
+            leading = (low, omega (arith, below), looks, (λ n past high more. later n past (omega (arith, high)) more), it.takes);
+          };
+          left = tt;
+        },
+        refl,
+      )
 
   reach_before : (found : Reach) → NothingLeads start segment address window.first (window.last + 1) given
-      → IsReachBefore changes address window given found → IsReachOf changes start segment event given found
-  reach_before found nothing it = subst (IsReachOf changes start segment event given) (sym it.is) record {
-    is = record {
-      window = allowed_so;
-      leads = it.leads;
-      leading = let none = it.none in (none, (λ n high more. nothing n (omega (arith, none)) (omega (arith, high)) more));
-    };
-    left = it.left;
-  }
+      → IsReachBefore changes address window given found → FindsReach changes start segment event given address (Some found)
+  reach_before found nothing it = subst (λ (r : Reach). FindsReach changes start segment event given address (Some r)) (sym it.is) (
+    record {
+      is = record {
+        window = allowed_so;
+        leads = it.leads;
+        leading = let none = it.none in (none, (λ n high more. nothing n (omega (arith, none)) (omega (arith, high)) more));
+      };
+      left = it.left;
+    },
+    refl,
+  )
 
   pub reach_so : (found : Option Reach) → NothingLeads start segment address window.first (window.last + 1) given
       → FindsBefore changes address window given found → FindsReach changes start segment event given address found
@@ -198,22 +207,26 @@ is_reachable seen start segment call given show gives done = by show.wrong where
   }
 
 -- why it is wrong
-pub wrong_so : (changes : List Left) (start : Space) (segment : Recording) (index : ℕ) (call : RecordedCall) (given : Given) (why : WhyWrong)
-    → call.event ≡ index → call.gives ≡ Some given → IsWhyOf changes start segment index given why → IsWrongSo start segment call why
-wrong_so changes start segment index call given (Otherwise reply) at gives (first, other) =
+pub wrong_so : (seen : Option Seen) (start : Space) (segment : Recording) (index : ℕ) (call : RecordedCall) (given : Given) (why : WhyWrong)
+    → call.event ≡ index → call.gives ≡ Some given → IsWhyOf seen start segment index given why → IsWrongSo start segment call why
+wrong_so seen start segment index call given (Otherwise reply) at gives (first, other) =
     (subst (λ (n : ℕ). IsFirstReplyTo segment n (Some reply)) (sym at) first, other)
-wrong_so changes start segment index call given (Reached reply reach) at gives (first, done, found) = (
+wrong_so seen start segment index call given (Reached reply reach) at gives (first, done, found) = (
   subst (λ (n : ℕ). IsFirstReplyTo segment n reply) (sym at) first,
   done,
   given,
   gives,
-  subst (λ (n : ℕ). IsReach start segment n given reach) (sym at) found.is,
+  subst (λ (n : ℕ). IsReach start segment n given reach) (sym at) found.of_it.is,
 )
 
-pub left_so : (changes : List Left) (start : Space) (segment : Recording) (index : ℕ) (given : Given) (why : WhyWrong)
-    → IsWhyOf changes start segment index given why → ShowsReachLeft changes why
-left_so changes start segment index given (Otherwise reply) of_it = tt
-left_so changes start segment index given (Reached reply reach) of_it = of_it.2.left
+pub left_so : (seen : Option Seen) (start : Space) (segment : Recording) (index : ℕ) (call : RecordedCall) (given : Given) (why : WhyWrong)
+    → call.event ≡ index → call.gives ≡ Some given → IsWhyOf seen start segment index given why → ShowsReachLeft seen start segment call why
+left_so seen start segment index call given (Otherwise reply) at gives of_it = tt
+left_so seen start segment index call given (Reached reply reach) at gives (first, done, found) = (
+  found.of_it.left,
+  λ other same. subst (λ (n : ℕ). IsLeastSeen seen start segment n other reach.address) (sym at)
+      (subst (λ (g : Given). IsLeastSeen seen start segment index g reach.address) (same_Some given other (sym gives ∙ same)) found.least),
+)
 
 -- ---- what is kept of a run
 

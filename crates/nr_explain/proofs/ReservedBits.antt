@@ -7,7 +7,7 @@ use Rattle.std.proofs.lemmas.Bool.{cases_lt}
 use Rattle.vs_types.specs.Depth.{entry_bytes}
 use Rattle.vs_types.specs.Entry.{is_leaf, meaning}
 use Rattle.vs_types.specs.declared.entry.Meaning.TheVariants as entry
-use Rattle.nr_explain.specs.Facts.{IsLowestReservedBit, IsReservedBit}
+use Rattle.nr_explain.specs.Facts.{IsLowestReservedBit}
 
 -- the lowest of some bits of a word, from 13 to below k, where one is set
 pub record IsLowest (word k : ℕ) (bit : ℕ) : Type 0 where

@@ -1,5 +1,5 @@
 -- What shows a fault of a start.
-use Rattle.std.proofs.Common.{◌≡◌, ℕ, List, true, false, Option, Some, Result, Ok, Err, refl, sym, ap, ◌∙◌, subst}
+use Rattle.std.proofs.Common.{◌≡◌, ℕ, true, false, Option, Some, Result, Ok, Err, refl, sym, ap, ◌∙◌, subst}
 use Rattle.std.specs.Prelude.{IfOk}
 use Rattle.std.proofs.lemmas.Option.{same_Some}
 use Rattle.vs_types.specs.Space.{Space}
@@ -17,7 +17,6 @@ use Rattle.nr_explain.specs.ChainEvidence.{IsOfItself, IsStartDiffers}
 use Rattle.nr_explain.specs.inside.Itself.{IsShownByItself}
 use Rattle.nr_explain.specs.inside.Reading.{all_states, state_of, IsShownSeen}
 use Rattle.nr_explain.specs.inside.Starts.{is_within, IsFirstOfTables, IsShownInStart}
-use Rattle.nr_touch.specs.declared.tail.Left.{Left}
 use Rattle.nr_explain.specs.declared.chain.progress.Progress.{Progress}
 use Rattle.nr_explain.specs.declared.chain.evidence.SegmentEvidence.{SegmentEvidence}
 use Rattle.nr_explain.specs.declared.chain.evidence.SegmentEvidence.TheVariants as evidence
@@ -86,16 +85,16 @@ itself_shown last segment fault (Ok shown) own h = absurd h
 -- ---- what lingers
 
 -- what shows another fault than a stale touch or a wrong release shows no looks that linger
-pub none_left : (last : Option Progress) (segment : Recording) (fault : Fault) (changes : List Left) (shown : SegmentEvidence)
-    → IsOfNeither fault → IsShownSeen (all_states last) segment fault shown → ShowsLeft changes shown
-none_left last segment fault changes (evidence.Stale stale) none shows = absurd (none.0 stale.call.event shows.0)
-none_left last segment fault changes (evidence.Reachable wrong) none shows = absurd (none.1 wrong.call.event shows.0)
-none_left last segment fault changes shown none shows = tt
+pub none_left : (last : Option Progress) (segment : Recording) (fault : Fault) (start : Space) (shown : SegmentEvidence)
+    → IsOfNeither fault → IsShownSeen (all_states last) segment fault shown → ShowsLeft (all_states last) start segment shown
+none_left last segment fault start (evidence.Stale stale) none shows = absurd (none.0 stale.call.event shows.0)
+none_left last segment fault start (evidence.Reachable wrong) none shows = absurd (none.1 wrong.call.event shows.0)
+none_left last segment fault start shown none shows = tt
 
-pub none_left_in : {E : Type 0} (last : Option Progress) (segment : Recording) (fault : Fault) (changes : List Left) (result : Result SegmentEvidence E)
-    → IsOfNeither fault → IfOk result (IsShownSeen (all_states last) segment fault) → IfOk result (ShowsLeft changes)
-none_left_in last segment fault changes (Err e) none h = tt
-none_left_in last segment fault changes (Ok shown) none h = none_left last segment fault changes shown none h
+pub none_left_in : {E : Type 0} (last : Option Progress) (segment : Recording) (fault : Fault) (start : Space) (result : Result SegmentEvidence E)
+    → IsOfNeither fault → IfOk result (IsShownSeen (all_states last) segment fault) → IfOk result (ShowsLeft (all_states last) start segment)
+none_left_in last segment fault start (Err e) none h = tt
+none_left_in last segment fault start (Ok shown) none h = none_left last segment fault start shown none h
 
 pub not_within : (fault : Fault) → is_within fault ≡ true → IsOfNeither fault
 not_within fault own = (

@@ -3,7 +3,8 @@ use Rattle.std.proofs.Common.{◌≡◌, ℕ, ◌+◌, ◌-◌, ◌<◌, ◌≤�
 use Rattle.std.proofs.Common.{append_assoc}
 use Rattle.std.proofs.Math.Seq.{drop-append-add, take-append-add}
 use Rattle.std.proofs.lemmas.Bool.{cases_lt}
-use Rattle.std.proofs.lemmas.List.{append-nil, drop-append-le, drop-drop, drop_all, length-append, length-drop, length-take-le, take-append-drop, take-append-le, take_all, take_min}
+use Rattle.std.proofs.lemmas.List.{append-nil, drop-append-le, drop-drop, drop_all, length-append, length-drop, length-take-le, take-append-drop}
+use Rattle.std.proofs.lemmas.List.{take-append-le, take_all, take_min}
 use Rattle.std.proofs.lemmas.List.Elements.{All-append}
 use Rattle.nr_trace.specs.Feed.{Fed, Feeds}
 use Rattle.nr_trace.specs.Feed.Fed.{Taken}

@@ -51,7 +51,8 @@ pub lower : (level : ℕ) → level ≡ suc level - 1
 lower level = omega arith
 
 -- a visit below an entry that leads on
-pub further : (memory : Memory) (level number next : ℕ) (visit : Visit) (step : TableEntry) → step.level ≡ suc level → step.frame ≡ number → LeadsOn memory step next
+pub further : (memory : Memory) (level number next : ℕ) (visit : Visit) (step : TableEntry) → step.level ≡ suc level → step.frame ≡ number
+    → LeadsOn memory step next
     → HasWay memory level next visit → HasWay memory (suc level) number visit
 further memory level number next visit step at of leads below = record {
   way = step ∷ below.way;

@@ -1,5 +1,5 @@
 -- The judgement of a whole segment by a reader that explains a chain.
-use Rattle.std.proofs.Common.{◌≡◌, ℕ, List, [], length, Option, Some, None, Result, Ok, refl, sym, ap, ◌∙◌, subst}
+use Rattle.std.proofs.Common.{◌≡◌, ℕ, List, length, Option, Some, None, Result, Ok, refl, sym, ap, ◌∙◌, subst}
 use Rattle.std.specs.Prelude.{IfOk, IfSome}
 use Rattle.vs_types.specs.Config.{Layout}
 use Rattle.vs_types.specs.Space.{Space}
@@ -16,8 +16,8 @@ use Rattle.nr_trace.specs.declared.fault.Fault.{Fault}
 use Rattle.nr_joined.specs.Run.{end_of, IsOrderly}
 use Rattle.nr_joined.proofs.Orderly.{space_of_both}
 use Rattle.nr_touch.specs.Beside.{beside}
-use Rattle.nr_touch.specs.Tails.{AreSound, GoesOn, IsTailOfRun}
-use Rattle.nr_touch.specs.declared.tail.Tail.{Tail}
+use Rattle.nr_touch.specs.Tails.{AreSound, GoesOn}
+use Rattle.nr_touch.specs.inside.Indexed.{HasPages}
 use Rattle.nr_audit.specs.Verdict.{space_of}
 use Rattle.nr_audit.specs.Faults.{IsFirstAfter, IsSoundAfter}
 use Rattle.nr_audit.specs.Start.{first_space, BeginsRight}
@@ -29,7 +29,7 @@ use Rattle.nr_chain.proofs.Pieces.{ended}
 use Rattle.nr_explain.specs.Progress.{ChainState, layout_in, run_in, space_in, state_after, sums_after, sums_in, IsSeen, IsSeenOf}
 use Rattle.nr_explain.specs.inside.Firsts.{IsToShow}
 use Rattle.nr_explain.specs.inside.Reading.{all_states, began_seen, layout_seen, space_seen, state_of, sums_seen, AreTwice, BeginsWell, FitsProgress}
-use Rattle.nr_explain.specs.inside.Reading.{FitsSegment, IsKnown, IsTwice}
+use Rattle.nr_explain.specs.inside.Reading.{FitsSegment, IsCopyOf, IsKnown}
 use Rattle.nr_explain.specs.inside.Steps.{JudgedTo, JudgesTo}
 use Rattle.nr_explain.specs.declared.chain.progress.Progress.{Progress}
 use Rattle.nr_explain.specs.declared.chain.progress.Sums.{Sums}
@@ -89,7 +89,7 @@ is_behind None None segment None twice follows seen = tt
 is_behind (Some came) (Some last) segment (Some past) twice follows seen = (
   record {
     space = ap (λ (s : BoundedSpace). s.space) twice.space ∙ seen.space;
-    tail = twice.tail came.run seen.tail;
+    tail = twice.tail came.run seen.space seen.tail;
   },
   sym follows ∙ seen.layout,
 )
@@ -99,7 +99,7 @@ is_behind None (Some last) segment before twice follows seen = absurd seen
 is_behind (Some came) None segment before twice follows seen = absurd seen
 
 -- it goes on where that ends
-goes_behind : (came : Option ChainState) (last : Option Progress) (segment : Recording)
+pub goes_behind : (came : Option ChainState) (last : Option Progress) (segment : Recording)
     → Follows (forms.Segment (layout_seen (all_states last))) segment.layout → IsSeenOf came (all_states last)
     → GoesOn (run_in came) segment (first_space (space_in came) segment)
 goes_behind None None segment follows seen = tt
@@ -118,7 +118,8 @@ module _ (last : Option Progress) (segment : Recording) (before : Option Past) (
   end_after : (came : Option ChainState) → IsSeenOf came (all_states last)
       → end_of (run_after (run_in came) segment) ≡ space_from (first_space (space_seen (all_states last)) segment) segment segment.log
   end_after came seen =
-      own_end came seen ∙ ap (λ (s : Option Space). space_from (first_space s segment) segment segment.log) (sym (space_alike came (all_states last) seen)) where
+      own_end came seen ∙ ap (λ (s : Option Space). space_from (first_space s segment) segment segment.log)
+      (sym (space_alike came (all_states last) seen)) where
         own_end : (c : Option ChainState) → IsSeenOf c (all_states last)
             → end_of (run_after (run_in c) segment) ≡ space_from (first_space (space_in c) segment) segment segment.log
         own_end None seen = refl
@@ -149,16 +150,24 @@ module _ (last : Option Progress) (segment : Recording) (before : Option Past) (
       let space = (kept known.0 (behind known.0 known.1)).space ∙ end_after known.0 known.1 in
       λ i. record { depth = fits.space.depth i; limit = fits.space.limit i; space = space i }
 
+  -- the index of what the judge leaves has the pages after the segment
+  pub index_behind : (past : Past) → IsKnown last
+      → ((came : Option ChainState) → IsBehind (run_in came) before segment → IsKept (run_after (run_in came) segment) past)
+      → IfSome past.tail.index (λ index. HasPages index past.space.space)
+  index_behind past known kept =
+      let is = kept known.0 (behind known.0 known.1) in
+      subst (λ (s : Space). IfSome past.tail.index (λ index. HasPages index s)) (sym is.space) is.tail.index
+
   -- what is kept with the segment
   pub seen_next : (came : Option ChainState) (next : Progress) (past : Past) (size : ℕ) → IsSeenOf came (all_states last)
       → IsKept (run_after (run_in came) segment) past → next.layout ≡ segment.layout → next.space ≡ past.space
-      → next.tail ≡ past.tail → (state_of next).began ≡ began_seen (all_states last) segment
+      → IsCopyOf past.tail next.tail → (state_of next).began ≡ began_seen (all_states last) segment
       → next.sums ≡ sums_after (sums_seen (all_states last)) segment (beside (first_space (space_seen (all_states last)) segment) segment) size
       → IsSeen (state_after came segment size) (state_of next)
   seen_next came next past size seen kept layout space tail began sums = record {
     layout = layout ∙ layout_after came last follows seen;
     space = ap (λ (s : BoundedSpace). s.space) space ∙ kept.space;
-    tail = subst (λ (t : Tail). IsTailOfRun (run_after (run_in came) segment) t) (sym tail) kept.tail;
+    tail = tail.of_run (run_after (run_in came) segment) kept.tail;
     began = began ∙ began_alike came (all_states last) segment seen;
     sums = sums
         ∙ ap (λ (s : Sums). sums_after s segment (beside (first_space (space_seen (all_states last)) segment) segment) size)
@@ -176,23 +185,25 @@ module _ (last : Option Progress) (segment : Recording) (before : Option Past) (
   pub known_next : (next : Progress) (past : Past) (size : ℕ) → IsKnown last
       → ((came : Option ChainState) → IsBehind (run_in came) before segment → IsKept (run_after (run_in came) segment) past)
       → next.layout ≡ segment.layout → next.space ≡ past.space
-      → next.tail ≡ past.tail → (state_of next).began ≡ began_seen (all_states last) segment
-      → next.sums ≡ sums_after (sums_seen (all_states last)) segment (beside (first_space (space_seen (all_states last)) segment) segment) size → IsKnown (Some next)
+      → IsCopyOf past.tail next.tail → (state_of next).began ≡ began_seen (all_states last) segment
+      → next.sums ≡ sums_after (sums_seen (all_states last)) segment (beside (first_space (space_seen (all_states last)) segment) segment) size
+      → IsKnown (Some next)
   known_next next past size known kept layout space tail began sums = (
     Some (state_after known.0 segment size),
     seen_next known.0 next past size known.1 (kept known.0 (behind known.0 known.1)) layout space tail began sums,
   )
 
-  pub show_behind : (fault : Fault) → IsKnown last → ((came : Option ChainState) → IsBehind (run_in came) before segment → IsFirstAfter (run_in came) segment fault)
+  pub show_behind : (fault : Fault) → IsKnown last
+      → ((came : Option ChainState) → IsBehind (run_in came) before segment → IsFirstAfter (run_in came) segment fault)
       → IsToShow (all_states last) segment fault
   show_behind fault known first =
       to_show known.0 (all_states last) segment known.1 (goes_behind known.0 last segment follows known.1) fault (first known.0 (behind known.0 known.1))
 
 -- what is kept fits the layout of the last segment
 pub fits_after : (next : Progress) (past : Past) (segment : Recording) → FitsPast segment.layout past → next.layout ≡ segment.layout
-    → next.space ≡ past.space → next.tail ≡ past.tail → FitsProgress next
+    → next.space ≡ past.space → IsCopyOf past.tail next.tail → FitsProgress next
 fits_after next past segment fits layout space tail = record {
   space = subst (λ (l : Layout). FitsLayout l next.space) (sym layout)
       (subst (λ (s : BoundedSpace). FitsLayout segment.layout s) (sym space) fits.space);
-  tail = subst (λ (t : Tail). AreSound t.changes.items) (sym tail) fits.tail;
+  tail = subst AreSound (sym tail.left) fits.tail;
 }

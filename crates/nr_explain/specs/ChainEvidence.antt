@@ -1,5 +1,5 @@
 -- What each kind of evidence says of a segment: which fault it shows, and its facts, each one of the segment, or of the space before it.
-use Rattle.std.specs.Prelude.{◌≡◌, ◌≢◌, ◌↔◌, ℕ, ◌+◌, ◌<◌, ◌≤◌, ◌⊎◌, min, List, All, AllPairs, Contains, Option, None, Some, IfSome, ⊤, slice_get}
+use Rattle.std.specs.Prelude.{◌≡◌, ◌≢◌, ◌↔◌, ℕ, ◌+◌, ◌<◌, ◌≤◌, ◌⊎◌, min, List, All, AllPairs, Contains, Option, None, Some, IfSome, ⊤, slice_get, true}
 use Rattle.vs_types.specs.Depth.{levels, IsCanonical}
 use Rattle.vs_types.specs.Page.{bytes_of}
 use Rattle.vs_types.specs.Space.{Space}
@@ -19,8 +19,10 @@ use Rattle.nr_trace.specs.Orders.{before}
 use Rattle.nr_trace.specs.declared.fault.Fault.{Fault}
 use Rattle.nr_trace.specs.declared.fault.Fault.TheVariants as faults
 use Rattle.nr_joined.specs.Run.{Run}
+use Rattle.nr_touch.specs.Releases.{IsLeastReached}
 use Rattle.nr_touch.specs.Tails.{Lingers}
 use Rattle.nr_touch.specs.Touches.{page_after, ChangesLook, IsAllowedPrefix, IsLagging}
+use Rattle.nr_touch.specs.declared.release.Release.{Release}
 use Rattle.nr_touch.specs.declared.touch.Touch.{Touch}
 use Rattle.nr_audit.specs.Touches.{HasTouch}
 use Rattle.nr_explain.specs.Evidence.{IsDifferenceFrom, IsEvidence, IsMissingTable, IsOtherAnswerFrom, IsReservedEntry, IsSharedTable}
@@ -157,18 +159,25 @@ abbrev pub LingersAs : Option Run → ℕ → Answer → Leading → Type 0
 LingersAs before address seen (Within entries taken) = ⊤
 LingersAs before address seen Earlier = LingersBehind before address seen
 
--- so does that of a release whose memory may be reached from there
-abbrev pub ReachLingers : Option Run → WhyWrong → Type 0
-ReachLingers before (Otherwise reply) = ⊤
-ReachLingers before (Reached reply reach) = LingersAs before reach.address reach.look reach.leading
+-- the release of the memory at an event, where no reply says otherwise than Done
+abbrev pub release_at : ℕ → Given → Release
+release_at event given = record { made = event; size = given.size; phys = given.phys; is_done = true }
 
--- ---- what lingers
+-- so does that of a release whose memory may be reached from there; and it is the least address from which that may be reached
+abbrev pub IsReachBehind : Option Run → Space → Recording → RecordedCall → WhyWrong → Type 0
+IsReachBehind before start segment call (Otherwise reply) = ⊤
+IsReachBehind before start segment call (Reached reply reach) =
+    LingersAs before reach.address reach.look reach.leading
+    × ((given : Given) → call.gives ≡ Some given → IsLeastReached before start segment (release_at call.event given) reach.address)
 
--- what shows a stale touch has the earlier looks too, and what shows a release such a look
-abbrev pub ShowsEarlier : Option Run → SegmentEvidence → Type 0
-ShowsEarlier before (evidence.Stale stale) = AreEarlier before (asked_address stale.call.request) stale.first stale.earlier.items
-ShowsEarlier before (evidence.Reachable wrong) = ReachLingers before wrong.why
-ShowsEarlier before shown = ⊤
+-- ---- what the segments before say
+
+-- what shows a stale touch has the earlier looks too, and what shows a release such a look, and the least address
+abbrev pub ShowsEarlier : Option Run → Space → Recording → SegmentEvidence → Type 0
+ShowsEarlier before start segment (evidence.Stale stale) =
+    AreEarlier before (asked_address stale.call.request) stale.first stale.earlier.items
+ShowsEarlier before start segment (evidence.Reachable wrong) = IsReachBehind before start segment wrong.call wrong.why
+ShowsEarlier before start segment shown = ⊤
 
 -- ---- all
 

@@ -34,7 +34,8 @@ IsBadSegment last bytes bad = (bad.begins ≡ (sums_in last).bytes) × IsBadUnit
 -- the evidence shows the fault of a segment that comes next
 abbrev pub IsShownBehind : Option ChainState → Recording → Fault → SegmentEvidence → Type 0
 IsShownBehind last segment fault shown =
-    IsShown (began_with last segment) (space_in last) (first_space (space_in last) segment) segment fault shown × ShowsEarlier (run_in last) shown
+    IsShown (began_with last segment) (space_in last) (first_space (space_in last) segment) segment fault shown
+    × ShowsEarlier (run_in last) (first_space (space_in last) segment) segment shown
 
 -- the segment at the front of the bytes has the fault as its first, and this shows it
 pub record IsShownOf (last : Option ChainState) (bytes : List ℕ) (fault : Fault) (shown : SegmentEvidence) : Type 0 where

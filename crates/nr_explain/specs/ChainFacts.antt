@@ -41,9 +41,9 @@ IsOrigin began now address Earlier = look now address ≢ look (first_of began) 
 -- ---- tables that lag
 
 -- the answer is the page fault of an access that finds no page
-abbrev pub IsFaultOfNone : Query → Answer → Type 0
-IsFaultOfNone (Access address mode access) answer = answer ≡ answers.Fault (fault_code false mode access)
-IsFaultOfNone request answer = ⊥
+abbrev pub IsFaultOfNoPage : Query → Answer → Type 0
+IsFaultOfNoPage (Access address mode access) answer = answer ≡ answers.Fault (fault_code false mode access)
+IsFaultOfNoPage request answer = ⊥
 
 -- just so many entries is a replica known to have applied by the replies before an event, and this is the first that shows so many; or none are
 -- known
@@ -55,9 +55,9 @@ IsShownBy segment replica event known (Some reply) =
 
 -- how far the table of a touch's replica may lag, where the touch finds no page
 abbrev pub IsLagOf : Recording → RecordedCall → Answer → Option Lag → Type 0
-IsLagOf segment call answer None = IsFaultOfNone call.request answer → ⊥
+IsLagOf segment call answer None = IsFaultOfNoPage call.request answer → ⊥
 IsLagOf segment call answer (Some lag) =
-    IsFaultOfNone call.request answer × (lag.known ≡ known_at segment call.replica call.event)
+    IsFaultOfNoPage call.request answer × (lag.known ≡ known_at segment call.replica call.event)
     × IsShownBy segment call.replica call.event lag.known lag.shown
 
 -- ---- rights that were kept

@@ -11,8 +11,9 @@ ghost use Rattle.audit_texts.specs.ChainEvidence.{stale_parts, start_stray_parts
 
 use crate::answer::answer_text;
 use crate::chain::earlier::{push_earlier, put_earlier};
+use crate::chain::lags::put_lag;
 use crate::chain::missed::put_missed;
-use crate::chain::releases::{put_lag, put_why};
+use crate::chain::releases::put_why;
 use crate::evidence::{put_evidence, put_missing, put_reserved, put_shared};
 use crate::fact_json::Members;
 use crate::nearby::put_nearby;

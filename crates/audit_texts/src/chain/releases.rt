@@ -1,70 +1,19 @@
-//! What shows a release that is wrong, and a table that lags.
+//! What shows a release that is wrong.
 
 ghost use Rattle.std.specs.Prelude.{◌≡◌, IfOk, OnOk, string_bytes};
 ghost use Rattle.nr_explain.specs.declared.chain.evidence.Leading.TheVariants as leadings;
 ghost use Rattle.audit_texts.specs.Parts.{put_all};
-ghost use Rattle.audit_texts.specs.ChainReleases.{answered_words, away_parts, away_words, known_parts, lag_parts, leading_parts};
+ghost use Rattle.audit_texts.specs.ChainReleases.{answered_words, away_parts, away_words, leading_parts};
 ghost use Rattle.audit_texts.specs.ChainReleases.{otherwise_sentence, reach_parts, reach_sentence, release_parts, release_sentence};
-ghost use Rattle.audit_texts.specs.ChainReleases.{shown_parts, taken_parts, taken_words, why_parts};
+ghost use Rattle.audit_texts.specs.ChainReleases.{taken_parts, taken_words, why_parts};
 
 use crate::answer::answer_text;
 use crate::chain::sentence::address_text;
 use crate::output::Output;
 use crate::parts::{Part, Says};
-use nr_explain::{Lag, Leading, Reach, RecordedCall, RecordedReply, TakenAway, WhyWrong};
+use nr_explain::{Leading, Reach, RecordedCall, RecordedReply, TakenAway, WhyWrong};
 use std::alloc::{AllocError, Global};
 use vs_types::Answer;
-
-// ---- a table that lags
-
-/// Puts the reply that shows how many entries were known, if there is one.
-#[tactic(auto, unfolding(crate::specs::ChainReleases::shown_parts))]
-fn put_shown<O: Output>(
-    out: &mut O,
-    alloc: Global,
-    shown: Option<RecordedReply>,
-) -> Result<(), AllocError>
-    ensures { OnOk result (O.held out.new ≡ put_all (shown_parts shown) (O.held out.old)) }
-{
-    match shown {
-        Some(reply) => out.put_all(alloc, &[Part::InLines(Says::Reply(reply))]),
-        None => out.put_all(alloc, &[]),
-    }
-}
-
-/// Puts how many entries a replica had applied.
-#[tactic(auto, unfolding(crate::specs::ChainReleases::known_parts))]
-fn put_known<O: Output>(out: &mut O, alloc: Global, lag: Lag) -> Result<(), AllocError>
-    ensures { OnOk result (O.held out.new ≡ put_all (known_parts lag) (O.held out.old)) }
-{
-    let parts = [
-        Part::Words("entries its replica had applied: "),
-        Part::InBoth("known", Says::Count(lag.known)),
-        Part::Words("\n"),
-        Part::InJson("shown", Says::Own(lag.shown)),
-    ];
-    out.put_all(alloc, &parts)
-}
-
-/// Puts how far the table of a touch's replica may lag, if that counts.
-#[tactic(auto, unfolding(crate::specs::ChainReleases::lag_parts))]
-pub(crate) fn put_lag<O: Output>(
-    out: &mut O,
-    alloc: Global,
-    lag: Option<Lag>,
-) -> Result<(), AllocError>
-    ensures { OnOk result (O.held out.new ≡ put_all (lag_parts lag) (O.held out.old)) }
-{
-    match lag {
-        Some(lag) => {
-            put_known(out, alloc, lag)?;
-            put_shown(out, alloc, lag.shown)
-        }
-        None => out.put_all(alloc, &[]),
-    }
-}
-
-// ---- releases
 
 /// Puts a release and its reply.
 #[tactic(auto, unfolding(crate::specs::ChainReleases::release_parts))]
@@ -137,7 +86,7 @@ fn put_leading<O: Output>(
 
 /// Puts that an update of an earlier segment takes that away.
 #[tactic(auto, unfolding(crate::specs::ChainReleases::taken_parts))]
-fn put_earlier<O: Output>(out: &mut O, alloc: Global) -> Result<(), AllocError>
+fn put_taken_earlier<O: Output>(out: &mut O, alloc: Global) -> Result<(), AllocError>
     ensures { OnOk result (O.held out.new
         ≡ put_all (taken_parts leadings.Earlier) (O.held out.old)) }
 {
@@ -149,7 +98,7 @@ fn put_earlier<O: Output>(out: &mut O, alloc: Global) -> Result<(), AllocError>
     out.put_all(alloc, &parts)
 }
 
-/// Puts the update that takes something away, or that none does.
+/// Puts the update that takes something away, or that none of the segment does.
 #[tactic(auto, unfolding(crate::specs::ChainReleases::away_parts))]
 pub(crate) fn put_away<O: Output>(
     out: &mut O,
@@ -164,7 +113,7 @@ pub(crate) fn put_away<O: Output>(
             let parts = [
                 Part::Words("taken away by: "),
                 Part::InBoth("taken", Says::Nothing),
-                Part::Words("\n"),
+                Part::Words(" in this segment\n"),
             ];
             out.put_all(alloc, &parts)
         }
@@ -178,7 +127,7 @@ fn put_taken<O: Output>(out: &mut O, alloc: Global, leading: Leading) -> Result<
 {
     match leading {
         Leading::Within(_, taken) => put_away(out, alloc, taken),
-        Leading::Earlier => put_earlier(out, alloc),
+        Leading::Earlier => put_taken_earlier(out, alloc),
     }
 }
 

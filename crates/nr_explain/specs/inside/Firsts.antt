@@ -1,5 +1,5 @@
 -- The first fault of a segment, by the space before it alone. No public clause cites this file.
-use Rattle.std.specs.Prelude.{◌≡◌, ℕ, ◌↔◌, List, Contains, Option, ⊤}
+use Rattle.std.specs.Prelude.{◌≡◌, ℕ, ◌↔◌, List, Contains, Option, Some, ⊤}
 use Rattle.vs_types.specs.Space.{Space}
 use Rattle.vs_types.specs.declared.answer.Answer.{Answer}
 use Rattle.nr_trace.specs.Recording.{Recording}
@@ -8,7 +8,7 @@ use Rattle.nr_trace.specs.Laws.{HasCleanLog}
 use Rattle.nr_trace.specs.declared.fault.Fault.{Fault}
 use Rattle.nr_trace.specs.declared.fault.Fault.TheVariants.{StartMissing, StartShared, StartReserved, StartStray, StartBeyond, StartDiffers, Stale, Reachable}
 use Rattle.nr_touch.specs.Looks.{IsLookLeft}
-use Rattle.nr_touch.specs.Releases.{IsWrongRelease}
+use Rattle.nr_touch.specs.Releases.{IsLeastReached, IsWrongRelease}
 use Rattle.nr_touch.specs.Tails.{GoesOn}
 use Rattle.nr_touch.specs.declared.release.Release.{Release}
 use Rattle.nr_touch.specs.declared.tail.Left.{Left}
@@ -16,9 +16,10 @@ use Rattle.nr_touch.specs.declared.touch.Touch.{Touch}
 use Rattle.nr_audit.specs.Start.{first_space, BeginsRight, HasStartFault}
 use Rattle.nr_audit.specs.Releases.{HasRelease}
 use Rattle.nr_audit.specs.Touches.{HasTouch}
+use Rattle.nr_explain.specs.ChainEvidence.{release_at}
 use Rattle.nr_explain.specs.Facts.{asked_address}
 use Rattle.nr_explain.specs.Progress.{ChainState, Seen, run_in, IsSeenOf}
-use Rattle.nr_explain.specs.inside.Reading.{space_seen}
+use Rattle.nr_explain.specs.inside.Reading.{left_seen, space_seen}
 use Rattle.nr_explain.specs.declared.chain.evidence.Leading.{Leading}
 use Rattle.nr_explain.specs.declared.chain.evidence.Leading.TheVariants.{Within, Earlier as Before}
 use Rattle.nr_explain.specs.declared.chain.evidence.Reach.{Reach}
@@ -26,6 +27,8 @@ use Rattle.nr_explain.specs.declared.chain.evidence.WhyWrong.{WhyWrong}
 use Rattle.nr_explain.specs.declared.chain.evidence.WhyWrong.TheVariants.{Otherwise, Reached}
 use Rattle.nr_explain.specs.declared.chain.evidence.SegmentEvidence.{SegmentEvidence}
 use Rattle.nr_explain.specs.declared.chain.evidence.SegmentEvidence.TheVariants as evidence
+use Rattle.nr_explain.specs.declared.trace.evidence.Given.{Given}
+use Rattle.nr_explain.specs.declared.trace.evidence.RecordedCall.{RecordedCall}
 
 -- what each fault but those of touches and releases says of a segment, where that is the space before it, or no segment is
 abbrev pub HasFaultOver : Option Space → Recording → Fault → Type 0
@@ -80,11 +83,21 @@ IsLeftAs changes address look Before = IsLookLeft changes address look
 abbrev pub IsReachLeft : List Left → Reach → Type 0
 IsReachLeft changes reach = IsLeftAs changes reach.address reach.look reach.leading
 
-abbrev pub ShowsReachLeft : List Left → WhyWrong → Type 0
-ShowsReachLeft changes (Otherwise reply) = ⊤
-ShowsReachLeft changes (Reached reply reach) = IsReachLeft changes reach
+-- behind each run of which this is kept it is the least address from which the memory could be reached
+abbrev pub IsLeastSeen : Option Seen → Space → Recording → ℕ → Given → ℕ → Type 0
+IsLeastSeen seen start segment event given address =
+    (came : Option ChainState) → IsSeenOf came seen → GoesOn (run_in came) segment start
+    → IsLeastReached (run_in came) start segment (release_at event given) address
 
-abbrev pub ShowsLeft : List Left → SegmentEvidence → Type 0
-ShowsLeft changes (evidence.Reachable wrong) = ShowsReachLeft changes wrong.why
-ShowsLeft changes (evidence.Stale stale) = AreEarlierLeft changes (asked_address stale.call.request) stale.first stale.earlier.items
-ShowsLeft changes shown = ⊤
+-- the address has such a look, and is the least
+abbrev pub ShowsReachLeft : Option Seen → Space → Recording → RecordedCall → WhyWrong → Type 0
+ShowsReachLeft seen start segment call (Otherwise reply) = ⊤
+ShowsReachLeft seen start segment call (Reached reply reach) =
+    IsReachLeft (left_seen seen) reach
+    × ((given : Given) → call.gives ≡ Some given → IsLeastSeen seen start segment call.event given reach.address)
+
+abbrev pub ShowsLeft : Option Seen → Space → Recording → SegmentEvidence → Type 0
+ShowsLeft seen start segment (evidence.Reachable wrong) = ShowsReachLeft seen start segment wrong.call wrong.why
+ShowsLeft seen start segment (evidence.Stale stale) =
+    AreEarlierLeft (left_seen seen) (asked_address stale.call.request) stale.first stale.earlier.items
+ShowsLeft seen start segment shown = ⊤

@@ -1,19 +1,17 @@
 -- From where the memory of a release may be reached, as it is looked for. No public clause cites this file.
-use Rattle.std.specs.Prelude.{◌≡◌, ◌≢◌, ℕ, ◌+◌, ◌<◌, ◌≤◌, true, IfSome, length, List, Contains, Option, Some, None}
+use Rattle.std.specs.Prelude.{◌≡◌, ◌≢◌, ℕ, ◌+◌, ◌<◌, ◌≤◌, IfSome, length, List, Contains, Option, Some, None}
 use Rattle.vs_types.specs.Space.{Space}
 use Rattle.vs_types.specs.declared.answer.Answer.{Answer}
 use Rattle.vs_types.specs.declared.answer.Answer.TheVariants.{Done}
 use Rattle.nr_trace.specs.Recording.{Recording}
 use Rattle.nr_touch.specs.Looks.{IsLookLeft}
-use Rattle.nr_touch.specs.Releases.{IsReachedFrom}
-use Rattle.nr_touch.specs.Tails.{GoesOn}
-use Rattle.nr_touch.specs.declared.release.Release.{Release}
 use Rattle.nr_touch.specs.declared.tail.Left.{Left}
 use Rattle.nr_explain.specs.ChainEvidence.{IsReach}
 use Rattle.nr_explain.specs.ChainFacts.{IsTakenFrom, LeadsInto}
 use Rattle.nr_explain.specs.Facts.{looks_from, IsFirstReplyTo}
-use Rattle.nr_explain.specs.Progress.{ChainState, Seen, run_in, IsSeenOf}
-use Rattle.nr_explain.specs.inside.Firsts.{IsReachLeft}
+use Rattle.nr_explain.specs.Progress.{Seen}
+use Rattle.nr_explain.specs.inside.Firsts.{IsLeastSeen, IsReachLeft}
+use Rattle.nr_explain.specs.inside.Reading.{left_seen}
 use Rattle.nr_explain.specs.inside.Windows.{IsWindowBelow}
 use Rattle.nr_explain.specs.declared.chain.evidence.Leading.TheVariants.{Within, Earlier}
 use Rattle.nr_explain.specs.declared.chain.evidence.Moment.{Moment}
@@ -93,7 +91,13 @@ pub record IsReachOf (changes : List Left) (start : Space) (segment : Recording)
 -- how an address leads into the memory of a release, or that it doesn't
 abbrev pub FindsReach : List Left → Space → Recording → ℕ → Given → ℕ → Option Reach → Type 0
 FindsReach changes start segment event given address None = LeadsNowhere changes start segment event given address
-FindsReach changes start segment event given address (Some reach) = IsReachOf changes start segment event given reach
+FindsReach changes start segment event given address (Some reach) =
+    IsReachOf changes start segment event given reach × (reach.address ≡ address)
+
+-- what is found is a reach of the memory from the least address
+pub record IsLeastReach (seen : Option Seen) (start : Space) (segment : Recording) (event : ℕ) (given : Given) (reach : Reach) : Type 0 where
+  pub of_it : IsReachOf (left_seen seen) start segment event given reach
+  pub least : IsLeastSeen seen start segment event given reach.address
 
 -- a reply that says otherwise than Done, or none where it doesn't or there is no reply
 abbrev pub FindsOtherwise : Option RecordedReply → Option RecordedReply → Type 0
@@ -101,18 +105,7 @@ FindsOtherwise reply None = IfSome reply (λ it. it.answer ≡ Done)
 FindsOtherwise reply (Some other) = (reply ≡ Some other) × (other.answer ≢ Done)
 
 -- a release of this number is wrong as its first reply says otherwise, or as its memory may be reached
-abbrev pub IsWhyOf : List Left → Space → Recording → ℕ → Given → WhyWrong → Type 0
-IsWhyOf changes start segment call given (Otherwise reply) = IsFirstReplyTo segment call (Some reply) × (reply.answer ≢ Done)
-IsWhyOf changes start segment call given (Reached reply reach) =
-    IsFirstReplyTo segment call reply × IfSome reply (λ it. it.answer ≡ Done) × IsReachOf changes start segment call given reach
-
--- the memory that a release gives away at an event, whose reply doesn't say otherwise
-abbrev pub release_at : ℕ → Given → Release
-release_at event given = record { made = event; size = given.size; phys = given.phys; is_done = true }
-
--- behind some run of which this is kept, the memory could be reached from the address
-pub record IsAddressOf (seen : Option Seen) (start : Space) (segment : Recording) (event : ℕ) (given : Given) (address : ℕ) : Type 0 where
-  pub came : Option ChainState
-  pub kept : IsSeenOf came seen
-  pub goes_on : GoesOn (run_in came) segment start
-  pub reached : IsReachedFrom (run_in came) start segment (release_at event given) address
+abbrev pub IsWhyOf : Option Seen → Space → Recording → ℕ → Given → WhyWrong → Type 0
+IsWhyOf seen start segment call given (Otherwise reply) = IsFirstReplyTo segment call (Some reply) × (reply.answer ≢ Done)
+IsWhyOf seen start segment call given (Reached reply reach) =
+    IsFirstReplyTo segment call reply × IfSome reply (λ it. it.answer ≡ Done) × IsLeastReach seen start segment call given reach

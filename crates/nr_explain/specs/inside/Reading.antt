@@ -9,9 +9,10 @@ use Rattle.nr_trace.specs.declared.fault.Format.TheVariants.{Truncated}
 use Rattle.nr_trace.specs.declared.version.Form.TheVariants as forms
 use Rattle.nr_audit.specs.Start.{first_space, start_space, BeginsRight}
 use Rattle.nr_audit.specs.declared.past.Past.{Past}
-use Rattle.nr_joined.specs.Run.{Run}
+use Rattle.nr_joined.specs.Run.{Run, end_of}
 use Rattle.nr_touch.specs.Tails.{AreSound, IsTailOfRun}
 use Rattle.nr_touch.specs.declared.tail.Left.{Left}
+use Rattle.nr_touch.specs.declared.tail.Tail.{Tail}
 use Rattle.vs_types.specs.Config.{Layout}
 use Rattle.vs_types.specs.Space.{Space, pages}
 use Rattle.nr_trace.specs.declared.fault.Fault.{Fault}
@@ -84,7 +85,12 @@ IsShownSeen seen segment fault shown =
 pub record IsTwice (came : Progress) (past : Past) : Type 0 where
   pub space : past.space ≡ came.space
   pub left : past.tail.changes.items ≡ came.tail.changes.items
-  pub tail : (run : Run) → IsTailOfRun run came.tail → IsTailOfRun run past.tail
+  pub tail : (run : Run) → came.space.space ≡ end_of run → IsTailOfRun run came.tail → IsTailOfRun run past.tail
+
+-- what is kept of what a segment leaves: the same changes, as behind the same runs
+pub record IsCopyOf (tail copied : Tail) : Type 0 where
+  pub left : copied.changes.items ≡ tail.changes.items
+  pub of_run : (run : Run) → IsTailOfRun run tail → IsTailOfRun run copied
 
 abbrev pub AreTwice : Option Progress → Option Past → Type 0
 AreTwice None None = ⊤

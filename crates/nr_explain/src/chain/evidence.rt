@@ -142,6 +142,7 @@ pub enum Leading {
 /// An address from which an access that begins with a release may reach the memory that it gives away.
 #[derive(Clone, Copy, Debug, PartialEq, Eq)]
 pub struct Reach {
+    /// The least such address.
     pub address: u64,
     /// The fewest entries of its segment's log after which the access may be answered.
     pub first: u32,

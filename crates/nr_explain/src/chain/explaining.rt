@@ -8,7 +8,7 @@ ghost use Rattle.nr_explain.specs.ChainEvidence.{IsOfItself};
 ghost use Rattle.nr_explain.specs.inside.Itself.{IsShownByItself};
 ghost use Rattle.nr_audit.specs.Start.{first_space};
 ghost use Rattle.nr_explain.specs.inside.Firsts.{IsFirstOver, IsReleaseToShow, IsToShow, IsTouchToShow, ShowsLeft};
-ghost use Rattle.nr_explain.specs.inside.Reading.{all_states, left_seen, space_seen, BeginsWell, FitsSegment, IsShownSeen};
+ghost use Rattle.nr_explain.specs.inside.Reading.{all_states, space_seen, BeginsWell, FitsSegment, IsShownSeen};
 ghost use Rattle.nr_explain.specs.inside.Starts.{is_within};
 
 use crate::chain::answers::other_answer;
@@ -134,7 +134,8 @@ fn explain_touch(
     requires fits { IfSome last.now (FitsSegment segment.now) }
     requires touch { IsTouchToShow (space_seen (all_states last.now)) segment.now call }
     ensures shown { IfOk result (IsShownSeen (all_states last.now) segment.now (Fault.Stale call)) }
-    ensures left { IfOk result (ShowsLeft (left_seen (all_states last.now))) }
+    ensures left { IfOk result (ShowsLeft (all_states last.now)
+        (first_space (space_seen (all_states last.now)) segment.now) segment.now) }
 {
     let first = begin(alloc, last, segment)?;
     Ok(SegmentEvidence::Stale(stale_touch(alloc, last, segment, &first, call)?))
@@ -153,7 +154,8 @@ fn explain_release(
         (first_space (space_seen (all_states last.now)) segment.now) segment.now call }
     ensures shown { IfOk result
         (IsShownSeen (all_states last.now) segment.now (Fault.Reachable call)) }
-    ensures left { IfOk result (ShowsLeft (left_seen (all_states last.now))) }
+    ensures left { IfOk result (ShowsLeft (all_states last.now)
+        (first_space (space_seen (all_states last.now)) segment.now) segment.now) }
 {
     let first = begin(alloc, last, segment)?;
     Ok(SegmentEvidence::Reachable(wrong_release(alloc, last, segment, &first, call)?))
@@ -171,7 +173,8 @@ pub(crate) fn explain_segment(
     requires fits { IfSome last.now (FitsSegment segment.now) }
     requires first { IsToShow (all_states last.now) segment.now fault }
     ensures shown { IfOk result (IsShownSeen (all_states last.now) segment.now fault) }
-    ensures left { IfOk result (ShowsLeft (left_seen (all_states last.now))) }
+    ensures left { IfOk result (ShowsLeft (all_states last.now)
+        (first_space (space_seen (all_states last.now)) segment.now) segment.now) }
 {
     if is_within(fault) {
         return explain_within(alloc, last, segment, fault);

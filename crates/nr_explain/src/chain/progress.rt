@@ -4,10 +4,12 @@ ghost use Rattle.std.specs.Prelude.{◌≡◌, ◌<◌, IfOk, IfSome, None, coun
 ghost use Rattle.nr_trace.specs.Laws.{HasCleanLog};
 ghost use Rattle.nr_trace.specs.Orders.{recorded_order, space_from};
 ghost use Rattle.nr_touch.specs.Beside.{beside};
+ghost use Rattle.nr_touch.specs.inside.Indexed.{HasPages};
 ghost use Rattle.nr_audit.specs.Verdict.{space_of};
 ghost use Rattle.nr_audit.specs.Start.{first_space};
 ghost use Rattle.nr_explain.specs.Progress.{is_release, is_there, is_touch, nothing_yet, sums_after};
-ghost use Rattle.nr_explain.specs.inside.Reading.{all_states, began_seen, counts_seen, space_seen, state_of, sums_seen, BeginsWell, FitsSegment, IsTwice};
+ghost use Rattle.nr_explain.specs.inside.Reading.{all_states, began_seen, counts_seen, space_seen, state_of, sums_seen, BeginsWell, FitsSegment};
+ghost use Rattle.nr_explain.specs.inside.Reading.{IsCopyOf, IsTwice};
 
 use crate::chain::explanation::ChainCounts;
 use crate::chain::spaces::{begin_first, start_space};
@@ -178,9 +180,9 @@ fn spaces_before(
     }
 }
 
-/// What is come to with a segment more, of which this is the order, which leaves this, and which so many bytes spell; and what it leaves,
-/// once more. It allocates two spaces where the segment is the first, and memory for the pages that its log maps, the changes that its updates
-/// make, and a copy of what is left.
+/// What is come to with a segment more, of which this is the order, which leaves this, and which so many bytes spell, by a copy of
+/// what it leaves; and what it leaves. It allocates two spaces where the segment is the first, and memory for the pages that its log maps, the
+/// changes that its updates make, and the copy.
 pub(crate) fn go_on(
     alloc: Global,
     last: Option<Progress>,
@@ -196,9 +198,11 @@ pub(crate) fn go_on(
     requires after { after.space ≡ space_of segment.now.layout
         (space_from (first_space (space_seen (all_states last)) segment.now) segment.now
         segment.now.log) }
+    requires index { IfSome after.tail.index (λ index. HasPages index after.space.space) }
     ensures layout { IfOk result (λ done. done.0.layout ≡ segment.now.layout) }
     ensures space { IfOk result (λ done. done.0.space ≡ after.space) }
-    ensures tail { IfOk result (λ done. done.0.tail ≡ after.tail) }
+    ensures tail { IfOk result (λ done. IsCopyOf after.tail done.0.tail) }
+    ensures same { IfOk result (λ done. done.1.tail ≡ after.tail) }
     ensures twice { IfOk result (λ done. IsTwice done.0 done.1) }
     ensures began { IfOk result (λ done.
         (state_of done.0).began ≡ began_seen (all_states last) segment.now) }
@@ -216,17 +220,11 @@ pub(crate) fn go_on(
     let came = Progress {
         layout,
         space,
-        tail,
+        tail: left,
         began,
         sums,
     };
-    Ok((
-        came,
-        Past {
-            space: end,
-            tail: left,
-        },
-    ))
+    Ok((came, Past { space: end, tail }))
 }
 
 /// How much a chain has whose segments have come to this. Allocates memory for a list of the pages.

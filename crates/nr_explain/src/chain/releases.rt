@@ -12,9 +12,9 @@ ghost use Rattle.nr_explain.specs.ChainEvidence.{IsShownRelease};
 ghost use Rattle.nr_explain.specs.ChainFacts.{IsIn, IsTakenFrom, LeadsInto};
 ghost use Rattle.nr_explain.specs.Facts.{looks_from, released, IsFirstReplyTo};
 ghost use Rattle.nr_explain.specs.Progress.{run_in, ChainState, IsSeenOf};
-ghost use Rattle.nr_explain.specs.inside.Firsts.{IsReleaseToShow, ShowsReachLeft};
+ghost use Rattle.nr_explain.specs.inside.Firsts.{IsLeastSeen, IsReleaseToShow, ShowsReachLeft};
 ghost use Rattle.nr_explain.specs.inside.Reaches.{FindsBefore, FindsLeading, FindsLook, FindsOtherwise, FindsReach, FindsWithin};
-ghost use Rattle.nr_explain.specs.inside.Reaches.{IsAddressOf, IsReachOf, IsReachWithin, IsWhyOf};
+ghost use Rattle.nr_explain.specs.inside.Reaches.{IsLeastReach, IsReachWithin, IsWhyOf};
 ghost use Rattle.nr_explain.specs.inside.Reading.{all_states, left_seen, FitsSegment, HasSoundTail};
 
 use crate::chain::evidence::{Leading, Moment, Reach, TakenAway, WhyWrong, WrongRelease};
@@ -262,7 +262,7 @@ fn find_address(
     }
 }
 
-/// The address from which the memory of a release could be reached that is wrong, though no reply says otherwise.
+/// The least address from which the memory of a release could be reached that is wrong, though no reply says otherwise.
 fn address_in(
     alloc: Global,
     last: &Option<Progress>,
@@ -278,7 +278,7 @@ fn address_in(
     requires memory { IsMemory given.size given.phys }
     requires done { IsDoneOrOpen segment.now index }
     ensures { IfOk result
-        (IsAddressOf (all_states last.now) first.now.space segment.now index given) }
+        (IsLeastSeen (all_states last.now) first.now.space segment.now index given) }
 {
     let release = Release {
         made: index,
@@ -294,7 +294,7 @@ fn address_in(
     }
 }
 
-/// From where the memory of a release may be reached that is wrong, though no reply says otherwise.
+/// From where, at the least, the memory of a release may be reached that is wrong, though no reply says otherwise.
 fn reach_in(
     alloc: Global,
     last: &Option<Progress>,
@@ -310,7 +310,7 @@ fn reach_in(
     requires memory { IsMemory given.size given.phys }
     requires done { IsDoneOrOpen segment.now index }
     ensures { IfOk result
-        (IsReachOf (left_seen (all_states last.now)) first.now.space segment.now index given) }
+        (IsLeastReach (all_states last.now) first.now.space segment.now index given) }
 {
     let address = address_in(alloc, last, segment, first, index, given)?;
     let found = reach_from(alloc, last, segment, first, index, given, address)?;
@@ -349,7 +349,7 @@ fn why_reached(
     requires reply { IsFirstReplyTo segment.now index reply }
     requires done { FindsOtherwise reply None }
     ensures { IfOk result
-        (IsWhyOf (left_seen (all_states last.now)) first.now.space segment.now index given) }
+        (IsWhyOf (all_states last.now) first.now.space segment.now index given) }
 {
     let reach = reach_in(alloc, last, segment, first, index, given)?;
     Ok(WhyWrong::Reached(reply, reach))
@@ -370,7 +370,7 @@ fn why_wrong(
     requires gives { released_of segment.now index ≡ Some (released given) }
     requires memory { IsMemory given.size given.phys }
     ensures { IfOk result
-        (IsWhyOf (left_seen (all_states last.now)) first.now.space segment.now index given) }
+        (IsWhyOf (all_states last.now) first.now.space segment.now index given) }
 {
     let reply = reply_to(segment, index);
     match otherwise(reply) {
@@ -393,8 +393,8 @@ pub(crate) fn wrong_release(
     requires show { IsReleaseToShow (all_states last.now) first.now.space segment.now index }
     ensures event { IfOk result (λ wrong. wrong.call.event ≡ index) }
     ensures is { IfOk result (IsShownRelease first.now.space segment.now) }
-    ensures left { IfOk result
-        (λ wrong. ShowsReachLeft (left_seen (all_states last.now)) wrong.why) }
+    ensures left { IfOk result (λ wrong.
+        ShowsReachLeft (all_states last.now) first.now.space segment.now wrong.call wrong.why) }
 {
     let call = call_at(segment, index);
     let Some(given) = call.gives else {

@@ -7,7 +7,7 @@ ghost use Rattle.nr_audit.specs.Verdict.{space_of};
 ghost use Rattle.nr_touch.specs.Looks.{AreLooksLeft};
 ghost use Rattle.nr_touch.specs.Touches.{IsAnsweredBefore};
 ghost use Rattle.nr_explain.specs.ChainEvidence.{fewest, AreLooks, IsMissed, IsStaleTouch};
-ghost use Rattle.nr_explain.specs.ChainFacts.{IsFaultOfNone, IsLagOf};
+ghost use Rattle.nr_explain.specs.ChainFacts.{IsFaultOfNoPage, IsLagOf};
 ghost use Rattle.nr_explain.specs.Facts.{asked_address};
 ghost use Rattle.nr_explain.specs.inside.Firsts.{AreEarlierLeft, IsTouchToShow};
 ghost use Rattle.nr_explain.specs.inside.Reading.{all_states, left_seen, space_seen, FitsSegment, HasSoundTail};
@@ -188,7 +188,7 @@ fn earlier_looks(
 
 /// Whether an access that asks this would be answered so where no page has its address.
 fn is_fault_of_none(request: Request, answer: Answer) -> bool
-    ensures { IsTrue result ↔ IsFaultOfNone request answer }
+    ensures { IsTrue result ↔ IsFaultOfNoPage request answer }
 {
     match request.query() {
         Query::Access(_, mode, access) => {

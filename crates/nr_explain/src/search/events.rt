@@ -20,6 +20,27 @@ pub(crate) fn event_at(trace: &Trace, index: u32) -> Option<Event>
     Some(trace.events().get(index as usize)?.event())
 }
 
+/// A call that asks this and gives no memory away.
+fn asked(event: u32, replica: u8, thread: u16, request: Request, touch: bool) -> RecordedCall
+    ensures { result ≡ record {
+      event = event;
+      replica = replica;
+      thread = thread;
+      request = request;
+      touch = touch;
+      gives = None;
+    } }
+{
+    RecordedCall {
+        event,
+        replica,
+        thread,
+        request,
+        touch,
+        gives: None,
+    }
+}
+
 /// The call of this number, if there is one.
 pub(crate) fn find_call(trace: &Trace, index: u32) -> Option<RecordedCall>
     ensures is { MatchOption result (call_of trace.now index ≡ None)
@@ -33,28 +54,17 @@ pub(crate) fn find_call(trace: &Trace, index: u32) -> Option<RecordedCall>
             replica,
             thread,
             request,
-        } => Some(RecordedCall {
-            event: index,
-            replica,
-            thread,
-            request,
-            touch: false,
-            gives: None,
-        }),
+        } => Some(asked(index, replica, thread, request, false)),
         Event::Touch {
             replica,
             thread,
             address,
             mode,
             access,
-        } => Some(RecordedCall {
-            event: index,
-            replica,
-            thread,
-            request: Request::of(Query::Access(address, mode, access)),
-            touch: true,
-            gives: None,
-        }),
+        } => {
+            let request = Request::of(Query::Access(address, mode, access));
+            Some(asked(index, replica, thread, request, true))
+        }
         Event::Release {
             replica,
             thread,

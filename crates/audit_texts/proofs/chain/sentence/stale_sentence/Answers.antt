@@ -1,5 +1,14 @@
 use Rattle.audit_texts.proofs.chain.sentence.stale_sentence.Goals as goal
 
 pub returns : goal.returns
-returns c = rw (c.in_ok-told.ensures, c.limit_words-limit.ensures, c.in_ok-window.ensures, c.fewest.ensures, c.earlier_words-earlier.ensures, c.deref.ensures.value, c.in_ok-kept.ensures)
+returns c =
+    rw (
+      c.in_ok-told.ensures,
+      c.limit_words-limit.ensures,
+      c.in_ok-window.ensures,
+      c.fewest.ensures,
+      c.earlier_words-earlier.ensures,
+      c.deref.ensures.value,
+      c.in_ok-kept.ensures,
+    )
     at c.format.ensures.ok

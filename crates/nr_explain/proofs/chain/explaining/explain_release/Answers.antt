@@ -4,7 +4,7 @@ use Rattle.vs_plain.specs.Plain.{BoundedSpace}
 use Rattle.nr_audit.specs.Start.{first_space}
 use Rattle.nr_trace.specs.declared.fault.Fault.TheVariants.{Reachable}
 use Rattle.nr_explain.specs.ChainEvidence.{IsShownRelease}
-use Rattle.nr_explain.specs.inside.Firsts.{IsReleaseToShow}
+use Rattle.nr_explain.specs.inside.Firsts.{IsReleaseToShow, ShowsReachLeft}
 use Rattle.nr_explain.specs.inside.Reading.{all_states, space_seen}
 use Rattle.nr_explain.proofs.chain.explaining.explain_release.Goals as goal
 
@@ -26,4 +26,9 @@ returns-clause-shown c =
     )
 
 pub returns-clause-left : goal.returns-clause-left
-returns-clause-left c = c.in_ok-wrong_release.ensures.left
+returns-clause-left c =
+    let last = all_states c.args.last.now in
+    let segment = c.args.segment.now in
+    let wrong = c.in_ok-wrong_release.field-0 in
+    subst (λ (s : Space). ShowsReachLeft last s segment wrong.call wrong.why) (ap (λ (s : BoundedSpace). s.space) c.in_ok-first.ensures)
+    c.in_ok-wrong_release.ensures.left

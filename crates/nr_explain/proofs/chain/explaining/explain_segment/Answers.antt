@@ -1,7 +1,8 @@
 use Rattle.std.proofs.Common.{sym, ◌∙◌, subst}
 use Rattle.nr_trace.specs.declared.fault.Fault.{Fault}
+use Rattle.nr_audit.specs.Start.{first_space}
 use Rattle.nr_explain.specs.inside.Firsts.{IsToShow}
-use Rattle.nr_explain.specs.inside.Reading.{all_states, left_seen, space_seen}
+use Rattle.nr_explain.specs.inside.Reading.{all_states, space_seen}
 use Rattle.nr_explain.proofs.Firsts.{of_its_start, start_to_show, within_to_show}
 use Rattle.nr_explain.proofs.StartsShown.{none_left_in, not_within}
 use Rattle.nr_explain.proofs.chain.explaining.explain_segment.Goals as goal
@@ -34,10 +35,12 @@ explain_release-requires-clause-release c =
 
 pub returns-then-is_within-clause-left : goal.returns-then-is_within-clause-left
 returns-then-is_within-clause-left c =
-    none_left_in c.args.last.now c.args.segment.now c.args.fault (left_seen (all_states c.args.last.now)) c.explain_within.result
+    none_left_in c.args.last.now c.args.segment.now c.args.fault (first_space (space_seen (all_states c.args.last.now)) c.args.segment.now)
+    c.explain_within.result
     (not_within c.args.fault (sym c.is_within.ensures ∙ c.if-is_within.true)) c.explain_within.ensures
 
 pub returns-in_default-clause-left : goal.returns-in_default-clause-left
 returns-in_default-clause-left c =
-    none_left_in c.args.last.now c.args.segment.now c.args.fault (left_seen (all_states c.args.last.now)) c.explain_start.result
+    none_left_in c.args.last.now c.args.segment.now c.args.fault (first_space (space_seen (all_states c.args.last.now)) c.args.segment.now)
+    c.explain_start.result
     (c.in_default.not-Stale, c.in_default.not-Reachable) c.explain_start.ensures

@@ -1,8 +1,7 @@
-use Rattle.std.proofs.Common.{◌≡◌, sym, ap, subst, ◌∙◌, refl}
+use Rattle.std.proofs.Common.{◌≡◌, sym, subst, ◌∙◌}
 use Rattle.std.proofs.lemmas.Bool.{false≢true, iff_false}
 use Rattle.vs_types.specs.declared.answer.Answer.TheVariants.{Mapped}
 use Rattle.vs_types.specs.declared.page.Rights.{Rights}
-use Rattle.vs_types.specs.declared.page.Size.{Size}
 use Rattle.nr_touch.specs.Touches.{Includes}
 use Rattle.nr_explain.proofs.chain.kept.adds_rights.Goals as goal
 
@@ -17,7 +16,8 @@ returns-then-phys-then_phys c = (
   λ t. absurd (false≢true t),
   λ it.
       let one : Mapped c.in-Mapped.phys c.in-Mapped.size c.in-Mapped.old ≡ Mapped it.phys it.size it.old = sym c.in-Mapped.is ∙ it.was in
-      let two : Mapped c.in-Mapped-then.then_phys c.in-Mapped-then.then_size c.in-Mapped-then.new ≡ Mapped it.phys it.size it.new = sym c.in-Mapped-then.is ∙ it.is in
+      let two : Mapped c.in-Mapped-then.then_phys c.in-Mapped-then.then_size c.in-Mapped-then.new ≡ Mapped it.phys it.size it.new =
+      sym c.in-Mapped-then.is ∙ it.is in
       absurd (c.if-phys-then_phys.true (let same : c.in-Mapped.phys ≡ c.in-Mapped-then.then_phys = cc in same)),
 )
 
@@ -26,7 +26,8 @@ returns-then-not-is_size c = (
   λ t. absurd (false≢true t),
   λ it.
       let one : Mapped c.in-Mapped.phys c.in-Mapped.size c.in-Mapped.old ≡ Mapped it.phys it.size it.old = sym c.in-Mapped.is ∙ it.was in
-      let two : Mapped c.in-Mapped-then.then_phys c.in-Mapped-then.then_size c.in-Mapped-then.new ≡ Mapped it.phys it.size it.new = sym c.in-Mapped-then.is ∙ it.is in
+      let two : Mapped c.in-Mapped-then.then_phys c.in-Mapped-then.then_size c.in-Mapped-then.new ≡ Mapped it.phys it.size it.new =
+      sym c.in-Mapped-then.is ∙ it.is in
       absurd (iff_false c.is_size.ensures c.if-not-is_size.true (let same : c.in-Mapped.size ≡ c.in-Mapped-then.then_size = cc in same)),
 )
 
@@ -46,7 +47,8 @@ returns c =
       }),
       (λ it.
           let one : Mapped c.in-Mapped.phys c.in-Mapped.size c.in-Mapped.old ≡ Mapped it.phys it.size it.old = sym c.in-Mapped.is ∙ it.was in
-          let two : Mapped c.in-Mapped-then.then_phys c.in-Mapped-then.then_size c.in-Mapped-then.new ≡ Mapped it.phys it.size it.new = sym c.in-Mapped-then.is ∙ it.is in
+          let two : Mapped c.in-Mapped-then.then_phys c.in-Mapped-then.then_size c.in-Mapped-then.new ≡ Mapped it.phys it.size it.new =
+          sym c.in-Mapped-then.is ∙ it.is in
           let old : it.old ≡ c.in-Mapped.old = (let same : c.in-Mapped.old ≡ it.old = cc in sym same) in
           let new : it.new ≡ c.in-Mapped-then.new = (let same : c.in-Mapped-then.new ≡ it.new = cc in sym same) in
           c.includes.ensures.1 (subst (λ (r : Rights). Includes r c.in-Mapped-then.new) old (subst (Includes it.old) new it.more))),

@@ -1,4 +1,4 @@
-use Rattle.std.proofs.Common.{◌≡◌, ℕ, Option, None, refl, sym, ap, subst}
+use Rattle.std.proofs.Common.{ℕ, Option, None, refl, sym, ap, subst}
 use Rattle.std.proofs.lemmas.Bool.{iff_false}
 use Rattle.vs_types.specs.Space.{Space}
 use Rattle.vs_plain.specs.Plain.{BoundedSpace}

@@ -1,5 +1,5 @@
 use Rattle.std.proofs.Common.{◌≡◌, ℕ, ◌+◌, ◌<◌, length, slice_get, take, sym, ap, subst, ◌∙◌, arith}
-use Rattle.vs_types.specs.Space.{Space, IsSpace}
+use Rattle.vs_types.specs.Space.{IsSpace}
 use Rattle.vs_types.specs.Step.{look}
 use Rattle.vs_plain.specs.Plain.{BoundedSpace}
 use Rattle.nr_trace.specs.Orders.{space_from}

@@ -1,4 +1,8 @@
-use Rattle.std.proofs.Common.{Some, sym}
+use Rattle.std.proofs.Common.{◌≡◌, ◌∙◌, Some, ap, subst, sym}
+use Rattle.std.specs.Prelude.{IfSome}
+use Rattle.vs_types.specs.Space.{Space}
+use Rattle.vs_plain.specs.Plain.{BoundedSpace}
+use Rattle.nr_touch.specs.inside.Indexed.{HasPages}
 use Rattle.nr_audit.specs.Start.{first_space}
 use Rattle.nr_explain.specs.inside.Reading.{all_states, space_seen, sums_seen}
 use Rattle.nr_explain.proofs.GoneOn.{same_end, summed}
@@ -10,15 +14,23 @@ returns-clause-space c =
     same_end c.args.segment.now (first_space (space_seen (all_states c.args.last)) c.args.segment.now) c.in_ok-first.first c.in_ok-near.space c.args.after.space
     c.in_ok-first.ensures.space is.space is.depth is.limit c.requires.after
 
+pub returns-clause-tail : goal.returns-clause-tail
+returns-clause-tail c = record { left = c.in_ok-left.ensures.changes; of_run = λ run of_run. c.in_ok-left.ensures.tail (Some run) of_run }
+
 pub returns-clause-twice : goal.returns-clause-twice
 returns-clause-twice c =
     let is = c.in_ok-near.ensures in
+    let same : c.in_ok-near.space ≡ c.args.after.space =
+    same_end c.args.segment.now (first_space (space_seen (all_states c.args.last)) c.args.segment.now) c.in_ok-first.first c.in_ok-near.space
+    c.args.after.space c.in_ok-first.ensures.space is.space is.depth is.limit c.requires.after in
     record {
-      space = sym
-          (same_end c.args.segment.now (first_space (space_seen (all_states c.args.last)) c.args.segment.now) c.in_ok-first.first c.in_ok-near.space
-          c.args.after.space c.in_ok-first.ensures.space is.space is.depth is.limit c.requires.after);
-      left = c.in_ok-left.ensures.changes;
-      tail = λ run of_run. c.in_ok-left.ensures.tail (Some run) of_run;
+      space = sym same;
+      left = sym c.in_ok-left.ensures.changes;
+      tail = λ run ends of_run.
+          c.in_ok-left.ensures.back run
+          (subst (λ (s : Space). IfSome c.args.after.tail.index (λ index. HasPages index s)) (ap (λ (s : BoundedSpace). s.space) (sym same) ∙ ends)
+          c.requires.index)
+          of_run;
     }
 
 pub returns-clause-sums : goal.returns-clause-sums

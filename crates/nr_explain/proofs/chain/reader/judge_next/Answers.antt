@@ -5,7 +5,8 @@ use Rattle.nr_explain.specs.Progress.{run_in}
 use Rattle.nr_explain.specs.inside.Reading.{all_states}
 use Rattle.nr_explain.proofs.Feeding.{fresh_reading}
 use Rattle.nr_explain.proofs.Known.{shown_alike, sums_alike}
-use Rattle.nr_explain.proofs.Wholes.{behind, clean_behind, fits_after, fits_before, known_next, seen_next, show_behind, well_behind, whole_behind}
+use Rattle.nr_explain.proofs.Wholes.{behind, clean_behind, fits_after, fits_before, goes_behind, known_next, seen_next, show_behind}
+use Rattle.nr_explain.proofs.Wholes.{index_behind, well_behind, whole_behind}
 use Rattle.nr_explain.proofs.chain.reader.judge_next.Goals as goal
 
 pub judge_segment-requires : goal.judge_segment-requires
@@ -27,6 +28,11 @@ go_on-requires-clause-clean c =
 pub go_on-requires-clause-after : goal.go_on-requires-clause-after
 go_on-requires-clause-after c =
     whole_behind c.args.last c.args.segment.now c.args.before c.requires.twice c.requires.follows c.in-Ok.past c.requires.known c.in-Ok.ensures.fits
+    (λ came is. c.in-Ok.ensures.kept (run_in came) is)
+
+pub go_on-requires-clause-index : goal.go_on-requires-clause-index
+go_on-requires-clause-index c =
+    index_behind c.args.last c.args.segment.now c.args.before c.requires.twice c.requires.follows c.in-Ok.past c.requires.known
     (λ came is. c.in-Ok.ensures.kept (run_in came) is)
 
 pub invariant_of-next : goal.invariant_of-next
@@ -65,6 +71,7 @@ returns c = λ came seen.
       subst (λ (f : Fault). IsFirstAfter (run_in came) c.args.segment.now f) (sym c.in-Err-Refused.fault-is)
           (rw c.in-Err-Refused.field-0-is at (c.in-Err-Refused.ensures.first (run_in came) here)),
       shown_alike came (all_states c.args.last) c.args.segment.now c.in-Err-Refused.fault c.in_ok-shown-in-Err-Refused.shown seen
+          (goes_behind came c.args.last c.args.segment.now c.requires.follows seen)
           c.in_ok-shown-in-Err-Refused.ensures.shown
           c.in_ok-shown-in-Err-Refused.ensures.left,
     )

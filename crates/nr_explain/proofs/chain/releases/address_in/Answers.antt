@@ -2,9 +2,9 @@ use Rattle.std.proofs.Common.{ℕ, Option, ap, subst, sym}
 use Rattle.vs_types.specs.Space.{Space}
 use Rattle.vs_plain.specs.Plain.{BoundedSpace}
 use Rattle.nr_explain.specs.Progress.{run_in}
-use Rattle.nr_explain.specs.inside.Reaches.{release_at}
+use Rattle.nr_explain.specs.ChainEvidence.{release_at}
 use Rattle.nr_explain.specs.inside.Reading.{all_states}
-use Rattle.nr_touch.specs.Releases.{FindsReached, IsReachable, IsReachedFrom}
+use Rattle.nr_touch.specs.Releases.{FindsReached, IsLeastReached, IsReachable}
 use Rattle.nr_touch.specs.Tails.{GoesOn}
 use Rattle.nr_explain.proofs.Reaching.{is_reachable}
 use Rattle.nr_explain.proofs.chain.releases.address_in.Goals as goal
@@ -22,15 +22,9 @@ unreachable-requires c =
     (is_reachable seen start segment c.args.index c.args.given show c.requires.gives c.requires.done))
 
 pub returns : goal.returns
-returns c =
+returns c = λ came kept goes_on.
     let segment = c.args.segment.now in
-    let show = c.requires.show in
-    let here = ap (λ (s : BoundedSpace). s.space) c.in_ok-start.ensures in record {
-      came = show.came;
-      kept = show.kept;
-      goes_on = show.goes_on;
-      reached = subst (λ (s : Space). IsReachedFrom (run_in show.came) s segment (release_at c.args.index c.args.given) c.in-Some.address) here
-          (subst (λ (o : Option ℕ). FindsReached (run_in show.came) c.in_ok-start.start.space segment (release_at c.args.index c.args.given) o) c.in-Some.is
-          (c.in_ok-found.ensures show.came show.kept (subst (λ (s : Space). GoesOn (run_in show.came) segment s) (sym here) show.goes_on)
-          show.clean)).from;
-    }
+    let here = ap (λ (s : BoundedSpace). s.space) c.in_ok-start.ensures in
+    subst (λ (s : Space). IsLeastReached (run_in came) s segment (release_at c.args.index c.args.given) c.in-Some.address) here
+    (subst (λ (o : Option ℕ). FindsReached (run_in came) c.in_ok-start.start.space segment (release_at c.args.index c.args.given) o) c.in-Some.is
+    (c.in_ok-found.ensures came kept (subst (λ (s : Space). GoesOn (run_in came) segment s) (sym here) goes_on) c.requires.show.clean))

@@ -23,7 +23,8 @@ returns-in-Some c =
     (ap (λ (s : BoundedSpace). s.space) c.in_ok-space.ensures) c.in_ok-window.ensures in
     reach_within (left_seen (all_states c.args.last.now)) c.args.first.now.space segment c.args.event c.args.given c.args.address c.in_ok-window.window is
     c.in-Some.reach
-    (subst (λ (o : Option Reach). FindsWithin c.args.first.now.space segment c.args.address c.in_ok-window.window c.args.given o) c.in-Some.is c.in_ok-own.ensures)
+    (subst (λ (o : Option Reach). FindsWithin c.args.first.now.space segment c.args.address c.in_ok-window.window c.args.given o)
+    c.in-Some.is c.in_ok-own.ensures)
 
 pub returns-in-None : goal.returns-in-None
 returns-in-None c =

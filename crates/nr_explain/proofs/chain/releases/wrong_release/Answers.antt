@@ -4,7 +4,7 @@ use Rattle.std.proofs.lemmas.Option.{none-some}
 use Rattle.nr_trace.specs.Calls.{IsCall, released_of}
 use Rattle.nr_trace.specs.Recording.{IsMemory}
 use Rattle.nr_explain.specs.Facts.{released}
-use Rattle.nr_explain.specs.inside.Reading.{all_states, left_seen}
+use Rattle.nr_explain.specs.inside.Reading.{all_states}
 use Rattle.nr_explain.specs.declared.trace.evidence.Given.{Given}
 use Rattle.nr_explain.proofs.Reaching.{left_so, release_is_call, wrong_so}
 use Rattle.nr_explain.proofs.chain.releases.wrong_release.Goals as goal
@@ -33,11 +33,11 @@ why_wrong-requires-clause-memory c =
 pub returns-clause-is : goal.returns-clause-is
 returns-clause-is c = record {
   call = c.call_at-call.ensures.is;
-  why = wrong_so (left_seen (all_states c.args.last.now)) c.args.first.now.space c.args.segment.now c.args.index c.call_at-call.result c.in-Some.given
+  why = wrong_so (all_states c.args.last.now) c.args.first.now.space c.args.segment.now c.args.index c.call_at-call.result c.in-Some.given
       c.in_ok-why.why c.call_at-call.ensures.event c.in-Some.is c.in_ok-why.ensures;
 }
 
 pub returns-clause-left : goal.returns-clause-left
 returns-clause-left c =
-    left_so (left_seen (all_states c.args.last.now)) c.args.first.now.space c.args.segment.now c.args.index c.in-Some.given c.in_ok-why.why
-    c.in_ok-why.ensures
+    left_so (all_states c.args.last.now) c.args.first.now.space c.args.segment.now c.args.index c.call_at-call.result c.in-Some.given
+    c.in_ok-why.why c.call_at-call.ensures.event c.in-Some.is c.in_ok-why.ensures

@@ -13,7 +13,8 @@ word_at frame index = record { frame = frame; reserved = Some index; other = Non
 pub unreachable-requires : goal.unreachable-requires
 unreachable-requires c =
     let target = word_at c.args.frame c.args.index in
-    let nowhere = subst (λ (o : Option (Vec TableEntry Global)). IsSought c.args.dump.now target (levels c.args.depth) o) c.in_default.is c.in_ok-path.ensures in
+    let nowhere = subst (λ (o : Option (Vec TableEntry Global)). IsSought c.args.dump.now target (levels c.args.depth) o) c.in_default.is
+    c.in_ok-path.ensures in
     let (steps, level, leads, reserved) = c.requires in
     nowhere steps (record { rest = steps; end = level; goes_on = refl; leads = leads; met = record { reserved = reserved; other = tt } })
 

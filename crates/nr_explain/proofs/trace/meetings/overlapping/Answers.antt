@@ -80,7 +80,8 @@ returns c =
       | then-meets-2 m ↦ one_more c.meets-2.result c.loop-call.count c.if-meets-2.count m.if-meets-2.true m.count-is
       | else-meets-2 m ↦ no_more c.meets-2.result c.loop-call.count c.if-meets-2.count m.if-meets-2.false m.count-is
     ] in
-    let says = subst (λ (n : ℕ). IsTrue c.meets-2.result ↔ IsSomeAnd c.loop-call.last (λ latest. (latest.reply < n) × (IsTrue latest.has_met ⊎ (n ≤ latest.reply))))
+    let says =
+    subst (λ (n : ℕ). IsTrue c.meets-2.result ↔ IsSomeAnd c.loop-call.last (λ latest. (latest.reply < n) × (IsTrue latest.has_met ⊎ (n ≤ latest.reply))))
     all c.meets-2.ensures in
     all_counted trace replies c.in_ok-replies.ensures few c.loop-call.last c.loop-call.count c.if-meets-2.count c.meets-2.result
     (subst (λ (n : ℕ). IsCountedTo trace replies n c.loop-call.last c.loop-call.count) end c.loop-call.invariant.counted) says sum

@@ -32,7 +32,8 @@ returns-then-is_whole-clause-steps c = λ came seen.
     let count = c.in-Ok.count in
     let same : c.deref.result.now ≡ bytes ++ take count piece =
     c.deref.ensures.value ∙ c.in_ok-extend_from_slice-in-Ok.ensures.items in
-    judged c.self.inside.last c.self.inside.before bytes c.self.inside.feed c.feed_or_refuse.new.self c.args.self piece c.self.invariant c.self.view_is came count
+    judged c.self.inside.last c.self.inside.before bytes c.self.inside.feed c.feed_or_refuse.new.self c.args.self piece c.self.invariant
+    c.self.view_is came count
     c.deref.result.now c.judge_whole.result seen same c.in-Ok.ensures.feeds (c.is_whole.ensures.0 c.if-is_whole.true) (c.judge_whole.ensures came)
 
 pub invariant_of-next : goal.invariant_of-next
@@ -40,7 +41,8 @@ invariant_of-next c =
     let bytes = c.self.inside.bytes.items in
     let piece = c.args.piece.now in
     let count = c.in-Ok.count in
-    more_reading c.self.inside.last c.self.inside.before bytes c.self.inside.feed c.feed_or_refuse.new.self c.args.self piece c.self.invariant c.self.view_is count
+    more_reading c.self.inside.last c.self.inside.before bytes c.self.inside.feed c.feed_or_refuse.new.self c.args.self piece
+    c.self.invariant c.self.view_is count
     c.extend_from_slice.new.self.items (c.in_ok-extend_from_slice-in-Ok.ensures.items)
     c.in-Ok.ensures.feeds (λ whole. let is = c.is_whole.ensures.1 whole in let other = c.if-is_whole.false in cc)
 

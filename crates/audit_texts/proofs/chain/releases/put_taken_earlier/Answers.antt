@@ -1,5 +1,5 @@
 use Rattle.audit_texts.specs.ChainReleases.{taken_parts}
-use Rattle.audit_texts.proofs.chain.releases.put_earlier.Goals as goal
+use Rattle.audit_texts.proofs.chain.releases.put_taken_earlier.Goals as goal
 
 pub returns : goal.returns
 unfolding taken_parts

@@ -1,6 +1,6 @@
 use Rattle.audit_texts.proofs.Puts.{then_put_ok}
 use Rattle.audit_texts.specs.ChainReleases.{lag_parts}
-use Rattle.audit_texts.proofs.chain.releases.put_lag.Goals as goal
+use Rattle.audit_texts.proofs.chain.lags.put_lag.Goals as goal
 
 pub returns-in_ok-put_known-in-Some : goal.returns-in_ok-put_known-in-Some
 unfolding lag_parts
