@@ -34,8 +34,10 @@ pub mod SeenPages
 pub mod Sighted
 pub mod Sizes
 pub mod Spans
+pub mod StaysFound
 pub mod StaysSpace
 pub mod StepChanges
+pub mod StretchRows
 pub mod TouchesBeside
 pub mod Undone
 pub mod Walked

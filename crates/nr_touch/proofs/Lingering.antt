@@ -157,7 +157,7 @@ module _ (changes : List Left) (placed sorted : List PlacedChange) (are : ArePla
         answered = answered ∙ ap (allow_in_page touch.address touch.mode touch.access) (sym looks);
       }
 
-not_less : (x y : ℕ) → y ≤ x → nat_lt x y ≡ false
+pub not_less : (x y : ℕ) → y ≤ x → nat_lt x y ≡ false
 not_less x y l = grind (arith, nat_tests)
 
 is_less : (x y : ℕ) → x < y → nat_lt x y ≡ true

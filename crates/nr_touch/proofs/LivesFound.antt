@@ -1,5 +1,5 @@
 -- The columns of lives, and what a search in them finds.
-use Rattle.std.proofs.Common.{◌≡◌, ℕ, ◌+◌, ◌-◌, ◌<◌, ◌≤◌, ◌^◌, inl, inr, List, ◌++◌, get_or, slice_get, length, map, Some}
+use Rattle.std.proofs.Common.{◌≡◌, ℕ, ◌+◌, ◌-◌, ◌<◌, ◌≤◌, inl, inr, List, ◌++◌, get_or, slice_get, length, map, Some}
 use Rattle.std.proofs.Common.{false, is_lt, nat_cmp, refl, sym, ap, ◌∙◌, subst, arith}
 use Rattle.std.proofs.lemmas.Bool.{cases_lt}
 use Rattle.std.proofs.lemmas.Bool.Decides.{nat_tests}
@@ -14,23 +14,21 @@ use Rattle.vs_types.specs.declared.page.Size.TheVariants.{K4, M2, G1}
 use Rattle.nr_touch.specs.inside.Bounds.{IsBoundary, IsRaised, IsRising}
 use Rattle.nr_touch.specs.inside.Blocks.{around, IsBlockOf}
 use Rattle.nr_touch.specs.inside.Lives.{lives_at, AreColumnsOf, AreLives, AreRowsOf, HasLife, HasLifeOf, HaveLives, HaveRows, IsMet}
-use Rattle.nr_touch.specs.inside.Reached.{IsAlive}
-use Rattle.nr_touch.specs.declared.change.PlacedChange.{PlacedChange}
 use Rattle.nr_touch.specs.declared.lives.Life.{Life}
 use Rattle.nr_touch.specs.declared.lives.Lives.{Lives}
-use Rattle.nr_touch.specs.declared.seen.Seen.{Seen}
+use Rattle.nr_touch.specs.declared.stays.Stay.{Stay}
 use Rattle.nr_touch.proofs.Found.{element, far_bound, far_page}
 use Rattle.nr_touch.proofs.Spans.{raised_at}
 
 -- ---- the list of lives, page by page
 
 -- the first pages, this many, have their lives
-abbrev pub HaveLivesTo : List PlacedChange → List Seen → List Life → ℕ → Type 0
-HaveLivesTo changes seen lives end = (k : ℕ) (s : Seen) (block event : ℕ) → k < end → slice_get seen k ≡ Some s → IsBlockOf s.page block
-    → event < 2 ^ 32 → IsAlive changes s event → HasLifeOf lives block event k
+abbrev pub HaveLivesTo : List Stay → List Life → ℕ → Type 0
+HaveLivesTo stays lives end = (k : ℕ) (stay : Stay) (block event : ℕ) → k < end → slice_get stays k ≡ Some stay → IsBlockOf stay.page block
+    → stay.from ≤ event → event ≤ stay.until → HasLifeOf lives block event k
 
-pub no_lives : (changes : List PlacedChange) (seen : List Seen) (lives : List Life) → HaveLivesTo changes seen lives 0
-no_lives changes seen lives k s block event l at of fits alive = absurd (omega (arith, l))
+pub no_lives : (stays : List Stay) (lives : List Life) → HaveLivesTo stays lives 0
+no_lives stays lives k stay block event l at of low high = absurd (omega (arith, l))
 
 -- a page's own lives
 own_life : (lives : List Life) (page : Page) (from until row block event : ℕ) → IsBlockOf page block → from ≤ event → event ≤ until
@@ -52,25 +50,26 @@ own_life lives page from until row block event of low high = by of where
   by (inl (size, e)) = by_size size e
   by (inr e) = there 3 (around page.phys page.size + 3) (omega arith) refl (sym e)
 
-pub one_page_more : (changes : List PlacedChange) (seen : List Seen) (lives : List Life) (end : ℕ) (d : Seen) (from until : ℕ) → end < length seen
-    → ((event : ℕ) → event < 2 ^ 32 → IsAlive changes (get_or seen end d) event → (from ≤ event) × (event ≤ until)) → HaveLivesTo changes seen lives end
-    → HaveLivesTo changes seen (lives ++ lives_at (get_or seen end d).page from until end) (end + 1)
-one_page_more changes seen lives end d from until less spans have k s block event l at of fits alive = elim (cases_lt k end) [
-  | inl low ↦
-      let (life, has, is, first, last, row) = have k s block event low at of fits alive in
-      (life, Contains-append_left lives (lives_at (get_or seen end d).page from until end) life has, is, first, last, row)
-  | inr past ↦
-      let here : k ≡ end = omega (arith, l, past) in
-      let same : get_or seen end d ≡ s = same_Some (get_or seen end d) s (sym (slice_get-get_or seen end d less) ∙ ap (slice_get seen) (sym here) ∙ at) in
-      let within = spans event fits (subst (λ (q : Seen). IsAlive changes q event) (sym same) alive) in
-      subst (λ (n : ℕ). HasLifeOf (lives ++ lives_at (get_or seen end d).page from until end) block event n) (sym here)
-      (own_life lives (get_or seen end d).page from until end block event (subst (λ (q : Seen). IsBlockOf q.page block) (sym same) of) within.0 within.1)
-]
+pub one_page_more : (stays : List Stay) (lives : List Life) (end : ℕ) (d : Stay) → end < length stays → HaveLivesTo stays lives end
+    → HaveLivesTo stays (lives ++ lives_at (get_or stays end d).page (get_or stays end d).from (get_or stays end d).until end) (end + 1)
+one_page_more stays lives end d less have k stay block event l at of low high =
+    let added = lives_at (get_or stays end d).page (get_or stays end d).from (get_or stays end d).until end in
+    elim (cases_lt k end) [
+      | inl before ↦
+          let (life, has, is, first, last, row) = have k stay block event before at of low high in
+          (life, Contains-append_left lives added life has, is, first, last, row)
+      | inr past ↦
+          let here : k ≡ end = omega (arith, l, past) in
+          let same : get_or stays end d ≡ stay =
+          same_Some (get_or stays end d) stay (sym (slice_get-get_or stays end d less) ∙ ap (slice_get stays) (sym here) ∙ at) in
+          subst (λ (n : ℕ). HasLifeOf (lives ++ added) block event n) (sym here)
+          (subst (λ (q : Stay). HasLifeOf (lives ++ lives_at q.page q.from q.until end) block event end) (sym same)
+          (own_life lives stay.page stay.from stay.until end block event of low high))
+    ]
 
-pub all_lives : (changes : List PlacedChange) (seen : List Seen) (lives : List Life) (end : ℕ) → length seen ≤ end → HaveLivesTo changes seen lives end
-    → HaveLives changes seen lives
-all_lives changes seen lives end all have s row block event at of fits alive =
-    have row s block event (let l = slice_get_within seen row s at in omega (arith, l, all)) at of fits alive
+pub all_lives : (stays : List Stay) (lives : List Life) (end : ℕ) → length stays ≤ end → HaveLivesTo stays lives end → HaveLives stays lives
+all_lives stays lives end all have stay row block event at =
+    have row stay block event (let l = slice_get_within stays row stay at in omega (arith, l, all)) at
 
 -- ---- the sorted lives
 
@@ -194,9 +193,8 @@ module _ (rows sorted : List Life) (lives : Lives) (raw : List ℕ) (same : IsPe
       )
 
 -- the pages have their rows in the columns that have their lives
-pub all_rows : (rows : List Life) (lives : Lives) (changes : List PlacedChange) (seen : List Seen) → AreRowsOf rows lives → HaveLives changes seen rows
-    → HaveRows changes seen lives
-all_rows rows lives changes seen are have s row block event at of fits alive = are block event row (have s row block event at of fits alive)
+pub all_rows : (rows : List Life) (lives : Lives) (stays : List Stay) → AreRowsOf rows lives → HaveLives stays rows → HaveRows stays lives
+all_rows rows lives stays are have stay row block event at of low high = are block event row (have stay row block event at of low high)
 
 -- ---- the search
 

@@ -1,5 +1,5 @@
 -- A touch that finds memory finds it in a page that is seen, which is alive; and a touch of the same frame would be right too.
-use Rattle.std.proofs.Common.{◌≡◌, ℕ, zero, suc, ◌+◌, ◌*◌, ◌-◌, ◌/◌, ◌%◌, ◌<◌, ◌≤◌, ◌^◌, ◌⊎◌, inl, inr, Bool, true, false, cond, List, length, Option, Some, None}
+use Rattle.std.proofs.Common.{◌≡◌, ℕ, zero, suc, ◌+◌, ◌*◌, ◌-◌, ◌/◌, ◌%◌, ◌<◌, ◌≤◌, ◌^◌, ◌&&◌, ◌⊎◌, inl, inr, Bool, true, false, cond, not, nat_lt, List, length, Option, Some, None}
 use Rattle.std.proofs.Common.{Contains, IsTrue, refl, sym, ap, ◌∙◌, subst, arith}
 use Rattle.std.proofs.Math.Seq.{take-length}
 use Rattle.std.proofs.lemmas.Bool.{cases_lt}
@@ -35,7 +35,7 @@ use Rattle.nr_touch.specs.declared.touch.Touch.{Touch}
 use Rattle.nr_touch.proofs.Behind.{change_within}
 use Rattle.nr_touch.proofs.Blocks.{frame_covered, in_frame, of_frames}
 use Rattle.nr_touch.proofs.Kept.{by_tables, kept_fault, tables_right}
-use Rattle.nr_touch.proofs.Lingering.{left_behind, own_right, parts_behind, NoneFlushedFrom}
+use Rattle.nr_touch.proofs.Lingering.{left_behind, not_less, own_right, parts_behind, NoneFlushedFrom}
 use Rattle.nr_touch.proofs.QuietPages.{look_or_not, same_look}
 use Rattle.nr_touch.proofs.Sizes.{covered_numbered, own_number}
 
@@ -263,13 +263,17 @@ module _ (start : Space) (segment : Recording) (own earlier : List PlacedChange)
     left_found : FoundPage own seen event touch.address page (λ b. Covers b it.change)
     left_found =
         let there = was_there it.change page at in
+        let still : nat_lt it.change.answered 4294967295 ≡ false = elim (cases_lt it.change.answered 4294967295) [
+          | inl early ↦ absurd (let l = it.still_open it.change it.has it.covers_it early in omega (arith, l))
+          | inr fine ↦ not_less it.change.answered 4294967295 fine
+        ] in
         let is = left_numbered it.change it.has in record {
           s = seen_left it.change;
           has = all.left it.change it.has;
           is = there.1;
           covered = subst (λ (q : Page). IsTrue (covers q touch.address)) there.1 it.covers_it;
           alive = record {
-            there = there.0;
+            there = ap (λ (b : Bool). b && not (nat_lt it.change.answered 4294967295)) there.0 ∙ ap (λ (b : Bool). true && not b) still;
             from = λ d has_d of less. absurd (omega (arith, less));
             until = λ d has_d of past. elim (cases_lt d.answered event) [
               | inl early ↦

@@ -12,6 +12,7 @@ pub mod Lives
 pub mod Met
 pub mod Reached
 pub mod Sights
+pub mod Stays
 pub mod Tables
 pub mod Undo
 pub mod Walk

@@ -1,25 +1,28 @@
 //! A release beside the pages that updates of its segment changed, or that updates of earlier segments may still have left: a search finds
 //! those that may be met.
 
-ghost use Rattle.std.specs.Prelude.{◌≡◌, ◌<◌, ◌^◌, length, slice_get, Contains, IfOk, IsTrue, Option, Some};
+ghost use Rattle.std.specs.Prelude.{◌≡◌, ◌<◌, ◌≤◌, ◌^◌, length, slice_get, Contains, IfOk, IsTrue, Option, Some};
 ghost use Rattle.vs_types.specs.Space.{Space};
 ghost use Rattle.vs_types.specs.declared.page.Page.{Page as PageRow};
 ghost use Rattle.nr_trace.specs.Orders.{space_from};
 ghost use Rattle.nr_trace.specs.Recording.{IsMemory, Recording};
 ghost use Rattle.nr_joined.specs.Run.{Run};
-ghost use Rattle.nr_touch.specs.declared.seen.Seen.{Seen as SeenRow};
+ghost use Rattle.nr_touch.specs.declared.stays.Stay.{Stay as StayRow};
 ghost use Rattle.nr_touch.specs.inside.Blocks.{IsBlockOf};
 ghost use Rattle.nr_touch.specs.inside.Columns.{AreColumns};
 ghost use Rattle.nr_touch.specs.inside.Earlier.{IsFollowed};
-ghost use Rattle.nr_touch.specs.inside.Lives.{AreLives, HaveRows};
-ghost use Rattle.nr_touch.specs.inside.Reached.{AreSeen, IsAlive, IsRoomy, LeadsThere};
+ghost use Rattle.nr_touch.specs.inside.Met.{AreRows, HasSeen};
+ghost use Rattle.nr_touch.specs.inside.Reached.{IsRoomy, LeadsThere};
+ghost use Rattle.nr_touch.specs.inside.Stays.{AreRoomy, HasStay};
 
 use crate::block::{around, whole};
 use crate::history::History;
 use crate::lives::Lives;
 use crate::meeting::leads_there;
 use crate::release::Release;
-use crate::seen::{Seen, seen_of};
+use crate::seen::seen_of;
+use crate::stays::{Stay, stays_of};
+use crate::stretches::Stretches;
 use std::alloc::Global;
 use vs_plain::PlainSpace;
 use vs_types::{Memory, Page, Size};
@@ -27,13 +30,14 @@ use vs_types::{Memory, Page, Size};
 /// The pages that changes are of, and from when on and until when a touch may find them, as far as these say.
 #[derive(Debug, Drop)]
 pub(crate) struct Changed {
-    pub(crate) seen: Vec<Seen>,
+    pub(crate) stays: Vec<Stay>,
     pub(crate) lives: Lives,
+    pub(crate) stretches: Stretches,
 }
 
 impl Changed {
     /// Those of the pages that are there after the log, of so many places, and of the ones before each change of the segment, or left
-    /// before it. Allocates 232 bytes for each of them, of which 96 are freed.
+    /// before it. Allocates at most 336 bytes for each of them, of which 160 are freed.
     pub(crate) fn of(
         alloc: Global,
         history: &History,
@@ -44,52 +48,62 @@ impl Changed {
         requires own { AreColumns history.now }
         requires earlier { AreColumns earlier.now }
         requires roomy { (page : PageRow) → Contains present.now page → IsRoomy page }
-        ensures seen { IfOk result (λ changed. AreSeen history.now.changes.items
-            earlier.now.changes.items present.now places changed.seen.items) }
-        ensures lives { IfOk result (λ changed. AreLives changed.lives) }
-        ensures rows { IfOk result
-            (λ changed. HaveRows history.now.changes.items changed.seen.items changed.lives) }
+        ensures seen { IfOk result (HasSeen history.now.changes.items
+            earlier.now.changes.items present.now places) }
+        ensures rows { IfOk result AreRows }
     {
         let seen = seen_of(alloc, history, earlier, present, places)?;
-        let lives = Lives::of(alloc, history, &seen)?;
-        Ok(Changed { seen, lives })
+        let stays = stays_of(alloc, history, seen)?;
+        let lives = Lives::of(alloc, &stays)?;
+        let stretches = Stretches::of(alloc, &lives, &stays)?;
+        Ok(Changed {
+            stays,
+            lives,
+            stretches,
+        })
     }
 }
 
-/// Whether there is a page at the index, and an access that begins with the release could reach its memory through that page.
+/// Whether the page of a stay hasn't gone by the release, and an access that begins with the release could reach its memory through that
+/// page. The row is the index of the stay.
 fn leads_in_row(
     history: &History,
     earlier: &History,
     space: &PlainSpace,
     places: u32,
-    seen: &[Seen],
+    stays: &[Stay],
     release: &Release,
     row: usize,
 ) -> bool
     requires own { AreColumns history.now }
     requires earlier { AreColumns earlier.now }
-    requires roomy { (s : SeenRow) → Contains seen.now s → IsRoomy s.page }
+    requires roomy { AreRoomy stays.now }
     requires memory { IsMemory release.now.size release.now.phys }
     ensures sound { (before : Option Run) (start : Space) (segment : Recording)
         → IsFollowed before start segment history.now earlier.now
         → space.now.space ≡ space_from start segment segment.log → places ≡ length segment.log
         → IsTrue result → (page : PageRow) × LeadsThere before start segment release.now page }
-    ensures whole { (before : Option Run) (start : Space) (segment : Recording) (s : SeenRow)
+    ensures whole { (before : Option Run) (start : Space) (segment : Recording) (stay : StayRow)
         → IsFollowed before start segment history.now earlier.now
         → space.now.space ≡ space_from start segment segment.log → places ≡ length segment.log
-        → slice_get seen.now row ≡ Some s
-        → LeadsThere before start segment release.now s.page → IsTrue result }
+        → slice_get stays.now row ≡ Some stay → release.now.made ≤ stay.until
+        → LeadsThere before start segment release.now stay.page → IsTrue result }
 {
-    let many = seen.len();
+    let many = stays.len();
     if row >= many {
         return false;
     }
-    let page = seen[row].page;
-    leads_there(history, earlier, space, places, release, page)
+    let stay = stays[row];
+    let until = stay.until;
+    let made = release.made;
+    if until < made {
+        return false;
+    }
+    leads_there(history, earlier, space, places, release, stay.page)
 }
 
-/// Whether an access that begins with the release could reach its memory through a page that leads into this block then. The pages are
-/// compared that began to lead there by then, from the last one back, while one that began before may still lead there.
+/// Whether an access that begins with the release could reach its memory through a page that leads into this block then. It is
+/// compared with the pages that began to lead there by then and may still do so, from the last one back.
 fn leads_in_rows(
     history: &History,
     earlier: &History,
@@ -101,23 +115,22 @@ fn leads_in_rows(
 ) -> bool
     requires own { AreColumns history.now }
     requires earlier { AreColumns earlier.now }
-    requires roomy { (s : SeenRow) → Contains changed.now.seen.items s → IsRoomy s.page }
-    requires lives { AreLives changed.now.lives }
-    requires rows { HaveRows history.now.changes.items changed.now.seen.items changed.now.lives }
+    requires rows { AreRows changed.now }
     requires memory { IsMemory release.now.size release.now.phys }
     ensures sound { (before : Option Run) (start : Space) (segment : Recording)
         → IsFollowed before start segment history.now earlier.now
         → space.now.space ≡ space_from start segment segment.log → places ≡ length segment.log
         → IsTrue result → (page : PageRow) × LeadsThere before start segment release.now page }
-    ensures whole { (before : Option Run) (start : Space) (segment : Recording) (s : SeenRow)
+    ensures whole { (before : Option Run) (start : Space) (segment : Recording) (stay : StayRow)
         → IsFollowed before start segment history.now earlier.now
         → space.now.space ≡ space_from start segment segment.log → places ≡ length segment.log
-        → Contains changed.now.seen.items s → IsBlockOf s.page block
-        → IsAlive history.now.changes.items s release.now.made
-        → LeadsThere before start segment release.now s.page → IsTrue result }
+        → Contains changed.now.stays.items stay → IsBlockOf stay.page block
+        → stay.from ≤ release.now.made → release.now.made ≤ stay.until
+        → LeadsThere before start segment release.now stay.page → IsTrue result }
     ensures in_range { release.now.made < 2 ^ 32 }
 {
     let lives = &changed.lives;
+    let stretches = &changed.stretches;
     let made = release.made;
     let mut end = lives.begun(block, made);
     while end > 0 {
@@ -126,15 +139,24 @@ fn leads_in_rows(
         if own != block {
             return false;
         }
-        let until = lives.until[last];
+        let until = stretches.until[last];
         if until < made {
-            return false;
+            end = stretches.since[last];
+        } else {
+            let row = lives.rows[last];
+            if leads_in_row(
+                history,
+                earlier,
+                space,
+                places,
+                &changed.stays,
+                release,
+                row,
+            ) {
+                return true;
+            }
+            end = last;
         }
-        let row = lives.rows[last];
-        if leads_in_row(history, earlier, space, places, &changed.seen, release, row) {
-            return true;
-        }
-        end = last;
     }
     false
 }
@@ -151,20 +173,17 @@ pub(crate) fn leads_by_changes(
 ) -> bool
     requires own { AreColumns history.now }
     requires earlier { AreColumns earlier.now }
-    requires roomy { (s : SeenRow) → Contains changed.now.seen.items s → IsRoomy s.page }
-    requires lives { AreLives changed.now.lives }
-    requires rows { HaveRows history.now.changes.items changed.now.seen.items changed.now.lives }
+    requires rows { AreRows changed.now }
     requires memory { IsMemory release.now.size release.now.phys }
     ensures sound { (before : Option Run) (start : Space) (segment : Recording)
         → IsFollowed before start segment history.now earlier.now
         → space.now.space ≡ space_from start segment segment.log → places ≡ length segment.log
         → IsTrue result → (page : PageRow) × LeadsThere before start segment release.now page }
-    ensures whole { (before : Option Run) (start : Space) (segment : Recording) (s : SeenRow)
+    ensures whole { (before : Option Run) (start : Space) (segment : Recording) (page : PageRow)
         → IsFollowed before start segment history.now earlier.now
         → space.now.space ≡ space_from start segment segment.log → places ≡ length segment.log
-        → Contains changed.now.seen.items s
-        → IsAlive history.now.changes.items s release.now.made
-        → LeadsThere before start segment release.now s.page → IsTrue result }
+        → HasStay changed.now.stays.items page release.now.made
+        → LeadsThere before start segment release.now page → IsTrue result }
     ensures in_range { release.now.made < 2 ^ 32 }
 {
     let phys = release.phys;

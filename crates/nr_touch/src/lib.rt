@@ -25,6 +25,8 @@ mod search;
 mod seen;
 mod sights;
 mod stale;
+mod stays;
+mod stretches;
 mod tail;
 mod touch;
 mod undo;

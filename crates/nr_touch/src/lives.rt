@@ -1,20 +1,15 @@
-//! From when on and until when a release may meet a page, as far as the changes of that page say: sorted, so that one search finds the
-//! pages that lead into a block of memory at an event. When updates are open is sorted and searched likewise.
+//! When pages lead into blocks of memory, by the pages' stays: sorted, so that one search finds those that lead into a block at an event.
+//! The times at which updates are open are sorted and searched likewise.
 
-ghost use Rattle.std.specs.Prelude.{◌≡◌, ℕ, ◌+◌, ◌<◌, ◌≤◌, ◌^◌, ◌↔◌, ◌++◌, map, Contains, IfOk, IsTrue, OnOk};
+ghost use Rattle.std.specs.Prelude.{◌≡◌, ◌+◌, ◌<◌, ◌^◌, ◌↔◌, ◌++◌, map, IfOk, IsTrue, OnOk};
 ghost use Rattle.std.specs.List.Sorted.{IsNonDecreasingBy, IsPermutation};
-ghost use Rattle.nr_touch.specs.declared.seen.Seen.{Seen as SeenRow};
 ghost use Rattle.nr_touch.specs.inside.Bounds.{IsBoundary, IsRising};
-ghost use Rattle.nr_touch.specs.inside.Columns.{AreColumns};
 ghost use Rattle.nr_touch.specs.inside.Lives.{lives_at, AreColumnsOf, AreLives, AreRowsOf, HaveLives, HaveRows, IsMet};
-ghost use Rattle.nr_touch.specs.inside.Reached.{IsAlive, IsRoomy};
 
 use crate::block::{around, whole};
 use crate::bounds::raise;
-use crate::change::number_of;
-use crate::history::History;
 use crate::search::search;
-use crate::seen::Seen;
+use crate::stays::Stay;
 use std::alloc::Global;
 use vs_types::{Memory, Page, Size};
 
@@ -25,7 +20,7 @@ pub(crate) struct Life {
     pub(crate) block: u64,
     pub(crate) from: u32,
     pub(crate) until: u32,
-    /// The index of what it is the life of: of the page among those that are given, or of the update in the log.
+    /// The index of what it is the life of: of the stay among those that are given, or of the update in the log.
     pub(crate) row: usize,
 }
 
@@ -76,22 +71,6 @@ fn lives_at(page: Page, from: u32, until: u32, row: usize) -> [Life; 4]
     ]
 }
 
-/// From when on and until when a touch may find the page, as far as its own changes say.
-fn span(history: &History, seen: &Seen) -> (u32, u32)
-    requires columns { AreColumns history.now }
-    requires roomy { IsRoomy seen.now.page }
-    ensures { (event : ℕ) → event < 2 ^ 32 → IsAlive history.now.changes.items seen.now event
-        → (result.0 ≤ event) × (event ≤ result.1) }
-{
-    if seen.there {
-        let number = number_of(seen.page);
-        let from = history.latest_made(number, seen.place);
-        let until = history.earliest_answered(number, seen.place);
-        return (from, until);
-    }
-    (u32::MAX, 0)
-}
-
 fn put_lives(
     lives: &mut Vec<Life>,
     page: Page,
@@ -105,16 +84,13 @@ fn put_lives(
     Ok(())
 }
 
-/// The lives of the pages, in their order.
-fn lives_of(alloc: Global, history: &History, seen: &[Seen]) -> Result<Vec<Life>, Memory>
-    requires columns { AreColumns history.now }
-    requires roomy { (s : SeenRow) → Contains seen.now s → IsRoomy s.page }
-    ensures { IfOk result (λ lives. HaveLives history.now.changes.items seen.now lives.items) }
+/// The lives of the stays, in their order.
+fn lives_of(alloc: Global, stays: &[Stay]) -> Result<Vec<Life>, Memory>
+    ensures { IfOk result (λ lives. HaveLives stays.now lives.items) }
 {
     let mut lives = Vec::new(alloc);
-    for (row, each) in seen.iter().enumerate() {
-        let (from, until) = span(history, each);
-        put_lives(&mut lives, each.page, from, until, row)?;
+    for (row, stay) in stays.iter().enumerate() {
+        put_lives(&mut lives, stay.page, stay.from, stay.until, row)?;
     }
     Ok(lives)
 }
@@ -164,14 +140,12 @@ fn rows_of(alloc: Global, lives: &[Life]) -> Result<Vec<usize>, Memory>
 }
 
 impl Lives {
-    /// Those of the pages, by the changes of a segment. Allocates 192 bytes for each page, of which half are freed.
-    pub(crate) fn of(alloc: Global, history: &History, seen: &[Seen]) -> Result<Lives, Memory>
-        requires columns { AreColumns history.now }
-        requires roomy { (s : SeenRow) → Contains seen.now s → IsRoomy s.page }
+    /// Those of these stays. Allocates 192 bytes for each, of which half are freed.
+    pub(crate) fn of(alloc: Global, stays: &[Stay]) -> Result<Lives, Memory>
         ensures lives { IfOk result AreLives }
-        ensures rows { IfOk result (HaveRows history.now.changes.items seen.now) }
+        ensures rows { IfOk result (HaveRows stays.now) }
     {
-        let lives = lives_of(alloc, history, seen)?;
+        let lives = lives_of(alloc, stays)?;
         Lives::sorted(alloc, lives)
     }
 

@@ -184,7 +184,7 @@ fn index_after(
 /// The index of the first wrong release, or `None`; and the index of the pages after the segment.
 ///
 /// Where there are no releases, nothing is built for them, and an index that was built before is kept up to date. Allocates four rows for
-/// each page of the space where there is no index yet, and for each page that the segment changed; and 232 bytes for each change of the
+/// each page of the space where there is no index yet, and for each page that the segment changed; and 336 bytes for each change of the
 /// segment and of what was left before it, and for each page that the segment changed.
 pub(crate) fn first_reachable(
     alloc: Global,
@@ -297,8 +297,8 @@ fn address_of(
 /// The least address from which an access that begins with the release could reach its memory, or `None` where none could.
 ///
 /// The release lies in the segment, whose space begins with this start, behind segments that left this tail. Of a segment whose log isn't
-/// clean nothing is said. Goes through all pages of the space. Allocates what `follow` allocates, a list of these pages, and 40 bytes for
-/// each of them, and for each change of the segment and of the tail.
+/// clean nothing is said. Goes through all pages of the space. Allocates what `follow` allocates, a list of these pages, and at most 64
+/// bytes for each of them, and for each change of the segment and of the tail.
 ///
 /// # Errors
 ///

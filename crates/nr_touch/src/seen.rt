@@ -15,7 +15,7 @@ use vs_types::{Memory, Page};
 pub(crate) struct Seen {
     pub(crate) page: Page,
     pub(crate) place: u32,
-    /// Whether it is there then: a page that is mapped next is not.
+    /// Whether it is there then: a page that is mapped next is not, nor one before a change that earlier segments left and that is over.
     pub(crate) there: bool,
 }
 
@@ -42,10 +42,11 @@ fn seen_before(placed: &PlacedChange) -> Seen
 fn seen_left(placed: &PlacedChange) -> Seen
     ensures { result ≡ seen_left placed.now }
 {
+    let is_over = placed.answered < u32::MAX;
     Seen {
         page: placed.change.page,
         place: 0,
-        there: placed.change.was_mapped,
+        there: placed.change.was_mapped && !is_over,
     }
 }
 
@@ -85,7 +86,8 @@ fn joined(seen: Vec<Seen>, more: &[Seen]) -> Result<Vec<Seen>, Memory>
 }
 
 /// Of so many pages that are there after the log of a segment, which has so many places, and of those before its changes and the ones
-/// left before it: each that a touch may find. Allocates 40 bytes for each of them.
+/// left before it: each that a touch may find. Allocates 32 bytes for each of them; and as many again, which are freed, for each that a
+/// change is of.
 pub(crate) fn seen_of(
     alloc: Global,
     history: &History,

@@ -403,8 +403,8 @@ pub struct Followed {
 /// but that the start comes back. It takes time for the events, the log, the touches, the releases and the tail, and not for the pages of
 /// the start: the updates of the log are done on it, and then undone. Only the first segment with releases lists all pages, in an index
 /// that the tail keeps from then on: four rows of 16 bytes for each page. Allocates a table of four bytes for each event, 156 bytes for
-/// each update that changes the space, and 212 bytes for each change of the tail; where there are releases 232 bytes more for each of
-/// these, and for each page that they changed.
+/// each update that changes the space, and 212 bytes for each change of the tail; where there are releases at most 336 bytes more for
+/// each of these, and for each page that they changed.
 ///
 /// # Errors
 ///

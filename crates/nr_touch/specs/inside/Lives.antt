@@ -1,16 +1,15 @@
 -- From when on and until when pages lead into blocks of memory. No public clause cites this file.
-use Rattle.std.specs.Prelude.{◌≡◌, ℕ, ◌<◌, ◌≤◌, ◌^◌, ◌↔◌, List, [], ◌∷◌, length, map, slice_get, slice_index, Some, Contains}
+use Rattle.std.specs.Prelude.{◌≡◌, ℕ, ◌<◌, ◌≤◌, ◌↔◌, List, [], ◌∷◌, length, map, slice_get, slice_index, Some, Contains}
 use Rattle.std.specs.Prelude.{IsTrue}
 use Rattle.vs_types.specs.Page.{covers}
 use Rattle.vs_types.specs.declared.page.Page.{Page}
 use Rattle.vs_types.specs.declared.page.Size.TheVariants.{K4, M2, G1}
 use Rattle.nr_touch.specs.inside.Blocks.{around, whole, IsBlockOf}
 use Rattle.nr_touch.specs.inside.Bounds.{IsRising}
-use Rattle.nr_touch.specs.inside.Reached.{IsAlive}
 use Rattle.nr_touch.specs.declared.change.PlacedChange.{PlacedChange}
 use Rattle.nr_touch.specs.declared.lives.Life.{Life}
 use Rattle.nr_touch.specs.declared.lives.Lives.{Lives}
-use Rattle.nr_touch.specs.declared.seen.Seen.{Seen}
+use Rattle.nr_touch.specs.declared.stays.Stay.{Stay}
 
 -- the lives of a page: in the memory of each size, and as a whole; each with the index of what it is the life of
 abbrev pub lives_at : Page → ℕ → ℕ → ℕ → List Life
@@ -29,10 +28,10 @@ abbrev pub HasLifeOf : List Life → ℕ → ℕ → ℕ → Type 0
 HasLifeOf lives block event row =
     (life : Life) × Contains lives life × (life.block ≡ block) × (life.from ≤ event) × (event ≤ life.until) × (life.row ≡ row)
 
--- each page of these has its lives while it is alive
-abbrev pub HaveLives : List PlacedChange → List Seen → List Life → Type 0
-HaveLives changes seen lives = (s : Seen) (row block event : ℕ) → slice_get seen row ≡ Some s → IsBlockOf s.page block → event < 2 ^ 32
-    → IsAlive changes s event → HasLifeOf lives block event row
+-- each stay has its lives in the blocks of its page
+abbrev pub HaveLives : List Stay → List Life → Type 0
+HaveLives stays lives = (stay : Stay) (row block event : ℕ) → slice_get stays row ≡ Some stay → IsBlockOf stay.page block → stay.from ≤ event
+    → event ≤ stay.until → HasLifeOf lives block event row
 
 -- the lives by block and first event; the last events rise within a block
 pub record AreLives (lives : Lives) : Type 0 where
@@ -58,10 +57,10 @@ HasRow lives block event row = (k : ℕ) × (k < length lives.blocks.items) × (
 abbrev pub AreRowsOf : List Life → Lives → Type 0
 AreRowsOf rows lives = (block event row : ℕ) → HasLifeOf rows block event row → HasRow lives block event row
 
--- each page of these has its row in its blocks while it is alive
-abbrev pub HaveRows : List PlacedChange → List Seen → Lives → Type 0
-HaveRows changes seen lives = (s : Seen) (row block event : ℕ) → slice_get seen row ≡ Some s → IsBlockOf s.page block → event < 2 ^ 32
-    → IsAlive changes s event → HasRow lives block event row
+-- each stay has its row in the blocks of its page
+abbrev pub HaveRows : List Stay → Lives → Type 0
+HaveRows stays lives = (stay : Stay) (row block event : ℕ) → slice_get stays row ≡ Some stay → IsBlockOf stay.page block → stay.from ≤ event
+    → event ≤ stay.until → HasRow lives block event row
 
 -- an update is open from one event to another, by the number of the page whose addresses it changes; with its place
 abbrev pub opening_of : PlacedChange → Life

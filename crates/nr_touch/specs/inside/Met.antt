@@ -1,18 +1,33 @@
 -- The pages that changes are of, and how a release finds them. No public clause cites this file.
-use Rattle.std.specs.Prelude.{ℕ, List}
+use Rattle.std.specs.Prelude.{ℕ, List, length}
 use Rattle.vs_types.specs.Space.{Space}
 use Rattle.vs_types.specs.declared.page.Page.{Page}
 use Rattle.nr_touch.specs.inside.Indexed.{HavePresent}
 use Rattle.nr_touch.specs.inside.Lives.{AreLives, HaveRows}
 use Rattle.nr_touch.specs.inside.Reached.{AreSeen}
+use Rattle.nr_touch.specs.inside.Stays.{AreRoomy, AreStretches, HaveStays}
 use Rattle.nr_touch.specs.declared.change.PlacedChange.{PlacedChange}
 use Rattle.nr_touch.specs.declared.changed.Changed.{Changed}
+use Rattle.nr_touch.specs.declared.seen.Seen.{Seen}
 
--- these have their rows: the pages of a space at whose base a change begins, those before the changes of the segment, and those before
--- the changes that were left
+-- the stays have rows in the blocks of their pages, and the rows have stretches
+pub record AreRows (changed : Changed) : Type 0 where
+  pub roomy : AreRoomy changed.stays.items
+  pub lives : AreLives changed.lives
+  pub rows : HaveRows changed.stays.items changed.lives
+  pub stretches : AreStretches changed.stays.items changed.lives.rows.items changed.stretches.since.items changed.stretches.until.items
+      (length changed.lives.rows.items)
+
+-- the pages that a touch may find have their stays: of these pages those that are there after the log, those before the changes of the segment,
+-- and those before the changes that were left
+pub record HasSeen (own earlier : List PlacedChange) (present : List Page) (places : ℕ) (changed : Changed) : Type 0 where
+  pub seen : List Seen
+  pub are : AreSeen own earlier present places seen
+  pub stays : HaveStays own seen changed.stays.items
+
+-- so of the pages of a space at whose base a change begins
 pub record IsMetBy (own earlier : List PlacedChange) (space : Space) (places : ℕ) (changed : Changed) : Type 0 where
   pub present : List Page
   pub all : HavePresent own space present
-  pub seen : AreSeen own earlier present places changed.seen.items
-  pub lives : AreLives changed.lives
-  pub rows : HaveRows own changed.seen.items changed.lives
+  pub seen : HasSeen own earlier present places changed
+  pub rows : AreRows changed

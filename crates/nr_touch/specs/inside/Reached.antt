@@ -1,5 +1,5 @@
 -- The pages that a touch may find, and how a release is compared with them. No public clause cites this file.
-use Rattle.std.specs.Prelude.{◌≡◌, ℕ, ◌+◌, ◌*◌, ◌%◌, ◌<◌, ◌≤◌, ◌^◌, min, true, List, None, Option, Some, Contains}
+use Rattle.std.specs.Prelude.{◌≡◌, ℕ, ◌+◌, ◌*◌, ◌%◌, ◌<◌, ◌≤◌, ◌^◌, ◌&&◌, min, nat_lt, not, true, List, None, Option, Some, Contains}
 use Rattle.vs_types.specs.Page.{bytes_of}
 use Rattle.vs_types.specs.Space.{Space}
 use Rattle.vs_types.specs.declared.access.Access.TheVariants.{Read}
@@ -81,7 +81,7 @@ abbrev pub IsLower : Option ℕ → ℕ → ℕ → Type 0
 IsLower None other lower = lower ≡ other
 IsLower (Some address) other lower = lower ≡ min address other
 
--- a page that is there after the whole log; before a change of the segment; or before one that earlier segments left
+-- a page that is there after the whole log; before a change of the segment; or before one that earlier segments left, which isn't over
 abbrev pub seen_now : ℕ → Page → Seen
 seen_now places page = record { page = page; place = places; there = true }
 
@@ -89,7 +89,7 @@ abbrev pub seen_before : PlacedChange → Seen
 seen_before c = record { page = c.change.page; place = c.place; there = c.change.was_mapped }
 
 abbrev pub seen_left : PlacedChange → Seen
-seen_left c = record { page = c.change.page; place = 0; there = c.change.was_mapped }
+seen_left c = record { page = c.change.page; place = 0; there = c.change.was_mapped && not (nat_lt c.answered 4294967295) }
 
 -- all of them, of the pages that are there after the log
 pub record AreSeen (own earlier : List PlacedChange) (after : List Page) (places : ℕ) (seen : List Seen) : Type 0 where

@@ -13,7 +13,7 @@ invariant-loop-end l = record {
   most : (k : ℕ) → k < l.end → get_or l.changed.lives.blocks.items k 0 ≤ l.block;
   none : (before : Option Run) (start : Space) (segment : Recording) → IsFollowed before start segment l.history l.earlier
       → l.space.space ≡ space_from start segment segment.log → l.places ≡ length segment.log
-      → NoneLeadsFrom before start segment l.release l.changed.seen.items l.changed.lives l.block l.end;
+      → NoneLeadsFrom before start segment l.release l.changed.stays.items l.changed.lives l.block l.end;
 }
 
 abbrev pub decreases-loop-end : goal.decreases-loop-end

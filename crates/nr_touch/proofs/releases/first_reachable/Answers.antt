@@ -28,7 +28,6 @@ first_wrong-found-requires-clause-met c = record {
   all = subst (λ (cs : List PlacedChange). HavePresent cs c.args.space.now.space c.deref.result.now) c.deref-changes.ensures.value
       (subst (HavePresent c.deref-changes.result.now c.args.space.now.space) (sym c.deref.ensures.value) c.in_ok-present.ensures.all);
   seen = c.in_ok-changed.ensures.seen;
-  lives = c.in_ok-changed.ensures.lives;
   rows = c.in_ok-changed.ensures.rows;
 }
 

@@ -10,12 +10,6 @@ use Rattle.nr_touch.proofs.SeenPages.{listed_seen, plain_seen, split}
 use Rattle.nr_touch.proofs.Sighted.{map_contains}
 use Rattle.nr_touch.proofs.releases.is_reachable.Goals as goal
 
-pub leads_by_changes-requires-clause-roomy : goal.leads_by_changes-requires-clause-roomy
-leads_by_changes-requires-clause-roomy c = c.requires.met.seen.roomy
-
-pub leads_by_changes-requires-clause-lives : goal.leads_by_changes-requires-clause-lives
-leads_by_changes-requires-clause-lives c = c.requires.met.lives
-
 pub leads_by_changes-requires-clause-rows : goal.leads_by_changes-requires-clause-rows
 leads_by_changes-requires-clause-rows c = c.requires.met.rows
 
@@ -44,20 +38,21 @@ returns c = λ before start segment followed are places quiet.
           let r = reached start segment own earlier followed.own c.requires.own.numbered c.requires.earlier.numbered space c.args.space.now.depth is_space are
           c.args.places places seen all release.made c.leads_by_changes.ensures.in_range before followed.goes_on followed.earlier release
           c.requires.memory.0 refl can in
-          let by_changes : Contains c.args.reach.now.changed.seen.items r.s → IsTrue c.leads_by_changes.result =
-          λ has. c.leads_by_changes.ensures.whole before start segment r.s followed are places has r.alive r.leads.0 in
+          let by_changes : Contains met.seen.seen r.s → IsTrue c.leads_by_changes.result =
+          λ has. c.leads_by_changes.ensures.whole before start segment r.s.page followed are places
+          (met.seen.stays r.s release.made has c.leads_by_changes.ensures.in_range r.alive) r.leads.0 in
           elim (split own earlier space c.args.places r.s r.has) [
             | inl before ↦
                 let (change, has, same) = map_contains seen_before own r.s before in
-                by_changes (subst (Contains c.args.reach.now.changed.seen.items) same (met.seen.before change has))
+                by_changes (subst (Contains met.seen.seen) same (met.seen.are.before change has))
             | inr (inl left) ↦
                 let (change, has, same) = map_contains seen_left earlier r.s left in
-                by_changes (subst (Contains c.args.reach.now.changed.seen.items) same (met.seen.left change has))
+                by_changes (subst (Contains met.seen.seen) same (met.seen.are.left change has))
             | inr (inr (page, listed, same)) ↦
                 let holds : Holds space page = (holds_listed is_space page).0 listed in
                 elim (own_or_not own page) [
                   | inl has_own ↦
-                      by_changes (subst (Contains c.args.reach.now.changed.seen.items) (sym same) (met.seen.present page (met.all page holds has_own)))
+                      by_changes (subst (Contains met.seen.seen) (sym same) (met.seen.are.present page (met.all page holds has_own)))
                   | inr none ↦ absurd (false≢true (sym c.if-leads_by_index.false
                       ∙ c.leads_by_index.ensures.whole before start segment page followed are places holds (quiet page holds none)
                       (subst (λ (s : Seen). LeadsThere before start segment release s.page) same r.leads.0)))

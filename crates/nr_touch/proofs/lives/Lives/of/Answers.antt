@@ -6,6 +6,5 @@ use Rattle.nr_touch.proofs.lives.Lives.of.Goals as goal
 pub returns-clause-rows : goal.returns-clause-rows
 returns-clause-rows c =
     let rows = c.in_ok-lives.lives.items in
-    let changes = c.args.history.now.changes.items in
-    IfOk-weaker c.sorted.result (AreRowsOf rows) (HaveRows changes c.args.seen.now)
-    (λ lives are. all_rows rows lives changes c.args.seen.now are c.in_ok-lives.ensures) c.sorted.ensures.rows
+    IfOk-weaker c.sorted.result (AreRowsOf rows) (HaveRows c.args.stays.now)
+    (λ lives are. all_rows rows lives c.args.stays.now are c.in_ok-lives.ensures) c.sorted.ensures.rows

@@ -1,7 +1,7 @@
 use Rattle.std.proofs.Common.{sym, ◌∙◌}
 use Rattle.std.proofs.lemmas.Bool.{false≢true}
 use Rattle.nr_touch.proofs.Spans.{spanned}
-use Rattle.nr_touch.proofs.lives.span.Goals as goal
+use Rattle.nr_touch.proofs.stays.span.Goals as goal
 
 pub number_of-number-requires : goal.number_of-number-requires
 number_of-number-requires c = c.requires.roomy.ends
