@@ -155,7 +155,8 @@ uint64_t nodes_flags(uint64_t place)
 static struct nrvs_reply look(struct home *home, uint64_t address, uint64_t at_least)
 {
 	struct nrvs_plan plan;
-	run(home, nrvs_node_sync(&home->machine, at_least));
+	if (nrvs_read_ready(&home->machine, at_least, &words, shared, apply, lags, home) != NRVS_NODE_DONE)
+		stop("a node can't be read:", (uint64_t)(home - homes));
 	plans_run(&home->pool, &plan, nrvs_plan_ask(&plan, &home->target, address));
 	return plan.reply;
 }
@@ -166,7 +167,7 @@ nrvs_answer nodes_look(unsigned node, uint64_t address, uint64_t *at)
 	const uint64_t completed = nodes_completed();
 	struct nrvs_reply reply;
 	lock(home);
-	reply = look(home, address, completed);
+	reply = look(home, address, is_planted(PLANT_LOOK) ? 0 : completed);
 	*at = nrvs_node_at(&home->machine);
 	unlock(home);
 	return (nrvs_answer){ (uint8_t)reply.code, (uint8_t)reply.size, (uint8_t)reply.rights, reply.number };
@@ -193,7 +194,7 @@ int page_faulted(uint64_t code, uint64_t address)
 
 uint64_t nodes_completed(void)
 {
-	return atomic_load(&words.completed);
+	return nrvs_read_begin(&words);
 }
 
 void nodes_level(void)

@@ -187,6 +187,16 @@ static void change_own(unsigned processor, struct slot *slot, uint64_t *seed)
 	change_to(processor, slot, kind, changed(slot_state(slot), kind, seed));
 }
 
+/* A look at a slot's first page, on a processor's node. */
+static nrvs_answer look(unsigned processor, const struct slot *slot)
+{
+	const uint32_t call = record_call(0, node_of(processor), processor, nrvs_resolve(slot->base));
+	uint64_t at;
+	const nrvs_answer answer = nodes_look(node_of(processor), slot->base, &at);
+	record_reply(0, call, (uint32_t)(at - placed_before), answer);
+	return answer;
+}
+
 /* ---- nodes that lag, by no chance: all is done by the first processor, and by those that it lets ---- */
 
 struct wish updates_wish;
@@ -235,6 +245,17 @@ static void lag_behind(struct slot *slot, int is_write, uint64_t *seed)
 	let_all(slot, is_write);
 }
 
+/* A map that no other node has applied, which a look on each finds: it syncs. */
+static void look_behind(struct slot *slot, uint64_t *seed)
+{
+	unmap(slot);
+	nodes_level();
+	map(slot, seed);
+	for (unsigned k = 1; k < PROCESSORS; k++)
+		if (look(k, slot).code != NRVS_MAPPED)
+			__atomic_fetch_add(&wrong, 1, __ATOMIC_SEQ_CST);
+}
+
 /* As many updates as a ring has entries, of which the other nodes know nothing; so the next one finds no room. */
 static void fill_ring(struct slot *slot, uint64_t *seed)
 {
@@ -253,6 +274,7 @@ void updates_stall(uint64_t *seed)
 	nodes_forget();
 	lag_behind(&slots[4], 0, seed);
 	lag_behind(&slots[12], 1, seed);
+	look_behind(&slots[4], seed);
 	fill_ring(&slots[0], seed);
 }
 
@@ -269,14 +291,6 @@ static void change_contended(unsigned processor, const struct slot *slot, uint64
 	if (kind >= 2)
 		wait_for_all(&batch);
 	reply(&batch);
-}
-
-static void look(unsigned processor, const struct slot *slot)
-{
-	const uint32_t call = record_call(0, node_of(processor), processor, nrvs_resolve(slot->base));
-	uint64_t at;
-	const nrvs_answer answer = nodes_look(node_of(processor), slot->base, &at);
-	record_reply(0, call, (uint32_t)(at - placed_before), answer);
 }
 
 void updates_make(unsigned processor, uint64_t *seed)

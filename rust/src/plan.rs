@@ -1,8 +1,10 @@
 //! Plans: what a kernel stores in its own page table, in which order, what it flushes, and what it may free.
 //!
-//! What a plan promises, and what the caller keeps, is in include/nrvs_plan.h: one lock from the first step to the last store, the words
-//! that are shown stay as they are but for flags, and the frames that are given are empty. No call here is `unsafe`: where the caller keeps
-//! none of that a plan may be wrong, and nothing undefined happens.
+//! What a plan promises, and what the caller keeps, is in crates/nrvs_plan_c/README.md. One lock is held from the first step until the
+//! flush is over on each processor. The words that are shown stay as they are but for flags, and the frames that are given are empty. No
+//! call here is `unsafe`: where the caller keeps none of that a plan may be wrong, and nothing undefined happens.
+//!
+//! Each frame is shown by itself: C's calls over a direct map (`nrvs_plan_map_in` and the like) aren't offered here.
 use crate::errors::BadRequest;
 use crate::ffi;
 use crate::page::{Depth, Frame, Mapping, Page, Rights, Size};
@@ -22,7 +24,7 @@ pub struct Target {
     pub depth: Depth,
     /// How many bits a physical address has: 36 to 52.
     pub phys_bits: u32,
-    /// Tables to which entries of this level and of those above lead stay linked, since other roots lead to them: 0 for none.
+    /// Tables to which entries of this level and of those above lead stay linked, since other roots lead to them: 0 for none, 1 for all.
     pub pinned: u32,
 }
 
@@ -194,14 +196,14 @@ pub enum Flush {
         /// Its size.
         size: Size,
     },
-    /// The same, and what they keep of the tables on the way to it.
+    /// The same, and what they keep of tables. For a plan with a flush of its own, what they keep of those on the way to the page suffices.
     PageAndTables {
         /// Its first address.
         base: u64,
         /// Its size.
         size: Size,
     },
-    /// All translations from an address on for so many bytes, and what they keep of tables.
+    /// All translations from an address on for so many bytes, and what they keep of tables, or of those on the ways there.
     Range {
         /// The address.
         base: u64,
@@ -489,7 +491,7 @@ impl Plan<'_> {
         }
     }
 
-    /// The frames that are no tables any more, free after the flush: four at most. After a join their words are not 0.
+    /// The frames that are no tables any more, free after the flush: four at most. After a join, a collapse or a prune their words aren't 0.
     pub fn unlinked(&self) -> &[u64] {
         &self.0.unlinked[..self.0.unlinked_count as usize]
     }

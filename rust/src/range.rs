@@ -1,7 +1,8 @@
 //! Ranges: pages that follow one another, in one run of words for each table.
 //!
-//! What is promised of a run, and what the caller keeps, is in include/nrvs_plan.h. One call deals with pages of one table, from the base
-//! of the range on; the caller carries that out and begins again behind it, until nothing is left. One flush for all of it suffices.
+//! What is promised of a run, and what the caller keeps, is in crates/nrvs_plan_c/README.md. One call deals with pages of one table, from
+//! the base of the range on; the caller carries that out and begins again behind it, until nothing is left. One flush for all of it
+//! suffices. A range over the hole between the two halves isn't refused, and may end in the hole: ask for the halves apart.
 use crate::ffi;
 use crate::page::{Frame, Page, Rights, Size};
 use crate::plan::{fault, of_target, BadPlan, Flush, Plan, Target};

@@ -1,11 +1,13 @@
 //! Nodes: all schedules of two updates, drawn schedules of three nodes, threads on page tables and counters, and each refusal.
 #![cfg(all(feature = "nodes", feature = "std"))]
 use nrvs::nodes::{
-    BadUpdate, Entry, NoNode, Node, Nodes, Operation, State, Step, Word, MOST_NODES, RING,
+    BadUpdate, CallError, Entry, LogWords, NoNode, Node, NodeWords, Nodes, Operation, State, Step,
+    Word, Words, MOST_NODES, RING,
 };
 use nrvs::{ChangeError, Depth, Frame, MapError, Mapping, Mark, Page, PageTable, Rights, Size};
 use std::collections::{BTreeMap, HashSet};
 use std::hash::{DefaultHasher, Hash, Hasher};
+use std::panic::{catch_unwind, AssertUnwindSafe};
 use std::sync::atomic::{AtomicU64, Ordering::SeqCst};
 use std::sync::Mutex;
 use std::thread;
@@ -293,7 +295,7 @@ fn run(threads: usize, count: usize, calls: usize) {
             };
             if changes.is_empty() {
                 let look = |it: &Space, at| (at, it.0.resolve(address).unwrap());
-                let (at, found) = nodes.read(number % count, look);
+                let (at, found) = nodes.read(number % count, look).unwrap();
                 (call.place, call.read) = (at, Some((address, found)));
             } else {
                 let answered = nodes.update(number % count, &changes).unwrap();
@@ -311,9 +313,9 @@ fn run(threads: usize, count: usize, calls: usize) {
     let made = made.into_inner().unwrap();
     check_answers(&made);
     check_order(made);
-    let ends: HashSet<u64> = (0..count).map(|node| nodes.sync(node)).collect();
+    let ends: HashSet<u64> = (0..count).map(|node| nodes.sync(node).unwrap()).collect();
     assert_eq!(ends.len(), 1);
-    let end = nodes.sync(0);
+    let end = nodes.sync(0).unwrap();
     assert!(end == 0 || nodes.everywhere(end - 1) && !nodes.everywhere(end));
 }
 
@@ -404,7 +406,7 @@ fn counters_of_two_nodes() {
     let two = nodes.update(1, &[(5, 2)]).unwrap();
     assert_eq!((two.place, two.replies), (2, vec!["5: 3".into()]));
     assert!(nodes.everywhere(1) && !nodes.everywhere(2));
-    assert_eq!(nodes.read(0, |it, at| (it.0[&5], at)), (3, 3));
+    assert_eq!(nodes.read(0, |it, at| (it.0[&5], at)), Ok((3, 3)));
     assert!(nodes.everywhere(2));
     assert_eq!(nodes.count(), 2);
 }
@@ -428,7 +430,101 @@ fn refusals() {
     assert_eq!(node.update(&[update(2)]), Err(BadUpdate::Busy));
     assert_eq!(node.sync(0), Err(BadUpdate::Busy));
     let nodes = Nodes::new([Counters::default()]).unwrap();
-    assert_eq!(nodes.update(0, &[]), Err(BadUpdate::Empty));
-    assert_eq!(nodes.update(0, &[(1, 1 << 57)]), Err(BadUpdate::TooLarge));
-    assert_eq!(nodes.sync(0), 0);
+    let bad = |updates: &[(u64, u64)]| nodes.update(0, updates).map(|it| it.place);
+    assert_eq!(bad(&[]), Err(CallError::Bad(BadUpdate::Empty)));
+    assert_eq!(
+        bad(&[(1, 1 << 57)]),
+        Err(CallError::Bad(BadUpdate::TooLarge))
+    );
+    assert_eq!(nodes.sync(0), Ok(0));
+}
+
+#[test]
+fn a_machine_knows_how_many_nodes_there_are() {
+    let (log, words) = (
+        LogWords::default(),
+        [NodeWords::default(), NodeWords::default()],
+    );
+    let all = Words {
+        log: &log,
+        nodes: &words,
+    };
+    let mut node = Node::new(2, 0).unwrap();
+    assert!(node.update(&[update(1)]).is_ok());
+    node.run(&all, |_, entry| entry, |_| ());
+    assert!(node.nodes() == 2 && !node.everywhere(&all, 0));
+    let few = Words {
+        log: &log,
+        nodes: &words[..1],
+    };
+    assert!(catch_unwind(AssertUnwindSafe(|| node.everywhere(&few, 0))).is_err());
+}
+
+#[test]
+fn a_reader_that_panics_harms_nobody() {
+    let nodes = Nodes::new((0..3).map(|_| Counters::default())).unwrap();
+    let reader = AssertUnwindSafe(|| nodes.read(1, |_, _| panic!("on purpose")));
+    assert!(catch_unwind(reader).is_err());
+    for _ in 0..3 * RING {
+        assert!(nodes.update(0, &[(5, 1)]).is_ok());
+    }
+    assert!((0..3).all(|node| nodes.read(node, |it, _| it.0[&5]) == Ok(3 * RING as u64)));
+}
+
+#[test]
+fn a_call_inside_another_is_refused() {
+    let nodes = Nodes::new((0..2).map(|_| Counters::default())).unwrap();
+    for node in 0..2 {
+        let inner = || {
+            let updated = nodes.update(node, &[(5, 1)]).map(|it| it.place);
+            (updated, nodes.read(node, |_, at| at), nodes.sync(node))
+        };
+        let refused = (
+            Err(CallError::Inside),
+            Err(CallError::Inside),
+            Err(CallError::Inside),
+        );
+        assert_eq!(nodes.read(0, |_, _| inner()), Ok(refused));
+    }
+    let others = Nodes::new([Counters::default()]).unwrap();
+    let other = nodes.read(0, |_, _| others.update(0, &[(5, 1)]).map(|it| it.place));
+    assert_eq!((other, nodes.sync(0)), (Ok(Ok(0)), Ok(0)));
+}
+
+/// Counts, but panics at a node that is made so.
+struct Panics(u64, bool);
+
+impl State for Panics {
+    type Update = ();
+    type Reply = u64;
+
+    fn pack((): &()) -> Entry {
+        Entry::default()
+    }
+
+    fn unpack(_: Entry) {}
+
+    fn apply(&mut self, (): ()) -> u64 {
+        assert!(!self.1, "on purpose");
+        self.0 += 1;
+        self.0
+    }
+}
+
+/// The node that panicked is lost, and no update is taken; the others are read as before.
+#[test]
+fn a_change_that_panics_loses_its_node_alone() {
+    let nodes = Nodes::new((0..3).map(|node| Panics(0, node == 1))).unwrap();
+    let fill = || (0..2 * RING).find_map(|_| nodes.update(0, &[()]).err());
+    assert!(catch_unwind(AssertUnwindSafe(fill)).is_err());
+    let made = nodes.read(2, |it, at| (it.0, at)).unwrap();
+    assert_eq!(made, (RING as u64, RING as u64));
+    for node in 0..3 {
+        let updated = nodes.update(node, &[()]).map(|it| it.place);
+        assert_eq!(updated, Err(CallError::Lost(1)));
+    }
+    assert_eq!(nodes.read(0, |it, _| it.0), Ok(RING as u64));
+    assert_eq!(nodes.read(1, |it, _| it.0), Err(CallError::Lost(1)));
+    assert_eq!(nodes.sync(1), Err(CallError::Lost(1)));
+    assert!(!nodes.everywhere(0));
 }

@@ -3,7 +3,7 @@
  *     schedules [MISTAKE]
  * Each node applies the one log, in order, each entry once; each update is answered at its place; a call that ended before another began
  * comes first; nobody is done with what it hasn't applied; what ended is completed; and each node alone ends its call, from wherever the
- * others stopped, or names one that is a ring behind. With a planted mistake one of this is found to fail.
+ * others stopped, or names one that leaves its updates no room. With a planted mistake one of this is found to fail.
  */
 #include "plain_model.h"
 
@@ -241,7 +241,7 @@ static bool is_over(const struct state *it, unsigned n)
 	return !it->task[n].open && now->calls[n][it->task[n].calls] == 0;
 }
 
-/* From here a node alone ends its call; where it names another, that is a ring behind, and once that one has taken, it goes on. */
+/* From here a node alone ends its call; where it names another, that leaves no room, and once that one has taken, it goes on. */
 static void alone(const struct state *from, unsigned n)
 {
 	static struct state it;

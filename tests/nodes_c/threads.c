@@ -8,7 +8,7 @@
 #include <stdlib.h>
 #include <string.h>
 
-_Static_assert(sizeof(struct nrvs_node) == 8 * (7 + 2 + 2 * NRVS_NODE_RING + 84), "the struct is not the library's");
+_Static_assert(sizeof(struct nrvs_node) == 8 * (8 + 2 + 2 * NRVS_NODE_RING + 86), "the struct has room for the library's");
 
 enum { MOST_THREADS = 64, MOST_BATCH = 3 };
 

@@ -63,7 +63,7 @@ link_fits nodes w n r i held lt may =
     let link = kept.makers (a.from - 1) (omega (arith, lt)) in
     omega (arith, is, link)
 
-fits : (nodes : ℕ) (w : World) (n : ℕ) (operation : Operation) → IsHeld nodes w → n < nodes → w.log.tail + 16 < 2 ^ 57
+pub fits : (nodes : ℕ) (w : World) (n : ℕ) (operation : Operation) → IsHeld nodes w → n < nodes → w.log.tail + 16 < 2 ^ 57
     → MayDo nodes n (w.actor n) operation
     → IsFit nodes (w.actor n) operation (told_by w.words operation)
 fits nodes w n (Load Head) held lt end may = head_fits nodes w n held lt end

@@ -11,3 +11,6 @@ pub mod Told
 pub mod Loaded
 pub mod Fitting
 pub mod Refusals
+pub mod Moves
+pub mod Makes
+pub mod Example

@@ -35,6 +35,7 @@ told_scan node value phase next k is within fine names spent =
     let sound : IsSound new = record {
       nodes = k.nodes;
       number = k.number;
+      links = k.links;
       few = k.few;
       small = k.small;
       seen = k.seen;
@@ -131,6 +132,7 @@ told_stray node value k is past =
     let sound : IsSound new = record {
       nodes = k.nodes;
       number = k.number;
+      links = k.links;
       few = k.few;
       small = k.small;
       seen = k.seen;
@@ -158,10 +160,10 @@ kept node first value phase = record node {
 }
 
 told_kept : (node : Node) (value first : ℕ) (phase : Phase) → IsSound node → node.phase ≡ phases.LoadsSecond → node.half ≡ Some first
-    → IsIn phase (kept node first value phase) → is_broken (asked_in phase (kept node first value phase)) ≡ false
+    → value % 128 < node.nodes → IsIn phase (kept node first value phase) → is_broken (asked_in phase (kept node first value phase)) ≡ false
     → is_lagging (asked_in phase (kept node first value phase)) ≡ false
     → left_in phase (kept node first value phase) + 1 ≤ left_in phases.LoadsSecond node → IsTold node value (kept node first value phase)
-told_kept node value first phase k is has within fine quiet spent =
+told_kept node value first phase k is has link within fine quiet spent =
     let new = kept node first value phase in
     let here = in_phase node phases.LoadsSecond k is in
     let below = here.1 in
@@ -171,6 +173,7 @@ told_kept node value first phase k is has within fine quiet spent =
     let sound : IsSound new = record {
       nodes = k.nodes;
       number = k.number;
+      links = (k.links.0, link);
       few = k.few;
       small = k.small;
       seen = k.seen;
@@ -187,8 +190,8 @@ told_kept node value first phase k is has within fine quiet spent =
     (quietly (left_in phase new) node.seen node.seen (price node) (left_in phases.LoadsSecond node) refl spent)
 
 pub told_entry : (node : Node) (value first : ℕ) → IsSound node → node.phase ≡ phases.LoadsSecond → node.half ≡ Some first
-    → IsTold node value (kept node first value (cond (nat_eq (node.from - 1) node.taken) phases.Raises phases.LoadsFirst))
-told_entry node value first k is has = by_test (nat_eq (node.from - 1) node.taken) refl where
+    → value % 128 < node.nodes → IsTold node value (kept node first value (cond (nat_eq (node.from - 1) node.taken) phases.Raises phases.LoadsFirst))
+told_entry node value first k is has link = by_test (nat_eq (node.from - 1) node.taken) refl where
   by_test : (b : Bool) → nat_eq (node.from - 1) node.taken ≡ b
       → IsTold node value (kept node first value (cond b phases.Raises phases.LoadsFirst))
   by_test true e =
@@ -196,10 +199,10 @@ told_entry node value first k is has = by_test (nat_eq (node.from - 1) node.take
       let below = here.1 in
       let count = k.count in
       let last : node.from - 1 ≡ node.taken = grind (arith, nat_tests, e) in
-      told_kept node value first phases.Raises k is has (here.0, last, omega (arith, below, count)) refl refl (omega (arith, below, last))
+      told_kept node value first phases.Raises k is has link (here.0, last, omega (arith, below, count)) refl refl (omega (arith, below, last))
   by_test false e =
       let here = in_phase node phases.LoadsSecond k is in
       let below = here.1 in
-      told_kept node value first phases.LoadsFirst k is has
+      told_kept node value first phases.LoadsFirst k is has link
       (here.0, below_it node.taken (node.from - 1) (λ same. grind (arith, nat_tests, e, same)) (omega (arith, below))) refl refl
       (omega (arith, below))

@@ -1,5 +1,5 @@
 -- A schedule that can be played to its end.
-use Rattle.std.specs.Prelude.{List, [], ◌∷◌}
+use Rattle.std.specs.Prelude.{List, [], ◌∷◌, ◌++◌}
 use Rattle.nr_machine.specs.declared.words.Operation.TheVariants.{Load, Store, Exchange, Max}
 use Rattle.nr_machine.specs.declared.words.Word.TheVariants.{Head, Completed, Local, Done, First, Second}
 use Rattle.nr_machine.specs.declared.words.Update.{Update}
@@ -7,14 +7,52 @@ use Rattle.nr_machine.specs.World.{Act, Event}
 use Rattle.nr_machine.specs.World.Act.{Begins, Does, Applies, Ends, ReadBegins, ReadEnds}
 use Rattle.nr_machine.specs.World.Event.{Began, Ended}
 
--- node 1 appends an update, takes and applies it, flushes, and says that it is completed; then node 0 is asked for a read, and catches up
+-- node 1 begins a call of two updates and node 0 one of one update, whose words it stores
+abbrev pub both_begin : List Act
+both_begin =
+    Begins 1 (record { first = 7; second = 3 } ∷ (record { first = 8; second = 4 } ∷ []))
+    ∷ Begins 0 (record { first = 9; second = 5 } ∷ []) ∷ Does 0 (Load Head) ∷ Does 0 (Store (First 0 0) 9)
+    ∷ Does 0 (Store (Second 0 0) 640) ∷ []
+
+-- node 1 stores its own, and appends them
+abbrev pub one_appends : List Act
+one_appends =
+    Does 1 (Load Head) ∷ Does 1 (Store (First 1 0) 7) ∷ Does 1 (Store (Second 1 0) 384) ∷ Does 1 (Store (First 1 1) 8)
+    ∷ Does 1 (Store (Second 1 1) 513) ∷ Does 1 (Exchange Head 0 257) ∷ []
+
+-- the exchange of node 0 fails: it takes and applies the entries
+abbrev pub other_is_late : List Act
+other_is_late =
+    Does 0 (Exchange Head 0 128) ∷ Does 0 (Load (First 1 1)) ∷ Does 0 (Load (Second 1 1)) ∷ Does 0 (Load (First 1 0))
+    ∷ Does 0 (Load (Second 1 0)) ∷ Does 0 (Store (Local 0) 2) ∷ Applies 0 ∷ Applies 0 ∷ Does 0 (Store (Done 0) 2) ∷ []
+
+-- it looks how many entries each node has taken, appends its update, and takes it
+abbrev pub other_appends : List Act
+other_appends =
+    Does 0 (Load Head) ∷ Does 0 (Load (Local 0)) ∷ Does 0 (Load (Local 1)) ∷ Does 0 (Store (First 0 2) 9)
+    ∷ Does 0 (Store (Second 0 2) 641) ∷ Does 0 (Exchange Head 257 384) ∷ Does 0 (Load (First 0 2)) ∷ Does 0 (Load (Second 0 2))
+    ∷ Does 0 (Store (Local 0) 3) ∷ []
+
+-- it applies it, says that it is completed, and its call ends
+abbrev pub other_ends : List Act
+other_ends =
+    Applies 0 ∷ Does 0 (Store (Done 0) 3) ∷ Does 0 (Load Completed) ∷ Does 0 (Max Completed 3) ∷ Ends 0 ∷ []
+
+-- node 1 takes and applies its own updates, which are completed already, and its call ends
+abbrev pub one_ends : List Act
+one_ends =
+    Does 1 (Load (First 1 1)) ∷ Does 1 (Load (Second 1 1)) ∷ Does 1 (Load (First 1 0)) ∷ Does 1 (Load (Second 1 0))
+    ∷ Does 1 (Store (Local 1) 2) ∷ Applies 1 ∷ Applies 1 ∷ Does 1 (Store (Done 1) 2) ∷ Does 1 (Load Completed) ∷ Ends 1 ∷ []
+
+-- it is asked for a read, catches up, and sees whether all are done
+abbrev pub one_reads : List Act
+one_reads =
+    ReadBegins 1 ∷ Does 1 (Load Head) ∷ Does 1 (Load (First 0 2)) ∷ Does 1 (Load (Second 0 2)) ∷ Does 1 (Store (Local 1) 3) ∷ Applies 1
+    ∷ Does 1 (Store (Done 1) 3) ∷ Does 1 (Load Completed) ∷ ReadEnds 2 ∷ Does 1 (Load (Done 0)) ∷ Does 1 (Load (Done 1)) ∷ []
+
+-- all kinds of steps: a call of two updates, an exchange that fails, loads of how many entries nodes have taken, a read
 abbrev pub example : List Act
-example =
-    Begins 1 (record { first = 7; second = 3 } ∷ []) ∷ (Does 1 (Load Head) ∷ (Does 1 (Store (First 1 0) 7) ∷ (Does 1 (Store (Second 1 0) 384)
-    ∷ (Does 1 (Exchange Head 0 129) ∷ (Does 1 (Load (First 1 0)) ∷ (Does 1 (Load (Second 1 0)) ∷ (Does 1 (Store (Local 1) 1)
-    ∷ (Applies 1 ∷ (Does 1 (Store (Done 1) 1) ∷ (Does 1 (Max Completed 1) ∷ (Ends 1
-    ∷ (ReadBegins 0 ∷ (Does 0 (Load Head) ∷ (Does 0 (Load (First 1 0)) ∷ (Does 0 (Load (Second 1 0)) ∷ (Does 0 (Store (Local 0) 1)
-    ∷ (Applies 0 ∷ (Does 0 (Store (Done 0) 1) ∷ (Does 0 (Load Completed) ∷ (ReadEnds 1 ∷ []))))))))))))))))))))
+example = both_begin ++ (one_appends ++ (other_is_late ++ (other_appends ++ (other_ends ++ (one_ends ++ one_reads)))))
 
 abbrev pub its_events : List Event
-its_events = Ended 1 1 1 ∷ (Began 1 ∷ (Ended 0 0 1 ∷ (Began 0 ∷ [])))
+its_events = Ended 2 3 3 ∷ (Began 2 ∷ (Ended 0 0 2 ∷ (Ended 1 2 3 ∷ (Began 1 ∷ (Began 0 ∷ [])))))

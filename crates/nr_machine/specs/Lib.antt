@@ -7,4 +7,5 @@ pub mod Examples
 pub mod Machine
 pub mod Sound
 pub mod Bound
+pub mod Calls
 pub mod inside

@@ -72,11 +72,27 @@ asked_in phases.Broken node = Broken
 abbrev pub asked_by : Node → Asked
 asked_by node = asked_in node.phase node
 
--- what is asked for is a step of the schedule: an operation that may be done, the next entry, or the end of the call. At the end all
--- updates and entries of the call are completed. A node is said to lag if it is the last one that was asked how many entries it has taken,
+-- a word that nodes of this number have: its node is one of them, and its index is one of a ring
+abbrev pub IsWordOf : ℕ → Word → Type 0
+IsWordOf nodes words.Head = ⊤
+IsWordOf nodes words.Completed = ⊤
+IsWordOf nodes (words.Local r) = r < nodes
+IsWordOf nodes (words.Done r) = r < nodes
+IsWordOf nodes (words.First r i) = (r < nodes) × (i < 16)
+IsWordOf nodes (words.Second r i) = (r < nodes) × (i < 16)
+
+-- the word of an operation
+abbrev pub word_of : Operation → Word
+word_of (Load word) = word
+word_of (Store word value) = word
+word_of (Exchange word old new) = word
+word_of (Max word value) = word
+
+-- what is asked for is a step of the schedule: an operation that may be done, on a word that there is, the next entry, or the end of the
+-- call. At the end all updates and entries of the call are completed. A node is said to lag if it is the last one that was asked how many entries it has taken,
 -- and those that were asked have taken fewer than the updates of the call need
 abbrev pub MayAsk : ℕ → ℕ → Actor → Asked → Type 0
-MayAsk nodes n a (Carry operation) = MayDo nodes n a operation
+MayAsk nodes n a (Carry operation) = MayDo nodes n a operation × IsWordOf nodes (word_of operation)
 MayAsk nodes n a (Apply update) = MayApply a × (update ≡ update_at a.got 0)
 MayAsk nodes n a (Lags r) = (r < nodes) × (a.asked ≡ r + 1) × (a.least + 16 < a.seen + length a.batch)
 MayAsk nodes n a Done = MayEnd a × (a.applied ≡ a.taken) × (a.applied ≤ a.published)

@@ -66,6 +66,7 @@ IsIn phases.Broken node = ⊤
 pub record IsSound (node : Node) : Type 0 where
   pub nodes : node.nodes ≤ 64
   pub number : node.number < node.nodes
+  pub links : (node.last < node.nodes) × (node.ring < node.nodes)
   pub few : length node.batch.items ≤ 16
   pub small : (i : ℕ) → (update_at node.batch.items i).second < 2 ^ 57
   pub seen : node.seen < 2 ^ 57

@@ -12,7 +12,7 @@ pub enum Asked {
     Carry(Operation),
     /// To apply this entry to the node's state and flush, and then `applied` with its reply.
     Apply(Update),
-    /// To have the node of this number take entries, since it is a ring behind. Then `told` with any value.
+    /// To have the node of this number take entries, since the updates have no room before it does. Then `told` with any value.
     Lags(u64),
     /// Nothing: the call is over.
     Done,

@@ -8,6 +8,7 @@ ghost use Rattle.nr_machine.specs.declared.words.Update.{Update};
 ghost use Rattle.nr_machine.specs.declared.words.Word.{Word};
 ghost use Rattle.nr_machine.specs.Actor.{applies, begins, ends, is_own, learned};
 ghost use Rattle.nr_machine.specs.Bound.{Spends, left};
+ghost use Rattle.nr_machine.specs.Calls.{Given, Makes};
 ghost use Rattle.nr_machine.specs.Machine.{IsFit, MayAsk, actor_of, asked_by, refusal_of};
 ghost use Rattle.nr_machine.specs.Sound.{IsSound};
 
@@ -29,6 +30,7 @@ impl Node {
             MayAsk self.new.nodes self.new.number (actor_of self.new) asked) }
         ensures begun { IfOk result (λ asked. (refusal_of self.old updates.now ≡ None)
             × (actor_of self.new ≡ begins (ends (actor_of self.old)) updates.now)) }
+        ensures makes { IfOk result (λ asked. Makes self.old (Given.Updates updates.now) self.new) }
         ensures replies { IfOk result (λ asked. self.new.replies.items ≡ []) }
         ensures works { IfOk result (λ asked. asked ≢ Asked.Broken) }
         ensures bounded { IfOk result (λ asked.
@@ -86,6 +88,7 @@ impl Node {
             × (actor_of self.new ≡ ends (actor_of self.old)) × (asked ≡
             (if nat_le at_least self.old.applied then Asked.Done
             else Asked.Carry (Operation.Load Word.Head)))) }
+        ensures makes { IfOk result (λ asked. Makes self.old (Given.Wanted at_least) self.new) }
         ensures bounded { IfOk result (λ asked. left self.new ≤ 5) }
         ensures replies { IfOk result (λ asked. self.new.replies.items ≡ []) }
         ensures refused { IfErr result (λ why. (self.old.phase ≢ Phase.Rest)
@@ -118,6 +121,7 @@ impl Node {
             → actor_of self.new ≡ learned self.old.number (actor_of self.old) operation value }
         ensures fits { (operation : Operation) → asked_by self.old ≡ Asked.Carry operation
             → IsFit self.old.nodes (actor_of self.old) operation value → result ≢ Asked.Broken }
+        ensures makes { Makes self.old (Given.Value value) self.new }
         ensures lags { (node : ℕ) → asked_by self.old ≡ Asked.Lags node
             → (result ≡ Asked.Carry (Operation.Load Word.Head))
             × (actor_of self.new ≡ actor_of self.old) × Spends 1 self.old self.new }
@@ -146,6 +150,7 @@ impl Node {
             → (actor_of self.new ≡ applies (actor_of self.old)) × (self.new.replies.items
             ≡ (if is_own (actor_of self.old) then self.old.replies.items ++ (reply ∷ [])
             else self.old.replies.items)) }
+        ensures makes { Makes self.old (Given.Replied reply) self.new }
         ensures works { (update : Update) → asked_by self.old ≡ Asked.Apply update
             → result ≢ Asked.Broken }
         ensures bounded { (update : Update) → asked_by self.old ≡ Asked.Apply update

@@ -5,6 +5,7 @@ ghost use Rattle.nr_machine.specs.World.{Act, MayAct, Plays, World, opening, pla
 ghost use Rattle.nr_machine.specs.World.Act.{Does};
 ghost use Rattle.nr_machine.specs.Words.{told_by};
 ghost use Rattle.nr_machine.specs.Bound.{Spends, left, price, total};
+ghost use Rattle.nr_machine.specs.Calls.{IsNew, MayMoveAll, Move, at_start, moved_all, schedule_of, worker_of};
 ghost use Rattle.nr_machine.specs.Machine.{IsFit};
 ghost use Rattle.nr_machine.specs.declared.node.Node.{Node};
 ghost use Rattle.nr_machine.specs.declared.words.Operation.{Operation};
@@ -72,6 +73,23 @@ pub fn calls_are_bounded()
         + ((machine 0).nodes + 2) * total lagged count }
 {}
 
+/// Machines make schedules. Callers may give new machines anything in any order, if each value is what the operation gave. Then the steps of
+/// their calls are a schedule, its world is the one that their operations made, and who works at a node is its machine.
+pub fn machines_make_schedules()
+    ensures plays { (nodes : ℕ) (machine : ℕ → Node) (moves : List Move) → nodes ≤ 64
+        → ((n : ℕ) → n < nodes → IsNew nodes n (machine n))
+        → MayMoveAll nodes (at_start nodes machine) moves
+        → Plays nodes (opening nodes) (schedule_of (at_start nodes machine) moves) }
+    ensures world { (nodes : ℕ) (machine : ℕ → Node) (moves : List Move)
+        → (moved_all (at_start nodes machine) moves).world
+        ≡ played (opening nodes) (schedule_of (at_start nodes machine) moves) }
+    ensures workers { (nodes : ℕ) (machine : ℕ → Node) (moves : List Move) (n : ℕ) → nodes ≤ 64
+        → n < nodes → ((m : ℕ) → m < nodes → IsNew nodes m (machine m))
+        → MayMoveAll nodes (at_start nodes machine) moves
+        → (played (opening nodes) (schedule_of (at_start nodes machine) moves)).actor n
+        ≡ worker_of ((moved_all (at_start nodes machine) moves).machine n) }
+{}
+
 /// How much a node has applied and flushed doesn't become less. So what every node has stays so, even where one loads the nodes' words one
 /// after another, whatever happens meanwhile and next.
 pub fn everywhere_stays()
@@ -89,9 +107,11 @@ pub fn everywhere_stays()
         → AllApplied nodes (played (opening nodes) acts) place }
 {}
 
-/// What is asked of a schedule can be met: here a read at one node sees the update of another, and then both have flushed it.
+/// What is asked of a schedule can be met, by each kind of step: here a call of two updates is appended at one node while the exchange of
+/// another fails; that one looks how many entries each node has taken, and appends its own; a read sees all three, and then both have
+/// flushed them.
 pub fn calls_can_end()
     ensures plays { Plays 2 (opening 2) example }
     ensures events { (played (opening 2) example).events ≡ its_events }
-    ensures flushed { Everywhere 2 (played (opening 2) example) 0 }
+    ensures flushed { Everywhere 2 (played (opening 2) example) 2 }
 {}

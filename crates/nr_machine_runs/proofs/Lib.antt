@@ -6,3 +6,4 @@ mod Given
 mod Noted
 mod Steps
 mod Faultless
+pub mod Example

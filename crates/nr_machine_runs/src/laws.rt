@@ -15,7 +15,7 @@ ghost use Rattle.nr_machine_runs.specs.Recorded.{IsRecordingOfRun, MayAll, new_r
 ghost use Rattle.nr_machine_runs.specs.Examples.{example, its_events, two_nodes, unmaps};
 
 /// Each schedule makes a history of the log of `nr_ring`, and its log has the machine's entries and local tails. So what is proved of such
-/// histories holds of machines: as long as there are at most 65,536 entries, where that log ends.
+/// histories holds of machines: as long as there are at most 15 times 2^30 entries, where that log ends.
 pub fn schedules_are_histories()
     ensures history { (depth : Depth) (means : Update → LogEntry) (nodes : ℕ) (acts : List Act)
         → IsScheduleFor depth means nodes acts
@@ -37,7 +37,8 @@ pub fn recordings_of_runs_have_no_fault()
         → FitsOrder trace (recorded_order trace) replica dump }
 {}
 
-/// What is asked of a run can be met: a thread unmaps, and another one reads at the node.
+/// What is asked of a run can be met, by each kind of note: three threads unmap on two nodes, two of them in one call of a machine, and an
+/// exchange fails; then one of them reads.
 pub fn runs_can_be_recorded()
     ensures plays { MayAll two_nodes unmaps (new_run two_nodes unmaps) example }
     ensures events { (noted_all two_nodes unmaps (new_run two_nodes unmaps) example).events

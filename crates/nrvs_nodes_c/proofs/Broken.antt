@@ -8,7 +8,9 @@ use Rattle.nr_machine.specs.declared.words.Operation.TheVariants.{Load, Store, E
 use Rattle.nr_machine.specs.Actor.{learned}
 use Rattle.nr_machine.specs.Bound.{Spends}
 use Rattle.nr_machine.specs.declared.node.Phase.TheVariants as phases
+use Rattle.nr_machine.proofs.Makes.{learns}
 use Rattle.nr_machine.proofs.Told.{broken_phase}
+use Rattle.nr_machine.specs.Calls.{Learns}
 use Rattle.nr_machine.specs.Machine.{IsFit, actor_of, asked_by}
 use Rattle.nr_machine.specs.declared.words.Word.TheVariants as words
 use Rattle.nr_machine.specs.inside.Told.{IsTold}
@@ -54,6 +56,9 @@ pub named_as : (new old mid : Node) (value : ℕ) → IsTold old value mid → n
 named_as new old mid value told same r lags =
     let it = told.named r (ap asked_by (sym same) ∙ lags) in
     (it.0, subst (λ (n : Node). value + 16 < n.seen + length n.batch.items) (sym same) it.1)
+
+pub learns_as : (old mid new : Node) (value : ℕ) → IsTold old value mid → new ≡ mid → Learns (asked_by old) old value new
+learns_as old mid new value told same = subst (λ (n : Node). Learns (asked_by old) old value n) (sym same) (learns old mid value told)
 
 pub spends_as : (lagged : ℕ) (old mid new : Node) → new ≡ mid → Spends lagged old mid → Spends lagged old new
 spends_as lagged old mid new same spends = subst (λ (n : Node). Spends lagged old n) (sym same) spends

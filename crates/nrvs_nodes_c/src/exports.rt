@@ -7,6 +7,7 @@ ghost use Rattle.nr_machine.specs.declared.words.Update.{Update};
 ghost use Rattle.nr_machine.specs.declared.words.Word.{Word};
 ghost use Rattle.nr_machine.specs.Actor.{applies, begins, ends, is_own, learned, new_actor};
 ghost use Rattle.nr_machine.specs.Bound.{Spends, left};
+ghost use Rattle.nr_machine.specs.Calls.{Given, Makes};
 ghost use Rattle.nr_machine.specs.Machine.{IsFit, actor_of, asked_by, refusal_of};
 ghost use Rattle.nr_machine.specs.Sound.{IsSound};
 ghost use Rattle.nrvs_nodes_c.specs.Kept.{IsKept, node_in};
@@ -45,6 +46,8 @@ pub extern "C" fn nrvs_node_update(node: &mut Node, updates: &[Update]) -> u32
     ensures begun { result < 16 → (refusal_of (node_in node.old) updates.now ≡ None)
         × (actor_of (node_in node.new) ≡ begins (ends (actor_of (node_in node.old))) updates.now)
         × ((node_in node.new).replies.items ≡ []) }
+    ensures makes { result < 16
+        → Makes (node_in node.old) (Given.Updates updates.now) (node_in node.new) }
     ensures asked { result < 16 → IsAsked node.new result }
     ensures works { result ≢ 7 }
     ensures bounded { result < 16
@@ -72,6 +75,8 @@ pub extern "C" fn nrvs_node_sync(node: &mut Node, at_least: u64) -> u32
     ensures begun { result < 16 → (asked_by (node_in node.old) ≡ Asked.Done)
         × (actor_of (node_in node.new) ≡ ends (actor_of (node_in node.old)))
         × ((node_in node.new).replies.items ≡ []) }
+    ensures makes { result < 16
+        → Makes (node_in node.old) (Given.Wanted at_least) (node_in node.new) }
     ensures looks { result < 16 → node.new.said ≡ said_of
         (if nat_le at_least node.old.applied then Asked.Done
         else Asked.Carry (Operation.Load Word.Head)) }
@@ -94,6 +99,7 @@ pub extern "C" fn nrvs_node_told(node: &mut Node, value: u64) -> u32
     requires { IsKept node.old }
     ensures kept { IsKept node.new }
     ensures asked { IsAsked node.new result }
+    ensures makes { Makes (node_in node.old) (Given.Value value) (node_in node.new) }
     ensures learned { (operation : Operation)
         → asked_by (node_in node.old) ≡ Asked.Carry operation → result ≢ 7
         → actor_of (node_in node.new)
@@ -129,6 +135,7 @@ pub extern "C" fn nrvs_node_applied(node: &mut Node, reply: &Reply) -> u32
     requires { IsKept node.old }
     ensures kept { IsKept node.new }
     ensures asked { IsAsked node.new result }
+    ensures makes { Makes (node_in node.old) (Given.Replied reply.now) (node_in node.new) }
     ensures applied { (update : Update) → asked_by (node_in node.old) ≡ Asked.Apply update
         → (actor_of (node_in node.new) ≡ applies (actor_of (node_in node.old)))
         × (take node.new.reply_count node.new.replies

@@ -23,15 +23,16 @@ pub(super) struct Asked {
     pub(super) entry: Entry,
 }
 
-/// The machine of a node.
+/// The machine of a node, on cache lines of its own. The first word of those that are the library's is how many nodes there are.
 #[derive(Clone, Debug, PartialEq, Eq, Hash)]
-#[repr(C)]
+#[repr(C, align(128))]
 pub(super) struct Node {
     pub(super) asked: Asked,
     pub(super) applied: u64,
     pub(super) reply_count: u64,
     pub(super) replies: [Entry; 16],
-    own: [u64; 84],
+    pub(super) nodes: u64,
+    own: [u64; 86],
 }
 
 impl Node {
@@ -54,7 +55,8 @@ impl Node {
             first: 0,
             second: 0,
         }; 16],
-        own: [0; 84],
+        nodes: 0,
+        own: [0; 86],
     };
 }
 
@@ -96,6 +98,7 @@ mod tests {
             ("nrvs_node", "applied", offset_of!(Node, applied)),
             ("nrvs_node", "reply_count", offset_of!(Node, reply_count)),
             ("nrvs_node", "replies", offset_of!(Node, replies)),
+            ("nrvs_node", "nodes", offset_of!(Node, nodes)),
             ("nrvs_node", "own", offset_of!(Node, own)),
         ];
         let mut text = String::from("#include \"nrvs_nodes.h\"\n");

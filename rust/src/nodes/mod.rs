@@ -30,7 +30,7 @@ mod words;
 
 pub use ffi::Entry;
 #[cfg(feature = "std")]
-pub use shared::{Answered, Nodes, State};
+pub use shared::{Answered, CallError, Nodes, State};
 pub use words::{LogWords, NodeWords, Operation, Word, Words, MOST_NODES, RING};
 
 use core::error::Error;
@@ -66,7 +66,7 @@ pub enum Step<'n> {
     Carry(Carry<'n>),
     /// That the next entry is applied to its state, and flushed on its processors.
     Apply(Apply<'n>),
-    /// That another node takes entries, since it is a ring behind.
+    /// That another node takes entries, since it is so far behind that the ring has no room for the updates.
     Lags(Lags<'n>),
     /// Nothing: the call is over.
     Done,
@@ -75,14 +75,17 @@ pub enum Step<'n> {
 }
 
 /// A node that waits for what a word was.
+#[must_use = "the call goes on once the operation is carried out"]
 #[derive(Debug, PartialEq, Eq)]
 pub struct Carry<'n>(&'n mut ffi::Node);
 
 /// A node that waits for a reply.
+#[must_use = "the call goes on once the entry is applied"]
 #[derive(Debug, PartialEq, Eq)]
 pub struct Apply<'n>(&'n mut ffi::Node);
 
 /// A node that waits for another.
+#[must_use = "the call goes on once it is asked to look again"]
 #[derive(Debug, PartialEq, Eq)]
 pub struct Lags<'n>(&'n mut ffi::Node);
 
@@ -113,13 +116,32 @@ impl Node {
         }
     }
 
+    /// How many nodes there are.
+    #[must_use]
+    #[inline]
+    pub fn nodes(&self) -> usize {
+        self.0.nodes as usize
+    }
+
+    /// Whether every node is done with the entry at a place: it has applied it, and flushed. Once it is so it stays so.
+    ///
+    /// # Panics
+    ///
+    /// Where the words are of fewer nodes than the machine's.
+    #[must_use]
+    pub fn everywhere(&self, words: &Words<'_>, place: u64) -> bool {
+        words.are_done(self.nodes(), place)
+    }
+
     /// How many entries the node has applied; while no call is open they are completed too.
+    #[must_use]
     #[inline]
     pub fn at(&self) -> u64 {
         self.0.applied
     }
 
-    /// The replies to the updates of the call, in their order.
+    /// The replies to the updates of the call, in their order. After a refusal they are those of the call before.
+    #[must_use]
     #[inline]
     pub fn replies(&self) -> &[Entry] {
         &self.0.replies[..(self.0.reply_count as usize).min(RING)]
@@ -166,8 +188,8 @@ impl Node {
     }
 
     /// Goes on with the call that was begun, to its end. Each entry is applied by `apply`, which is given its place, flushes the node's
-    /// processors, and answers its reply. Where a node is a ring behind, `lags` is given its number: it has that node sync, or waits. Nobody
-    /// else is waited for.
+    /// processors, and answers its reply. Where a node is so far behind that the ring has no room for the updates, `lags` is given its
+    /// number: it has that node sync, or waits. Nobody else is waited for.
     ///
     /// # Panics
     ///
@@ -199,6 +221,7 @@ impl Node {
 
 impl<'n> Carry<'n> {
     /// The operation that is asked for.
+    #[must_use]
     #[inline]
     pub fn operation(&self) -> Operation {
         let asked = &self.0.asked;
@@ -251,12 +274,14 @@ impl<'n> Carry<'n> {
 
 impl<'n> Apply<'n> {
     /// The entry.
+    #[must_use]
     #[inline]
     pub fn entry(&self) -> Entry {
         self.0.asked.entry
     }
 
     /// Its place in the log.
+    #[must_use]
     #[inline]
     pub fn place(&self) -> u64 {
         self.0.applied
@@ -272,7 +297,8 @@ impl<'n> Apply<'n> {
 }
 
 impl<'n> Lags<'n> {
-    /// The node that is a ring behind.
+    /// The node that is behind.
+    #[must_use]
     #[inline]
     pub fn node(&self) -> usize {
         self.0.asked.node as usize
@@ -288,10 +314,9 @@ impl<'n> Lags<'n> {
 }
 
 impl Words<'_> {
-    /// Whether every node is done with the entry at a place: it has applied it, and flushed. Once it is so it stays so.
-    pub fn everywhere(&self, place: u64) -> bool {
+    /// Whether each of so many nodes is done with the entry at a place.
+    fn are_done(&self, count: usize, place: u64) -> bool {
         let mut done = [0; MOST_NODES];
-        let count = self.nodes.len().min(MOST_NODES);
         for (node, done) in done[..count].iter_mut().enumerate() {
             *done = self.carry_out(Operation::Load(Word::Done(node)));
         }

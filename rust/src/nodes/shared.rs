@@ -2,8 +2,14 @@
 extern crate std;
 
 use super::{BadUpdate, Entry, LogWords, NoNode, Node, NodeWords, Step, Words};
+use core::error::Error;
+use core::fmt::{self, Display, Formatter};
 use std::boxed::Box;
-use std::sync::{Mutex, MutexGuard, TryLockError};
+use std::cell::RefCell;
+use std::mem;
+use std::ptr;
+use std::sync::atomic::{AtomicUsize, Ordering::SeqCst};
+use std::sync::{Mutex, MutexGuard, PoisonError, TryLockError};
 use std::thread;
 use std::vec::Vec;
 
@@ -26,7 +32,19 @@ pub trait State {
     fn apply(&mut self, update: Self::Update) -> Self::Reply;
 }
 
+/// Why a call on `Nodes` isn't carried out. Its updates are not in the log, and never will be.
+#[derive(Clone, Copy, Debug, PartialEq, Eq)]
+pub enum CallError {
+    /// The updates are refused.
+    Bad(BadUpdate),
+    /// The call is made inside another one on these nodes, by a closure of `read` or by `State::apply`: it would wait for itself.
+    Inside,
+    /// `State::apply` panicked at the node of this number. Its state is of no use any more, and no update is taken.
+    Lost(usize),
+}
+
 /// The answers to the updates of a call.
+#[must_use]
 #[derive(Clone, Debug, PartialEq, Eq)]
 pub struct Answered<Reply> {
     /// The place of the first update in the log; each other one's is the next.
@@ -35,25 +53,55 @@ pub struct Answered<Reply> {
     pub replies: Vec<Reply>,
 }
 
-/// A node: its machine and its state.
+/// A node: its machine and its state, and whether `State::apply` has begun to change that and not ended.
 #[derive(Debug)]
 struct Home<S> {
     node: Node,
     state: S,
+    changing: bool,
+}
+
+std::thread_local! {
+    /// The nodes on which this thread has a call open, by their addresses.
+    static INSIDE: RefCell<Vec<usize>> = const { RefCell::new(Vec::new()) };
+}
+
+/// A call of this thread, until it ends or panics.
+struct Inside;
+
+impl Drop for Inside {
+    fn drop(&mut self) {
+        INSIDE.with(|inside| _ = inside.borrow_mut().pop());
+    }
+}
+
+/// Says that a node is lost, unless it is forgotten: `State::apply` has panicked.
+struct Alarm<'a> {
+    lost: &'a AtomicUsize,
+    node: usize,
+}
+
+impl Drop for Alarm<'_> {
+    fn drop(&mut self) {
+        self.lost.store(self.node + 1, SeqCst);
+    }
 }
 
 /// Up to 64 nodes, each with a state under a lock of its own.
 ///
-/// Whoever calls names the node on which he runs. A call waits for that node's lock, and an update for other nodes too, where one of them is
-/// 16 entries behind: then it has that one take entries, or waits for whoever has its lock. So a thread that was stopped at one node
-/// holds up no other, until others are 16 entries ahead of it.
+/// Whoever calls names the node on which he runs. A call waits for that node's lock. An update of u entries waits for other nodes too,
+/// where one of them is 17 - u entries or more behind, so that the ring has no room: then it has that one take entries, or waits for
+/// whoever has its lock. So a thread that was stopped at one node holds up no other until an update needs its node's room.
 ///
-/// Where `State::apply` or what is given to `read` panics, the node is of no use any more, and each later call that needs it panics.
+/// A closure of `read` may panic: the state is as it was, and all calls go on. Where `State::apply` panics, its node is lost: each later
+/// call there is answered `Lost`, and so is each update at any node. Reads at the other nodes go on.
 #[derive(Debug)]
 pub struct Nodes<S> {
     log: LogWords,
     words: Box<[NodeWords]>,
     homes: Box<[Mutex<Home<S>>]>,
+    /// The number of a node that is lost, plus 1.
+    lost: AtomicUsize,
 }
 
 impl<S: State> Nodes<S> {
@@ -70,7 +118,11 @@ impl<S: State> Nodes<S> {
             .enumerate()
             .map(|(number, state)| {
                 let node = Node::new(count, number)?;
-                Ok(Mutex::new(Home { node, state }))
+                Ok(Mutex::new(Home {
+                    node,
+                    state,
+                    changing: false,
+                }))
             })
             .collect();
         if count == 0 {
@@ -80,10 +132,12 @@ impl<S: State> Nodes<S> {
             log: LogWords::default(),
             words: (0..count).map(|_| NodeWords::default()).collect(),
             homes: homes?,
+            lost: AtomicUsize::new(0),
         })
     }
 
     /// How many nodes there are.
+    #[must_use]
     pub fn count(&self) -> usize {
         self.homes.len()
     }
@@ -93,44 +147,61 @@ impl<S: State> Nodes<S> {
     ///
     /// # Errors
     ///
-    /// `Empty`, `TooMany`, or `TooLarge` where `State::pack` gives a second word of 2^57 or more. Nothing changed.
+    /// `Bad` with `Empty`, `TooMany`, or `TooLarge` where `State::pack` gives a second word of 2^57 or more; `Inside`; `Lost`.
     ///
     /// # Panics
     ///
-    /// Where there is no such node, or an earlier call panicked at one that is needed.
+    /// Where there is no such node.
     pub fn update(
         &self,
         node: usize,
         updates: &[S::Update],
-    ) -> Result<Answered<S::Reply>, BadUpdate> {
+    ) -> Result<Answered<S::Reply>, CallError> {
+        let _inside = self.enter()?;
+        if let lost @ 1.. = self.lost.load(SeqCst) {
+            return Err(CallError::Lost(lost - 1));
+        }
         let updates: Vec<Entry> = updates.iter().map(S::pack).collect();
-        let mut home = lock(&self.homes[node]);
-        home.node.update(&updates)?;
-        Ok(self.run(&mut home))
+        let mut home = self.lock(node)?;
+        home.node
+            .update(&updates)
+            .map_err(|bad| self.error(node, bad))?;
+        self.run(node, &mut home)
     }
 
     /// Reads a node's state, in which are all updates that ended before the read began; and how many entries are in it.
     ///
+    /// # Errors
+    ///
+    /// `Inside`; `Lost`.
+    ///
     /// # Panics
     ///
-    /// As `update`.
-    pub fn read<T>(&self, node: usize, read: impl FnOnce(&S, u64) -> T) -> T {
-        let home = self.up_to(node, self.words().completed());
-        read(&home.state, home.node.at())
+    /// Where there is no such node, and where `read` panics.
+    pub fn read<T>(&self, node: usize, read: impl FnOnce(&S, u64) -> T) -> Result<T, CallError> {
+        let _inside = self.enter()?;
+        let home = self.up_to(node, self.words().completed())?;
+        Ok(read(&home.state, home.node.at()))
     }
 
     /// Has a node apply all that is in the log, as one that was idle, or a page fault's handler, has to: how many entries it has applied.
     ///
+    /// # Errors
+    ///
+    /// `Inside`; `Lost`.
+    ///
     /// # Panics
     ///
-    /// As `update`.
-    pub fn sync(&self, node: usize) -> u64 {
-        self.up_to(node, u64::MAX).node.at()
+    /// Where there is no such node.
+    pub fn sync(&self, node: usize) -> Result<u64, CallError> {
+        let _inside = self.enter()?;
+        Ok(self.up_to(node, u64::MAX)?.node.at())
     }
 
     /// Whether every node has applied the entry at a place, and flushed. Once it is so it stays so: what it took away may be used again.
+    #[must_use]
     pub fn everywhere(&self, place: u64) -> bool {
-        self.words().everywhere(place)
+        self.words().are_done(self.homes.len(), place)
     }
 
     fn words(&self) -> Words<'_> {
@@ -140,18 +211,58 @@ impl<S: State> Nodes<S> {
         }
     }
 
-    /// A node that has applied so many entries at least, or all that there are.
-    fn up_to(&self, node: usize, at_least: u64) -> MutexGuard<'_, Home<S>> {
-        let mut home = lock(&self.homes[node]);
-        if home.node.at() < at_least {
-            home.node.sync(at_least).expect("no call is open");
-            self.run(&mut home);
+    /// Begins a call of this thread, which has no other one on these nodes.
+    fn enter(&self) -> Result<Inside, CallError> {
+        let here = ptr::from_ref(self) as usize;
+        INSIDE.with(|inside| {
+            let mut inside = inside.borrow_mut();
+            if inside.contains(&here) {
+                return Err(CallError::Inside);
+            }
+            inside.push(here);
+            Ok(Inside)
+        })
+    }
+
+    /// Why a machine refuses a call. It is busy where an earlier call couldn't end, since a node is lost.
+    fn error(&self, node: usize, bad: BadUpdate) -> CallError {
+        match (bad, self.lost.load(SeqCst)) {
+            (BadUpdate::Busy, 0) => CallError::Lost(node),
+            (BadUpdate::Busy, lost) => CallError::Lost(lost - 1),
+            (bad, _) => CallError::Bad(bad),
         }
-        home
+    }
+
+    /// A node that isn't lost. What panicked while it had the lock was a closure of `read`, or another node's change.
+    fn lock(&self, node: usize) -> Result<MutexGuard<'_, Home<S>>, CallError> {
+        let home = self.homes[node]
+            .lock()
+            .unwrap_or_else(PoisonError::into_inner);
+        if home.changing {
+            return Err(CallError::Lost(node));
+        }
+        Ok(home)
+    }
+
+    /// A node that has applied so many entries at least, or all that there are.
+    fn up_to(&self, node: usize, at_least: u64) -> Result<MutexGuard<'_, Home<S>>, CallError> {
+        let mut home = self.lock(node)?;
+        if home.node.at() < at_least {
+            self.catch_up(node, &mut home)?;
+        }
+        Ok(home)
+    }
+
+    /// A node whose lock is held applies all that there are.
+    fn catch_up(&self, node: usize, home: &mut Home<S>) -> Result<(), CallError> {
+        home.node
+            .sync(u64::MAX)
+            .map_err(|bad| self.error(node, bad))?;
+        self.run(node, home).map(|_| ())
     }
 
     /// Goes on to the end of a call: the answers to its own updates.
-    fn run(&self, home: &mut Home<S>) -> Answered<S::Reply> {
+    fn run(&self, node: usize, home: &mut Home<S>) -> Result<Answered<S::Reply>, CallError> {
         let (words, mut answered) = (
             self.words(),
             Answered {
@@ -164,8 +275,12 @@ impl<S: State> Nodes<S> {
             match home.node.step() {
                 Step::Carry(carry) => _ = carry.out(&words),
                 Step::Apply(apply) => {
-                    let place = apply.place();
+                    let (lost, place) = (&self.lost, apply.place());
+                    let alarm = Alarm { lost, node };
+                    home.changing = true;
                     let reply = home.state.apply(S::unpack(apply.entry()));
+                    home.changing = false;
+                    mem::forget(alarm);
                     apply.applied(Entry::default());
                     if home.node.replies().len() > kept {
                         if kept == 0 {
@@ -175,28 +290,40 @@ impl<S: State> Nodes<S> {
                     }
                 }
                 Step::Lags(lags) => {
-                    self.wake(lags.node());
+                    self.wake(lags.node())?;
                     lags.again();
                 }
-                Step::Done => return answered,
+                Step::Done => return Ok(answered),
                 Step::Broken => panic!("a node was given a value that no word has"),
             }
         }
     }
 
     /// Has another node take entries, or waits a moment for whoever has its lock.
-    fn wake(&self, other: usize) {
-        match self.homes[other].try_lock() {
-            Ok(mut home) => {
-                home.node.sync(u64::MAX).expect("no call is open");
-                self.run(&mut home);
+    fn wake(&self, other: usize) -> Result<(), CallError> {
+        let mut home = match self.homes[other].try_lock() {
+            Ok(home) => home,
+            Err(TryLockError::Poisoned(home)) => home.into_inner(),
+            Err(TryLockError::WouldBlock) => {
+                thread::yield_now();
+                return Ok(());
             }
-            Err(TryLockError::WouldBlock) => thread::yield_now(),
-            Err(TryLockError::Poisoned(_)) => panic!("a call panicked at the node that lags"),
+        };
+        if home.changing {
+            return Err(CallError::Lost(other));
+        }
+        self.catch_up(other, &mut home)
+    }
+}
+
+impl Display for CallError {
+    fn fmt(&self, f: &mut Formatter<'_>) -> fmt::Result {
+        match self {
+            CallError::Bad(bad) => bad.fmt(f),
+            CallError::Inside => f.write_str("a call inside another one on the same nodes"),
+            CallError::Lost(node) => write!(f, "a change panicked at node {node}"),
         }
     }
 }
 
-fn lock<T>(home: &Mutex<T>) -> MutexGuard<'_, T> {
-    home.lock().expect("a call panicked at this node")
-}
+impl Error for CallError {}

@@ -125,6 +125,7 @@ impl Words<'_> {
     }
 
     /// How many entries are completed. Whoever reads loads this first, and then looks at a node's state once that has applied as many.
+    #[must_use]
     #[inline]
     pub fn completed(&self) -> u64 {
         self.carry_out(Operation::Load(Word::Completed))

@@ -8,4 +8,4 @@ returns-then-link-self c = told_stray c.args.self.now c.args.value c.requires.so
 
 pub returns : goal.returns
 returns c = subst (λ n. IsTold c.args.self.now c.args.value n) (sym c.keep.ensures)
-    (told_entry c.args.self.now c.args.value c.in-Some.first c.requires.sound c.requires.phase c.in-Some.is)
+    (told_entry c.args.self.now c.args.value c.in-Some.first c.requires.sound c.requires.phase c.in-Some.is c.if-link-self.false)

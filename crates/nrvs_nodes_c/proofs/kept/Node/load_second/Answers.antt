@@ -22,4 +22,4 @@ returns-clause-told c = let node = node_in c.args.self.now in
       half = None;
       phase = p;
     })) (sym (phase_of (nat_eq (node.from - 1) node.taken) 9 7))
-    (told_entry node c.args.value now.half c.requires.kept.sound c.requires.phase (there now.has_half now.half here.2)))
+    (told_entry node c.args.value now.half c.requires.kept.sound c.requires.phase (there now.has_half now.half here.2) c.if-link-self.false))
