@@ -2,23 +2,19 @@
  *
  * This is for a kernel whose frames come one at a time from an allocator and may lie anywhere. Other processors walk the tables while one
  * changes them, and roots may share half of their tables. A call allocates nothing, writes only the plan, and reads only the plan, the
- * target and the words that it is shown. You ask for a change. The library then asks for the words of one frame after another, and for
- * empty frames, and ends with a plan. You find the frames, carry the plan out by compare-exchanges (or a hypercall), flush, and free, all
- * under your own lock. tests/plans_c/loop.c has this as code:
+ * target and the words that it is shown. You ask for a change. The library asks for the words of one frame after another, and for empty
+ * frames, and ends with a plan. You carry it out, flush, and free, under your own lock:
  *
  *     struct nrvs_plan plan;
  *     uint32_t step = nrvs_plan_map(&plan, &target, base, NRVS_4K, physical, NRVS_WRITE, 0);
  *     while (step == NRVS_SEE)
- *             step = nrvs_plan_see(&plan, words_of(plan.frame));               // where the direct map has the frame
+ *             step = nrvs_plan_see(&plan, words_of(NULL, plan.frame));         // where the direct map has the frame
  *     while (step == NRVS_GIVE)
  *             step = empty_frame(&number) ? nrvs_plan_give(&plan, number) : nrvs_plan_give_none(&plan);
  *     if (step != NRVS_PLANNED)
  *             return step;                                                     // a refusal: the request is not well formed
- *     if (plan.fills)
- *             fill(&plan);                                                     // word i of plan.fill.frame: first_word + i * step; in the
- *                                                                              // gap 0
- *     for (i = 0; i < plan.store_count; i++)
- *             carry_out(&plan, i);                                             // below
+ *     if (nrvs_plan_carry_out(&plan, words_of, NULL) != NRVS_OK)
+ *             panic();                                                         // somebody else wrote: the lock doesn't hold
  *     if (plan.flush != NRVS_FLUSH_NOTHING)
  *             shoot_down(plan.flush, plan.flush_base, plan.flush_size);        // on every processor that uses this table
  *     for (i = 0; i < plan.unlinked_count; i++)
@@ -27,113 +23,19 @@
  *                                                                              // clear them
  *     return plan.reply.code == NRVS_DONE ? 0 : ..;
  *
- * After a word was shown and before it is stored to, a processor may set flags in it (accessed and dirty, bits 5 and 6). So carry a store
- * out by compare-exchanges. If one finds another word, hand that to the plan:
+ * What you keep, since no call can test it. crates/nrvs_plan_c/README.md has it in full, with the processor's settings:
+ *   - one lock is held from the first call until the flush is over on each processor. Meanwhile nobody else changes a table, and each call
+ *     gets the plan as the call before left it. Only processors write words of tables, and only flags (bits 5 and 6) of present entries;
+ *   - the words shown are the 512 of the frame asked for. A frame that is given has only words of 0, is no table, and isn't given twice;
+ *   - the walk of each canonical address meets no missing frame and no reserved bit, and each page lies below physical 2^51. No other path
+ *     leads to the tables on the walk of the call's address;
+ *   - stores are compare-exchanges of whole words, in their order. Then comes the flush, and only then are unlinked frames free;
+ *   - the stack has 6 KiB left for a plan, 8 KiB for a range. The archive uses XMM registers, as in nrvs.h; tools/for_kernels compiles it
+ *     again for a kernel, without them.
  *
- *     uint64_t *at = &words_of(plan.stores[i].frame)[plan.stores[i].index];
- *     while (!compare_exchange(at, plan.stores[i].old_word, plan.stores[i].new_word, &found)) {
- *             if (nrvs_plan_again(&plan, i, found) != NRVS_OK)
- *                     panic();                                                 // somebody else wrote: the lock doesn't hold
- *             if (plan.fills)
- *                     fill(&plan);                                             // once more, with these flags, before it is linked
- *     }
- *
- * The following is promised of a plan, if the caller keeps what is listed further below. Brackets name the clauses: those of `IsRight` in
- * crates/vs_plan unless they say otherwise. The clause `next` of each C call has them (crates/nrvs_plan_c/README.md):
- *   - the answer is that of one sequential address space, the one that the memory translates to. If it changes nothing, no store is planned
- *     [reply, nothing];
- *   - the old word of each store is the one that is in memory [found]. One of the stores is the switch. Before it, the memory with the
- *     table that was filled translates every canonical address as before the call; from it on, as after the call [safe]. So a processor
- *     that walks at any moment finds the old translation or the new one. It never finds a missing frame, a reserved bit, or a page that was
- *     in neither, whatever flags are set meanwhile [the law flags_keep_plans_safe];
- *   - a store writes the page's entry, clears a link to a table that is unlinked, or writes a word of a frame that was given. For a join or
- *     a collapse it writes the page's entry over such a link. No other present entry changes [meant], and each store changes its word
- *     [changing]. A protect keeps all bits of the page's entry except 1, 2 and 63. A map writes exactly the bits that it was given
- *     [written];
- *   - a link that a plan writes is the frame's address plus 7: it allows everything, and has no other bit [AreLinks; put: IsSplit];
- *   - a map overwrites words that are not present, whatever their other bits are, such as swap entries [one_way]. The overwritten word is
- *     the `old_word` of the store. An unmap clears only the page's word and links [one_way, meant];
- *   - if a protect or a remap of a page plans no store, its entry is already as it would be written. If a prune plans none, the table in
- *     which the address's walk ends has a present entry, is the root, or stays [already]. The answered bits are those of the page's entry
- *     [`told`];
- *   - a remap is at most one store, which keeps all bits of the page's entry except its address and its rights. A split fills a frame that
- *     was given with the entries of 512 pages of the next smaller size, which have the page's rights, flags and other bits. Then it links
- *     that frame by one store. An unmap of parts does the same with 0 for these parts, and no other plan fills a frame. A join is one store
- *     of an entry with the address, the rights and the bits of the first page, with both flags set, so that no processor sets one that
- *     could be lost. A collapse is one such store too, with the address and the rights that were asked for. A prune is one store, which
- *     clears the link to a table without a present entry [put: IsRemapped, IsSplit, IsJoined, IsCollapsed, IsCut];
- *   - no flag of a page is lost if a store is made again. The flag is in the stored word (for a split or an unmap of parts, in the words of
- *     the filled frame), and in the answered bits. The entry of a join or a collapse already has both flags, whatever flags were found. Its
- *     answered bits have the flags of the first page as it was shown. The flags of a link are dropped with it [the law
- *     flags_keep_plans_safe: protects, remaps, splits, joins, bits]. Then all that is said here holds for the memory with the word that was
- *     found [the laws plans_are_made_again, plans_are_right_again];
- *   - the flush that a plan names is sufficient. If a processor's caches agreed with the tables before, they do so again after it: they
- *     have nothing that leads elsewhere than a walk of the memory, and nothing that leads into an unlinked frame [flushed; the law
- *     flushes_of_right_plans_suffice], whatever flags are set meanwhile [the law flags_keep_processors_up_to_date]. In the law a cached
- *     entry is a frame or a table, with rights; it has no dirty flag, G, key or memory type [Kept]. If you clear a flag, flush as well;
- *   - an unlinked frame was a table on the address's walk, is none now, and is named once. Its words are all 0, except after a join, a
- *     collapse or a prune: then they stay as they were, apart from flags, so clear them before the frame is given again [unlinked,
- *     named_once]. After an unmap, each table on the walk that may be unlinked has a word that isn't 0 [pruned];
- *   - what the caller has to keep about the memory holds again after the stores. So plans can follow one another, beginning with a root of
- *     zeros [whole, own; the law premises_hold_again];
- *   - if another root leads to tables of this root, processors that walk from that root also find the old translation or the new one, and
- *     the same flush suffices for them [the law plans_are_right_beside_their_root], under three conditions [IsBeside]. For each address,
- *     either the entries of both roots lead to one table and allow the same, or its walk from the other root meets no table on the walk of
- *     the base [ways]. The other root is itself no table on that walk [root]. If both share the entry for the base, `pinned` is not 0 and
- *     at most `levels` [pinned]. So two cases aren't covered: a table that is shared below different entries (page directories that Linux
- *     shares for huge pages), and a copy of a root whose entries allow less (the kernel's view of user space with page-table isolation);
- *   - what a plan through such a root requires of the memory holds again, but the caller has to know that the pages of both roots still
- *     make one address space [the law roots_stay_beside];
- *   - the words of a frame are asked for at most once a level, or twice for an unmap: if its page's table is left empty, it walks down once
- *     more, to see whether the tables above are empty too [nrvs_plan_see: fewer, shows_left]. Each frame lies within `phys_bits` [within,
- *     of AwaitsWords in IsSound]. Then a map asks for at most one empty frame for each level below the root's, and a split or an unmap of
- *     parts for one. From then on no words are asked for [nrvs_plan_give, nrvs_plan_give_none: fewer, ends];
- *   - if the caller doesn't keep what is listed below, for example if a reserved bit is set or other words are shown, only the plan's size
- *     is known: at most NRVS_MOST_STORES stores and NRVS_MOST_UNLINKED frames [IsSound; named].
- *
- * What the caller has to keep, which no call can test:
- *   - pointers are not null, aligned for their types, and lead to as many elements as stated. Nobody else reads or writes the plan
- *     meanwhile. Each call except the first gets the plan as the call before left it [IsSound];
- *   - the words shown are the 512 of the frame asked for, and except for flags that processors set they stay so until the plan is carried
- *     out. Flags may also be set while nrvs_plan_see reads a frame: the function that reads its words reads none twice [once, of
- *     FrameWords::read], so all that is known about a word comes from one read. We read in the code that nrvs_plan_see reads none itself,
- *     and tested that the archive reads none twice (tests/plans). For the calls over frames we read both in the code;
- *   - one lock is held from the first call until the flush is over on each processor. Before that nobody but the holder of the lock begins
- *     another plan for this table, or for one that shares tables with it, whichever its address is. The law on flushes is about processors
- *     whose caches agree with the tables [IsUpToDate, in Suffices]: one missing flush voids it for every later plan. Several plans may
- *     share one flush that drops all that theirs drop, if none writes into a frame that an earlier one has unlinked. Such a frame is free
- *     only after that flush [flushes_of_several_plans_suffice, of vs_range]. A processor may read between the parts of that flush if their
- *     order is right: the first part also drops what is cached of tables, as each invlpg does, or the parts are those of the plans, in
- *     their order [the law flushes_come_in_order]. No plan begins before the last part is done;
- *   - from the root on, the walk of each canonical address meets no missing frame and no reserved bit, and each page lies below physical
- *     2^51. This is required of the whole address space: with one bad word anywhere, nothing is promised of any plan [IsPremise:
- *     translates, is_space];
- *   - no other path leads to the tables on the address's walk, including the root [IsPremise: own]. So an entry that leads back to the root
- *     or to a table above it (a recursive slot) isn't covered. Tables of other addresses may be shared, such as a half that other roots
- *     have too. Change shared tables through one root at a time, and with `pinned` if the root's own entries are shared;
- *   - a frame that is given has only words of 0, no table leads to it, and it isn't given twice [IsSpareFor; given]. Other processors have
- *     to see it as 0 before the stores, as they do if this processor cleared it;
- *   - if a frame is to be filled, it is filled before the stores, and again after an nrvs_plan_again. The stores are compare-exchanges, in
- *     their order, each of the whole word. Then comes the flush, on each processor that may have used the table. After that the unlinked
- *     frames may be freed, or given again. A plain store (WRITE_ONCE) would lose flags that a processor sets meanwhile;
- *   - an interrupt that asks other processors for the flush is sent only when all of them see the last store. With x2APIC, put an MFENCE
- *     and an LFENCE before the WRMSR of the interrupt command, which may overtake stores (SDM volume 3A, "MSR Access in x2APIC Mode");
- *   - the flush: for NRVS_FLUSH_PAGE and NRVS_FLUSH_PAGE_AND_TABLES, an invlpg of the base, which drops all entries of paging-structure
- *     caches, or a load of CR3 (SDM volume 3A, 4.10.4.1). NRVS_FLUSH_RANGE, after a split, an unmap of parts, a join or a collapse, needs
- *     an invlpg for each of the 512 smaller pages, or a load of CR3. EFER.TCE is 0: if it is 1, AMD's invlpg drops only the entries on the
- *     walk of its address. An INVPCID of one address (type 0) does no more, so it isn't enough after NRVS_FLUSH_PAGE_AND_TABLES and
- *     NRVS_FLUSH_RANGE [IsDropped]. Global pages and pages of other PCIDs are up to the caller;
- *   - the processor: CR0.WP and EFER.NXE are 1. (If NXE is 0, bit 63 is reserved, so map with NRVS_EXEC.) CR4.SMEP, SMAP, PKE and PKS are
- *     0, otherwise it refuses more than the rights say. CR4.LA57 is 1 with five levels, and 0 with four. `phys_bits` is how many bits its
- *     physical addresses have (CPUID 80000008H). Attributes PWT, PCD and PAT, and memory types, are up to the caller. If it has no pages of
- *     1 GiB (CPUID 80000001H, EDX bit 26 is 0), map none, and join and collapse no pages of 2 MiB: bit 7 would be reserved. If a change of
- *     an executable page's size may raise a machine check (IA32_ARCH_CAPABILITIES, PSCHANGE_MC_NO is 0), don't split, join or collapse such
- *     a page, nor unmap parts of one: unmap, flush and map instead. Address bits that encrypt memory (AMD's C, TDX's shared) aren't
- *     supported: links have none;
- *   - the archive: XMM registers and linking are as in nrvs.h. The stack is aligned to 16 and has 6 KiB left, or 8 KiB for ranges: at most
- *     4.5 and 5.6 KiB are used, whatever is asked for. Nothing is kept below RSP. There are jump tables, but no calls through registers.
- *     They aren't marked for CET, so CR4.CET is 0.
- *
+ * What you get: the answer of one sequential address space. A processor that walks at any moment finds the old translation or the new one.
+ * No flag that a processor sets is lost, and the named flush is sufficient. The same README has each promise with its clauses, in "What a
+ * plan promises" and "What a range promises". Names in brackets here are clauses.
  */
 #ifndef NRVS_PLAN_H
 #define NRVS_PLAN_H
@@ -150,8 +52,8 @@ struct nrvs_target {
 	uint32_t levels;    /* 4 or 5 */
 	uint32_t phys_bits; /* how many bits a physical address has: 36 to 52 */
 	uint32_t pinned;    /* tables that entries of this level and above lead to stay linked, as where other roots lead to them; 0: none.
-			     * `levels`: those to which the root leads; 1: all [highest_link], and an unmap looks at no entry off the walk
-			     * (read in the code) */
+			     * `levels`: those to which the root leads; 1: all [highest_link]. Then an unmap looks at no entry off the
+			     * walk, and asks for each frame once (tested: tests/plans_c/pinned.c) */
 };
 
 /* A store: word `index` of a frame is `old_word`, and becomes `new_word`. */
@@ -229,7 +131,7 @@ enum {
 				* as of swapped pages). number: its frame. bits: an address whose walk ends in it: nrvs_plan_prune of that
 				* unlinks the table, unless `pinned` keeps it [LiesOverEmpty, already]. Then a map may still overlap a page */
 	NRVS_RESERVED = 14,    /* of each call below. number: the frame of a word; bits: its index. It links to a frame beyond phys_bits
-				* [LeadsBeyond], or has another reserved bit set: never, if the caller keeps what is listed above [reply].
+				* [LeadsBeyond], or has another reserved bit set: never, if the caller keeps what has to be kept [reply].
 				* We read in the code that a call over frames follows no such link */
 	NRVS_MISPLACED = 15,   /* the physical address is no multiple of the size of the page that is there, or that is to be there: a remap's
 				* [remap_refusal], a join's [join_refusal], a collapse's [collapse_refusal] */
@@ -244,12 +146,14 @@ enum {
 	NRVS_PINNED = 21       /* the pages that are to be joined or collapsed lie in a table that stays, by `pinned` [KeepsTable] */
 };
 
-/* What the processors that use this table have to drop after the last store is carried out. */
+/* What the processors that use this table have to drop after the last store is carried out: by an invlpg of the base, for a range by one of
+ * each of its 512 smaller pages, or by a load of CR3 with bit 63 clear. The README's part "The flush" says when less is enough.
+ */
 enum {
 	NRVS_FLUSH_NOTHING = 0,
-	NRVS_FLUSH_PAGE = 1,           /* the translations of a page */
+	NRVS_FLUSH_PAGE = 1,            /* the translations of a page */
 	NRVS_FLUSH_PAGE_AND_TABLES = 2, /* and what they keep of tables, some of which were unlinked */
-	NRVS_FLUSH_RANGE = 3           /* all translations from the base on for as many bytes as this size, and what they keep of tables */
+	NRVS_FLUSH_RANGE = 3            /* all translations from the base on for as many bytes as this size, and what they keep of tables */
 };
 
 /* Attributes of a page, at the bit positions of a 4 KiB entry, whatever the size is: PWT 3, PCD 4, accessed 5, dirty 6, PAT 7, global 8,
@@ -340,7 +244,9 @@ uint32_t nrvs_plan_remap_in(struct nrvs_plan *plan, const struct nrvs_target *ta
 uint32_t nrvs_plan_ask_in(struct nrvs_plan *plan, const struct nrvs_target *target, const struct nrvs_words *frames, size_t count,
 			  uint64_t first, uint64_t address);
 
-/* Shows the words of `plan->frame` [next]. NRVS_NOT_ASKED if the plan doesn't wait for words [asked]. */
+/* Shows the words of `plan->frame` [next]. At most one frame a level is asked for, or two by an unmap that may unlink its page's table
+ * [most of HasBegun; fewer]. NRVS_NOT_ASKED if the plan doesn't wait for words [asked].
+ */
 uint32_t nrvs_plan_see(struct nrvs_plan *plan, const uint64_t words[512]);
 
 /* Gives a frame whose words are all 0, or says that there is none [next]. NRVS_NOT_ASKED if the plan doesn't wait for a frame [asked]. */
@@ -352,6 +258,42 @@ uint32_t nrvs_plan_give_none(struct nrvs_plan *plan);
  * the plan fills a frame, fill it again.
  */
 uint32_t nrvs_plan_again(struct nrvs_plan *plan, uint64_t index, uint64_t found);
+
+/* Finds the words of a frame, by its number. */
+typedef uint64_t *nrvs_words_of(void *context, uint64_t frame);
+
+/* Fills the frame that is to be filled, if one is: before the stores, and once more after an nrvs_plan_again. */
+static inline void nrvs_plan_fill(const struct nrvs_plan *plan, nrvs_words_of *words_of, void *context)
+{
+	const struct nrvs_fill *fill = &plan->fill;
+	uint64_t *words, i;
+
+	if (!plan->fills)
+		return;
+	words = words_of(context, fill->frame);
+	for (i = 0; i < 512; i++)
+		__atomic_store_n(words + i, i - fill->gap < fill->gap_count ? 0 : fill->first_word + i * fill->step, __ATOMIC_RELAXED);
+}
+
+/* Fills, and carries out the stores in their order, each by compare-exchanges. Flags that a processor sets meanwhile are in the plan then.
+ * NRVS_OK, or NRVS_NOT_ASKED if somebody else wrote a word: the stores before that one are made. This is C, and not proved; it is tested
+ * (tests/plans).
+ */
+static inline uint32_t nrvs_plan_carry_out(struct nrvs_plan *plan, nrvs_words_of *words_of, void *context)
+{
+	uint64_t i;
+
+	nrvs_plan_fill(plan, words_of, context);
+	for (i = 0; i < plan->store_count; i++) {
+		uint64_t *at = words_of(context, plan->stores[i].frame) + plan->stores[i].index, found = plan->stores[i].old_word;
+		while (!__atomic_compare_exchange_n(at, &found, plan->stores[i].new_word, 0, __ATOMIC_SEQ_CST, __ATOMIC_RELAXED)) {
+			if (nrvs_plan_again(plan, i, found) != NRVS_OK)
+				return NRVS_NOT_ASKED;
+			nrvs_plan_fill(plan, words_of, context);
+		}
+	}
+	return NRVS_OK;
+}
 
 /* Ranges: consecutive pages, with one run of words for each table. A call deals with pages of one table, from the base of the range on, as
  * single calls for each page would in their order, up to the first that would be refused. It asks for words and frames as a plan does, and
@@ -380,25 +322,8 @@ uint32_t nrvs_plan_again(struct nrvs_plan *plan, uint64_t index, uint64_t found)
  *     }
  *     shoot_down(..);                                                          // once, for all runs and plans
  *
- * The following is promised of a run, if everything is kept that has to be kept for plans [next of nrvs_run_see and of the calls over
- * frames: IsRangeNextOf]:
- *   - it has at least one page, lies within the range and within its table, and is as long as possible [some, within, longest; room];
- *   - its result is that of single calls for each page. Each of these has a plan that is right for the memory and the space after those
- *     before it, and answers NRVS_DONE. Together they leave the memory that the run leaves, and unlink nothing [calls, asked, right, done,
- *     ended, unlinked, of IsRunRight];
- *   - each store finds the word that was shown, except for flags that were set since [found]. Each address is translated as before up to
- *     one of the stores, and from that one on as after all of them [switches]. So a processor never finds a half-changed page;
- *   - it lies in the table to which the walk of the base leads, from the entry for the base on. Its pages are of that table's level, and
- *     its words change as requested [IsRunOf];
- *   - the flush is sufficient: a processor whose caches agreed with the tables before the run has such caches again after a flush of each
- *     of its pages, or none if none is named, in any order, whatever it reads meanwhile [flushed, suffices; forgets]. Several runs and
- *     plans may share one flush that drops all that theirs drop, whatever flags processors set meanwhile. An access during that time finds
- *     what a walk finds before the first or after one of them [the law flushes_of_several_plans_suffice: read, between, flushing];
- *   - a harvest finds present entries of pages, and clears their flags 5 and 6 and nothing else. Its flush drops what is cached of its
- *     pages, so that a processor sets the flags again [IsHarvestNext: cleared, found, dropped].
- *
- * A run links and unlinks no table. The first page in a new table, and the last page of a table that becomes empty, come as plans
- * [NRVS_PLANNED].
+ * A run links and unlinks no table: the first page in a new table, and the last page of a table that becomes empty, come as plans
+ * [NRVS_PLANNED]. What is promised of a run: crates/nrvs_plan_c/README.md, "What a range promises".
  */
 struct nrvs_run {
 	uint64_t frame;        /* this and all up to `covered` is set after NRVS_RUN and NRVS_HARVEST: the table */
@@ -432,8 +357,9 @@ enum {
  * nrvs_plan_protect and nrvs_plan_ask for its base. After a refusal the struct is as it was [status, begun, refused]. The pages of a map
  * are contiguous in physical memory too. A map is refused with NRVS_UNALIGNED before all else if `bytes` is 0, or no multiple of the size,
  * if that is a size: so it never goes beyond its range [status: map_range_status]. After that, any range that goes beyond the last address,
- * so that base + bytes is more than 2^64, is refused with NRVS_NOT_CANONICAL [range_status]. An unmap, a protect and a harvest deal with
- * pages of all sizes, but a run has pages of one size.
+ * so that base + bytes is more than 2^64, is refused with NRVS_NOT_CANONICAL [range_status]. A range over the hole between the two halves
+ * isn't refused, and NRVS_ABSENT may end in the hole, where no range begins: ask for the halves apart. An unmap, a protect and a harvest
+ * deal with pages of all sizes, but a run has pages of one size.
  */
 uint32_t nrvs_plan_map_range(struct nrvs_run *run, const struct nrvs_target *target, uint64_t base, uint32_t size, uint64_t physical,
 			     uint32_t rights, uint64_t bits, uint64_t bytes);

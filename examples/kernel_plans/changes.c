@@ -67,6 +67,8 @@ static enum kind draw_kind(const struct slot *slot, struct state state, uint64_t
 		return MAP;
 	if (state.in_parts)
 		return state.gap_count > 0 ? MEND : draw(seed, 2) ? JOIN : COLLAPSE;
+	if (is_planted(PLANT_REFILL) && slot->size != NRVS_4K) /* many new pages are split */
+		return draw(seed, 2) ? SPLIT : UNMAP;
 	switch (draw(seed, slot->size == NRVS_4K ? 8 : 10)) {
 	case 0:
 	case 1:
@@ -181,27 +183,38 @@ static int are_dirty(const uint64_t *words, struct state state)
 	return all != 0;
 }
 
-/* A page that was written is dirty: when it is unmapped; and in all of its parts where it was written before it was split. */
+static uint32_t was_written(const struct slot *slot)
+{
+	return __atomic_load_n(&slot->written, __ATOMIC_SEQ_CST);
+}
+
+/* A page that was written is dirty: when it is unmapped; and in all of its parts if it was written before the store that splits it. */
 static void look_for_lost(const struct slot *slot, enum kind kind, const struct nrvs_plan *plan, uint32_t written_before)
 {
 	int is_lost = 0;
 	if (kind == UNMAP)
-		is_lost = __atomic_load_n(&slot->written, __ATOMIC_SEQ_CST) && !(plan->bits & DIRTY);
+		is_lost = was_written(slot) && !(plan->bits & DIRTY);
 	if (kind == SPLIT || kind == CUT)
 		is_lost = written_before && !are_dirty(frame_words(plan->fill.frame), slot_state(slot));
 	if (is_lost)
 		slots_lose();
 }
 
-/* What is asked for, by one plan; of a mend by one for each missing part. */
-static void carry_out(struct nrvs_plan *plan, const struct nrvs_target *target, const struct slot *slot, enum kind kind, struct state was)
+/* What is asked for, by one plan; of a mend by one for each missing part. Whether the page was written when the plan was there. */
+static uint32_t carry_out(struct nrvs_plan *plan, const struct nrvs_target *target, const struct slot *slot, enum kind kind,
+			  struct state was)
 {
 	const struct state state = slot_state(slot);
-	if (kind != MEND)
-		plans_run(&pool, plan, begin(plan, target, slot, kind, state));
+	uint32_t written = 0;
+	if (kind != MEND) {
+		plans_make(&pool, plan, begin(plan, target, slot, kind, state));
+		written = was_written(slot);
+		plans_finish(&pool, plan);
+	}
 	for (unsigned k = was.gap; kind == MEND && is_missing(was, k); k++)
 		plans_run(&pool, plan, nrvs_plan_map(plan, target, slot->base + k * bytes_of(slot->size - 1), slot->size - 1,
 						     page_of(slot, state.which) + k * bytes_of(slot->size - 1), rights_of(state), 0));
+	return written;
 }
 
 unsigned changes_make(unsigned which, uint64_t *seed)
@@ -218,10 +231,9 @@ unsigned changes_make(unsigned which, uint64_t *seed)
 	if (kind == MAP)
 		__atomic_store_n(&slot->written, 0, __ATOMIC_SEQ_CST);
 	slot_begins(slot, state);
-	written = __atomic_load_n(&slot->written, __ATOMIC_SEQ_CST);
 	if (is_planted(PLANT_GIVEN))
 		give_away(slot, was, state);
-	carry_out(&plan, &target, slot, kind, was);
+	written = carry_out(&plan, &target, slot, kind, was);
 	slot_ends(slot);
 	if (!is_answered(slot, kind, was, plan.reply))
 		stop("a change is answered", plan.reply.code);

@@ -68,7 +68,7 @@ static void carry_out(struct pool *pool, struct nrvs_plan *plan, uint64_t i)
 	while (!__atomic_compare_exchange_n(at, &found, store->new_word, 0, __ATOMIC_SEQ_CST, __ATOMIC_SEQ_CST)) {
 		if (nrvs_plan_again(plan, i, found) != NRVS_OK)
 			stop("somebody else wrote a word:", found);
-		if (plan->fills)
+		if (plan->fills && !is_planted(PLANT_REFILL))
 			fill(plan);
 		pool->flags_met++;
 	}
@@ -106,7 +106,8 @@ static void carry_out_all(struct pool *pool, struct nrvs_plan *plan)
 /* What is to be flushed; by a mistake that of the plan before. */
 static struct flush flush_of(struct pool *pool, const struct nrvs_plan *plan)
 {
-	const struct flush now = { plan->flush_base, plan->flush > NRVS_FLUSH_PAGE && !is_planted(PLANT_LATE) }, before = pool->late;
+	const int all = is_planted(PLANT_ONE) ? plan->flush == NRVS_FLUSH_PAGE_AND_TABLES : plan->flush > NRVS_FLUSH_PAGE;
+	const struct flush now = { plan->flush_base, all && !is_planted(PLANT_LATE) }, before = pool->late;
 	pool->late = now;
 	return is_planted(PLANT_LATE) ? before : now;
 }
@@ -123,7 +124,7 @@ static void flush(struct pool *pool, const struct nrvs_plan *plan)
 	processors_shoot_down(pool->group, what.base, what.all);
 }
 
-void plans_run(struct pool *pool, struct nrvs_plan *plan, uint32_t step)
+void plans_make(struct pool *pool, struct nrvs_plan *plan, uint32_t step)
 {
 	while (step == NRVS_SEE)
 		step = nrvs_plan_see(plan, frame_words(plan->frame));
@@ -132,11 +133,21 @@ void plans_run(struct pool *pool, struct nrvs_plan *plan, uint32_t step)
 	if (step != NRVS_PLANNED)
 		stop("a request is refused:", step);
 	wait_for_accesses(plans_meanwhile);
+}
+
+void plans_finish(struct pool *pool, struct nrvs_plan *plan)
+{
 	carry_out_all(pool, plan);
 	if (plan->flush != NRVS_FLUSH_NOTHING)
 		flush(pool, plan);
 	for (uint64_t i = 0; !is_planted(PLANT_EARLY) && i < plan->unlinked_count; i++)
 		free_frame(pool, plan->unlinked[i]);
+}
+
+void plans_run(struct pool *pool, struct nrvs_plan *plan, uint32_t step)
+{
+	plans_make(pool, plan, step);
+	plans_finish(pool, plan);
 }
 
 void wait_for_accesses(uint64_t number)

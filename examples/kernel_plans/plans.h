@@ -26,10 +26,12 @@ void pool_begin(struct pool *pool, uint64_t first, unsigned count, unsigned grou
 uint64_t pool_take(struct pool *pool);
 uint64_t *frame_words(uint64_t frame);
 
-/* Goes on from what the first call returned, and carries the plan out. */
+/* Goes on from what the first call returned up to the plan; carries the plan out; does both. */
+void plans_make(struct pool *pool, struct nrvs_plan *plan, uint32_t step);
+void plans_finish(struct pool *pool, struct nrvs_plan *plan);
 void plans_run(struct pool *pool, struct nrvs_plan *plan, uint32_t step);
 
-/* The other processors make so many accesses between the last words that are shown and the first store. */
+/* The other processors make so many accesses between the last words that are shown and the end of plans_make. */
 extern uint64_t plans_meanwhile;
 
 /* Waits until the other processors have made so many accesses. */

@@ -15,6 +15,8 @@ enum plant {
 	PLANT_UNFILLED,  /* of a split, the new table isn't filled */
 	PLANT_GAP,       /* where parts of a page are unmapped, one more is */
 	PLANT_GIVEN,     /* a page's memory is given away before the flush; only what is recorded shows it */
+	PLANT_REFILL,    /* of a split, the new table isn't filled again where its link met a flag */
+	PLANT_ONE,       /* of a range the first address alone is flushed: QEMU drops more, so that nothing shows it */
 
 	/* in examples/kernel_nodes */
 	PLANT_REPLY, /* a reply before each node is done with the update */
@@ -22,6 +24,7 @@ enum plant {
 	PLANT_RING,  /* a node's ring has room for 15 entries */
 	PLANT_LINK,  /* an entry names another node as the one that appended the entry before it */
 	PLANT_FAULT, /* the handler of faults looks at its node's table as it is */
+	PLANT_LOOK,  /* a look looks at its node's table as it is */
 	PLANT_TWICE, /* a node applies each update twice */
 };
 

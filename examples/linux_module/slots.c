@@ -212,7 +212,7 @@ static bool are_dirty(uint64_t frame)
 	return all != 0;
 }
 
-/* A page that was written is dirty: when it is unmapped; and in all of its parts where it was written before it was split. */
+/* A page that was written is dirty: when it is unmapped; and in all of its parts if it was written before the store that splits it. */
 static void look_for_lost(const struct slot *slot, enum kind kind, const struct nrvs_plan *plan, bool was_written)
 {
 	if (kind == UNMAP)
@@ -285,13 +285,13 @@ static void change(struct slot *slot, enum kind kind, struct state is, bool wait
 	struct nrvs_plan plan;
 	bool was_written;
 	begins(slot, kind, is);
-	was_written = READ_ONCE(slot->is_written);
 	if (space_plan(&plan, begin(&plan, slot, kind, is)) != NRVS_PLANNED || !is_answered(slot, kind, was, plan.reply)) {
 		if (counts.wrong++ == 0)
 			pr_err("nrvs_space: change %u of %llx is answered %u\n", kind, slot->base, plan.reply.code);
 	}
 	if (waits)
 		processors_go_on(300);
+	was_written = READ_ONCE(slot->is_written);
 	carry_out(slot, &plan, was);
 	look_for_lost(slot, kind, &plan, was_written);
 	counts.changes[kind]++;

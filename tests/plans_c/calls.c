@@ -113,13 +113,17 @@ uint32_t again(const struct planner *planner, struct nrvs_plan *plan, unsigned i
 	return status;
 }
 
-int fill(const struct nrvs_plan *plan, const struct memory *memory)
+uint64_t *words_of(void *memory, uint64_t frame)
 {
-	uint64_t *words = plan->fills ? memory_words(memory, plan->fill.frame) : NULL, i;
-	for (i = 0; words && i < 512; i++)
-		__atomic_store_n(&words[i], i - plan->fill.gap < plan->fill.gap_count ? 0 : plan->fill.first_word + i * plan->fill.step,
-				 __ATOMIC_RELAXED);
-	return words || !plan->fills;
+	return memory_words(memory, frame);
+}
+
+int fill(const struct nrvs_plan *plan, struct memory *memory)
+{
+	if (plan->fills && !memory_words(memory, plan->fill.frame))
+		return 0;
+	nrvs_plan_fill(plan, words_of, memory);
+	return 1;
 }
 
 int same_plans(const struct nrvs_plan *a, const struct nrvs_plan *b)

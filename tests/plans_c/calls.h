@@ -45,8 +45,11 @@ uint32_t drive(const struct planner *planner, struct nrvs_plan *plan, uint32_t s
 /* Store number i finds this word in place of the one that was shown. */
 uint32_t again(const struct planner *planner, struct nrvs_plan *plan, unsigned i, uint64_t found);
 
+/* The words of a frame of a memory, for the header's nrvs_plan_fill and nrvs_plan_carry_out. */
+uint64_t *words_of(void *memory, uint64_t frame);
+
 /* Fills the frame that is to be filled, if there is one: 0 where that isn't there. */
-int fill(const struct nrvs_plan *plan, const struct memory *memory);
+int fill(const struct nrvs_plan *plan, struct memory *memory);
 
 /* Whether two plans say the same. */
 int same_plans(const struct nrvs_plan *a, const struct nrvs_plan *b);

@@ -404,6 +404,26 @@ static void links(void)
 	target.pinned = 0;
 }
 
+/* A plan is carried out by the header's function: flags that were set since are kept, and what somebody else wrote is left as it is. */
+static void carried_out(void)
+{
+	struct nrvs_plan plan;
+	tables_for(0);
+	*word(1, 0) = GIB | 3;
+	plan = asked(PROTECTS, 0, 0, NRVS_EXEC);
+	*word(1, 0) |= 0x60;
+	CHECK(nrvs_plan_carry_out(&plan, words_of, &memory) == NRVS_OK && *word(1, 0) == (GIB | 0x61) && plan.bits == 0x60);
+	plan = asked(PROTECTS, 0, 0, NRVS_WRITE);
+	*word(1, 0) = 2 * GIB | 1;
+	CHECK(nrvs_plan_carry_out(&plan, words_of, &memory) == NRVS_NOT_ASKED && *word(1, 0) == (2 * GIB | 1));
+	*word(1, 0) = 0;
+	*word(2, 0) = GIB | 0x83;
+	plan = planned((struct request){PART_UNMAPS, 0, 0, 0, 7, 2}, (struct stock){{tables[3], 0, 0, 0}, 1, 0});
+	*word(2, 0) |= 0x40;
+	CHECK(nrvs_plan_carry_out(&plan, words_of, &memory) == NRVS_OK && *word(2, 0) == (tables[3] << 12 | 7));
+	CHECK(*word(1, 6) == (GIB | 0x6043) && *word(1, 7) == 0 && *word(1, 8) == 0 && *word(1, 9) == (GIB | 0x9043));
+}
+
 int main(void)
 {
 	memory_begin(&memory, 40, 3);
@@ -418,6 +438,7 @@ int main(void)
 	splits_and_remaps();
 	prunes();
 	links();
+	carried_out();
 	memory_end(&memory);
 	return counts();
 }

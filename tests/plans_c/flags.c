@@ -121,16 +121,11 @@ static uint64_t take(void)
 
 static void carry_out(struct nrvs_plan *plan)
 {
+	const struct nrvs_plan shown = *plan;
 	unsigned i;
-	CHECK(fill(plan, &memory));
-	for (i = 0; i < plan->store_count; i++) {
-		uint64_t *at = &memory_words(&memory, plan->stores[i].frame)[plan->stores[i].index], found = plan->stores[i].old_word;
-		while (!__atomic_compare_exchange_n(at, &found, plan->stores[i].new_word, 0, __ATOMIC_SEQ_CST, __ATOMIC_SEQ_CST)) {
-			flags_met++;
-			CHECK(again(&LIBRARY, plan, i, found) == NRVS_OK);
-			CHECK(fill(plan, &memory));
-		}
-	}
+	CHECK(nrvs_plan_carry_out(plan, words_of, &memory) == NRVS_OK);
+	for (i = 0; i < plan->store_count; i++)
+		flags_met += plan->stores[i].old_word != shown.stores[i].old_word;
 }
 
 /* What a plan says of flags, once it is carried out. */

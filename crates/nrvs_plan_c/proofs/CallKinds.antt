@@ -1,7 +1,7 @@
 -- What a kept call asks for, by its kind.
-use Rattle.std.proofs.Common.{◌≡◌, ◌≢◌, ℕ, ◌-◌, ◌≤◌, [], Bool, true, false, nat_eq, min, refl, sym, ap, subst, ◌∙◌, arith}
-use Rattle.std.specs.Prelude.{if◌then◌else◌}
-use Rattle.std.proofs.lemmas.Bool.{ne_eqb}
+use Rattle.std.proofs.Common.{◌≡◌, ◌≢◌, ℕ, ◌+◌, ◌-◌, ◌<◌, ◌≤◌, ◌⊎◌, ⊎_elim, [], Bool, true, false, nat_eq, min, refl, sym, ap, subst, ◌∙◌, arith}
+use Rattle.std.specs.Prelude.{nat_lt, if◌then◌else◌}
+use Rattle.std.proofs.lemmas.Bool.{cases_eq, eqb-false, le-ltb, lt-ltb, ne_eqb}
 use Rattle.vs_types.specs.Depth.{levels}
 use Rattle.vs_types.specs.Page.{level_of}
 use Rattle.vs_types.specs.declared.page.Size.{Size}
@@ -15,8 +15,8 @@ use Rattle.vs_plan.specs.Target.{highest_link}
 use Rattle.nrvs_plan_c.specs.declared.end.End.{End}
 use Rattle.nrvs_plan_c.specs.declared.kept.Call.{Call}
 use Rattle.nrvs_plan_c.specs.declared.kept.Plan.{Plan}
-use Rattle.nrvs_plan_c.specs.Kept.{depth_in, page_in, request_in, rights_in, size_in, target_at, target_in}
-use Rattle.nrvs_plan_c.specs.Next.{IsPlanned}
+use Rattle.nrvs_plan_c.specs.Kept.{depth_in, page_in, request_in, rights_in, shows_left, size_in, target_at, target_in}
+use Rattle.nrvs_plan_c.specs.Next.{IsPlanned, shows_most}
 use Rattle.nrvs_plan_c.specs.inside.End.{IsEndOf, IsRightFor}
 use Rattle.nrvs_plan_c.proofs.Keeping.{target_kept}
 
@@ -122,3 +122,55 @@ no_link call code is = ap (λ (n : ℕ). highest_link (target_at n call)) is ∙
 -- and else those of the page table
 pub same_link : (call : Call) (code : ℕ) → 1 ≤ code → highest_link (target_at code call) ≡ highest_link (target_in call)
 same_link call code some = ap highest_link (target_kept call code some)
+
+-- where each table stays linked none
+pub links_few : (pinned most : ℕ) → (pinned ≡ 1) ⊎ (pinned ≡ 2) → (if nat_eq pinned 0 then most else min most (pinned - 1)) ≤ 1
+links_few pinned most is = ⊎_elim
+    (λ (one : pinned ≡ 1). subst (λ (p : ℕ). (if nat_eq p 0 then most else min most (p - 1)) ≤ 1) (sym one) (omega arith))
+    (λ (two : pinned ≡ 2). subst (λ (p : ℕ). (if nat_eq p 0 then most else min most (p - 1)) ≤ 1) (sym two) (omega arith))
+    is
+
+-- and else one, at least
+pub links_some : (pinned most : ℕ) → 4 ≤ most → pinned ≢ 1 → pinned ≢ 2 → 1 < (if nat_eq pinned 0 then most else min most (pinned - 1))
+links_some pinned most four one two = by (nat_eq pinned 0) refl where
+  by : (b : Bool) → nat_eq pinned 0 ≡ b → 1 < (if b then most else min most (pinned - 1))
+  by true is = omega (arith, four)
+  by false is = let some : pinned ≢ 0 = eqb-false pinned 0 is in omega (arith, four, one, two, some)
+
+-- ---- how many frames are shown at most
+
+shows_brief : (level count phase : ℕ) → phase ≡ 0 → level + (if nat_eq phase 0 then count else 0) ≡ level + count
+shows_brief level count phase is = ap (λ (p : ℕ). level + (if nat_eq p 0 then count else 0)) is
+
+shows_once : (level count phase : ℕ) → phase ≢ 0 → level + (if nat_eq phase 0 then count else 0) ≡ level
+shows_once level count phase other = ap (λ (b : Bool). level + (if b then count else 0)) (ne_eqb phase 0 other) ∙ omega arith
+
+most_else : (target : targets.Target) (request : Request) → ((base : ℕ) → request ≡ Unmap base → ⊥) → shows_most target request ≡ levels target.depth
+most_else target (Unmap base) other = absurd (other base refl)
+most_else target request other = refl
+
+module _ (plan : Plan) where
+  abbrev count : ℕ
+  count = levels (depth_in plan.call.levels)
+
+  abbrev link : ℕ
+  link = highest_link (target_in plan.call)
+
+  shows_unmap : plan.call.kind ≡ 1 → shows_most (target_in plan.call) (request_in plan.call) ≡ (if nat_lt 1 link then count + count else count)
+  shows_unmap kind = ap (λ (r : Request). shows_most (target_in plan.call) r) (unmaps plan.call kind)
+
+  pub most_shown : plan.way.level ≡ levels (depth_in plan.call.levels)
+      → (plan.way.phase ≡ 0 → (plan.call.kind ≡ 1) × (1 < highest_link (target_in plan.call)))
+      → (plan.way.phase ≢ 0 → plan.call.kind ≡ 1 → highest_link (target_in plan.call) ≤ 1)
+      → shows_left plan ≡ shows_most (target_in plan.call) (request_in plan.call)
+  most_shown top brief descent = ⊎_elim
+      (λ (is : plan.way.phase ≡ 0).
+      shows_brief plan.way.level count plan.way.phase is ∙ ap (λ (n : ℕ). n + count) top
+      ∙ sym (shows_unmap (brief is).0 ∙ ap (λ (b : Bool). if b then count + count else count) (lt-ltb 1 link (brief is).1)))
+      (λ (other : plan.way.phase ≢ 0).
+      shows_once plan.way.level count plan.way.phase other ∙ top
+      ∙ sym (⊎_elim
+      (λ (unmap : plan.call.kind ≡ 1). shows_unmap unmap ∙ ap (λ (b : Bool). if b then count + count else count) (le-ltb 1 link (descent other unmap)))
+      (λ (no : plan.call.kind ≢ 1). most_else (target_in plan.call) (request_in plan.call) (no_unmap plan.call no))
+      (cases_eq plan.call.kind 1)))
+      (cases_eq plan.way.phase 0)

@@ -1,6 +1,6 @@
 -- A planner is kept whole: its codes read back as they were.
 use Rattle.std.specs.Prelude.{IfSome, nat_eq, if◌then◌else◌}
-use Rattle.std.proofs.Common.{◌≡◌, ℕ, zero, suc, ◌+◌, ◌≤◌, arith, subst, Bool, true, false, Option, Some, None, List, ◌++◌, length, take, refl, sym, ap, ◌∙◌}
+use Rattle.std.proofs.Common.{◌≡◌, ℕ, zero, suc, ◌≤◌, arith, subst, Bool, true, false, Option, Some, None, List, ◌++◌, length, take, refl, sym, ap, ◌∙◌}
 use Rattle.std.proofs.Math.Seq.{take-append_seam}
 use Rattle.std.proofs.lemmas.Bool.{ne_eqb}
 use Rattle.vs_types.specs.Codes.{rights_code}

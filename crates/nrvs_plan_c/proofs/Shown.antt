@@ -1,7 +1,6 @@
 -- A way that begins, that goes on, and that has come to a table of level 1, where a plan is kept.
-use Rattle.std.proofs.Common.{◌≡◌, ◌≢◌, ℕ, Bool, true, false, ◌+◌, ◌-◌, ◌*◌, ◌/◌, ◌%◌, ◌^◌, ◌<◌, ◌≤◌, [], Some, inr, refl, sym, ap, subst, ◌∙◌, min, arith}
-use Rattle.std.specs.Prelude.{nat_eq, if◌then◌else◌, slice_index}
-use Rattle.std.specs.FinMap as finite
+use Rattle.std.proofs.Common.{◌≡◌, ℕ, Bool, true, false, ◌+◌, ◌-◌, ◌*◌, ◌/◌, ◌^◌, ◌<◌, ◌≤◌, [], Some, sym, ap, subst, ◌∙◌, min, arith}
+use Rattle.std.specs.Prelude.{nat_eq, if◌then◌else◌}
 use Rattle.std.proofs.Math.Nat.{lt-div-mul-add}
 use lib.Pow.{pow_pos, shr-shr}
 use Rattle.vs_types.specs.Depth.{index_at, levels}
@@ -9,7 +8,6 @@ use Rattle.vs_types.specs.Entry.{all_rights}
 use Rattle.vs_walk.specs.Memory.{Memory}
 use Rattle.vs_space.specs.Held.{word_at}
 use Rattle.vs_plan.specs.declared.planner.Phase.{Phase}
-use Rattle.vs_plan.specs.declared.planner.Phase.TheVariants as phases
 use Rattle.vs_plan.specs.declared.request.Request.TheVariants.{Unmap}
 use Rattle.vs_plan.specs.declared.target.Target as targets
 use Rattle.vs_plan.specs.Planner.{AwaitsWords, Sees}
@@ -22,7 +20,7 @@ use Rattle.nrvs_plan_c.specs.declared.end.End.{End}
 use Rattle.nrvs_plan_c.specs.declared.kept.Met.{Met}
 use Rattle.nrvs_plan_c.specs.declared.kept.Plan.{Plan}
 use Rattle.nrvs_plan_c.specs.Kept.{IsSound, IsWaiting, phase_in, planner_in, request_in, rights_at, target_at, target_in}
-use Rattle.nrvs_plan_c.specs.Next.{HasBegun, IsNextOf, IsPlanned, status_in}
+use Rattle.nrvs_plan_c.specs.Next.{IsAtRoot, IsNextOf, IsPlanned, status_in}
 use Rattle.nrvs_plan_c.specs.inside.End.{IsEndOf, IsMade}
 use Rattle.nrvs_plan_c.proofs.Ends.{four_levels}
 use Rattle.nrvs_plan_c.proofs.Keeping.{address_in, goes_down}
@@ -51,7 +49,7 @@ module _ (plan : Plan) (down : plan.way.phase ≤ 1) where
 
   pub begun_down : IsRequest (target_in plan.call) (request_in plan.call) → plan.frame ≡ plan.call.root → plan.store_count ≡ 0
       → rights_at plan.way.allowed ≡ all_rights → plan.way.level ≡ levels target.depth → plan.way.stop ≤ highest_link target
-      → ((base : ℕ) → request_in plan.call ≡ Unmap base → highest_link target ≤ plan.way.stop) → HasBegun plan
+      → ((base : ℕ) → request_in plan.call ≡ Unmap base → highest_link target ≤ plan.way.stop) → IsAtRoot plan
   begun_down good root none all level stop busy =
       let is = goes_down plan.way.phase down in
       let few = links_most target.pinned (levels target.depth) in

@@ -1,11 +1,10 @@
 -- A range's planner that is kept in C's struct between two calls, and its runs in numbers.
-use Rattle.std.specs.Prelude.{◌≡◌, ◌≢◌, ℕ, ◌+◌, ◌*◌, ◌^◌, ◌<◌, ◌≤◌, ◌⊎◌, ◌||◌, Bool, List, Option, cond, nat_eq, nat_lt, if◌then◌else◌}
+use Rattle.std.specs.Prelude.{◌≡◌, ◌≢◌, ℕ, ◌+◌, ◌*◌, ◌^◌, ◌<◌, ◌≤◌, ◌⊎◌, ◌||◌, Bool, List, Option, nat_eq, nat_lt, if◌then◌else◌}
 use Rattle.std.specs.Int.Bits.{bit_and}
 use Rattle.vs_types.specs.Codes.{size_code}
 use Rattle.vs_types.specs.Depth.{levels}
 use Rattle.vs_types.specs.Page.{bytes_of}
 use Rattle.vs_types.specs.Space.{Space}
-use Rattle.vs_types.specs.declared.page.Rights.{Rights}
 use Rattle.vs_types.specs.declared.page.Size.{Size}
 use Rattle.vs_walk.specs.Memory.{Memory}
 use Rattle.vs_plan.specs.declared.plan.TheConstants.{MOST_UNLINKED}

@@ -1,12 +1,12 @@
 //! How a plan begins.
-ghost use Rattle.std.specs.Prelude.{◌≡◌, ◌≢◌, ◌≤◌, ℕ, MatchResult};
+ghost use Rattle.std.specs.Prelude.{◌≡◌, ◌≢◌, ◌<◌, ◌≤◌, ℕ, MatchResult};
 ghost use Rattle.vs_types.specs.Depth.{levels};
 ghost use Rattle.vs_plan.specs.declared.request.Request.{Request};
 ghost use Rattle.vs_plan.specs.Request.{IsRequest, request_fault};
 ghost use Rattle.vs_plan.specs.Target.{highest_link};
-ghost use Rattle.nrvs_plan_c.specs.declared.codes.TheConstants.{DESCENT};
+ghost use Rattle.nrvs_plan_c.specs.declared.codes.TheConstants.{BRIEF, DESCENT};
 ghost use Rattle.nrvs_plan_c.specs.Kept.{depth_in, request_in, target_at, target_in, target_of};
-ghost use Rattle.nrvs_plan_c.specs.Next.{HasBegun};
+ghost use Rattle.nrvs_plan_c.specs.Next.{HasBegun, IsAtRoot};
 ghost use Rattle.nrvs_plan_c.specs.Status.{begun_status, target_status};
 
 use crate::allowed::all_allowed;
@@ -62,10 +62,23 @@ pub(crate) fn begin(plan: &mut Plan, call: Call) -> u32
     match call.request().test(call.target()) {
         Ok(()) => {
             plan.call = call;
-            start(plan, if call.kind == 1 { BRIEF } else { DESCENT });
+            start(plan, first_phase(call));
             SEE
         }
         Err(fault) => status_of(fault),
+    }
+}
+
+/// The phase in which a plan begins: an unmap that may unlink its page's table first goes down by a brief way.
+fn first_phase(call: Call) -> u8
+    ensures down { result ≤ DESCENT }
+    ensures brief { result ≡ BRIEF → (call.kind ≡ 1) × (1 < highest_link (target_in call)) }
+    ensures descent { result ≢ BRIEF → call.kind ≡ 1 → highest_link (target_in call) ≤ 1 }
+{
+    if call.kind == 1 && !call.pins_all() {
+        BRIEF
+    } else {
+        DESCENT
     }
 }
 
@@ -74,7 +87,7 @@ pub(crate) fn begin(plan: &mut Plan, call: Call) -> u32
 pub(crate) fn start(plan: &mut Plan, phase: u8)
     requires good { IsRequest (target_in plan.old.call) (request_in plan.old.call) }
     requires phase { phase ≤ DESCENT }
-    ensures begun { HasBegun plan.new }
+    ensures begun { IsAtRoot plan.new }
     ensures call { plan.new.call ≡ plan.old.call }
     ensures phase { plan.new.way.phase ≡ phase }
     ensures level { plan.new.way.level ≡ levels (depth_in plan.old.call.levels) }

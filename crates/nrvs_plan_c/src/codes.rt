@@ -5,8 +5,8 @@ ghost use Rattle.nrvs_plan_c.specs.Kept.{depth_in, size_in, rights_in, phase_in,
 use vs_plan::Phase;
 use vs_types::{Depth, Rights, Size};
 
-/// The code of the phase on the first way down of an unmap, which looks at no table above the page's own: where that is left empty, a
-/// second way does.
+/// The code of the phase on the first way down of an unmap that may unlink its page's table: it looks at no table above that one. Where that
+/// is left empty, a second way does.
 pub(crate) const BRIEF: u8 = 0;
 
 /// The code of the phase on the way down.

@@ -1,6 +1,7 @@
 //! C's structs, and the planner that is kept in one between two calls.
-ghost use Rattle.std.specs.Prelude.{◌≡◌, ◌≤◌};
+ghost use Rattle.std.specs.Prelude.{◌≡◌, ◌<◌, ◌≤◌, IsFalse, IsTrue};
 ghost use Rattle.vs_plan.specs.declared.plan.TheConstants.{MOST_STORES};
+ghost use Rattle.vs_plan.specs.Target.{highest_link};
 ghost use Rattle.nrvs_plan_c.specs.Kept.{planner_in, request_in, target_at, target_in};
 
 use crate::allowed::{allowed_of, rights_at};
@@ -141,6 +142,14 @@ impl Call {
             };
         }
         target
+    }
+
+    /// Whether each table stays linked, except where a link takes the place of a page.
+    pub(crate) fn pins_all(self) -> bool
+        ensures stay { IsTrue result → highest_link (target_in self) ≤ 1 }
+        ensures may_go { IsFalse result → 1 < highest_link (target_in self) }
+    {
+        self.pinned == 1 || self.pinned == 2
     }
 
     /// What is to be done.

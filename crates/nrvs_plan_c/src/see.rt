@@ -8,6 +8,7 @@ ghost use Rattle.vs_space.specs.Held.{word_at};
 ghost use Rattle.vs_plan.specs.declared.plan.TheConstants.{MOST_UNLINKED};
 ghost use Rattle.vs_plan.specs.Planner.{frames_given};
 ghost use Rattle.vs_plan.specs.Shown.{IsShown};
+ghost use Rattle.vs_plan.specs.Target.{highest_link};
 ghost use Rattle.nrvs_plan_c.specs.declared.codes.TheConstants.{BRIEF, DESCENT, ENDED, SEARCH};
 ghost use Rattle.nrvs_plan_c.specs.Kept.{IsSound, phase_in, planner_in, request_in, shows_left, target_in};
 ghost use Rattle.nrvs_plan_c.specs.Next.{IsNextOf, IsPlanned, status_in};
@@ -95,11 +96,24 @@ fn end_way<W: FrameWords + Drop>(plan: &mut Plan, mut words: W, word: u64) -> u3
     if plan.way.phase == BRIEF {
         return end_brief(plan, words, word);
     }
-    if plan.way.level == 1 && plan.call.kind <= 4 && plan.call.kind != 1 {
+    if ends_here(plan) {
         end_here(plan, word);
         return PLANNED;
     }
     follow(plan, words, word)
+}
+
+/// Whether the word at which the way ends decides alone: that of a page of 4 KiB, whose table stays.
+fn ends_here(plan: &Plan) -> bool
+    ensures last { IsTrue result → plan.now.way.level ≡ 1 }
+    ensures most { IsTrue result → plan.now.call.kind ≤ 4 }
+    ensures stays { IsTrue result → plan.now.call.kind ≡ 1
+        → highest_link (target_in plan.now.call) ≤ 1 }
+{
+    if plan.call.kind == 1 && !plan.call.pins_all() {
+        return false;
+    }
+    plan.way.level == 1 && plan.call.kind <= 4
 }
 
 /// The end of the way at this word, in a table of level 1.
@@ -126,7 +140,7 @@ fn end_here(plan: &mut Plan, word: u64)
     requires descent { plan.old.way.phase ≤ DESCENT }
     requires last { plan.old.way.level ≡ 1 }
     requires most { plan.old.call.kind ≤ 4 }
-    requires other { plan.old.call.kind ≢ 1 }
+    requires stays { plan.old.call.kind ≡ 1 → highest_link (target_in plan.old.call) ≤ 1 }
     ensures call { plan.new.call ≡ plan.old.call }
     ensures made { IsMade plan.new }
     ensures right { (memory : Memory) → IsShown memory (planner_in plan.old)
@@ -144,6 +158,7 @@ fn end_here(plan: &mut Plan, word: u64)
             call.rights,
             call.bits,
         ),
+        1 => end_unmap(plan, end, call.address),
         2 => end_protect(plan, end, call.address, call.rights),
         3 => end_ask(plan, end, call.address),
         _ => end_remap(
@@ -157,7 +172,7 @@ fn end_here(plan: &mut Plan, word: u64)
     }
 }
 
-/// Ends the first way of an unmap at this word: with its plan, where the page's table has another word, or with a second way.
+/// Ends the brief way of an unmap at this word: with its plan, where the page's table has another word, or with a second way.
 #[inline(never)]
 fn end_brief<W: FrameWords + Drop>(plan: &mut Plan, mut words: W, word: u64) -> u32
     requires sound { IsSound plan.old }

@@ -110,7 +110,7 @@ module _ (depth : Depth) (root : ℕ) (first : Memory) where
 -- ---- the flush suffices
 
 module _ (depth : Depth) (root : ℕ) (memory : Memory) where
-  calm_once : (s : Store) → FindTheirWords memory (s ∷ []) → IsOnceFor depth memory root s → IsCalm depth root memory (stored memory s)
+  pub calm_once : (s : Store) → FindTheirWords memory (s ∷ []) → IsOnceFor depth memory root s → IsCalm depth root memory (stored memory s)
   calm_once s found once = word_calm depth root memory s.frame s.index s.new once.0 (used_word memory s.frame s.index s.old found.0)
       (λ level region rights reads.
       let reached = entry_reached depth root memory level region s.frame rights reads in

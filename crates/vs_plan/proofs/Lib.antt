@@ -65,3 +65,5 @@ pub mod CollapsedSpace
 pub mod Collapsing
 pub mod PartsUnmapped
 pub mod Gaps
+mod LinkedEntries
+mod OnWalks

@@ -11,6 +11,7 @@ pub mod Again
 pub mod Planner
 pub mod Shown
 pub mod Processor
+pub mod OnWalk
 pub mod Flushed
 pub mod Lived
 pub mod Other

@@ -1,6 +1,6 @@
 //! Laws of the definitions in `specs/`. Each function does nothing: its clauses say what holds of all processors and plans.
 
-ghost use Rattle.std.specs.Prelude.{◌≡◌, ℕ, List, All, Option, Some, ◌∷◌};
+ghost use Rattle.std.specs.Prelude.{◌≡◌, ℕ, List, All, Option, Some, [], ◌∷◌};
 ghost use Rattle.std.specs.FinMap as finite;
 ghost use Rattle.vs_types.specs.Depth.{IsCanonical};
 ghost use Rattle.vs_types.specs.Space.{Space, no_pages};
@@ -15,10 +15,13 @@ ghost use Rattle.vs_plan.specs.declared.plan.Plan.{Plan};
 ghost use Rattle.vs_plan.specs.declared.plan.Store.{Store};
 ghost use Rattle.vs_plan.specs.declared.request.Request.{Request};
 ghost use Rattle.vs_plan.specs.declared.target.Target.{Target};
-ghost use Rattle.vs_plan.specs.Flushed.{Suffices};
+ghost use Rattle.vs_space.specs.Flags.{AreSameButFlags};
+ghost use Rattle.vs_plan.specs.Flushed.{Suffices, while_stored};
+ghost use Rattle.vs_plan.specs.Lived.{AreButFlags};
+ghost use Rattle.vs_plan.specs.OnWalk.{IsDroppedOnWalk};
 ghost use Rattle.vs_plan.specs.Other.{AreBeside, HasSameTables, IsBeside, IsRightBeside, IsShared, LeadsNotTo};
 ghost use Rattle.vs_plan.specs.Premise.{IsPremise, HasOwnWay};
-ghost use Rattle.vs_plan.specs.Processor.{Moment, Is, MayFind, IsUpToDate};
+ghost use Rattle.vs_plan.specs.Processor.{Kept, Moment, Is, MayFind, MayKeep, IsUpToDate};
 ghost use Rattle.vs_plan.specs.Request.{IsRequest, address_of};
 ghost use Rattle.vs_plan.specs.Answered.{space_after};
 ghost use Rattle.vs_plan.specs.Right.{IsRight, begun, ended};
@@ -49,6 +52,23 @@ pub fn flushes_of_right_plans_suffice()
         → IsRight target request memory space offered plan
         → Suffices target.depth target.root (begun memory plan) plan.stores.items plan.flush
         plan.unlinked.items }
+{}
+
+/// For one plan a flush suffices too that drops of the entries for tables only those on the walks of its addresses (`IsDroppedOnWalk`).
+/// What a processor keeps after the stores, and such a flush doesn't drop, it might keep too if it began with nothing and read the memory
+/// as it is then. So it is up to date, whatever flags were set meanwhile.
+pub fn flushes_on_walks_suffice()
+    ensures { (target : Target) (request : Request) (memory now : Memory) (space : Space)
+        (offered : List (Option ℕ)) (plan : Plan) (earlier lived : List Moment) (kept : Kept)
+        → IsPremise target.depth memory target.root (address_of request) space
+        → IsCanonical target.depth (address_of request)
+        → IsRight target request memory space offered plan
+        → IsUpToDate target.depth target.root (begun memory plan) earlier
+        → AreButFlags lived (while_stored (begun memory plan) plan.stores.items earlier)
+        → AreSameButFlags (ended memory plan) now
+        → MayKeep target.depth target.root lived kept
+        → (IsDroppedOnWalk plan.flush kept → ⊥)
+        → MayKeep target.depth target.root (Is now ∷ []) kept }
 {}
 
 /// What is written into a frame to which no way leads is read by no processor: each stays up to date, and each walk is as before.

@@ -1,11 +1,10 @@
-use Rattle.std.proofs.Common.{ℕ, inr, refl, sym, ap, ◌∙◌, arith}
-use Rattle.std.specs.Prelude.{slice_index}
+use Rattle.std.proofs.Common.{inr, refl, sym, ap, arith}
 use Rattle.vs_types.specs.Depth.{index_at}
 use Rattle.vs_walk.proofs.Walks.{few_levels}
 use Rattle.vs_plan.specs.Planner.{AwaitsWords}
 use Rattle.vs_plan.specs.Shown.{IsDescended}
 use Rattle.vs_plan.proofs.Descending.{shown_on}
-use Rattle.nrvs_plan_c.specs.Kept.{phase_in, planner_in}
+use Rattle.nrvs_plan_c.specs.Kept.{planner_in}
 use Rattle.nrvs_plan_c.proofs.Keeping.{address_in, goes_down}
 use Rattle.nrvs_plan_c.proofs.Shown.{awaits_down, descended_down, frame_within, sound_below}
 use Rattle.nrvs_plan_c.proofs.down.go_down.Goals as goal

@@ -1,5 +1,4 @@
 use Rattle.std.proofs.Common.{◌+◌, ◌^◌, sym, ap, subst, ◌∙◌, ltb-false}
-use Rattle.vs_plan.specs.declared.request.Request.{Request}
 use Rattle.vs_plan.specs.Request.{address_of}
 use Rattle.vs_range.specs.Planner.{IsRanged}
 use Rattle.nrvs_plan_c.proofs.RangesBegun.{begun_as}
